@@ -1,0 +1,8 @@
+use Rattle.command_table.proofs.Rows.{contains_rows, no_rows}
+use Rattle.command_table.proofs.look.Goals as goal
+
+pub returns-clause-found : goal.returns-clause-found
+returns-clause-found c = contains_rows c.entries.result.now c.entries.ensures c.args.name.now c.find_entry.result c.find_entry.ensures.found
+
+pub returns-clause-unknown : goal.returns-clause-unknown
+returns-clause-unknown c = no_rows c.entries.result.now c.entries.ensures c.args.name.now c.find_entry.result c.find_entry.ensures.unknown

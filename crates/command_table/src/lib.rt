@@ -1,0 +1,85 @@
+//! The commands that the proxy knows, by name.
+//!
+//! Names and meanings are those of the Redis commands; which of them the table has, how many words each takes and where
+//! its key stands is this project's own profile.
+#![tactic(auto)]
+
+ghost use Rattle.std.specs.Prelude.{◌≡◌, ◌≢◌, IfSome, IfNone, Contains, All, map};
+ghost use Rattle.std.specs.Str.{str_to_ascii_lowercase};
+ghost use Rattle.command_table.specs.Table.{rows};
+ghost use Rattle.command_table.specs.Entry.{row_of, HasName};
+
+/// How the proxy treats a command.
+#[derive(Clone, Copy, Debug, PartialEq, Eq, Hash)]
+pub enum Kind {
+    /// PING: answered by the proxy. It takes one word.
+    Ping,
+    /// ECHO: answered by the proxy with its second word. It takes two words.
+    Echo,
+    /// QUIT: answered by the proxy, which then takes no further command of the connection.
+    Quit,
+}
+
+/// What the table knows of a command.
+#[derive(Clone, Copy, Debug, PartialEq, Eq)]
+pub struct Entry {
+    /// How the proxy treats the command.
+    pub kind: Kind,
+    /// The command's name, in lower case.
+    pub name: &'static str,
+    /// The least number of words that the command takes, its name among them.
+    pub least: usize,
+    /// Which word is the command's key, its name being word 0. It is 0 where the command has no key.
+    pub key_at: usize,
+}
+
+const ENTRIES: [Entry; 3] = [
+    Entry {
+        kind: Kind::Ping,
+        name: "ping",
+        least: 1,
+        key_at: 0,
+    },
+    Entry {
+        kind: Kind::Echo,
+        name: "echo",
+        least: 2,
+        key_at: 0,
+    },
+    Entry {
+        kind: Kind::Quit,
+        name: "quit",
+        least: 1,
+        key_at: 0,
+    },
+];
+
+/// The entry of the command of this name, compared without ASCII case, or `None` where the table has none.
+///
+/// It takes no memory.
+pub fn look(name: &[u8]) -> Option<Entry>
+    ensures found { IfSome result (λ e. Contains rows (row_of e) × (str_to_ascii_lowercase name.now ≡ e.name.now)) }
+    ensures unknown { IfNone result (All (λ r. str_to_ascii_lowercase name.now ≢ r.name) rows) }
+{
+    find_entry(entries(), name)
+}
+
+// All entries.
+fn entries() -> &'static [Entry]
+    ensures { map row_of result.now ≡ rows }
+{
+    &ENTRIES
+}
+
+// The first of the entries that has this name.
+fn find_entry(entries: &[Entry], name: &[u8]) -> Option<Entry>
+    ensures found { IfSome result (λ e. Contains entries.now e × HasName name.now e) }
+    ensures unknown { IfNone result (All (λ e. HasName name.now e → ⊥) entries.now) }
+{
+    for entry in entries {
+        if name.eq_ignore_ascii_case(entry.name.as_bytes()) {
+            return Some(*entry);
+        }
+    }
+    None
+}

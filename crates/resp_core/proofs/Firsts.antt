@@ -1,0 +1,137 @@
+-- What reading gives at the front of the bytes that are held, of which at most max_text + 1 are looked at.
+use Rattle.std.proofs.Common.{◌≡◌, inl, inr, ℕ, ◌+◌, ◌-◌, ◌<◌, ◌≤◌, List, [], ◌∷◌, ◌++◌, length, take, drop, refl, sym, ap, ◌∙◌, subst, append_assoc, append-nil, arith}
+use Rattle.std.proofs.lemmas.List.{length-append, take_at, take-append-drop, length-take-le}
+use Rattle.resp_core.specs.Tree.{Tree}
+use Rattle.resp_core.specs.Grammar.{IsText, max_text, max_depth}
+use Rattle.resp_core.specs.Reading.{Outcome, found, unfinished, refused, value_at}
+use Rattle.resp_core.specs.Stream.{HasWhole}
+use Rattle.resp_core.specs.Front.{IsFirstValue, IsUnfinished, IsFault}
+use Rattle.resp_core.specs.declared.error.Refusal.{Refusal}
+use Rattle.resp_core.proofs.Readers.{IsReader}
+use Rattle.resp_core.proofs.Whole.{value-reads, InValue}
+
+-- the front of a list that two splits share
+pub same_front : (x y a b : List ℕ) → x ++ y ≡ a ++ b → length x ≤ length a → (z : List ℕ) × (a ≡ x ++ z)
+same_front [] y a b e h = (a, refl)
+same_front (c ∷ x) y [] b e h = absurd (omega arith)
+same_front (c ∷ x) y (d ∷ a) b e h =
+    let c_is : c ≡ d = cc in
+    let f : x ++ y ≡ a ++ b = cc in
+    let q = same_front x y a b f (omega arith) in
+    (q.0, ap (λ z. z ∷ a) (sym c_is) ∙ ap (λ z. c ∷ z) q.1)
+
+module _ (most : ℕ) where
+  read : List ℕ → Outcome Tree
+  read = value_at most max_depth
+
+  law : IsReader (IsText most max_depth) (InValue most max_depth) (value_at most max_depth)
+  law = value-reads most max_depth
+
+  module _ (held seen after : List ℕ) (split : held ≡ seen ++ after) where
+    -- what is whole in the front is found there
+    whole_is_found : (t : Tree) (x y : List ℕ) → held ≡ x ++ y → IsText most max_depth x t → length x ≤ length seen → (z : List ℕ) × (seen ≡ x ++ z) × (value_at most max_depth seen ≡ found t z)
+    whole_is_found t x y e g h =
+        let q = same_front x y seen after (sym e ∙ split) h in
+        (q.0, q.1, ap (value_at most max_depth) q.1 ∙ law.again x q.0 t g)
+
+    pub found_shorter : (t : Tree) (rest : List ℕ) → value_at most max_depth seen ≡ found t rest → length rest ≤ length seen
+    found_shorter t rest e = let q = law.sound seen rest t e in omega (arith, ap length q.1, length-append q.0 rest)
+
+    pub refused_shorter : (r : Refusal) (rest : List ℕ) → value_at most max_depth seen ≡ refused r rest → length rest ≤ length seen
+    refused_shorter r rest e = let q = law.first seen rest r e in omega (arith, ap length q.split, length-append q.before rest)
+
+    -- a value that is short enough
+    pub first_found : (t : Tree) (rest : List ℕ) → value_at most max_depth seen ≡ found t rest → length seen - length rest ≤ max_text → IsFirstValue most held t (length seen - length rest)
+    first_found t rest e h =
+        let q = law.sound seen rest t e in
+        let len : length q.0 ≡ length seen - length rest = omega (arith, ap length q.1, length-append q.0 rest) in
+        let whole : held ≡ q.0 ++ (rest ++ after) = split ∙ ap (λ z. z ++ after) q.1 ∙ append_assoc q.0 rest after in
+        record {
+          inside = omega (arith, ap length whole, length-append q.0 (rest ++ after));
+          text = subst (λ (z : List ℕ). IsText most max_depth z t) (sym (ap (take (length seen - length rest)) whole ∙ take_at q.0 (rest ++ after) _ len)) q.2;
+          few = h;
+        }
+
+    -- bytes past the greatest length of a text that begins well
+    too_long : (x : List ℕ) (t : Tree) (z : List ℕ) → IsText most max_depth (seen ++ x) t → length seen ≡ max_text + 1 → (HasWhole most held → ⊥) → IsFault most held max_text
+    too_long x t z g h none =
+        let parts : seen ≡ take max_text seen ++ drop max_text seen = sym (take-append-drop max_text seen) in
+        let len : length (take max_text seen) ≡ max_text = length-take-le max_text seen (omega arith) in
+        by_rest (drop max_text seen) parts (omega (arith, ap length parts, length-append (take max_text seen) (drop max_text seen))) len
+      where
+        by_rest : (d : List ℕ) → seen ≡ take max_text seen ++ d → length d ≡ 1 → length (take max_text seen) ≡ max_text → IsFault most held max_text
+        by_rest [] p l m = absurd (omega arith)
+        by_rest (c ∷ cs) p l m = record {
+          refused = record {
+            before = take max_text seen;
+            byte = c;
+            after = cs ++ after;
+            split = split ∙ ap (λ w. w ++ after) p ∙ append_assoc (take max_text seen) (c ∷ cs) after;
+            place_is = m;
+            fits = (c ∷ cs ++ x, t, subst (λ (w : List ℕ). IsText most max_depth w t) (ap (λ w. w ++ x) p ∙ append_assoc (take max_text seen) (c ∷ cs) x) g);
+            few = omega arith;
+            fails = inl m;
+          };
+          not_whole = none;
+        }
+
+    pub first_too_long : (t : Tree) (rest : List ℕ) → value_at most max_depth seen ≡ found t rest → length seen ≤ max_text + 1 → max_text < length seen - length rest → IsFault most held max_text
+    first_too_long t rest e small h =
+        let q = law.sound seen rest t e in
+        let len = ap length q.1 in
+        let nil : rest ≡ [] = nil_of rest (omega (arith, len, length-append q.0 rest)) in
+        too_long [] t [] (subst (λ (w : List ℕ). IsText most max_depth w t) (sym (append-nil seen ∙ q.1 ∙ ap (λ w. q.0 ++ w) nil ∙ append-nil q.0)) q.2) (omega arith)
+        (λ w.
+        let f = whole_is_found w.0 w.1 w.2 w.3 w.4 (omega (arith, w.5)) in
+        let g : found t rest ≡ found w.0 f.0 = sym e ∙ f.2 in
+        let z_is : rest ≡ f.0 = cc in
+        omega (arith, w.5, ap length f.1, length-append w.1 f.0, ap length (sym z_is ∙ nil)))
+      where
+        nil_of : (xs : List ℕ) → length xs ≡ 0 → xs ≡ []
+        nil_of [] p = refl
+        nil_of (c ∷ cs) p = absurd (omega arith)
+
+    not_whole_before : value_at most max_depth seen ≡ unfinished → max_text ≤ length seen → HasWhole most held → ⊥
+    not_whole_before e h w = let f = whole_is_found w.0 w.1 w.2 w.3 w.4 (omega (arith, w.5)) in let g = f.2 in cc
+
+    pub first_unfinished_long : value_at most max_depth seen ≡ unfinished → length seen ≡ max_text + 1 → IsFault most held max_text
+    first_unfinished_long e h =
+        let q = law.opens seen e in
+        too_long q.0 q.1 [] q.2 h (not_whole_before e (omega arith))
+
+    pub first_refused : (r : Refusal) (rest : List ℕ) → value_at most max_depth seen ≡ refused r rest → length seen ≤ max_text + 1 → IsFault most held (length seen - length rest)
+    first_refused r rest e small =
+        let q = law.first seen rest r e in
+        let len = ap length q.split in
+        let rest_len = ap length q.rest_is in
+        record {
+          refused = record {
+            before = q.before;
+            byte = q.byte;
+            after = q.after ++ after;
+            split = split ∙ ap (λ z. z ++ after) (q.split ∙ ap (λ z. q.before ++ z) q.rest_is) ∙ append_assoc q.before (q.byte ∷ q.after) after;
+            place_is = omega (arith, len, length-append q.before rest);
+            fits = law.opens q.before q.fits;
+            few = omega (arith, len, length-append q.before rest, rest_len);
+            fails = inr (λ w. stays_refused r (q.before ++ q.byte ∷ []) (q.byte ∷ []) q.fails w.0 w.1 w.2);
+          };
+          not_whole = λ w.
+              let f : value_at most max_depth held ≡ refused r (rest ++ after) = ap (value_at most max_depth) split ∙ law.stays seen after rest r e in
+              let g : value_at most max_depth held ≡ found w.0 w.2 = ap (value_at most max_depth) w.3 ∙ law.again w.1 w.2 w.0 w.4 in
+              cc;
+        }
+      where
+        stays_refused : (v : Refusal) (b left : List ℕ) → value_at most max_depth b ≡ refused v left → (more : List ℕ) (t : Tree) → IsText most max_depth (b ++ more) t → ⊥
+        stays_refused v b left f more t g =
+            let k = law.stays b more left v f in
+            let l = law.again (b ++ more) [] t g in
+            let m = append-nil (b ++ more) in
+            let n : value_at most max_depth (b ++ more) ≡ found t [] = ap (value_at most max_depth) (sym m) ∙ l in
+            cc
+
+  pub first_unfinished : (held : List ℕ) → value_at most max_depth held ≡ unfinished → length held ≤ max_text → IsUnfinished most held
+  first_unfinished held e h = record {
+    begins = law.opens held e;
+    few = h;
+    not_whole = λ w. let g : value_at most max_depth held ≡ found w.0 w.2 = ap (value_at most max_depth) w.3 ∙ law.again w.1 w.2 w.0 w.4 in cc;
+  }

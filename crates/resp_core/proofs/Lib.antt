@@ -1,0 +1,9 @@
+pub mod Readers
+pub mod Parts
+pub mod Whole
+pub mod Front
+pub mod Streams
+pub mod Firsts
+pub mod TreeLemmas
+pub mod RoundTrip
+pub mod StreamLaws

@@ -1,0 +1,180 @@
+-- The laws of texts and streams.
+use Rattle.std.proofs.Common.{◌≡◌, ◌⊎◌, inl, inr, ⊎_elim, ℕ, zero, suc, ◌+◌, ◌-◌, ◌<◌, ◌≤◌, Bool, true, false, List, [], ◌∷◌, ◌++◌, length, take, drop, refl, sym, ap, ◌∙◌, subst, append_assoc, append-nil, arith}
+use Rattle.std.proofs.lemmas.List.{length-append, length-take, length-take-le, length-drop, take_all, take-append-drop}
+use Rattle.resp_core.specs.Tree.{Tree}
+use Rattle.resp_core.specs.Grammar.{IsText, max_text, max_depth}
+use Rattle.resp_core.specs.Reading.{Outcome, found, unfinished, refused, value_at}
+use Rattle.resp_core.specs.Text.{text}
+use Rattle.resp_core.specs.Front.{IsFirstValue, IsUnfinished, IsFault}
+use Rattle.resp_core.specs.Stream.{Begins, HasWhole, Splits, AreValues, IsRefusedAt, HasRefusal, HasNoRefusal, told_offset}
+use Rattle.resp_core.specs.Laws.{NoTextBeginsAnother, Holds, EachStreamHolds, OneHolding, RefusalStays, OneRefusal, ValuesStay, TextIsReadBack}
+use Rattle.resp_core.proofs.Whole.{value-reads, text_nonempty}
+use Rattle.resp_core.proofs.Firsts.{same_front, found_shorter, refused_shorter, first_found, first_too_long, first_unfinished, first_unfinished_long, first_refused}
+use Rattle.resp_core.proofs.Streams.{splits_fed, splits_more, are_values, no_refusal_of, refusal_of_fault, one_reading}
+use Rattle.resp_core.proofs.RoundTrip.{text_is_read}
+
+-- of two numbers one is at most the other
+pub le_or_lt : (m n : ℕ) → (m ≤ n) ⊎ (n < m)
+le_or_lt zero n = inl (omega arith)
+le_or_lt (suc m) zero = inr (omega arith)
+le_or_lt (suc m) (suc n) = ⊎_elim (λ l. inl (omega (arith, l))) (λ l. inr (omega (arith, l))) (le_or_lt m n)
+
+pub no_text_begins_another : NoTextBeginsAnother
+no_text_begins_another most b more t u g h =
+    let law = value-reads most max_depth in
+    let e : found t more ≡ found u [] = sym (law.again b more t g) ∙ ap (value_at most max_depth) (sym (append-nil (b ++ more))) ∙ law.again (b ++ more) [] u h in
+    let more_is : more ≡ [] = cc in
+    let t_is : t ≡ u = cc in
+    (more_is, t_is)
+
+-- what stands at the front of bytes: a whole value, the beginning of one, or a byte that is refused
+data Stood (most : ℕ) (held : List ℕ) : Type 0 where
+  whole : (t : Tree) (len : ℕ) → IsFirstValue most held t len → Stood most held
+  begun : IsUnfinished most held → Stood most held
+  fault : (place : ℕ) → IsFault most held place → Stood most held
+
+module _ (most : ℕ) (held : List ℕ) where
+  abbrev seen : List ℕ
+  seen = take (max_text + 1) held
+
+  split : held ≡ seen ++ drop (max_text + 1) held
+  split = sym (take-append-drop (max_text + 1) held)
+
+  few_seen : length seen ≤ max_text + 1
+  few_seen = omega (arith, length-take (max_text + 1) held)
+
+  stood_by : (o : Outcome Tree) → value_at most max_depth seen ≡ o → Stood most held
+  stood_by (found t rest) e =
+      ⊎_elim (λ l. whole t (length seen - length rest) (first_found most held seen _ split t rest e l))
+      (λ l. fault max_text (first_too_long most held seen _ split t rest e few_seen l)) (le_or_lt (length seen - length rest) max_text)
+  stood_by unfinished e =
+      ⊎_elim (λ l. begun (first_unfinished most held (ap (value_at most max_depth) (sym (take_all (max_text + 1) held (omega (arith, l)))) ∙ e) l))
+      (λ l. fault max_text (first_unfinished_long most held seen _ split e (length-take-le (max_text + 1) held (omega (arith, l))))) (le_or_lt (length held) max_text)
+  stood_by (refused r rest) e = fault (length seen - length rest) (first_refused most held seen _ split r rest e few_seen)
+
+  stood : Stood most held
+  stood = stood_by (value_at most max_depth seen) refl
+
+-- the values of a stream, and what stands behind them
+abbrev Held : ℕ → List ℕ → Type 0
+Held most b = (ts : List Tree) × (rest : List ℕ) × Splits most b ts rest × (IsUnfinished most rest ⊎ ((place : ℕ) × IsFault most rest place))
+
+-- a stream of at most n bytes, by what stands at its front
+held_by : (n most : ℕ) (b : List ℕ) → length b ≤ n → Stood most b → Held most b
+held_by n most b l (begun f) = ([], b, refl, inl f)
+held_by n most b l (fault place f) = ([], b, refl, inr (place, f))
+held_by zero most b l (whole t len f) = absurd (omega (arith, f.inside, text_nonempty most max_depth (take len b) t f.text, length-take len b))
+held_by (suc n) most b l (whole t len f) =
+    let q = held_by n most (drop len b) (omega (arith, f.inside, l, text_nonempty most max_depth (take len b) t f.text, length-take len b, length-drop len b)) (stood most (drop len b)) in
+    (t ∷ q.0, q.1, (take len b, drop len b, sym (take-append-drop len b), f.text, omega (arith, length-take len b, f.few), q.2), q.3)
+
+pub each_stream_holds : EachStreamHolds
+each_stream_holds most b =
+    let q = held_by (length b) most b (omega arith) (stood most b) in
+    ⊎_elim (λ f. (q.0, false, no_refusal_of most b q.1 q.0 q.2 f)) (λ f. (q.0, true, (_, refusal_of_fault most b q.1 q.0 f.0 q.2 f.1))) q.3
+
+-- nothing whole stands in front of what is left of a stream
+none_whole : (most : ℕ) (b : List ℕ) (ts : List Tree) (rest : List ℕ) → AreValues most b ts rest → HasWhole most rest → ⊥
+none_whole most b ts rest g w =
+    omega (arith, g.longest (ts ++ w.0 ∷ []) w.2 (splits_more most b rest w.1 w.2 ts w.0 g.splits w.3 w.4 w.5), ap length w.3, length-append w.1 w.2, text_nonempty most max_depth w.1 w.0 w.4)
+
+-- a text whose front is the refused byte and what stands before it
+no_text_over : (most : ℕ) (rest : List ℕ) (place : ℕ) → IsRefusedAt most rest place → (x y : List ℕ) (t : Tree) → (more : List ℕ) → rest ++ more ≡ x ++ y → IsText most max_depth x t → length x ≤ max_text → place < length x → ⊥
+no_text_over most rest place f x y t more e g few l =
+    let front : (f.before ++ f.byte ∷ []) ++ (f.after ++ more) ≡ x ++ y =
+    append_assoc f.before (f.byte ∷ []) (f.after ++ more) ∙ sym (append_assoc f.before (f.byte ∷ f.after) more) ∙ ap (λ z. z ++ more) (sym f.split) ∙ e in
+    let q = same_front (f.before ++ f.byte ∷ []) (f.after ++ more) x y front (omega (arith, length-append f.before (f.byte ∷ []), f.place_is, l)) in
+    ⊎_elim (λ m. omega (arith, m, f.place_is, few, l)) (λ n. n (q.0, t, subst (λ (z : List ℕ). IsText most max_depth z t) q.1 g)) f.fails
+
+pub refusal_stays : RefusalStays
+refusal_stays most b more ts offset h = record {
+  rest = h.rest ++ more;
+  values = are_values most (b ++ more) (h.rest ++ more) ts (splits_fed most b h.rest more ts h.values.splits) (λ w. ⊎_elim (λ l. short w.0 w.1 w.2 w.3 w.4 w.5 l) (λ l. no_text_over most h.rest h.place h.refused w.1 w.2 w.0 more w.3 w.4 w.5 l) (le_or_lt (length w.1) h.place));
+  place = h.place;
+  refused = record {
+    before = h.refused.before;
+    byte = h.refused.byte;
+    after = h.refused.after ++ more;
+    split = ap (λ z. z ++ more) h.refused.split ∙ append_assoc h.refused.before (h.refused.byte ∷ h.refused.after) more;
+    place_is = h.refused.place_is;
+    fits = h.refused.fits;
+    few = h.refused.few;
+    fails = h.refused.fails;
+  };
+  offset_is = h.offset_is ∙ ap (λ z. told_offset (z + h.place)) (omega (arith, length-append b more, length-append h.rest more));
+}
+  where
+    -- a text that ends before the refused byte
+    short : (t : Tree) (x y : List ℕ) → h.rest ++ more ≡ x ++ y → IsText most max_depth x t → length x ≤ max_text → length x ≤ h.place → ⊥
+    short t x y e g few l =
+        let f = h.refused in
+        let q = same_front x y f.before (f.byte ∷ f.after ++ more) (sym e ∙ ap (λ z. z ++ more) f.split ∙ append_assoc f.before (f.byte ∷ f.after) more) (omega (arith, l, f.place_is)) in
+        none_whole most b ts h.rest h.values (t, x, q.0 ++ f.byte ∷ f.after, f.split ∙ ap (λ z. z ++ f.byte ∷ f.after) q.1 ∙ append_assoc x q.0 (f.byte ∷ f.after), g, few)
+
+-- of two refused bytes the first one
+none_behind : (most : ℕ) (rest : List ℕ) (m n : ℕ) → IsRefusedAt most rest m → IsRefusedAt most rest n → m < n → ⊥
+none_behind most rest m n f g l =
+    let front : (f.before ++ f.byte ∷ []) ++ f.after ≡ g.before ++ g.byte ∷ g.after = append_assoc f.before (f.byte ∷ []) f.after ∙ sym f.split ∙ g.split in
+    let q = same_front (f.before ++ f.byte ∷ []) f.after g.before (g.byte ∷ g.after) front (omega (arith, length-append f.before (f.byte ∷ []), f.place_is, g.place_is, l)) in
+    let (more, t, reads) = g.fits in
+    ⊎_elim (λ e. omega (arith, e, f.place_is, g.place_is, g.few, l))
+    (λ h. h (q.0 ++ more, t, subst (λ (z : List ℕ). IsText most max_depth z t) (ap (λ z. z ++ more) q.1 ∙ append_assoc (f.before ++ f.byte ∷ []) q.0 more) reads)) f.fails
+
+pub one_refusal : OneRefusal
+one_refusal most rest m n f g =
+    ⊎_elim (λ l. ⊎_elim (λ k. omega (arith, l, k)) (λ k. absurd (none_behind most rest m n f g k)) (le_or_lt n m))
+    (λ l. absurd (none_behind most rest n m g f l)) (le_or_lt m n)
+
+-- the same values leave the same bytes
+same_rest : (most : ℕ) (b : List ℕ) (ts : List Tree) (rest left : List ℕ) → Splits most b ts rest → Splits most b ts left → rest ≡ left
+same_rest most b [] rest left g h = sym g ∙ h
+same_rest most b (t ∷ ts) rest left g h =
+    let law = value-reads most max_depth in
+    let e : found t g.1 ≡ found t h.1 = sym (law.again g.0 g.1 t g.3) ∙ ap (value_at most max_depth) (sym g.2 ∙ h.2) ∙ law.again h.0 h.1 t h.3 in
+    let rest_is : g.1 ≡ h.1 = cc in
+    same_rest most g.1 ts rest left g.5 (subst (λ (z : List ℕ). Splits most z ts left) (sym rest_is) h.5)
+
+-- the values of a stream that is refused, or is not
+values_of : (most : ℕ) (b : List ℕ) (ts : List Tree) (refused : Bool) → Holds most b ts refused → (rest : List ℕ) × AreValues most b ts rest
+values_of most b ts true h = (h.1.rest, h.1.values)
+values_of most b ts false h = (h.rest, h.values)
+
+-- each of two lists begins with the other
+same_list : (ts us : List Tree) → ((more : List Tree) × (ts ≡ us ++ more)) → ((more : List Tree) × (us ≡ ts ++ more)) → ts ≡ us
+same_list ts us f g = nil_end f.0 f.1 (omega (arith, ap length f.1, ap length g.1, length-append us f.0, length-append ts g.0))
+  where
+    nil_end : (more : List Tree) → ts ≡ us ++ more → length more ≡ 0 → ts ≡ us
+    nil_end [] e l = e ∙ append-nil us
+    nil_end (t ∷ more) e l = absurd (omega (arith, l))
+
+same_values : (most : ℕ) (b : List ℕ) (ts us : List Tree) (rest left : List ℕ) → AreValues most b ts rest → AreValues most b us left → ts ≡ us
+same_values most b ts us rest left g h = same_list ts us (one_reading most b ts us rest left g h.splits) (one_reading most b us ts left rest h g.splits)
+
+-- a stream is not both refused and not refused
+not_both : (most : ℕ) (b : List ℕ) (ts us : List Tree) (offset : ℕ) → HasNoRefusal most b ts → HasRefusal most b us offset → ⊥
+not_both most b ts us offset g h =
+    let e = same_values most b ts us g.rest h.rest g.values h.values in
+    let r = same_rest most b us h.rest g.rest h.values.splits (subst (λ (z : List Tree). Splits most b z g.rest) e g.values.splits) in
+    g.none h.place (subst (λ (z : List ℕ). IsRefusedAt most z h.place) r h.refused)
+
+pub one_holding : OneHolding
+one_holding most b ts us r s g h =
+    let (rest, f) = values_of most b ts r g in
+    let (left, k) = values_of most b us s h in
+    (same_values most b ts us rest left f k, by r s g h)
+  where
+    by : (r s : Bool) → Holds most b ts r → Holds most b us s → r ≡ s
+    by true true g h = refl
+    by false false g h = refl
+    by false true g h = absurd (not_both most b ts us h.0 g h.1)
+    by true false g h = absurd (not_both most b us ts g.0 h g.1)
+
+pub values_stay : ValuesStay
+values_stay most b more rest ts us r g h =
+    let (left, f) = values_of most (b ++ more) us r h in
+    one_reading most (b ++ more) us ts left (rest ++ more) f (splits_fed most b rest more ts g)
+
+pub text_is_read_back : TextIsReadBack
+text_is_read_back most t more ts r small within plain few h =
+    let (rest, f) = values_of most (text t ++ more) ts r h in
+    one_reading most (text t ++ more) ts (t ∷ []) rest more f (text t, more, refl, text_is_read most max_depth t small within plain, few, refl)

@@ -1,0 +1,116 @@
+-- Laws of streams and readers.
+use Rattle.std.proofs.Common.{◌≡◌, ◌⊎◌, inl, inr, ⊎_elim, ℕ, ◌+◌, ◌-◌, ◌≤◌, List, [], ◌∷◌, ◌++◌, length, take, drop, Some, None, refl, sym, ap, ◌∙◌, subst, append_assoc, arith}
+use Rattle.std.proofs.lemmas.List.{length-append, length-take, length-drop, take-append-drop}
+use Rattle.resp_core.specs.Front.{IsFirstValue, IsUnfinished, IsFault}
+use Rattle.resp_core.specs.Tree.{Tree}
+use Rattle.resp_core.specs.Grammar.{IsText, max_text, max_depth}
+use Rattle.resp_core.specs.Reading.{found, value_at}
+use Rattle.resp_core.specs.Stream.{HasWhole, Splits, AreValues, Begins, told_offset, HasRefusal, HasNoRefusal, ReaderState, Stands}
+use Rattle.resp_core.specs.Laws.{OneReading}
+use Rattle.resp_core.specs.Offset.{offset_of}
+use Rattle.resp_core.specs.declared.error.RespError.{RespError}
+use Rattle.resp_core.proofs.Whole.{value-reads, text_nonempty}
+
+module _ (most : ℕ) where
+  -- more bytes behind
+  pub splits_fed : (b rest x : List ℕ) (ts : List Tree) → Splits most b ts rest → Splits most (b ++ x) ts (rest ++ x)
+  splits_fed b rest x [] g = ap (λ z. z ++ x) g
+  splits_fed b rest x (t ∷ ts) g = (g.0, g.1 ++ x, ap (λ z. z ++ x) g.2 ∙ append_assoc g.0 g.1 x, g.3, g.4, splits_fed g.1 rest x ts g.5)
+
+  -- one value more
+  pub splits_more : (b rest x y : List ℕ) (ts : List Tree) (t : Tree) → Splits most b ts rest → rest ≡ x ++ y → IsText most max_depth x t → length x ≤ max_text → Splits most b (ts ++ t ∷ []) y
+  splits_more b rest x y [] t g e f h = (x, y, g ∙ e, f, h, refl)
+  splits_more b rest x y (u ∷ us) t g e f h = (g.0, g.1, g.2, g.3, g.4, splits_more g.1 rest x y us t g.5 e f h)
+
+  splits_shorter : (b rest : List ℕ) (ts : List Tree) → Splits most b ts rest → length rest ≤ length b
+  splits_shorter b rest [] g = omega (arith, ap length g)
+  splits_shorter b rest (t ∷ ts) g = omega (arith, ap length g.2, length-append g.0 g.1, splits_shorter g.1 rest ts g.5)
+
+  -- of two readings of one stream the one leaves no more, or could go on
+  splits_compared : (b r s : List ℕ) (ts us : List Tree) → Splits most b ts r → Splits most b us s → (length r ≤ length s) ⊎ HasWhole most r
+  splits_compared b r s [] [] g h = inl (omega (arith, ap length g, ap length h))
+  splits_compared b r s [] (u ∷ us) g h = inr (u, h.0, h.1, sym g ∙ h.2, h.3, h.4)
+  splits_compared b r s (t ∷ ts) [] g h = inl (omega (arith, splits_shorter b r (t ∷ ts) g, ap length h))
+  splits_compared b r s (t ∷ ts) (u ∷ us) g h =
+      let law = value-reads most max_depth in
+      let e : found t g.1 ≡ found u h.1 = sym (law.again g.0 g.1 t g.3) ∙ ap (value_at most max_depth) (sym g.2 ∙ h.2) ∙ law.again h.0 h.1 u h.3 in
+      let rest_is : g.1 ≡ h.1 = cc in
+      splits_compared g.1 r s ts us g.5 (subst (λ (z : List ℕ). Splits most z us s) (sym rest_is) h.5)
+
+  pub are_values : (b rest : List ℕ) (ts : List Tree) → Splits most b ts rest → (HasWhole most rest → ⊥) → AreValues most b ts rest
+  are_values b rest ts g hasnt = record {
+    splits = g;
+    longest = λ others left h. ⊎_elim (λ l. l) (λ w. absurd (hasnt w)) (splits_compared b rest left ts others g h);
+  }
+
+-- an offset that is told, and one that lies so many bytes behind it
+told_later : (told n more : ℕ) → told ≡ told_offset n → told_offset (told + more) ≡ told_offset (n + more)
+told_later told n more e = omega (arith, e)
+
+pub stands_fed : (r : ReaderState) (b x : List ℕ) (ts : List Tree) → Stands r b ts → r.refusal ≡ None → (s : ReaderState) → s.most ≡ r.most → s.consumed ≡ r.consumed → s.held ≡ r.held ++ x → s.refusal ≡ None → Stands s (b ++ x) ts
+stands_fed r b x ts g e s most consumed held refusal = record {
+  splits = rw (most, held) (splits_fed r.most b r.held x ts g.splits);
+  consumed_is = consumed ∙ g.consumed_is ∙ ap told_offset (omega (arith, splits_shorter r.most b r.held ts g.splits, length-append b x, length-append r.held x, ap length held));
+  told = rw refusal tt;
+}
+
+-- a reader that gives the value at the front
+pub stands_given : (r : ReaderState) (b : List ℕ) (ts : List Tree) (t : Tree) (len : ℕ) → Stands r b ts → r.refusal ≡ None → IsFirstValue r.most r.held t len → (s : ReaderState) → s.most ≡ r.most → s.consumed ≡ told_offset (r.consumed + len) → s.held ≡ drop len r.held → s.refusal ≡ None → Stands s b (ts ++ t ∷ [])
+stands_given r b ts t len g e f s most consumed held refusal = record {
+  splits = rw (most, held) (splits_more r.most b r.held (take len r.held) (drop len r.held) ts t g.splits (sym (take-append-drop len r.held)) f.text (omega (arith, length-take len r.held, f.few)));
+  consumed_is = consumed ∙ told_later r.consumed (length b - length r.held) len g.consumed_is ∙ ap told_offset (omega (arith, splits_shorter r.most b r.held ts g.splits, ap length held, length-drop len r.held, f.inside));
+  told = rw refusal tt;
+}
+
+-- a reader that has no value to give, and refuses none
+pub no_refusal_of : (most : ℕ) (b held : List ℕ) (ts : List Tree) → Splits most b ts held → IsUnfinished most held → HasNoRefusal most b ts
+no_refusal_of most b held ts g f = record {
+  rest = held;
+  values = are_values most b held ts g f.not_whole;
+  none = λ place w. ⊎_elim (λ e. omega (arith, f.few, ap length w.split, length-append w.before (w.byte ∷ w.after))) (λ n. n (goes_on w.before w.byte w.after w.split)) w.fails;
+}
+  where
+    goes_on : (x : List ℕ) (c : ℕ) (y : List ℕ) → held ≡ x ++ c ∷ y → Begins most (x ++ c ∷ [])
+    goes_on x c y e =
+        (y ++ f.begins.0, f.begins.1, subst (λ (z : List ℕ). IsText most max_depth z f.begins.1) (ap (λ z. z ++ f.begins.0) e ∙ append_assoc x (c ∷ y) f.begins.0 ∙ sym (append_assoc x (c ∷ []) (y ++ f.begins.0))) f.begins.2)
+
+pub no_refusal : (r : ReaderState) (b : List ℕ) (ts : List Tree) → Stands r b ts → IsUnfinished r.most r.held → HasNoRefusal r.most b ts
+no_refusal r b ts g f = no_refusal_of r.most b r.held ts g.splits f
+
+-- a stream in which a byte is refused
+pub refusal_of_fault : (most : ℕ) (b held : List ℕ) (ts : List Tree) (place : ℕ) → Splits most b ts held → IsFault most held place → HasRefusal most b ts (told_offset (length b - length held + place))
+refusal_of_fault most b held ts place g f = record {
+  rest = held;
+  values = are_values most b held ts g f.not_whole;
+  place = place;
+  refused = f.refused;
+  offset_is = refl;
+}
+
+-- a reader that refuses a byte
+pub has_refusal : (r : ReaderState) (b : List ℕ) (ts : List Tree) (place at : ℕ) → Stands r b ts → IsFault r.most r.held place → at ≡ told_offset (r.consumed + place) → HasRefusal r.most b ts at
+has_refusal r b ts place at g f e =
+    subst (λ (z : ℕ). HasRefusal r.most b ts z) (sym (e ∙ told_later r.consumed (length b - length r.held) place g.consumed_is)) (refusal_of_fault r.most b r.held ts place g.splits f)
+
+pub stands_told : (r : ReaderState) (b : List ℕ) (ts : List Tree) (e : RespError) → Stands r b ts → (s : ReaderState) → s.most ≡ r.most → s.consumed ≡ r.consumed → s.held ≡ r.held → s.refusal ≡ Some e → HasRefusal r.most b ts (offset_of e) → Stands s b ts
+stands_told r b ts e g s most consumed held refusal h = record {
+  splits = rw (most, held) g.splits;
+  consumed_is = consumed ∙ g.consumed_is ∙ ap (λ z. told_offset (length b - length z)) (sym held);
+  told = rw (refusal, most) h;
+}
+
+-- of two readings of one stream the one that leaves less goes on from the other
+begins_with : (most : ℕ) (b : List ℕ) (ts us : List Tree) (rest left : List ℕ) → Splits most b ts rest → Splits most b us left → length rest ≤ length left → (more : List Tree) × (ts ≡ us ++ more)
+begins_with most b ts [] rest left g h l = (ts, refl)
+begins_with most b [] (u ∷ us) rest left g h l =
+    absurd (omega (arith, ap length g, ap length h.2, length-append h.0 h.1, splits_shorter most h.1 left us h.5, text_nonempty most max_depth h.0 u h.3))
+begins_with most b (t ∷ ts) (u ∷ us) rest left g h l =
+    let law = value-reads most max_depth in
+    let e : found t g.1 ≡ found u h.1 = sym (law.again g.0 g.1 t g.3) ∙ ap (value_at most max_depth) (sym g.2 ∙ h.2) ∙ law.again h.0 h.1 u h.3 in
+    let rest_is : g.1 ≡ h.1 = cc in
+    let t_is : t ≡ u = cc in
+    let q = begins_with most g.1 ts us rest left g.5 (subst (λ (z : List ℕ). Splits most z us left) (sym rest_is) h.5) l in
+    (q.0, ap (λ z. z ∷ ts) t_is ∙ ap (λ z. u ∷ z) q.1)
+
+pub one_reading : OneReading
+one_reading most b ts us rest left g h = begins_with most b ts us rest left g.splits h (g.longest us left h)

@@ -1,0 +1,5 @@
+use Rattle.resp_core.proofs.StreamLaws.{one_holding}
+use Rattle.resp_core.proofs.laws.one_holding.Goals as goal
+
+pub returns : goal.returns
+returns c = one_holding

@@ -1,0 +1,5 @@
+use Rattle.resp_core.proofs.StreamLaws.{refusal_stays}
+use Rattle.resp_core.proofs.laws.refusal_stays.Goals as goal
+
+pub returns : goal.returns
+returns c = refusal_stays

@@ -1,0 +1,48 @@
+-- Laws of texts and streams, for whoever stands on them.
+use Rattle.std.specs.Prelude.{◌≡◌, ◌<◌, ◌≤◌, ◌^◌, ℕ, Bool, true, false, List, [], ◌∷◌, ◌++◌, length}
+use Rattle.resp_core.specs.Tree.{Tree, is_plain_tree}
+use Rattle.resp_core.specs.Grammar.{IsText, max_text, max_depth}
+use Rattle.resp_core.specs.Text.{text}
+use Rattle.resp_core.specs.Within.{IsWithin}
+use Rattle.resp_core.specs.Stream.{Splits, AreValues, IsRefusedAt, HasRefusal, HasNoRefusal}
+
+-- No text begins another: a text that begins with a text is that text, of the same value.
+abbrev pub NoTextBeginsAnother : Type 0
+NoTextBeginsAnother = (most : ℕ) (b more : List ℕ) (t u : Tree) → IsText most max_depth b t → IsText most max_depth (b ++ more) u → (more ≡ []) × (t ≡ u)
+
+-- The one spelling of a plain value within the limits is a text of it.
+abbrev pub TextIsRead : Type 0
+TextIsRead = (most left : ℕ) (t : Tree) → most < 2 ^ 32 → IsWithin most left t → is_plain_tree t ≡ true → IsText most left (text t) t
+
+-- A stream has one list of values, and whatever else it is split into is a beginning of that list.
+abbrev pub OneReading : Type 0
+OneReading = (most : ℕ) (b : List ℕ) (ts us : List Tree) (rest left : List ℕ) → AreValues most b ts rest → Splits most b us left → (more : List Tree) × (ts ≡ us ++ more)
+
+-- The values of a stream, and whether a byte behind them is refused.
+abbrev pub Holds : ℕ → List ℕ → List Tree → Bool → Type 0
+Holds most b ts false = HasNoRefusal most b ts
+Holds most b ts true = (offset : ℕ) × HasRefusal most b ts offset
+
+-- Each stream has its values, and a refused byte or none.
+abbrev pub EachStreamHolds : Type 0
+EachStreamHolds = (most : ℕ) (b : List ℕ) → (ts : List Tree) × (refused : Bool) × Holds most b ts refused
+
+-- A stream has one list of values, and it is refused or it is not.
+abbrev pub OneHolding : Type 0
+OneHolding = (most : ℕ) (b : List ℕ) (ts us : List Tree) (refused other : Bool) → Holds most b ts refused → Holds most b us other → (ts ≡ us) × (refused ≡ other)
+
+-- What was refused stays so, whatever comes behind it.
+abbrev pub RefusalStays : Type 0
+RefusalStays = (most : ℕ) (b more : List ℕ) (ts : List Tree) (offset : ℕ) → HasRefusal most b ts offset → HasRefusal most (b ++ more) ts offset
+
+-- Of an unfinished value one byte at most is refused.
+abbrev pub OneRefusal : Type 0
+OneRefusal = (most : ℕ) (rest : List ℕ) (m n : ℕ) → IsRefusedAt most rest m → IsRefusedAt most rest n → m ≡ n
+
+-- A stream that goes on keeps the values it had.
+abbrev pub ValuesStay : Type 0
+ValuesStay = (most : ℕ) (b more rest : List ℕ) (ts us : List Tree) (refused : Bool) → Splits most b ts rest → Holds most (b ++ more) us refused → (others : List Tree) × (us ≡ ts ++ others)
+
+-- What was written is read again, whatever follows it.
+abbrev pub TextIsReadBack : Type 0
+TextIsReadBack = (most : ℕ) (t : Tree) (more : List ℕ) (ts : List Tree) (refused : Bool) → most < 2 ^ 32 → IsWithin most max_depth t → is_plain_tree t ≡ true → length (text t) ≤ max_text → Holds most (text t ++ more) ts refused → (others : List Tree) × (ts ≡ t ∷ others)

@@ -1,0 +1,14 @@
+pub mod Tree
+pub mod Code
+pub mod Value
+pub mod Falls
+pub mod Text
+pub mod Grammar
+pub mod Reading
+pub mod Gives
+pub mod Offset
+pub mod Stream
+pub mod Front
+pub mod Within
+pub mod Places
+pub mod Laws

@@ -1,0 +1,47 @@
+//! Laws of texts and streams, each the contract of a function that does nothing: whoever stands on them calls it.
+ghost use Rattle.resp_core.specs.Laws.{NoTextBeginsAnother, TextIsRead, OneReading, EachStreamHolds, OneHolding, RefusalStays, OneRefusal, ValuesStay, TextIsReadBack};
+
+/// No text begins another, so a stream can be read from its front with no look ahead.
+pub fn no_text_begins_another()
+    ensures { NoTextBeginsAnother }
+{}
+
+/// The one spelling of a plain value within the limits is a text of it.
+pub fn text_is_read()
+    ensures { TextIsRead }
+{}
+
+/// What a plain value within the limits was written as is read as that value, whatever follows it.
+pub fn text_is_read_back()
+    ensures { TextIsReadBack }
+{}
+
+/// A stream has one list of values, and whatever else it is split into is a beginning of that list.
+pub fn one_reading()
+    ensures { OneReading }
+{}
+
+/// Each stream has its values, and behind them a refused byte or none.
+pub fn each_stream_holds()
+    ensures { EachStreamHolds }
+{}
+
+/// A stream has one list of values, and a byte of it is refused or none is.
+pub fn one_holding()
+    ensures { OneHolding }
+{}
+
+/// One byte at most of an unfinished value is refused.
+pub fn one_refusal()
+    ensures { OneRefusal }
+{}
+
+/// What was refused stays refused at the same offset, whatever comes behind it.
+pub fn refusal_stays()
+    ensures { RefusalStays }
+{}
+
+/// A stream that goes on keeps the values that it had.
+pub fn values_stay()
+    ensures { ValuesStay }
+{}

@@ -1,0 +1,26 @@
+//! RESP2, the Redis serialization protocol, read and written.
+//!
+//! `Reader` reads a stream of bytes that comes in pieces, whatever the pieces are, as the values whose texts it holds.
+//! `put_text` writes a value in its one spelling. Reading is lenient: it takes signs and leading zeros of integers and
+//! leading zeros of lengths. The source is the Redis serialization protocol specification (RESP2); the limits on sizes
+//! and the offsets of refusals are this project's own.
+#![tactic(auto)]
+
+mod error;
+mod laws;
+mod parse;
+mod reader;
+mod text;
+mod value;
+
+pub use error::RespError;
+pub use laws::{
+    each_stream_holds, no_text_begins_another, one_holding, one_reading, one_refusal,
+    refusal_stays, text_is_read, text_is_read_back, values_stay,
+};
+pub use reader::{Limits, Reader};
+pub use text::put_text;
+pub use value::{Value, Values};
+
+#[cfg(test)]
+mod tests;
