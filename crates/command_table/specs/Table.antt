@@ -1,5 +1,6 @@
 -- The table of commands.
-use Rattle.std.specs.Prelude.{ℕ, List, [], ◌∷◌, codes}
+use Rattle.std.specs.Prelude.{ℕ, List, [], ◌∷◌, Option, find, codes}
+use Rattle.std.specs.Str.{str_to_ascii_lowercase, bytes_eq}
 use Rattle.command_table.specs.declared.Kind.{Kind}
 use Rattle.command_table.specs.declared.Kind.TheVariants.{Ping, Echo, Quit}
 
@@ -19,3 +20,11 @@ rows =
     ∷ row Echo (codes "echo") 2 0
     ∷ row Quit (codes "quit") 1 0
     ∷ []
+
+-- the first of these rows that has this name, compared without ASCII case
+abbrev pub row_in : List Row → List ℕ → Option Row
+row_in rs name = find (λ r. bytes_eq (str_to_ascii_lowercase name) (str_to_ascii_lowercase r.name)) rs
+
+-- the row of the command of this name
+abbrev pub row_named : List ℕ → Option Row
+row_named name = row_in rows name

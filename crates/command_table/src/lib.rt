@@ -6,7 +6,8 @@
 
 ghost use Rattle.std.specs.Prelude.{◌≡◌, ◌≢◌, IfSome, IfNone, Contains, All, map};
 ghost use Rattle.std.specs.Str.{str_to_ascii_lowercase};
-ghost use Rattle.command_table.specs.Table.{rows};
+ghost use Rattle.std.specs.Option.{option_map};
+ghost use Rattle.command_table.specs.Table.{rows, row_in, row_named};
 ghost use Rattle.command_table.specs.Entry.{row_of, HasName};
 
 /// How the proxy treats a command.
@@ -60,6 +61,7 @@ const ENTRIES: [Entry; 3] = [
 pub fn look(name: &[u8]) -> Option<Entry>
     ensures found { IfSome result (λ e. Contains rows (row_of e) × (str_to_ascii_lowercase name.now ≡ e.name.now)) }
     ensures unknown { IfNone result (All (λ r. str_to_ascii_lowercase name.now ≢ r.name) rows) }
+    ensures row { option_map row_of result ≡ row_named name.now }
 {
     find_entry(entries(), name)
 }
@@ -75,6 +77,7 @@ fn entries() -> &'static [Entry]
 fn find_entry(entries: &[Entry], name: &[u8]) -> Option<Entry>
     ensures found { IfSome result (λ e. Contains entries.now e × HasName name.now e) }
     ensures unknown { IfNone result (All (λ e. HasName name.now e → ⊥) entries.now) }
+    ensures row { option_map row_of result ≡ row_in (map row_of entries.now) name.now }
 {
     for entry in entries {
         if name.eq_ignore_ascii_case(entry.name.as_bytes()) {

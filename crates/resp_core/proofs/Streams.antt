@@ -1,5 +1,5 @@
 -- Laws of streams and readers.
-use Rattle.std.proofs.Common.{◌≡◌, ◌⊎◌, inl, inr, ⊎_elim, ℕ, ◌+◌, ◌-◌, ◌≤◌, List, [], ◌∷◌, ◌++◌, length, take, drop, Some, None, refl, sym, ap, ◌∙◌, subst, append_assoc, arith}
+use Rattle.std.proofs.Common.{◌≡◌, ◌⊎◌, inl, inr, ⊎_elim, ℕ, ◌+◌, ◌-◌, ◌<◌, ◌≤◌, List, [], ◌∷◌, ◌++◌, length, take, drop, Some, None, refl, sym, ap, ◌∙◌, subst, append_assoc, arith}
 use Rattle.std.proofs.lemmas.List.{length-append, length-take, length-drop, take-append-drop}
 use Rattle.resp_core.specs.Front.{IsFirstValue, IsUnfinished, IsFault}
 use Rattle.resp_core.specs.Tree.{Tree}
@@ -53,6 +53,10 @@ stands_fed r b x ts g e s most consumed held refusal = record {
   consumed_is = consumed ∙ g.consumed_is ∙ ap told_offset (omega (arith, splits_shorter r.most b r.held ts g.splits, length-append b x, length-append r.held x, ap length held));
   told = rw refusal tt;
 }
+
+-- the value at the front takes a byte at least
+pub first_value_some : (most : ℕ) (held : List ℕ) (t : Tree) (len : ℕ) → IsFirstValue most held t len → 0 < len
+first_value_some most held t len f = omega (arith, length-take len held, text_nonempty most max_depth (take len held) t f.text)
 
 -- a reader that gives the value at the front
 pub stands_given : (r : ReaderState) (b : List ℕ) (ts : List Tree) (t : Tree) (len : ℕ) → Stands r b ts → r.refusal ≡ None → IsFirstValue r.most r.held t len → (s : ReaderState) → s.most ≡ r.most → s.consumed ≡ told_offset (r.consumed + len) → s.held ≡ drop len r.held → s.refusal ≡ None → Stands s b (ts ++ t ∷ [])

@@ -4,7 +4,7 @@ use Rattle.resp_core.specs.Value.{tree_of}
 use Rattle.resp_core.specs.Front.{IsFirstValue, IsUnfinished, IsFault}
 use Rattle.resp_core.specs.Offset.{offset_of}
 use Rattle.resp_core.specs.Stream.{told_offset}
-use Rattle.resp_core.proofs.Streams.{stands_given, stands_told, no_refusal, has_refusal}
+use Rattle.resp_core.proofs.Streams.{first_value_some, stands_given, stands_told, no_refusal, has_refusal}
 use Rattle.resp_core.proofs.reader.Reader.next_value.Goals as goal
 
 -- the bytes that were looked at are those that are held
@@ -24,6 +24,14 @@ returns-in-Ok-Some-clause-value c =
     λ b ts h.
     stands_given c.args.self.now b ts (tree_of c.in-Ok-Some.value) c.in-Ok-Some.len h (sym (ap (λ z. z.refusal) v) ∙ none) f _ (ap (λ z. z.most) v)
     (c.saturating_add-self-inside.ensures ∙ ap (λ z. told_offset (z.consumed + c.in-Ok-Some.len)) v) (sym (drop-drop c.in-Ok-Some.len i.start i.bytes.items) ∙ ap (λ z. drop c.in-Ok-Some.len z.held) v) none
+
+pub returns-in-Ok-Some-clause-shorter : goal.returns-in-Ok-Some-clause-shorter
+returns-in-Ok-Some-clause-shorter c =
+    let i = c.self.inside in
+    let v = c.self.view_is in
+    let e = tail_is c.deref.result.now i.bytes.items i.start c.deref.ensures.value ∙ ap (λ z. z.held) v in
+    let f = moved (λ m h. IsFirstValue m h (tree_of c.in-Ok-Some.value) c.in-Ok-Some.len) (ap (λ z. z.most) v) e (rw c.in-Ok-Some.field-0-is at c.in-Ok-Some.ensures.found) in
+    omega (arith, length-drop (i.start + c.in-Ok-Some.len) i.bytes.items, length-drop i.start i.bytes.items, ap (λ z. length z.held) v, f.inside, first_value_some c.args.self.now.most c.args.self.now.held (tree_of c.in-Ok-Some.value) c.in-Ok-Some.len f)
 
 pub returns-in-Ok-None-clause-none : goal.returns-in-Ok-None-clause-none
 returns-in-Ok-None-clause-none c =

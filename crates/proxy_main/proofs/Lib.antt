@@ -1,0 +1,4 @@
+pub mod Words
+pub mod Plain
+pub mod Known
+pub mod Answering

@@ -1,0 +1,6 @@
+pub mod Ending
+pub mod Command
+pub mod Request
+pub mod Local
+pub mod Answer
+pub mod Stream
