@@ -6,6 +6,8 @@ mod command_line;
 mod ending;
 mod local;
 mod request;
+#[cfg(test)]
+mod tests;
 
 use command_line::{Asked, Refused};
 use ending::Ending;
