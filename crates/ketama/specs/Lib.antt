@@ -1,0 +1,2 @@
+pub mod RingError
+pub mod HostName

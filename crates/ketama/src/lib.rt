@@ -1,0 +1,13 @@
+//! The ring of libketama: which host owns a key.
+//!
+//! Each host has points on a ring of 32-bit numbers, made from the MD5 of its name and a number. A
+//! key has one point, from its own MD5, and belongs to the host of the first point at or above it,
+//! or past the last point to the host of the first point of all. Hosts, points and owners are those
+//! of each other client of libketama that uses MD5 and equal weights.
+#![tactic(auto)]
+
+pub use error::RingError;
+pub use name::{HostName, MAX_NAME_LEN};
+
+mod error;
+mod name;
