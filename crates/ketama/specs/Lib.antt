@@ -1,2 +1,4 @@
 pub mod RingError
 pub mod HostName
+pub mod Point
+pub mod Key

@@ -7,7 +7,10 @@
 #![tactic(auto)]
 
 pub use error::RingError;
+pub use key::point_of_key;
 pub use name::{HostName, MAX_NAME_LEN};
 
 mod error;
+mod key;
 mod name;
+mod point;
