@@ -13,4 +13,5 @@ pub use name::{HostName, MAX_NAME_LEN};
 mod error;
 mod key;
 mod name;
+mod owner;
 mod point;
