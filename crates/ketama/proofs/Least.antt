@@ -12,16 +12,16 @@ IsAtOrBefore-refl a = inr (refl, omega arith)
 
 pub IsAtOrBefore-trans : (a b c : ℕ × ℕ) → IsAtOrBefore a b → IsAtOrBefore b c → IsAtOrBefore a c
 IsAtOrBefore-trans a b c ab bc = elim ab [
-    inl less ↦ elim bc [ inl less' ↦ inl (omega arith) | inr same' ↦ inl (omega arith) ]
+  | inl less ↦ elim bc [ inl less' ↦ inl (omega arith) | inr same' ↦ inl (omega arith) ]
   | inr same ↦ elim bc [ inl less' ↦ inl (omega arith) | inr same' ↦ inr (omega arith, omega arith) ]
-  ]
+]
 
 -- each at or before the other: the same host
 pub same_host : (a b : ℕ × ℕ) → IsAtOrBefore a b → IsAtOrBefore b a → a.1 ≡ b.1
 same_host a b ab ba = elim ab [
-    inl less ↦ elim ba [ inl less' ↦ absurd (omega arith) | inr same' ↦ absurd (omega arith) ]
+  | inl less ↦ elim ba [ inl less' ↦ absurd (omega arith) | inr same' ↦ absurd (omega arith) ]
   | inr same ↦ elim ba [ inl less' ↦ absurd (omega arith) | inr same' ↦ omega arith ]
-  ]
+]
 
 lesser_test : ℕ × ℕ → ℕ × ℕ → Bool
 lesser_test a b = ltb b.0 a.0 || (eqb b.0 a.0 && ltb b.1 a.1)
@@ -30,25 +30,28 @@ not_less : (a b : ℕ × ℕ) → ltb b.0 a.0 ≡ false → (eqb b.0 a.0 && ltb 
 not_less a b above fails =
     let at_least : a.0 ≤ b.0 = ltb-false b.0 a.0 above in
     elim (cases_order a.0 b.0) [
-      inl same ↦ elim (and_cases (eqb b.0 a.0) (ltb b.1 a.1) fails) [
-          inl apart ↦ absurd (eqb-false b.0 a.0 apart (sym same))
+      | inl same ↦ elim (and_cases (eqb b.0 a.0) (ltb b.1 a.1) fails) [
+        | inl apart ↦ absurd (eqb-false b.0 a.0 apart (sym same))
         | inr after ↦ inr (same, ltb-false b.1 a.1 after)
-        ]
-    | inr apart ↦ elim apart [ inl less ↦ inl less | inr more ↦ absurd (omega arith) ]
+      ]
+      | inr apart ↦ elim apart [ inl less ↦ inl less | inr more ↦ absurd (omega arith) ]
     ]
 
 pub lesser_cases : (a b : ℕ × ℕ) → ((lesser a (Some b) ≡ b) × IsAtOrBefore b a) ⊎ ((lesser a (Some b) ≡ a) × IsAtOrBefore a b)
 unfolding lesser_test
 lesser_cases a b =
     elim (cases_Bool (lesser_test a b)) [
-      inl passes ↦ inl (cond-true _ b a passes, elim (or_cases (ltb b.0 a.0) (eqb b.0 a.0 && ltb b.1 a.1) passes) [
-          inl less ↦ inl (ltb-true b.0 a.0 less)
-        | inr same ↦
-          let both = and_parts (eqb b.0 a.0) (ltb b.1 a.1) same in
-          let below : b.1 < a.1 = ltb-true b.1 a.1 both.1 in
-          inr (eqb-true b.0 a.0 both.0, omega arith)
-        ])
-    | inr fails ↦ let parts = or_parts (ltb b.0 a.0) (eqb b.0 a.0 && ltb b.1 a.1) fails in inr (cond-false _ b a fails, not_less a b parts.0 parts.1)
+      | inl passes ↦ inl (
+        cond-true _ b a passes,
+        elim (or_cases (ltb b.0 a.0) (eqb b.0 a.0 && ltb b.1 a.1) passes) [
+          | inl less ↦ inl (ltb-true b.0 a.0 less)
+          | inr same ↦
+              let both = and_parts (eqb b.0 a.0) (ltb b.1 a.1) same in
+              let below : b.1 < a.1 = ltb-true b.1 a.1 both.1 in
+              inr (eqb-true b.0 a.0 both.0, omega arith)
+        ],
+      )
+      | inr fails ↦ let parts = or_parts (ltb b.0 a.0) (eqb b.0 a.0 && ltb b.1 a.1) fails in inr (cond-false _ b a fails, not_less a b parts.0 parts.1)
     ]
 
 -- ---- the least of a kind
@@ -64,16 +67,16 @@ IsLeastIfAny-lesser K L new to is_new cases None none =
     record { kind = is_new; first = λ pair l. elim (cases pair l) [ inl k ↦ absurd (none pair k) | inr same ↦ subst (IsAtOrBefore new) same (IsAtOrBefore-refl new) ] }
 IsLeastIfAny-lesser K L new to is_new cases (Some least) is =
     elim (lesser_cases new least) [
-      inl kept ↦ rw kept.0 (record {
+      | inl kept ↦ rw kept.0 (record {
         kind = to least is.kind;
         first = λ pair l. elim (cases pair l) [ inl k ↦ is.first pair k | inr same ↦ subst (IsAtOrBefore least) same kept.1 ];
       })
-    | inr taken ↦ rw taken.0 (record {
+      | inr taken ↦ rw taken.0 (record {
         kind = is_new;
         first = λ pair l. elim (cases pair l) [
-            inl k ↦ IsAtOrBefore-trans new least pair taken.1 (is.first pair k)
+          | inl k ↦ IsAtOrBefore-trans new least pair taken.1 (is.first pair k)
           | inr same ↦ subst (IsAtOrBefore new) same (IsAtOrBefore-refl new)
-          ];
+        ];
       })
     ]
 
@@ -88,8 +91,8 @@ from_pushed pairs from usable new pair is = record {
 cases_pushed : (pairs : List (ℕ × ℕ)) (from : ℕ) (usable : List Bool) (new pair : ℕ × ℕ) → IsUsablePairFrom (pairs ++ new ∷ []) from usable pair → IsUsablePairFrom pairs from usable pair ⊎ (new ≡ pair)
 cases_pushed pairs from usable new pair is =
     elim (Contains-push_cases pairs new pair is.usable_pair.member) [
-      inl member ↦ inl (record { at_or_above = is.at_or_above; usable_pair = record { member = member; host_usable = is.usable_pair.host_usable } })
-    | inr same ↦ inr same
+      | inl member ↦ inl (record { at_or_above = is.at_or_above; usable_pair = record { member = member; host_usable = is.usable_pair.host_usable } })
+      | inr same ↦ inr same
     ]
 
 -- a pair that passes comes
@@ -106,9 +109,9 @@ least-kept pairs from usable new least fails is =
     IsLeastIfAny-same (IsUsablePairFrom pairs from usable) (IsUsablePairFrom (pairs ++ new ∷ []) from usable)
     (from_pushed pairs from usable new)
     (λ pair l. elim (cases_pushed pairs from usable new pair l) [
-        inl k ↦ k
+      | inl k ↦ k
       | inr same ↦ absurd (fails (subst (λ p. from ≤ p.0) (sym same) l.at_or_above) (subst (λ (p : ℕ × ℕ). is_usable usable p.1 ≡ true) (sym same) l.usable_pair.host_usable))
-      ])
+    ])
     least is
 
 pub least-more : (pairs : List (ℕ × ℕ)) (i from : ℕ) (usable : List Bool) (least : Option (ℕ × ℕ)) → i < length pairs → IsLeastIfAny (IsUsablePairFrom (take i pairs ++ get_or pairs i (0, 0) ∷ []) from usable) least → IsLeastIfAny (IsUsablePairFrom (take (i + 1) pairs) from usable) least

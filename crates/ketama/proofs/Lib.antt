@@ -1,3 +1,4 @@
 pub mod Splits
 pub mod Tags
 pub mod Least
+pub mod Owners

@@ -12,6 +12,7 @@ pub use name::{HostName, MAX_NAME_LEN};
 
 mod error;
 mod key;
+pub mod laws;
 mod name;
 mod owner;
 mod point;

@@ -13,14 +13,14 @@ loop-at-preserved c =
     let seen = take i pairs in
     let pair = get_or pairs i (0, 0) in
     let kept = λ (fails : c.args.from ≤ pair.0 → get_or c.args.usable.now pair.1 false ≡ true → ⊥). least-more pairs i c.args.from c.args.usable.now c.loop-at.least c.loop-at-test.true
-        (least-kept seen c.args.from c.args.usable.now pair c.loop-at.least fails c.loop-at.invariant) in
+    (least-kept seen c.args.from c.args.usable.now pair c.loop-at.least fails c.loop-at.invariant) in
     elim c.if-from-at.branch [
-      then-from-at+then-usable-host w ↦
-      rw (w.least-is, w.lesser.ensures) (least-more pairs i c.args.from c.args.usable.now (Some (lesser pair c.loop-at.least)) c.loop-at-test.true
+      | then-from-at+then-usable-host w ↦
+          rw (w.least-is, w.lesser.ensures) (least-more pairs i c.args.from c.args.usable.now (Some (lesser pair c.loop-at.least)) c.loop-at-test.true
           (least-taken seen c.args.from c.args.usable.now pair c.loop-at.least w.if-from-at.true w.if-usable-host.true c.loop-at.invariant))
-    | else-from-at w ↦ rw w.least-is (kept (elim w.else-from-at.branch [
-        else-from-at-via-then-from-at+else-usable-host w' ↦ λ above on. both_ways _ w'.if-usable-host.false on
-      | else-from-at-via-else-from-at w' ↦ let below = w'.if-from-at.false in λ above on. omega arith
+      | else-from-at w ↦ rw w.least-is (kept (elim w.else-from-at.branch [
+        | else-from-at-via-then-from-at+else-usable-host w' ↦ λ above on. both_ways _ w'.if-usable-host.false on
+        | else-from-at-via-else-from-at w' ↦ let below = w'.if-from-at.false in λ above on. omega arith
       ]))
     ]
 
