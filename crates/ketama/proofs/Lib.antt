@@ -2,3 +2,4 @@ pub mod Splits
 pub mod Tags
 pub mod Least
 pub mod Owners
+pub mod Pairs

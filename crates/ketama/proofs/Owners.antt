@@ -49,27 +49,27 @@ Contains-cons_tail x xs y (k, within, e) = (suc k, omega arith, e)
 Contains-from_filter : (test : ℕ × ℕ → Bool) (xs : List (ℕ × ℕ)) (y : ℕ × ℕ) → Contains (filter test xs) y → Contains xs y × (test y ≡ true)
 Contains-from_filter test [] y (k, within, e) = absurd (omega arith)
 Contains-from_filter test (x ∷ xs) y is = elim (cases_Bool (test x)) [
-    inl passes ↦ elim (Contains-cons_cases x (filter test xs) y (subst (λ ys. Contains ys y) (cond-true (test x) (x ∷ filter test xs) (filter test xs) passes) is)) [
-        inl later ↦ let rest = Contains-from_filter test xs y later in (Contains-cons_tail x xs y rest.0, rest.1)
-      | inr here ↦ (Contains-cons_head x xs y here, ap test (sym here) ∙ passes)
-      ]
-  | inr fails ↦
-    let rest = Contains-from_filter test xs y (subst (λ ys. Contains ys y) (cond-false (test x) (x ∷ filter test xs) (filter test xs) fails) is) in
-    (Contains-cons_tail x xs y rest.0, rest.1)
+  | inl passes ↦ elim (Contains-cons_cases x (filter test xs) y (subst (λ ys. Contains ys y) (cond-true (test x) (x ∷ filter test xs) (filter test xs) passes) is)) [
+    | inl later ↦ let rest = Contains-from_filter test xs y later in (Contains-cons_tail x xs y rest.0, rest.1)
+    | inr here ↦ (Contains-cons_head x xs y here, ap test (sym here) ∙ passes)
   ]
+  | inr fails ↦
+      let rest = Contains-from_filter test xs y (subst (λ ys. Contains ys y) (cond-false (test x) (x ∷ filter test xs) (filter test xs) fails) is) in
+      (Contains-cons_tail x xs y rest.0, rest.1)
+]
 
 Contains-filter : (test : ℕ × ℕ → Bool) (xs : List (ℕ × ℕ)) (y : ℕ × ℕ) → Contains xs y → test y ≡ true → Contains (filter test xs) y
 Contains-filter test [] y (k, within, e) passes = absurd (omega arith)
 Contains-filter test (x ∷ xs) y is passes = elim (Contains-cons_cases x xs y is) [
-    inl later ↦
-    let rest = Contains-filter test xs y later passes in
-    elim (cases_Bool (test x)) [
-      inl kept ↦ subst (λ ys. Contains ys y) (sym (cond-true (test x) (x ∷ filter test xs) (filter test xs) kept)) (Contains-cons_tail x (filter test xs) y rest)
-    | inr left ↦ subst (λ ys. Contains ys y) (sym (cond-false (test x) (x ∷ filter test xs) (filter test xs) left)) rest
-    ]
+  | inl later ↦
+      let rest = Contains-filter test xs y later passes in
+      elim (cases_Bool (test x)) [
+        | inl kept ↦ subst (λ ys. Contains ys y) (sym (cond-true (test x) (x ∷ filter test xs) (filter test xs) kept)) (Contains-cons_tail x (filter test xs) y rest)
+        | inr left ↦ subst (λ ys. Contains ys y) (sym (cond-false (test x) (x ∷ filter test xs) (filter test xs) left)) rest
+      ]
   | inr here ↦
-    subst (λ ys. Contains ys y) (sym (cond-true (test x) (x ∷ filter test xs) (filter test xs) (ap test here ∙ passes))) (Contains-cons_head x (filter test xs) y here)
-  ]
+      subst (λ ys. Contains ys y) (sym (cond-true (test x) (x ∷ filter test xs) (filter test xs) (ap test here ∙ passes))) (Contains-cons_head x (filter test xs) y here)
+]
 
 least_of-is : (pairs : List (ℕ × ℕ)) → IsLeastIfAny (Contains pairs) (least_of pairs)
 least_of-is [] = λ pair (k, within, e). omega arith
@@ -107,9 +107,9 @@ unfolding owner_of
 owner_of-is pairs point usable =
     owner-by_leasts pairs point usable (least_of (usable_pairs_from pairs point usable)) (least_of (usable_pairs pairs usable))
     (IsLeastIfAny-same (Contains (usable_pairs_from pairs point usable)) (IsUsablePairFrom pairs point usable)
-     (to_usable_from pairs point usable) (from_usable_from pairs point usable) _ (least_of-is (usable_pairs_from pairs point usable)))
+    (to_usable_from pairs point usable) (from_usable_from pairs point usable) _ (least_of-is (usable_pairs_from pairs point usable)))
     (IsLeastIfAny-same (Contains (usable_pairs pairs usable)) (IsUsablePair pairs usable)
-     (to_usable pairs usable) (from_usable pairs usable) _ (least_of-is (usable_pairs pairs usable)))
+    (to_usable pairs usable) (from_usable pairs usable) _ (least_of-is (usable_pairs pairs usable)))
 
 -- an owner is what `owner_of` says
 pub owner_of-unique : (pairs : List (ℕ × ℕ)) (point : ℕ) (usable : List Bool) (answer : Option ℕ) → IsOwner pairs point usable answer → answer ≡ owner_of pairs point usable
@@ -127,17 +127,24 @@ wider_from pairs point usable fewer subset pair is = record { at_or_above = is.a
 fewer_owners : (pairs : List (ℕ × ℕ)) (point : ℕ) (usable fewer : List Bool) → ((h : ℕ) → is_usable fewer h ≡ true → is_usable usable h ≡ true) → (answer : Option ℕ) → IfSome answer (λ host. is_usable fewer host ≡ true) → IsOwner pairs point usable answer → IsOwner pairs point fewer answer
 fewer_owners pairs point usable fewer subset None still none = λ pair is. none pair (wider pairs usable fewer subset pair is)
 fewer_owners pairs point usable fewer subset (Some host) still (at, owns) = elim owns [
-    inl here ↦ (at, inl (record {
+  | inl here ↦ (
+    at,
+    inl (record {
       kind = record { at_or_above = here.kind.at_or_above; usable_pair = record { member = here.kind.usable_pair.member; host_usable = still } };
       first = λ pair is. here.first pair (wider_from pairs point usable fewer subset pair is);
-    }))
-  | inr past ↦ (at, inr (
+    }),
+  )
+  | inr past ↦ (
+    at,
+    inr (
       (λ pair is. past.0 pair (wider_from pairs point usable fewer subset pair is)),
       record {
         kind = record { member = past.1.kind.member; host_usable = still };
         first = λ pair is. past.1.first pair (wider pairs usable fewer subset pair is);
-      }))
-  ]
+      },
+    ),
+  )
+]
 
 fewer_owner_of : (pairs : List (ℕ × ℕ)) (point : ℕ) (usable fewer : List Bool) → ((h : ℕ) → is_usable fewer h ≡ true → is_usable usable h ≡ true) → IfSome (owner_of pairs point usable) (λ host. is_usable fewer host ≡ true) → owner_of pairs point usable ≡ owner_of pairs point fewer
 fewer_owner_of pairs point usable fewer subset still =
@@ -148,15 +155,15 @@ fewer_owner_of pairs point usable fewer subset still =
 
 out-without : (usable : List Bool) (host : ℕ) → is_usable (without usable host) host ≡ false
 out-without usable host = elim (cases_lt host (length usable)) [
-    inl within ↦ get_or-set_same usable host false false within
+  | inl within ↦ get_or-set_same usable host false false within
   | inr past ↦ rw (set_past usable host false past) (get_or_past usable host false past)
-  ]
+]
 
 subset-without : (usable : List Bool) (host h : ℕ) → is_usable (without usable host) h ≡ true → is_usable usable h ≡ true
 subset-without usable host h on = elim (cases_eq h host) [
-    inl same ↦ absurd (both_ways _ (out-without usable host) (subst (λ k. is_usable (without usable host) k ≡ true) same on))
+  | inl same ↦ absurd (both_ways _ (out-without usable host) (subst (λ k. is_usable (without usable host) k ≡ true) same on))
   | inr other ↦ sym (get_or-set_other usable host h false false other) ∙ on
-  ]
+]
 
 still_usable : (pairs : List (ℕ × ℕ)) (point : ℕ) (usable : List Bool) (host : ℕ) (answer : Option ℕ) → IsOwner pairs point usable answer → answer ≢ Some host → IfSome answer (λ h. is_usable (without usable host) h ≡ true)
 still_usable pairs point usable host None is other = tt
@@ -166,15 +173,15 @@ still_usable pairs point usable host (Some h) is other =
 pub others_keep_their_points : OthersKeepTheirPoints
 others_keep_their_points pairs point usable host other =
     sym (fewer_owner_of pairs point usable (without usable host) (subset-without usable host)
-      (still_usable pairs point usable host (owner_of pairs point usable) (owner_of-is pairs point usable) other))
+    (still_usable pairs point usable host (owner_of pairs point usable) (owner_of-is pairs point usable) other))
 
 -- ---- others are out
 
 subset-all : (usable : List Bool) (h : ℕ) → is_usable usable h ≡ true → is_usable (all_usable usable) h ≡ true
 subset-all usable h on = elim (cases_lt h (length usable)) [
-    inl within ↦ get_or-replicate (length usable) h true false within
+  | inl within ↦ get_or-replicate (length usable) h true false within
   | inr past ↦ absurd (both_ways _ (get_or_past usable h false past) on)
-  ]
+]
 
 pub first_choice_stands : FirstChoiceStands
 first_choice_stands pairs point usable host chosen on =
@@ -189,16 +196,23 @@ owners_by_members pairs others point usable to from (Some host) (at, owns) =
     let back = λ (pair : ℕ × ℕ) (is : IsUsablePair others usable pair). let r : IsUsablePair pairs usable pair = record { member = from pair is.member; host_usable = is.host_usable } in r in
     let back_from = λ (pair : ℕ × ℕ) (is : IsUsablePairFrom others point usable pair). let r : IsUsablePairFrom pairs point usable pair = record { at_or_above = is.at_or_above; usable_pair = back pair is.usable_pair } in r in
     elim owns [
-      inl here ↦ (at, inl (record {
-        kind = record { at_or_above = here.kind.at_or_above; usable_pair = there (at, host) here.kind.usable_pair };
-        first = λ pair is. here.first pair (back_from pair is);
-      }))
-    | inr past ↦ (at, inr (
-        (λ pair is. past.0 pair (back_from pair is)),
-        record { kind = there (at, host) past.1.kind; first = λ pair is. past.1.first pair (back pair is) }))
+      | inl here ↦ (
+        at,
+        inl (record {
+          kind = record { at_or_above = here.kind.at_or_above; usable_pair = there (at, host) here.kind.usable_pair };
+          first = λ pair is. here.first pair (back_from pair is);
+        }),
+      )
+      | inr past ↦ (
+        at,
+        inr (
+          (λ pair is. past.0 pair (back_from pair is)),
+          record { kind = there (at, host) past.1.kind; first = λ pair is. past.1.first pair (back pair is) },
+        ),
+      )
     ]
 
 pub owners_go_by_members : OwnersGoByMembers
 owners_go_by_members pairs others point usable same =
     sym (owner_of-unique others point usable (owner_of pairs point usable)
-      (owners_by_members pairs others point usable (λ pair. (same pair).0) (λ pair. (same pair).1) (owner_of pairs point usable) (owner_of-is pairs point usable)))
+    (owners_by_members pairs others point usable (λ pair. (same pair).0) (λ pair. (same pair).1) (owner_of pairs point usable) (owner_of-is pairs point usable)))

@@ -9,6 +9,7 @@
 pub use error::RingError;
 pub use key::point_of_key;
 pub use name::{HostName, MAX_NAME_LEN};
+pub use ring::{MAX_HOSTS, Ring};
 
 mod error;
 mod key;
@@ -16,3 +17,4 @@ pub mod laws;
 mod name;
 mod owner;
 mod point;
+mod ring;
