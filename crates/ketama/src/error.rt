@@ -1,6 +1,8 @@
 ghost use Rattle.std.specs.Prelude.{◌≡◌};
 ghost use Rattle.ketama.specs.RingError.{number_of};
+ghost use Rattle.ketama.specs.declared.error.RingError.TheVariants.{NoMemory};
 
+use std::alloc::AllocError;
 use thiserror::Error;
 
 /// Why a ring or a host's name was refused.
@@ -29,6 +31,14 @@ pub enum RingError {
     /// 306: a point is given to a host that there is not.
     #[error("a point belongs to no host")]
     BadPoint,
+}
+
+impl From<AllocError> for RingError {
+    ghost from_gives = { λ _ e. e ≡ NoMemory };
+
+    fn from(_error: AllocError) -> RingError {
+        RingError::NoMemory
+    }
 }
 
 impl RingError {

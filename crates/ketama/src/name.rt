@@ -40,7 +40,7 @@ impl HostName {
         if !is_host_name(bytes) {
             return Err(RingError::BadName);
         }
-        let bytes = Vec::from_slice(alloc, bytes).map_err(|_| RingError::NoMemory)?;
+        let bytes = Vec::from_slice(alloc, bytes)?;
         Ok(HostName { bytes })
     }
 

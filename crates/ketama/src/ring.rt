@@ -1,4 +1,4 @@
-ghost use Rattle.std.specs.Prelude.{◌≡◌, ◌↔◌, ◌<◌, ◌≤◌, ◌*◌, List, ℕ, length, All, Any, IfOk, IfSome, IsOkUnless, IsErrOf, IsTrue};
+ghost use Rattle.std.specs.Prelude.{◌≡◌, ◌↔◌, ◌<◌, ◌≤◌, ◌*◌, List, ℕ, length, All, Any, IfOk, IfSome, IsOkUnless, IsErrOf, IsTrue, Contains};
 ghost use Rattle.ketama.specs.Owner.{IsOwner, owner_of};
 ghost use Rattle.ketama.specs.Ketama.{AreWeights, HasSameName, IsKetamaRing};
 ghost use Rattle.ketama.specs.GivenPoints.{HasBadPoint, IsRingOfPoints};
@@ -61,7 +61,7 @@ impl Ring {
         if has_same_name(names) {
             return Err(RingError::SameName);
         }
-        let pairs = pairs_of(alloc, names).map_err(|_| RingError::NoMemory)?;
+        let pairs = pairs_of(alloc, names)?;
         Ok(Ring {
             hosts: names.len(),
             digests: DIGESTS_OF_HOST * names.len() as u32,
@@ -88,10 +88,10 @@ impl Ring {
         if hosts > MAX_HOSTS {
             return Err(RingError::TooManyHosts);
         }
-        if points.iter().any(|point| point.1 >= hosts) {
+        if has_bad_point(hosts, points) {
             return Err(RingError::BadPoint);
         }
-        let pairs = Vec::from_slice(alloc, points).map_err(|_| RingError::NoMemory)?;
+        let pairs = Vec::from_slice(alloc, points)?;
         Ok(Ring {
             hosts,
             digests: 0,
@@ -141,12 +141,23 @@ fn has_same_name(names: &[HostName]) -> bool
     ensures { IsTrue result ↔ HasSameName names.now }
 {
     for (j, name) in names.iter().enumerate() {
-        if names[..j]
-            .iter()
-            .any(|other| other.as_bytes() == name.as_bytes())
-        {
+        if has_name(&names[..j], name) {
             return true;
         }
     }
     false
+}
+
+fn has_name(names: &[HostName], name: &HostName) -> bool
+    ensures { IsTrue result ↔ Contains names.now name.now }
+{
+    names
+        .iter()
+        .any(|other| other.as_bytes() == name.as_bytes())
+}
+
+fn has_bad_point(hosts: usize, points: &[Pair]) -> bool
+    ensures { IsTrue result ↔ HasBadPoint hosts points.now }
+{
+    points.iter().any(|point| point.1 >= hosts)
 }

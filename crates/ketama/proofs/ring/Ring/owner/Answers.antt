@@ -1,0 +1,16 @@
+use Rattle.std.proofs.Common.{◌≡◌, List, ℕ, ap, subst, ◌∙◌}
+use Rattle.ketama.specs.Owner.{IsOwner}
+use Rattle.ketama.specs.Continuum.{Continuum}
+use Rattle.ketama.proofs.Owners.{owner_of-unique}
+use Rattle.ketama.proofs.ring.Ring.owner.Goals as goal
+
+pub returns-clause-owner : goal.returns-clause-owner
+returns-clause-owner c =
+    let same = c.deref.ensures.value ∙ ap (λ (r : Continuum). r.pairs) c.self.view_is in
+    subst (λ pairs. IsOwner pairs c.args.point c.args.usable.now c.owner.result) same c.owner.ensures
+
+pub returns-clause-value : goal.returns-clause-value
+returns-clause-value c =
+    owner_of-unique c.args.self.now.pairs c.args.point c.args.usable.now c.owner.result (
+    let same = c.deref.ensures.value ∙ ap (λ (r : Continuum). r.pairs) c.self.view_is in
+    subst (λ pairs. IsOwner pairs c.args.point c.args.usable.now c.owner.result) same c.owner.ensures)
