@@ -1,11 +1,11 @@
 -- The one owner of a point, and what changes it.
-use Rattle.std.proofs.Common.{◌≡◌, ◌≢◌, ◌↔◌, ℕ, ◌<◌, ◌≤◌, zero, suc, Bool, true, false, leb, cond, ◌⊎◌, inl, inr, Option, Some, None, IfSome, List, [], ◌∷◌, length, filter, replicate, set, get_or, refl, sym, ◌∙◌, ap, subst, Contains, arith}
+use Rattle.std.proofs.Common.{◌≡◌, ◌≢◌, ℕ, zero, suc, Bool, true, false, leb, ◌⊎◌, inl, inr, Option, Some, None, IfSome, List, [], ◌∷◌, length, filter, refl, sym, ◌∙◌, ap, subst, Contains, arith}
 use Rattle.std.specs.Option.{option_map}
 use Rattle.std.proofs.lemmas.Bool.{cases_Bool, cases_eq, cases_lt, both_ways, leb-true, le-leb, cond-true, cond-false}
 use Rattle.std.proofs.lemmas.List.{get_or-set_other, get_or-set_same, set_past, get_or-replicate, get_or_past}
-use Rattle.ketama.specs.Owner.{is_usable, IsUsablePair, IsUsablePairFrom, IsAtOrBefore, IsLeast, HasNone, IsLeastIfAny, Owns, IsOwner, lesser, least_of, usable_pairs, usable_pairs_from, first_of, owner_of}
-use Rattle.ketama.specs.OwnerLaws.{without, all_usable, OwnerIsOne, OthersKeepTheirPoints, FirstChoiceStands, OwnersGoByMembers}
-use Rattle.ketama.proofs.Least.{same_host, IsLeastIfAny-same, IsLeastIfAny-lesser, IsAtOrBefore-refl}
+use Rattle.ketama.specs.Owner.{is_usable, IsUsablePair, IsUsablePairFrom, IsLeast, IsLeastIfAny, Owns, IsOwner, least_of, usable_pairs, usable_pairs_from, first_of, owner_of}
+use Rattle.ketama.specs.OwnerLaws.{without, all_usable, OthersKeepTheirPoints, FirstChoiceStands, OwnersGoByMembers}
+use Rattle.ketama.proofs.Least.{same_host, IsLeastIfAny-same, IsLeastIfAny-lesser}
 
 -- ---- one owner at most
 

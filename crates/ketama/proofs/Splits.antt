@@ -1,8 +1,8 @@
 -- Lists cut in two at the first of some byte.
-use Rattle.std.proofs.Common.{◌≡◌, ◌≢◌, ℕ, zero, suc, ◌+◌, ◌<◌, ◌≤◌, Bool, true, false, not, cond, eqb, ltb, ◌||◌, List, [], ◌∷◌, ◌++◌, length, take, drop, get_or, refl, sym, ◌∙◌, ap, inl, inr, Option, Some, None, Contains, position, add-one, arith, rules, append_assoc}
+use Rattle.std.proofs.Common.{◌≡◌, ℕ, zero, suc, ◌+◌, ◌<◌, ◌≤◌, Bool, true, false, eqb, ltb, ◌||◌, List, [], ◌∷◌, ◌++◌, length, take, drop, get_or, refl, sym, ◌∙◌, ap, inl, inr, Some, None, Contains, position, arith}
 use Rattle.std.specs.List.{before_first, after_first, list_any, position_or_len}
-use Rattle.std.proofs.lemmas.Bool.{ne_eqb, eq-eqb, eqb-true, eqb-false, ltb-false, cases_Bool, false≢true, true≢false}
-use Rattle.std.proofs.lemmas.List.{take_at, drop_at, take-append-drop, drop_more, get_or-take, length-take, get_or_at, length-append}
+use Rattle.std.proofs.lemmas.Bool.{ne_eqb, eq-eqb, eqb-true, eqb-false, ltb-false, cases_Bool}
+use Rattle.std.proofs.lemmas.List.{take_at, take-append-drop, drop_more, get_or-take, length-take, get_or_at, length-append}
 use Rattle.std.proofs.lemmas.List.Quantifiers.{position-Some}
 use Rattle.ketama.specs.Key.{IsSplitAt}
 

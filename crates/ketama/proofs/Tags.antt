@@ -1,5 +1,5 @@
 -- The tag of a key, and keys that have none.
-use Rattle.std.proofs.Common.{◌≡◌, ◌≢◌, ℕ, ◌<◌, Bool, true, false, eqb, ltb, ◌&&◌, cond, List, [], ◌∷◌, ◌++◌, length, refl, sym, ◌∙◌, ap, subst, Contains, IsTrue, zero, suc, arith}
+use Rattle.std.proofs.Common.{◌≡◌, ◌≢◌, ℕ, Bool, true, false, eqb, ltb, ◌&&◌, cond, List, [], ◌∷◌, ◌++◌, length, refl, sym, ◌∙◌, ap, subst, Contains, IsTrue, suc, arith}
 use Rattle.std.specs.List.{before_first, after_first, list_any}
 use Rattle.std.proofs.lemmas.Bool.{lt-ltb, cond-false, and_right}
 use Rattle.ketama.specs.Key.{IsSplitAt, IsTagOf, open_brace, close_brace, tag_or_key, point_of, point_of_bytes}

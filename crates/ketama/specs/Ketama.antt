@@ -1,5 +1,5 @@
 -- The points of libketama.
-use Rattle.std.specs.Prelude.{◌≡◌, ◌↔◌, ℕ, zero, suc, ◌+◌, ◌*◌, ◌<◌, ◌≤◌, decimal, Some, List, [], ◌∷◌, ◌++◌, length, slice_index, slice_index_or, slice_get, All, Contains}
+use Rattle.std.specs.Prelude.{◌≡◌, ◌↔◌, ℕ, zero, suc, ◌*◌, ◌<◌, ◌≤◌, decimal, Some, List, [], ◌∷◌, ◌++◌, length, slice_index, slice_index_or, slice_get, All, Contains}
 use Rattle.md5.specs.Md5.{md5}
 use Rattle.ketama.specs.Point.{point_in}
 use Rattle.ketama.specs.Continuum.{Continuum}

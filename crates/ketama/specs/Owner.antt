@@ -1,7 +1,7 @@
 -- Which host owns a point of a ring. A pair is a point and the host that it belongs to. What is said
 -- here of a list of pairs depends on its members alone, not on their order nor on how often one is
 -- there. A list of `Bool` says of each host whether it is usable.
-use Rattle.std.specs.Prelude.{◌≡◌, ◌≢◌, ◌↔◌, ℕ, ◌<◌, ◌≤◌, nat_lt, nat_le, Bool, true, false, ◌==◌, ◌&&◌, ◌||◌, if◌then◌else◌, Option, Some, None, List, [], ◌∷◌, length, filter, replicate, slice_index_or, slice_set, Contains, ◌⊎◌}
+use Rattle.std.specs.Prelude.{◌≡◌, ℕ, ◌<◌, ◌≤◌, nat_lt, nat_le, Bool, true, false, ◌==◌, ◌&&◌, ◌||◌, if◌then◌else◌, Option, Some, None, List, [], ◌∷◌, filter, slice_index_or, Contains, ◌⊎◌}
 use Rattle.std.specs.Option.{option_map}
 
 -- whether the host is usable; one past the end of the list is not

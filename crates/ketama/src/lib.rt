@@ -18,3 +18,5 @@ mod name;
 mod owner;
 mod point;
 mod ring;
+#[cfg(test)]
+mod tests;

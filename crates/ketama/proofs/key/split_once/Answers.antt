@@ -1,4 +1,4 @@
-use Rattle.std.proofs.Common.{sym, ◌∙◌, subst, take, drop, ◌+◌, ◌-◌, length}
+use Rattle.std.proofs.Common.{sym, ◌∙◌, ◌+◌}
 use Rattle.std.proofs.lemmas.List.{take_rest}
 use Rattle.ketama.proofs.Splits.{IsSplitAt-position, absent-position}
 use Rattle.ketama.proofs.key.split_once.Goals as goal

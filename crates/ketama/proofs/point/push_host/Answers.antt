@@ -1,5 +1,4 @@
-use Rattle.std.proofs.Common.{◌++◌, ap, sym, ◌∙◌, append_assoc, append-nil}
-use Rattle.ketama.specs.Ketama.{digest_pairs}
+use Rattle.std.proofs.Common.{sym, append_assoc, append-nil}
 use Rattle.ketama.proofs.Pairs.{host_pairs-none, host_pairs-more}
 use Rattle.ketama.proofs.point.push_host.Goals as goal
 

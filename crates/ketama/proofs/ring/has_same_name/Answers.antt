@@ -1,4 +1,4 @@
-use Rattle.std.proofs.Common.{◌≡◌, ℕ, ◌+◌, ◌<◌, length, take, get_or, List, [], Some, Contains, sym, ◌∙◌, ap, subst, inl, inr, refl, slice_get, arith}
+use Rattle.std.proofs.Common.{◌<◌, length, ◌∙◌, ap, inl, inr, refl, slice_get, arith}
 use Rattle.std.proofs.lemmas.Bool.{cases_eq, iff_false}
 use Rattle.std.proofs.lemmas.Option.{slice_get_read, get_or_from_slice_get}
 use Rattle.std.proofs.lemmas.List.{get_or-take, length-take-le}

@@ -1,5 +1,4 @@
-use Rattle.std.proofs.Common.{◌≡◌, ◌<◌, ℕ, List, All, Contains, length, sym, subst, refl, arith}
-use Rattle.ketama.specs.Ketama.{IsKetamaPair}
+use Rattle.std.proofs.Common.{◌<◌, ℕ, All, length, sym, subst, refl, arith}
 use Rattle.ketama.proofs.Pairs.{ring_pairs-IsKetamaPair, ring_pairs-in_range}
 use Rattle.ketama.proofs.ring.Ring.build.Goals as goal
 

@@ -1,4 +1,4 @@
-use Rattle.std.proofs.Common.{◌≡◌, List, ℕ, ap, subst, ◌∙◌}
+use Rattle.std.proofs.Common.{ap, subst, ◌∙◌}
 use Rattle.ketama.specs.Owner.{IsOwner}
 use Rattle.ketama.specs.Continuum.{Continuum}
 use Rattle.ketama.proofs.Owners.{owner_of-unique}
