@@ -223,13 +223,13 @@ fn owners_agree_with_a_running_proxy(rt: HostRuntime) -> Result<(), Fail> {
 fn a_ring_has_64_hosts_at_most(rt: HostRuntime) -> Result<(), Fail> {
     let names = numbered_names(rt.alloc(), 65)?;
     let weights = vec![in rt.alloc(); 100; 65]?;
-    assert_eq!(rt; names.len(), 65);
-    assert_eq!(rt; weights.len(), 65);
     assert_eq!(rt;
         error_of(Ring::build(rt.alloc(), &names, &weights)),
         Some(303)
     );
-    let ring = Ring::build(rt.alloc(), &names[..64], &weights[..64])?;
+    let names = numbered_names(rt.alloc(), 64)?;
+    let weights = vec![in rt.alloc(); 100; 64]?;
+    let ring = Ring::build(rt.alloc(), &names, &weights)?;
     assert_eq!(rt; ring.hosts(), 64);
     assert_eq!(rt; ring.digests(), 2560);
     Ok(())
