@@ -1,4 +1,4 @@
-ghost use Rattle.std.specs.Prelude.{◌≡◌, ◌↔◌, ◌≤◌, List, length, All, IsTrue, IfOk, IsOkUnless, IsErrOf};
+ghost use Rattle.std.specs.Prelude.{◌≡◌, ◌↔◌, ◌≤◌, List, length, All, IsTrue, IfOk, OnOk, IsOkUnless, IsErrOf};
 ghost use Rattle.ketama.specs.HostName.{IsHostName};
 
 use crate::error::RingError;
@@ -34,6 +34,7 @@ impl HostName {
     /// no memory is left for a copy of the bytes, the answer is `NoMemory` (301).
     pub fn read(alloc: Global, bytes: &[u8]) -> Result<HostName, RingError>
         ensures ok { IfOk result (λ name. name ≡ bytes.now) }
+        ensures named { OnOk result (IsHostName bytes.now) }
         ensures bad_name { IsErrOf result RingError.BadName ↔ ¬ IsHostName bytes.now }
         ensures good { IsHostName bytes.now → IsOkUnless result RingError.NoMemory }
     {

@@ -9,13 +9,13 @@ pub fn owner(pairs: &[Pair], point: u32, usable: &[bool]) -> Option<usize>
     requires { All (λ pair. pair.1 < length usable.now) pairs.now }
     ensures { IsOwner pairs.now point usable.now result }
 {
-    match least_from(pairs, point, usable) {
-        Some((_, host)) => Some(host),
-        None => match least_from(pairs, 0, usable) {
-            Some((_, host)) => Some(host),
-            None => None,
-        },
+    if let Some((_, host)) = least_from(pairs, point, usable) {
+        return Some(host);
     }
+
+    // Past the last point the ring goes on with its first.
+    let (_, host) = least_from(pairs, 0, usable)?;
+    Some(host)
 }
 
 // The least pair, by point and then host, of those at `from` or above whose host is usable.
