@@ -28,6 +28,11 @@ owns_is_one pairs point usable a b (at, owns) (at', owns') = elim owns [
 owned_pair : (pairs : List (ℕ × ℕ)) (point : ℕ) (usable : List Bool) (host : ℕ) → Owns pairs point usable host → (at : ℕ) × IsUsablePair pairs usable (at, host)
 owned_pair pairs point usable host (at, owns) = elim owns [ inl here ↦ (at, here.kind.usable_pair) | inr past ↦ (at, past.1.kind) ]
 
+-- an owner is usable
+pub IsOwner-usable : (pairs : List (ℕ × ℕ)) (point : ℕ) (usable : List Bool) (answer : Option ℕ) → IsOwner pairs point usable answer → IfSome answer (λ host. is_usable usable host ≡ true)
+IsOwner-usable pairs point usable None none = tt
+IsOwner-usable pairs point usable (Some host) owns = (owned_pair pairs point usable host owns).1.host_usable
+
 pub owner_is_one : (pairs : List (ℕ × ℕ)) (point : ℕ) (usable : List Bool) (a b : Option ℕ) → IsOwner pairs point usable a → IsOwner pairs point usable b → a ≡ b
 owner_is_one pairs point usable None None a b = refl
 owner_is_one pairs point usable None (Some y) a b = let pair = owned_pair pairs point usable y b in absurd (a (pair.0, y) pair.1)

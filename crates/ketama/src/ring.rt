@@ -1,5 +1,5 @@
-ghost use Rattle.std.specs.Prelude.{◌≡◌, ◌↔◌, ◌<◌, ◌≤◌, ◌*◌, List, ℕ, length, All, Any, IfOk, IfSome, IsOkUnless, IsErrOf, IsTrue, Contains};
-ghost use Rattle.ketama.specs.Owner.{IsOwner, owner_of};
+ghost use Rattle.std.specs.Prelude.{◌≡◌, true, ◌↔◌, ◌<◌, ◌≤◌, ◌*◌, List, ℕ, length, All, Any, IfOk, IfSome, IsOkUnless, IsErrOf, IsTrue, Contains};
+ghost use Rattle.ketama.specs.Owner.{is_usable, IsOwner, owner_of};
 ghost use Rattle.ketama.specs.Ketama.{AreWeights, HasSameName, IsKetamaRing};
 ghost use Rattle.ketama.specs.GivenPoints.{HasBadPoint, IsRingOfPoints};
 
@@ -122,6 +122,7 @@ impl Ring {
         requires { length usable.now ≡ self.now.hosts }
         ensures owner { IsOwner self.now.pairs point usable.now result }
         ensures value { result ≡ owner_of self.now.pairs point usable.now }
+        ensures usable { IfSome result (λ host. is_usable usable.now host ≡ true) }
         ensures in_range { IfSome result (λ host. host < self.now.hosts) }
     {
         owner(&self.pairs, point, usable)

@@ -17,7 +17,9 @@ use std::time::Instant;
 const ASKED: u32 = 200_000;
 
 fn main(rt: HostRuntime) -> Result<()> {
-    let asked_to_run = env::args(&rt)?.nth(1).is_some_and(|word| word.as_str() == "run");
+    let asked_to_run = env::args(&rt)?
+        .nth(1)
+        .is_some_and(|word| word.as_str() == "run");
     if !asked_to_run {
         println!(rt; "ketama_bench run: prints owners a second for rings of 3 and of 64 hosts")?;
         return Ok(());
