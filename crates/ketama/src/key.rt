@@ -15,7 +15,8 @@ pub fn point_of_key(key: &[u8], tags: bool) -> u32
 
     // The same in terms of the key's parts.
     ensures tag { IsTrue tags → (tag : List ℕ) → IsTagOf key.now tag → result ≡ point_of_bytes tag }
-    ensures whole { (IsTrue tags → (tag : List ℕ) → ¬ IsTagOf key.now tag) → result ≡ point_of_bytes key.now }
+    ensures whole { (IsTrue tags → (tag : List ℕ) → ¬ IsTagOf key.now tag)
+        → result ≡ point_of_bytes key.now }
 {
     point_at(&Md5::digest(hashed_part(key, tags)), 0)
 }

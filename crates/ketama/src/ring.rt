@@ -48,9 +48,13 @@ impl Ring {
 
         // The errors, and that there are no others.
         ensures too_many { IsErrOf result RingError.TooManyHosts ↔ (MAX_HOSTS < length names.now) }
-        ensures bad_weights { IsErrOf result RingError.BadWeights ↔ ((length names.now ≤ MAX_HOSTS) × ¬ AreWeights (length names.now) weights.now) }
-        ensures same_name { IsErrOf result RingError.SameName ↔ ((length names.now ≤ MAX_HOSTS) × AreWeights (length names.now) weights.now × HasSameName names.now) }
-        ensures good { length names.now ≤ MAX_HOSTS → AreWeights (length names.now) weights.now → ¬ HasSameName names.now → IsOkUnless result RingError.NoMemory }
+        ensures bad_weights { IsErrOf result RingError.BadWeights
+            ↔ ((length names.now ≤ MAX_HOSTS) × ¬ AreWeights (length names.now) weights.now) }
+        ensures same_name { IsErrOf result RingError.SameName
+            ↔ ((length names.now ≤ MAX_HOSTS) × AreWeights (length names.now) weights.now
+            × HasSameName names.now) }
+        ensures good { length names.now ≤ MAX_HOSTS → AreWeights (length names.now) weights.now
+            → ¬ HasSameName names.now → IsOkUnless result RingError.NoMemory }
     {
         if names.len() > MAX_HOSTS {
             return Err(RingError::TooManyHosts);
@@ -82,8 +86,10 @@ impl Ring {
 
         // The errors, and that there are no others.
         ensures too_many { IsErrOf result RingError.TooManyHosts ↔ (MAX_HOSTS < hosts) }
-        ensures bad_point { IsErrOf result RingError.BadPoint ↔ ((hosts ≤ MAX_HOSTS) × HasBadPoint hosts points.now) }
-        ensures good { hosts ≤ MAX_HOSTS → ¬ HasBadPoint hosts points.now → IsOkUnless result RingError.NoMemory }
+        ensures bad_point { IsErrOf result RingError.BadPoint
+            ↔ ((hosts ≤ MAX_HOSTS) × HasBadPoint hosts points.now) }
+        ensures good { hosts ≤ MAX_HOSTS → ¬ HasBadPoint hosts points.now
+            → IsOkUnless result RingError.NoMemory }
     {
         if hosts > MAX_HOSTS {
             return Err(RingError::TooManyHosts);
