@@ -10,7 +10,7 @@ use anyhow::Result;
 use ketama::{HostName, Ring, RingError};
 use std::alloc::Global;
 use std::env;
-use std::rt::{Clock, Env};
+use std::rt::Clock;
 use std::time::Instant;
 
 /// How many owners are asked for in one measurement.
