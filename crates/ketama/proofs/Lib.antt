@@ -1,0 +1,5 @@
+pub mod Splits
+pub mod Tags
+pub mod Least
+pub mod Owners
+pub mod Pairs

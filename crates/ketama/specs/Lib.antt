@@ -1,0 +1,9 @@
+pub mod RingError
+pub mod HostName
+pub mod Point
+pub mod Key
+pub mod Continuum
+pub mod Owner
+pub mod OwnerLaws
+pub mod Ketama
+pub mod GivenPoints

@@ -1,0 +1,28 @@
+//! The ring of libketama: which host owns a key.
+//!
+//! Each host has points on a ring of 32-bit numbers, made from the MD5 of its name and a number. A
+//! key has one point, from its own MD5, and belongs to the host of the first point at or above it,
+//! or past the last point to the host of the first point of all. Hosts, points and owners are those
+//! of each other client of libketama that uses MD5 (RFC 1321) and equal weights.
+//!
+//! ```text
+//! let names = [HostName::read(alloc, b"127.0.0.1:7001")?, HostName::read(alloc, b"127.0.0.1:7002")?];
+//! let ring = Ring::build(alloc, &names, &[1, 1])?;
+//! let owner = ring.owner(point_of_key(b"user:1", false), &[true, true]);
+//! ```
+#![tactic(auto)]
+
+pub use error::RingError;
+pub use key::point_of_key;
+pub use name::{HostName, MAX_NAME_LEN};
+pub use ring::{MAX_HOSTS, Ring};
+
+mod error;
+mod key;
+pub mod laws;
+mod name;
+mod owner;
+mod point;
+mod ring;
+#[cfg(test)]
+mod tests;

@@ -1,0 +1,61 @@
+ghost use Rattle.std.specs.Prelude.{◌≡◌, ◌↔◌, ◌≤◌, List, length, All, IsTrue, IfOk, OnOk, IsOkUnless, IsErrOf};
+ghost use Rattle.ketama.specs.HostName.{IsHostName};
+
+use crate::error::RingError;
+use std::alloc::Global;
+use std::marker::Model;
+
+/// The longest host's name, in bytes.
+pub const MAX_NAME_LEN: usize = 255;
+
+/// The name of a host: 1 to 255 visible ASCII characters, such as `127.0.0.1:6379`.
+///
+/// Contracts see it as the list of its bytes.
+#[derive(Debug, Drop)]
+pub struct HostName {
+    bytes: Vec<u8>,
+}
+
+impl Model for HostName {
+    ghost use Rattle.std.specs.Prelude.{List, ℕ};
+    ghost use Rattle.ketama.specs.HostName.{IsHostName};
+
+    ghost Value = { List ℕ };
+
+    ghost view = { λ name. name.bytes.items };
+
+    ghost invariant = { λ name. IsHostName name.bytes.items };
+}
+
+impl HostName {
+    /// The name with these bytes.
+    ///
+    /// It has 1 to 255 bytes from 0x21 to 0x7E, and is refused with `BadName` (305) otherwise. Where
+    /// no memory is left for a copy of the bytes, the answer is `NoMemory` (301).
+    pub fn read(alloc: Global, bytes: &[u8]) -> Result<HostName, RingError>
+        ensures ok { IfOk result (λ name. name ≡ bytes.now) }
+        ensures named { OnOk result (IsHostName bytes.now) }
+        ensures bad_name { IsErrOf result RingError.BadName ↔ ¬ IsHostName bytes.now }
+        ensures good { IsHostName bytes.now → IsOkUnless result RingError.NoMemory }
+    {
+        if !is_host_name(bytes) {
+            return Err(RingError::BadName);
+        }
+        let bytes = Vec::from_slice(alloc, bytes)?;
+        Ok(HostName { bytes })
+    }
+
+    /// The bytes of the name, as they were read.
+    pub fn as_bytes(&self) -> &[u8]
+        ensures value { result.now ≡ self.now }
+        ensures name { IsHostName self.now }
+    {
+        self.bytes.as_slice()
+    }
+}
+
+fn is_host_name(bytes: &[u8]) -> bool
+    ensures { IsTrue result ↔ IsHostName bytes.now }
+{
+    (1..=MAX_NAME_LEN).contains(&bytes.len()) && bytes.iter().all(|b| (0x21..=0x7E).contains(b))
+}

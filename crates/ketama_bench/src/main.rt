@@ -1,0 +1,73 @@
+//! Measures how many owners a second a ring tells.
+//!
+//! `ketama_bench run` prints the rate on this machine for 3 and for 64 hosts. With no argument it
+//! prints how to run it, so that its output is always the same.
+#![tactic(auto)]
+
+ghost use Rattle.std.specs.Prelude.{◌≡◌, length};
+
+use anyhow::Result;
+use ketama::{HostName, Ring, RingError};
+use std::alloc::Global;
+use std::env;
+use std::rt::Clock;
+use std::time::Instant;
+
+/// How many owners are asked for in one measurement.
+const ASKED: u32 = 200_000;
+
+fn main(rt: HostRuntime) -> Result<()> {
+    let asked_to_run = env::args(&rt)?
+        .nth(1)
+        .is_some_and(|word| word.as_str() == "run");
+    if !asked_to_run {
+        println!(rt; "ketama_bench run: prints owners a second for rings of 3 and of 64 hosts")?;
+        return Ok(());
+    }
+    for hosts in [3, 64] {
+        let rate = owners_a_second(&rt, rt.alloc(), hosts)?;
+        println!(rt; "{hosts} hosts: {rate} owners a second")?;
+    }
+    Ok(())
+}
+
+fn owners_a_second(rt: &impl Clock, alloc: Global, hosts: usize) -> Result<u64> {
+    let ring = ring_of(alloc, hosts)?;
+    let usable = vec![in alloc; true; ring.hosts()]?;
+    let start = Instant::now(rt)?;
+    let owned = count_owned(&ring, &usable);
+    let elapsed = start.elapsed(rt)?;
+    let micros = elapsed
+        .as_secs()
+        .saturating_mul(1_000_000)
+        .saturating_add(u64::from(elapsed.subsec_micros()));
+    Ok(u64::from(owned) * 1_000_000 / micros.max(1))
+}
+
+/// How many of some points all over the ring have an owner.
+fn count_owned(ring: &Ring, usable: &[bool]) -> u32
+    requires { length usable.now ≡ ring.now.hosts }
+{
+    let mut owned = 0u32;
+    let mut point = 0u32;
+    for _ in 0..ASKED {
+        point = point.wrapping_add(2_654_435_761);
+        if ring.owner(point, usable).is_some() {
+            owned = owned.saturating_add(1);
+        }
+    }
+    owned
+}
+
+fn ring_of(alloc: Global, hosts: usize) -> Result<Ring, RingError> {
+    let mut names = Vec::with_capacity(alloc, hosts)?;
+    let mut weights = Vec::with_capacity(alloc, hosts)?;
+    for host in 0..hosts {
+        let name = format!(in alloc; "host-{host}")?;
+        names
+            .push(HostName::read(alloc, name.as_bytes())?)
+            .map_err(|_| RingError::NoMemory)?;
+        weights.push(1).map_err(|_| RingError::NoMemory)?;
+    }
+    Ring::build(alloc, &names, &weights)
+}
