@@ -12,3 +12,4 @@ pub mod Sharing
 pub mod Comparing
 pub mod Lifetime
 pub mod Working
+pub mod Totals

@@ -5,3 +5,5 @@ pub mod Gate
 pub mod Refusal
 pub mod Visit
 pub mod Turns
+pub mod Totals
+pub mod RunningTotal

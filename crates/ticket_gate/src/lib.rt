@@ -13,8 +13,11 @@ mod gate;
 mod meet;
 mod recorded;
 mod refusal;
+mod running_total;
 mod seated;
 mod steps;
+#[cfg(test)]
+mod tests;
 mod turn;
 mod turns;
 mod view;
@@ -23,5 +26,6 @@ pub use alone::Alone;
 pub use gate::{Gate, Pass, Spare};
 pub use recorded::Recorded;
 pub use refusal::{GateRefusal, TurnRefusal};
+pub use running_total::{Addition, AdditionRefusal, RunningTotal};
 pub use seated::Seated;
 pub use turns::Turns;
