@@ -212,7 +212,7 @@ fn four_threads_mix_their_turns(rt: HostRuntime) -> Result<(), Fail> {
     let c = enrol(&rt, &gate, c)?;
     let d = enrol(&rt, &gate, d)?;
     let shared = &gate;
-    let (((a, by_a), (_, by_b)), ((_, by_c), (_, by_d))) = thread::join(
+    let (first, second) = thread::join(
         &rt,
         || -> ((Pass<RunningTotal>, u64), (Pass<RunningTotal>, u64))
             requires { IsPassOf shared.now a × IsPassOf shared.now b }
@@ -224,6 +224,12 @@ fn four_threads_mix_their_turns(rt: HostRuntime) -> Result<(), Fail> {
             ensures few { (result.0.1 ≤ 500) × (result.1.1 ≤ 500) }
         { mix_two(&rt, shared, c, d) },
     );
+    let (of_a, of_b) = first;
+    let (of_c, of_d) = second;
+    let (a, by_a) = of_a;
+    let (_b, by_b) = of_b;
+    let (_c, by_c) = of_c;
+    let (_d, by_d) = of_d;
     // The turns that wait are all answered.
     assert!(rt; by_a >= 250 && by_b >= 250 && by_c >= 250 && by_d >= 250);
     let state = gate.close(a).expect(&rt, "all calls have returned");
@@ -341,9 +347,11 @@ fn fill<R: Wait>(
     for number in 0..256u64 {
         let (rest, one) = gate.split(spare);
         spare = rest;
-        match gate.enrol(rt, one) {
-            Ok(pass) if pass.number() == number => {}
-            _ => return None,
+        let Ok(pass) = gate.enrol(rt, one) else {
+            return None;
+        };
+        if pass.number() != number {
+            return None;
         }
     }
     Some(spare)
