@@ -13,3 +13,4 @@ pub mod Comparing
 pub mod Lifetime
 pub mod Working
 pub mod Totals
+pub mod PlainSentences

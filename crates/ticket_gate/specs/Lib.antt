@@ -1,5 +1,6 @@
 pub mod Journal
 pub mod Rule
+pub mod PlainRule
 pub mod Steps
 pub mod Gate
 pub mod Refusal

@@ -10,6 +10,7 @@ mod alone;
 mod close;
 mod enrol;
 mod gate;
+mod laws;
 mod meet;
 mod recorded;
 mod refusal;
@@ -24,6 +25,7 @@ mod view;
 
 pub use alone::Alone;
 pub use gate::{Gate, Pass, Spare};
+pub use laws::rule_in_plain_sentences;
 pub use recorded::Recorded;
 pub use refusal::{GateRefusal, TurnRefusal};
 pub use running_total::{Addition, AdditionRefusal, RunningTotal};
