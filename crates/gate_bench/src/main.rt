@@ -5,16 +5,15 @@
 //! `time` it makes more, and prints turns a second too.
 #![tactic(auto)]
 
-ghost use Rattle.std.specs.Prelude.{◌≡◌, [], IfOk};
+ghost use Rattle.ticket_gate.specs.Gate.{IsSpareOf};
 
 use anyhow::{Result, bail};
 use std::alloc::Global;
-use std::env;
 use std::sync::{Mutex, Wait};
-use std::thread;
 use std::thread::Threads;
 use std::time::{Duration, Instant};
-use ticket_gate::{AdditionRefusal, Gate, Recorded, RunningTotal, Seated, Turns};
+use std::{env, thread};
+use ticket_gate::{AdditionRefusal, Gate, Recorded, RunningTotal, Seated, Spare, Turns};
 
 /// Turns of all threads together, where nothing is timed.
 const FEW_TURNS: u64 = 20_000;
@@ -33,6 +32,29 @@ fn make_turns<T: Turns<Event = u64, Answer = u64, Refusal = AdditionRefusal>, R:
     }
 }
 
+/// Seats so many passes at the gate.
+fn seat_passes<'a, R: Wait>(
+    rt: &R,
+    alloc: Global,
+    gate: &'a Gate<RunningTotal>,
+    spare: Spare<RunningTotal>,
+    passes: usize,
+) -> Result<Vec<Seated<'a, RunningTotal>>>
+    requires { IsSpareOf gate.now spare }
+{
+    let mut seated = Vec::new(alloc);
+    let mut spare = spare;
+    for _ in 0..passes {
+        let (rest, one) = gate.split(spare);
+        spare = rest;
+        let Ok(pass) = gate.enrol(rt, one) else {
+            bail!("there is no place at the gate");
+        };
+        seated.push(Seated::new(gate, pass))?;
+    }
+    Ok(seated)
+}
+
 /// Makes the turns at a gate, each thread with a pass of its own, and gives the journal's length.
 fn turns_at_a_gate<R: Threads + Wait + Sync>(
     rt: &R,
@@ -43,23 +65,19 @@ fn turns_at_a_gate<R: Threads + Wait + Sync>(
     let Ok((gate, spare)) = Gate::new(alloc, RunningTotal::new(alloc, u64::MAX)) else {
         bail!("there is no memory for a gate");
     };
-    let (mine, mut spare) = gate.split(spare);
+    let (mine, spare) = gate.split(spare);
     let Ok(mine) = gate.enrol(rt, mine) else {
         bail!("there is no place at the gate");
     };
-    let mut seated = Vec::new(alloc);
-    for _ in 0..threads {
-        let (rest, one) = gate.split(spare);
-        spare = rest;
-        let Ok(pass) = gate.enrol(rt, one) else {
-            bail!("there is no place at the gate");
-        };
-        seated.push(Seated::new(&gate, pass))?;
-    }
-    thread::map_vec(rt, seated, &|turns| {
-        let mut turns = turns;
-        make_turns(rt, &mut turns, times)
-    })?;
+    let seated = seat_passes(rt, alloc, &gate, spare, threads)?;
+    thread::map_vec(
+        rt,
+        seated,
+        &|turns| {
+            let mut turns = turns;
+            make_turns(rt, &mut turns, times)
+        },
+    )?;
     match gate.close(mine) {
         Some(state) => Ok(state.additions().len()),
         None => bail!("the gate's state is out"),
@@ -79,11 +97,15 @@ fn turns_under_a_mutex<R: Threads + Wait + Sync>(
         passes.push(pass)?;
     }
     let shared = &state;
-    thread::map_vec(rt, passes, &|pass| {
-        for _ in 0..times {
-            let _ = shared.lock(rt).turn(pass, 1);
-        }
-    })?;
+    thread::map_vec(
+        rt,
+        passes,
+        &|pass| {
+            for _ in 0..times {
+                let _ = shared.lock(rt).turn(pass, 1);
+            }
+        },
+    )?;
     Ok(state.into_inner().additions().len())
 }
 
@@ -92,7 +114,9 @@ fn per_second(turns: usize, time: Duration) -> u128 {
 }
 
 fn main(rt: HostRuntime) -> Result<()> {
-    let timed = env::args(&rt)?.nth(1).is_some_and(|word| word.as_str() == "time");
+    let timed = env::args(&rt)?
+        .nth(1)
+        .is_some_and(|word| word.as_str() == "time");
     let turns = if timed { MANY_TURNS } else { FEW_TURNS };
     for threads in [1usize, 2, 4] {
         let times = turns / threads as u64;
@@ -106,7 +130,9 @@ fn main(rt: HostRuntime) -> Result<()> {
         if timed {
             let by_gate = per_second(at_gate, gate_time);
             let by_mutex = per_second(under_mutex, mutex_time);
-            println!(rt; "threads {threads}: {by_gate} a second at a gate, {by_mutex} under a mutex")?;
+            println!(rt;
+                "threads {threads}: {by_gate} a second at a gate, {by_mutex} under a mutex"
+            )?;
         }
     }
     Ok(())

@@ -16,7 +16,8 @@ impl<S: Recorded> Gate<S> {
     where
         S: Drop,
         requires { IsPassOf self pass }
-        ensures { IfSome result (Closes S.journal S.setting S.legal self.setting pass.number pass.known.seen) }
+        ensures { IfSome result (Closes S.journal S.setting S.legal
+            self.setting pass.number pass.known.seen) }
     {
         let Gate { table } = self;
         let Pass { number: _, seat } = pass;

@@ -34,8 +34,10 @@ impl<S: Recorded> Gate<S> {
         spare: Spare<S>,
     ) -> Result<Pass<S>, (GateRefusal, Spare<S>)>
         requires { IsSpareOf self.now spare }
-        ensures pass { IfOk result (λ pass. IsPassOf self.now pass × (pass.known.seen ≡ []) × (pass.number < 256)) }
-        ensures crowded { IfErr result (λ refused. (refused.0 ≡ Crowded) × IsSpareOf self.now refused.1 × (refused.1.known.last_enrolled ≡ 256)) }
+        ensures pass { IfOk result (λ pass. IsPassOf self.now pass × (pass.known.seen ≡ [])
+            × (pass.number < 256)) }
+        ensures crowded { IfErr result (λ refused. (refused.0 ≡ Crowded) × IsSpareOf self.now refused.1
+            × (refused.1.known.last_enrolled ≡ 256)) }
     {
         let Spare { mut seat } = spare;
         let shared = &self.table.shared;

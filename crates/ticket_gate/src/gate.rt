@@ -52,7 +52,10 @@ pub struct Gate<S: Recorded> {
 impl<S: Recorded> Model for Gate<S> {
     ghost Value = { GateFacts S.Setting };
 
-    ghost view = { λ g. record { id = g.table.shared.table_id; setting = S.setting g.table.shared.key.value } };
+    ghost view = { λ g. record {
+      id = g.table.shared.table_id;
+      setting = S.setting g.table.shared.key.value;
+    } };
 
     ghost invariant = { λ g. IsGateSized g.table.shared.table_id };
 }

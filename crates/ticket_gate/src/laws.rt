@@ -12,5 +12,6 @@ use crate::recorded::Recorded;
 /// and there is one legal journal of which each place has seen a beginning, with all steps of its
 /// own.
 pub fn rule_in_plain_sentences<S: Recorded>()
-    ensures { (c : S.Setting) (s : State (Option S) (View S.Event S.Answer S.Setting)) → GateRule S.journal S.setting S.legal c s → PlainRule S.journal S.setting S.legal c s }
+    ensures { (c : S.Setting) (s : State (Option S) (View S.Event S.Answer S.Setting))
+        → GateRule S.journal S.setting S.legal c s → PlainRule S.journal S.setting S.legal c s }
 {}

@@ -17,7 +17,8 @@ impl<S: Recorded> Gate<S> {
         requires { IsPassOf self.now first × IsPassOf self.now second }
         ensures same { IsSamePass first result.0 × IsSamePass second result.1 }
         ensures seen { (result.0.known.seen ≡ first.known.seen) × (result.1.known.seen ≡ second.known.seen) }
-        ensures meet { Meets (S.legal self.now.setting) first.number first.known.seen second.number second.known.seen }
+        ensures meet { Meets (S.legal self.now.setting)
+            first.number first.known.seen second.number second.known.seen }
     {
         let Pass { number, mut seat } = first;
         let Pass {

@@ -40,12 +40,15 @@ pub trait Recorded {
     ) -> Result<Self::Answer, (Self::Refusal, Self::Event)>
         ensures setting { setting self.new ≡ setting self.old }
         ensures answered { IfOk result (λ answer. journal self.new ≡ journal self.old ++ (pass, event, answer) ∷ []) }
-        ensures legal { IfOk result (λ answer. legal (setting self.old) (journal self.old) → legal (setting self.old) (journal self.new)) }
-        ensures refused { IfErr result (λ refused. (journal self.new ≡ journal self.old) × (refused.1 ≡ event) × cause (setting self.old) refused.0 event (journal self.old)) };
+        ensures legal { IfOk result (λ answer. legal (setting self.old) (journal self.old)
+            → legal (setting self.old) (journal self.new)) }
+        ensures refused { IfErr result (λ refused. (journal self.new ≡ journal self.old) × (refused.1 ≡ event)
+            × cause (setting self.old) refused.0 event (journal self.old)) };
 
     /// The empty journal is legal.
     ghost legal_at_first: { (c : Self.Setting) → legal c [] };
 
     /// Each beginning of a legal journal is legal.
-    ghost legal_before: { (c : Self.Setting) (log more : List (ℕ × Self.Event × Self.Answer)) → legal c (log ++ more) → legal c log };
+    ghost legal_before: { (c : Self.Setting) (log more : List (ℕ × Self.Event × Self.Answer))
+        → legal c (log ++ more) → legal c log };
 }

@@ -15,9 +15,13 @@ use std::sync::Wait;
 impl<S: Recorded> Gate<S> {
     // Draws a ticket. None where all are drawn.
     fn draw<R: Wait>(&self, rt: &R, seat: &mut Place<S>) -> Option<u64>
-        requires { (seat.old.table_id ≡ self.now.id) × IsAtRest seat.old × ((n : ℕ) × (seat.old.me.0.own.number ≡ Some n)) }
+        requires { (seat.old.table_id ≡ self.now.id) × IsAtRest seat.old
+            × ((n : ℕ) × (seat.old.me.0.own.number ≡ Some n)) }
         ensures gate { seat.new.table_id ≡ seat.old.table_id }
-        ensures ticket { MatchOption result (IsAtRest seat.new × KeepsSeen seat.old.me.0.own seat.new.me.0.own × (seat.new.me.0.own.last_drawn ≡ 2 ^ 64 - 1)) (λ t. (t < 2 ^ 64 - 1) × HoldsTicket seat.old.me.0.own t seat.new) }
+        ensures ticket { MatchOption result
+            (IsAtRest seat.new × KeepsSeen seat.old.me.0.own seat.new.me.0.own
+            × (seat.new.me.0.own.last_drawn ≡ 2 ^ 64 - 1))
+            (λ t. (t < 2 ^ 64 - 1) × HoldsTicket seat.old.me.0.own t seat.new) }
     {
         let shared = &self.table.shared;
         for _ in rt.forever() {
@@ -89,8 +93,10 @@ impl<S: Recorded> Gate<S> {
     ) -> Result<S::Answer, TurnRefusal<S::Refusal, S::Event>>
         requires { IsPassOf self.now pass.old }
         ensures same { IsSamePass pass.old pass.new }
-        ensures answered { IfOk result (λ answer. AddsTurn (S.legal self.now.setting) pass.old.number pass.old.known.seen event answer pass.new.known.seen) }
-        ensures refused { IfErr result (RefusesAfterWaiting (S.cause self.now.setting) pass.old.number pass.old.known event pass.new.known) }
+        ensures answered { IfOk result (λ answer. AddsTurn (S.legal self.now.setting)
+            pass.old.number pass.old.known.seen event answer pass.new.known.seen) }
+        ensures refused { IfErr result (RefusesAfterWaiting (S.cause self.now.setting)
+            pass.old.number pass.old.known event pass.new.known) }
     {
         let Some(ticket) = self.draw(rt, &mut pass.seat) else {
             return Err(TurnRefusal::Spent { event });
@@ -114,8 +120,10 @@ impl<S: Recorded> Gate<S> {
     ) -> Result<S::Answer, TurnRefusal<S::Refusal, S::Event>>
         requires { IsPassOf self.now pass.old }
         ensures same { IsSamePass pass.old pass.new }
-        ensures answered { IfOk result (λ answer. AddsTurn (S.legal self.now.setting) pass.old.number pass.old.known.seen event answer pass.new.known.seen) }
-        ensures refused { IfErr result (RefusesAtOnce (S.cause self.now.setting) pass.old.number pass.old.known event pass.new.known) }
+        ensures answered { IfOk result (λ answer. AddsTurn (S.legal self.now.setting)
+            pass.old.number pass.old.known.seen event answer pass.new.known.seen) }
+        ensures refused { IfErr result (RefusesAtOnce (S.cause self.now.setting)
+            pass.old.number pass.old.known event pass.new.known) }
     {
         let shared = &self.table.shared;
         let served = shared.load::<LookAtServing>(&mut pass.seat, SERVING);

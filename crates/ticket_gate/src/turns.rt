@@ -56,7 +56,10 @@ pub trait Turns {
         rt: &R,
         event: Self::Event,
     ) -> Result<Self::Answer, TurnRefusal<Self::Refusal, Self::Event>>
-        ensures same { (home self.new ≡ home self.old) × (pass self.new ≡ pass self.old) × (setting self.new ≡ setting self.old) }
-        ensures answered { IfOk result (λ answer. AddsTurn (legal (setting self.old)) (pass self.old) (seen self.old) event answer (seen self.new)) }
-        ensures refused { IfErr result (RefusesTurn (cause (setting self.old)) (spent self.new) (pass self.old) (seen self.old) event (seen self.new)) };
+        ensures same { (home self.new ≡ home self.old) × (pass self.new ≡ pass self.old)
+            × (setting self.new ≡ setting self.old) }
+        ensures answered { IfOk result (λ answer. AddsTurn (legal (setting self.old))
+            (pass self.old) (seen self.old) event answer (seen self.new)) }
+        ensures refused { IfErr result (RefusesTurn (cause (setting self.old)) (spent self.new)
+            (pass self.old) (seen self.old) event (seen self.new)) };
 }
