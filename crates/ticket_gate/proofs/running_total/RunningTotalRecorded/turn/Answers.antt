@@ -1,6 +1,5 @@
-use Rattle.std.proofs.Common.{arith, ap, sym, ◌∙◌, ◌≡◌, ℕ, ◌+◌, ◌≤◌, ◌∷◌, [], ◌++◌, subst}
+use Rattle.std.proofs.Common.{arith, ap, ℕ, ◌+◌, ◌≤◌}
 use Rattle.std.proofs.lemmas.List.{map-append}
-use Rattle.ticket_gate.specs.Totals.{AreTotals, amount_sum, steps_in}
 use Rattle.ticket_gate.proofs.Totals.{totals-push}
 use Rattle.ticket_gate.proofs.running_total.RunningTotalRecorded.turn.Goals as goal
 
