@@ -399,12 +399,20 @@ fn a_refused_turn_leaves_the_journal(rt: HostRuntime) -> Result<(), Fail> {
 }
 
 #[test]
-fn a_gate_without_memory_gives_its_state_back(rt: HostRuntime) -> Result<(), Fail> {
+fn without_memory_nothing_is_lost(rt: HostRuntime) -> Result<(), Fail> {
     match Gate::new(rt.alloc(), RunningTotal::new(rt.alloc(), 10)) {
         Ok((gate, spare)) => {
-            let pass = enrol(&rt, &gate, spare)?;
+            let mut pass = enrol(&rt, &gate, spare)?;
+            let turn = match gate.take_turn(&rt, &mut pass, 4) {
+                Err(TurnRefusal::State {
+                    cause: AdditionRefusal::NoMemory,
+                    event,
+                }) => gate.take_turn(&rt, &mut pass, event),
+                outcome => outcome,
+            };
+            assert!(rt; matches!(turn, Ok(4)));
             let state = gate.close(pass).expect(&rt, "all calls have returned");
-            assert!(rt; state.total() == 0);
+            assert!(rt; state.total() == 4 && state.additions().len() == 1);
         }
         Err((refusal, state)) => {
             assert!(rt; refusal == GateRefusal::NoMemory && refusal.number() == 1204);
