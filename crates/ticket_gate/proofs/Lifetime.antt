@@ -22,7 +22,7 @@ module _ {S E A C : Type 0} (journal : S → List (ℕ × E × A)) (setting : S 
     owner_of = λ n. 0;
   }
 
-  pub opens : (first : ℕ) (x : S) → journal x ≡ [] → setting x ≡ c → legal c [] → GateRule journal setting legal c (opening (first ∷ first ∷ 0 ∷ []) (Some x ∷ []) (first_view c))
+  pub opens : (first : ℕ) (x : S) → journal x ≡ [] → setting x ≡ c → legal c [] → GateRule journal setting legal c (opening (first ∷ first ∷ 0 ∷ []) (Some x ∷ []) (first_view c first))
   opens first x empty same ok = record {
     standing = at_first first;
     words = refl;
@@ -34,11 +34,11 @@ module _ {S E A C : Type 0} (journal : S → List (ℕ × E × A)) (setting : S 
     each_view = one;
   }
     where
-      one : (j : ℕ) (v : View E A C) → get_elem? (first_view c ∷ []) j ≡ some v → ViewAgrees (at_first first) c j v
-      one zero v at = subst (ViewAgrees (at_first first) c 0) (some-injective (first_view c) v at) (
+      one : (j : ℕ) (v : View E A C) → get_elem? (first_view c first ∷ []) j ≡ some v → ViewAgrees (at_first first) c j v
+      one zero v at = subst (ViewAgrees (at_first first) c 0) (some-injective (first_view c first) v at) (
         record {
-          last_served = omega arith;
-          last_drawn = omega arith;
+          last_served = le_refl first;
+          last_drawn = le_refl first;
           last_enrolled = omega arith;
           ticket = λ t is. absurd (not_none is);
           inside = λ is. absurd (not_inside is);

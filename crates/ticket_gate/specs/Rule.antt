@@ -74,9 +74,9 @@ blank setting = record {
 abbrev pub view_of : {E A C : Type 0} → Knowledge E A C → View E A C
 view_of k = record { own = k; other = None }
 
--- the view of a gate's first seat
-abbrev pub first_view : {E A C : Type 0} → C → View E A C
-first_view c = view_of (blank (Some c))
+-- the view of a gate's first seat, which has found both words of the tickets at `first`
+abbrev pub first_view : {E A C : Type 0} → C → ℕ → View E A C
+first_view c first = view_of (record (blank (Some c)) { last_served = first; last_drawn = first })
 
 -- the view that is left where a seat was joined to another
 abbrev pub spent_view : {E A C : Type 0} → View E A C

@@ -32,21 +32,24 @@ pub type SeatView<S> = View<
 
 pub(crate) type Place<S> = Seat<Option<S>, SeatView<S>>;
 
+/// What a gate was made with: its state, which takes no bytes here, and its first ticket.
+type Opening<S> = (Snapshot<S>, u64);
+
 /// The rule that each atomic step keeps.
 pub struct TicketRule;
 
-impl<S: Recorded> TableRule<Option<S>, SeatView<S>, Snapshot<S>> for TicketRule {
+impl<S: Recorded> TableRule<Option<S>, SeatView<S>, Opening<S>> for TicketRule {
     ghost use Rattle.ticket_gate.specs.Rule.{GateRule, first_view};
 
-    ghost holds = { λ key. GateRule S.journal S.setting S.legal (S.setting key.value) };
+    ghost holds = { λ key. GateRule S.journal S.setting S.legal (S.setting key.0.value) };
 
-    ghost first = { λ key. first_view (S.setting key.value) };
+    ghost first = { λ key. first_view (S.setting key.0.value) key.1 };
 }
 
 /// A ticket lock round a state. Contracts see which gate it is, and the setting of its state.
 #[derive(Drop)]
 pub struct Gate<S: Recorded> {
-    pub(crate) table: Table<Option<S>, SeatView<S>, Snapshot<S>, TicketRule, Global>,
+    pub(crate) table: Table<Option<S>, SeatView<S>, Opening<S>, TicketRule, Global>,
 }
 
 impl<S: Recorded> Model for Gate<S> {
@@ -54,7 +57,7 @@ impl<S: Recorded> Model for Gate<S> {
 
     ghost view = { λ g. record {
       id = g.table.shared.table_id;
-      setting = S.setting g.table.shared.key.value;
+      setting = S.setting g.table.shared.key.0.value;
     } };
 
     ghost invariant = { λ g. IsGateSized g.table.shared.table_id };
@@ -107,12 +110,15 @@ impl<S: Recorded> Gate<S> {
     pub fn new(alloc: Global, state: S) -> Result<(Gate<S>, Spare<S>), (GateRefusal, S)>
         requires { S.journal state ≡ [] }
         ensures gate { IfOk result (λ made. (made.0.setting ≡ S.setting state) × IsSpareOf made.0 made.1) }
+        ensures first { IfOk result (λ made. (made.1.known.last_served ≡ 0)
+            × (made.1.known.last_drawn ≡ 0)) }
         ensures refused { IfErr result (λ refused. (refused.0 ≡ NoMemory) × (refused.1 ≡ state)) }
     {
         Gate::new_at(alloc, state, 0)
     }
 
-    /// As `new`, but the first ticket is `first`. Tickets end before the greatest `u64`.
+    /// As `new`, but the first ticket is `first`: the spare place has found both words of the
+    /// tickets at that number, below which they never fall. Tickets end before the greatest `u64`.
     pub fn new_at(
         alloc: Global,
         state: S,
@@ -120,9 +126,11 @@ impl<S: Recorded> Gate<S> {
     ) -> Result<(Gate<S>, Spare<S>), (GateRefusal, S)>
         requires { S.journal state ≡ [] }
         ensures gate { IfOk result (λ made. (made.0.setting ≡ S.setting state) × IsSpareOf made.0 made.1) }
+        ensures first { IfOk result (λ made. (made.1.known.last_served ≡ first)
+            × (made.1.known.last_drawn ≡ first)) }
         ensures refused { IfErr result (λ refused. (refused.0 ≡ NoMemory) × (refused.1 ≡ state)) }
     {
-        let about = Snapshot::of(&state);
+        let about = (Snapshot::of(&state), first);
         let mut slots = Vec::new(alloc);
         if let Err(AllocFailed { value }) = slots.push(Some(state)) {
             slots.destroy_empty();

@@ -404,10 +404,12 @@ fn without_memory_nothing_is_lost(rt: HostRuntime) -> Result<(), Fail> {
         Ok((gate, spare)) => {
             let mut pass = enrol(&rt, &gate, spare)?;
             let turn = match gate.take_turn(&rt, &mut pass, 4) {
-                Err(TurnRefusal::State {
-                    cause: AdditionRefusal::NoMemory,
-                    event,
-                }) => gate.take_turn(&rt, &mut pass, event),
+                Err(
+                    TurnRefusal::State {
+                        cause: AdditionRefusal::NoMemory,
+                        event,
+                    },
+                ) => gate.take_turn(&rt, &mut pass, event),
                 outcome => outcome,
             };
             assert!(rt; matches!(turn, Ok(4)));
