@@ -73,6 +73,7 @@ module _ {S E A C : Type 0} (journal : S → List (ℕ × E × A)) (setting : S 
       second = λ j v l at is. (second_of_two j v l at is).1;
     };
     inside = record {
+      one = λ i j k l at there is is'. some-injective i j (sym ((agrees i k at).inside is).1 ∙ ((agrees j l there).inside is').1);
       served = λ j k at is. ((agrees j k at).inside is).0;
       out = ((λ some_inside. out_if_inside some_inside.0 some_inside.1 some_inside.2 some_inside.3), inside_if_out g.inside r.placed);
       home = (home_if_nobody g.inside r.placed, (λ home. nobody_if_home home.0 home.1));

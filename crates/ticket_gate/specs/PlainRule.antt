@@ -35,8 +35,9 @@ module _ {S E A C : Type 0} (s : State (Option S) (View E A C)) (drawn serving e
     pub differ : (i j t : ℕ) (k l : Knowledge E A C) → IsAt s i k → IsAt s j l → k.ticket ≡ Some t → l.ticket ≡ Some t → i ≡ j
     pub second : (j : ℕ) (v : View E A C) (l : Knowledge E A C) → get_elem? s.views j ≡ maybe.some v → v.other ≡ Some l → l.ticket ≡ None
 
-  -- A place is inside only with the ticket that is served. The slot is out exactly if a place is inside, and has a state exactly if none is.
+  -- At most one place is inside, and only with the ticket that is served. The slot is out exactly if a place is inside, and has a state exactly if none is.
   pub record OneIsInside : Type 0 where
+    pub one : (i j : ℕ) (k l : Knowledge E A C) → IsAt s i k → IsAt s j l → k.inside ≡ true → l.inside ≡ true → i ≡ j
     pub served : (j : ℕ) (k : Knowledge E A C) → IsAt s j k → k.inside ≡ true → k.ticket ≡ Some serving
     pub out : ((j : ℕ) × (k : Knowledge E A C) × IsAt s j k × (k.inside ≡ true)) ↔ IsOut s
     pub home : ((j : ℕ) (k : Knowledge E A C) → IsAt s j k → k.inside ≡ false) ↔ ((x : S) × HasState s x)
