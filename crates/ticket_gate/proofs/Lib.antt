@@ -1,0 +1,16 @@
+pub mod Journals
+pub mod Seats
+pub mod Carrying
+pub mod Placing
+pub mod Stepping
+pub mod Reading
+pub mod Numbering
+pub mod Drawing
+pub mod Entering
+pub mod Leaving
+pub mod Sharing
+pub mod Comparing
+pub mod Lifetime
+pub mod Working
+pub mod Totals
+pub mod PlainSentences

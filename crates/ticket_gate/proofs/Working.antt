@@ -1,0 +1,76 @@
+-- A turn of the state, seen from the place that makes it.
+use Rattle.std.proofs.Common.{◌≡◌, ℕ, ◌+◌, List, [], ◌∷◌, ◌++◌, refl, sym, ap, ◌∙◌, subst, inl, inr, Option, Some, None, Result, Ok, Err}
+use Rattle.std.specs.Prelude.{MatchResult, IfOk, IfErr}
+use Rattle.atomic_table.specs.Table.{rest}
+use Rattle.atomic_table.specs.declared.shared.Seat.{Seat}
+use Rattle.ticket_gate.specs.declared.view.Knowledge.{Knowledge}
+use Rattle.ticket_gate.specs.declared.view.View.{View}
+use Rattle.ticket_gate.specs.Rule.{view_of}
+use Rattle.ticket_gate.specs.Steps.{Sitting, with_own, gone_outside}
+use Rattle.ticket_gate.specs.Visit.{HasMadeTurn}
+use Rattle.ticket_gate.proofs.Journals.{append-nil}
+use Rattle.ticket_gate.proofs.Leaving.{AtMostOneOf}
+
+module _ {S : Type 0} where
+  abbrev first_or : Option S → List (ℕ × Option S) → Option S
+  first_or d [] = d
+  first_or d (z ∷ zs) = z.1
+
+  abbrev some_or : S → Option S → S
+  some_or d None = d
+  some_or d (Some x) = x
+
+  -- the state that is taken out of the slot
+  pub taken : (held : List (ℕ × Option S)) (x y : S) (found : Option S) → held ≡ (0, Some x) ∷ [] → held ≡ (0, found) ∷ rest held → found ≡ Some y → y ≡ x
+  taken held x y found is was out = ap (some_or y) (sym out ∙ ap (first_or found) (sym was ∙ is))
+
+  -- and put back
+  pub put_back : {E A C : Type 0} (me me' me'' : Sitting S E A C) (k : Knowledge E A C) (x y : S) → me ≡ (view_of k, (0, Some x) ∷ []) → me' ≡ (me.0, (0, None) ∷ rest me.1) → me'' ≡ (me'.0, (0, Some y) ∷ rest me'.1)
+      → me'' ≡ (view_of k, (0, Some y) ∷ [])
+  put_back me me' me'' k x y is out back = back ∙ (λ i. ((out i).0, (0, Some y) ∷ rest (out i).1)) ∙ (λ i. ((is i).0, (0, Some y) ∷ rest (is i).1))
+
+-- a turn of the pass n took the state x to the state y
+module _ {S E A C R : Type 0} (journal : S → List (ℕ × E × A)) (setting : S → C) (legal : C → List (ℕ × E × A) → Type 0) (cause : C → R → E → List (ℕ × E × A) → Type 0) (x y : S) (n : ℕ) (event : E) where
+  abbrev Answered : Result A (R × E) → Type 0
+  Answered outcome = IfOk outcome (λ answer. journal y ≡ journal x ++ (n, event, answer) ∷ [])
+
+  abbrev StaysLegal : Result A (R × E) → Type 0
+  StaysLegal outcome = IfOk outcome (λ answer. legal (setting x) (journal x) → legal (setting x) (journal y))
+
+  abbrev Refused : Result A (R × E) → Type 0
+  Refused outcome = IfErr outcome (λ refused. (journal y ≡ journal x) × (refused.1 ≡ event) × cause (setting x) refused.0 event (journal x))
+
+  -- what the turn adds to the journal
+  pub adds : (outcome : Result A (R × E)) → Answered outcome → StaysLegal outcome → Refused outcome → legal (setting x) (journal x)
+      → (more : List (ℕ × E × A)) × (journal y ≡ journal x ++ more) × ((e : E) (answer : A) → more ≡ (n, e, answer) ∷ [] → legal (setting x) (journal y)) × AtMostOneOf n more
+  adds (Ok answer) grown keeps refused ok = ((n, event, answer) ∷ [], grown, (λ _ _ _. keeps ok), inr (event, answer, refl))
+  adds (Err why) grown keeps refused ok = ([], refused.0 ∙ sym (append-nil (journal x)), (λ _ _ q. absurd (cc)), inl refl)
+
+  -- what the place sees of it
+  outcome_seen : (outcome : Result A (R × E)) (k : Knowledge E A C) (seen : List (ℕ × E × A)) → k.seen ≡ journal x → seen ≡ journal y → Answered outcome → StaysLegal outcome → Refused outcome
+      → ((c : C) → k.setting ≡ Some c → (setting x ≡ c) × legal c (journal x))
+      → MatchResult outcome (λ answer. (seen ≡ k.seen ++ (n, event, answer) ∷ []) × ((c : C) → k.setting ≡ Some c → legal c seen)) (λ refused. (seen ≡ k.seen) × (refused.1 ≡ event) × ((c : C) → k.setting ≡ Some c → cause c refused.0 event seen))
+  outcome_seen (Ok answer) k seen was now grown keeps refused known = (
+    now ∙ grown ∙ ap (λ z. z ++ (n, event, answer) ∷ []) (sym was),
+    λ c is. let its = known c is in
+        subst (λ (z : C × List (ℕ × E × A)). legal z.0 z.1) (λ i. (its.0 i, sym now i)) (keeps (subst (λ (d : C). legal d (journal x)) (sym its.0) its.1)),
+  )
+  outcome_seen (Err why) k seen was now grown keeps refused known = (
+    now ∙ refused.0 ∙ sym was,
+    refused.1,
+    λ c is. let its = known c is in
+        subst (λ (z : C × List (ℕ × E × A)). cause z.0 why.0 event z.1) (λ i. (its.0 i, (sym refused.0 ∙ sym now) i)) refused.2,
+  )
+
+  pub has_made_turn : (k : Knowledge E A C) (t : ℕ) (outcome : Result A (R × E)) (me : Sitting S E A C) (seat : Seat (Option S) (View E A C)) → me ≡ (view_of k, (0, Some y) ∷ [])
+      → ((z : S) (after : List (ℕ × Option S)) → me.1 ≡ (0, Some z) ∷ after → seat.me ≡ (with_own me.0 (gone_outside me.0.own (t + 1) (journal z)), after))
+      → k.seen ≡ journal x → Answered outcome → StaysLegal outcome → Refused outcome → ((c : C) → k.setting ≡ Some c → (setting x ≡ c) × legal c (journal x)) → HasMadeTurn legal cause k n event outcome seat
+  has_made_turn k t outcome me seat is told was grown keeps refused known =
+      let l : Knowledge E A C = gone_outside k (t + 1) (journal y) in
+      let now : seat.me ≡ (view_of l, []) = told y [] (ap (λ (z : Sitting S E A C). z.1) is) ∙ (λ i. (with_own (is i).0 (gone_outside (is i).0.own (t + 1) (journal y)), [])) in
+      let own : seat.me.0.own ≡ l = ap (λ (z : Sitting S E A C). z.0.own) now in record {
+        at_rest = record { alone = now ∙ ap (λ (u : Knowledge E A C). (view_of u, [])) (sym own); no_ticket = ap (λ (u : Knowledge E A C). u.ticket) own; outside = ap (λ (u : Knowledge E A C). u.inside) own };
+        number = ap (λ (u : Knowledge E A C). u.number) own;
+        has_setting = ap (λ (u : Knowledge E A C). u.setting) own;
+        done = outcome_seen outcome k seat.me.0.own.seen was (ap (λ (u : Knowledge E A C). u.seen) own) grown keeps refused known;
+      }

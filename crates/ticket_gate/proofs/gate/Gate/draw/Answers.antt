@@ -1,0 +1,18 @@
+use Rattle.std.proofs.Common.{rules, ap, ◌∙◌, refl}
+use Rattle.ticket_gate.proofs.Stepping.{alone_after, own_after}
+use Rattle.ticket_gate.proofs.Reading.{reads_drawn}
+use Rattle.ticket_gate.proofs.Drawing.{draws_ticket}
+use Rattle.ticket_gate.proofs.gate.Gate.draw.Goals as goal
+
+pub load-ticket-requires : goal.load-ticket-requires
+load-ticket-requires g c =
+    let i = c.loop.invariant in
+    (search rules, search rules, reads_drawn _ _ _ _ _ _ _ i.1.alone)
+
+pub compare_exchange-requires : goal.compare_exchange-requires
+compare_exchange-requires g c =
+    let i = c.loop.invariant in
+    let h = c.load-ticket.ensures.2 in
+    let o = own_after c.loop.seat.me c.load-ticket.new.seat.me _ h in
+    let n = c.requires.2 in
+    (search rules, search rules, draws_ticket _ _ _ _ _ _ _ _ n.0 _ (alone_after _ _ _ i.1.alone h) refl (ap (λ p. p.number) o ∙ (i.2.number ∙ n.1)) (ap (λ p. p.inside) o ∙ i.1.outside))

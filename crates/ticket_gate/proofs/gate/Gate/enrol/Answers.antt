@@ -1,0 +1,17 @@
+use Rattle.std.proofs.Common.{rules, ap, ◌∙◌, refl}
+use Rattle.ticket_gate.proofs.Stepping.{alone_after, own_after}
+use Rattle.ticket_gate.proofs.Reading.{reads_enrolled}
+use Rattle.ticket_gate.proofs.Numbering.{takes_number}
+use Rattle.ticket_gate.proofs.gate.Gate.enrol.Goals as goal
+
+pub load-number-requires : goal.load-number-requires
+load-number-requires g c =
+    let i = c.loop.invariant in
+    (search rules, search rules, reads_enrolled _ _ _ _ _ _ _ i.1.alone)
+
+pub compare_exchange-found-requires : goal.compare_exchange-found-requires
+compare_exchange-found-requires g c =
+    let i = c.loop.invariant in
+    let h = c.load-number.ensures.2.0 in
+    let o = own_after c.loop.seat.me c.load-number.new.seat.me _ h in
+    (search rules, search rules, takes_number _ _ _ _ _ _ _ _ _ (alone_after _ _ _ i.1.alone h) refl (search rules) (ap (λ p. p.number) o ∙ i.2.0) (ap (λ p. p.inside) o ∙ i.1.outside))

@@ -1,0 +1,8 @@
+use Rattle.std.proofs.Common.{rules}
+use Rattle.ticket_gate.proofs.Entering.{looks_with_ticket}
+use Rattle.ticket_gate.proofs.gate.Gate.wait.Goals as goal
+
+pub load-requires : goal.load-requires
+load-requires g c =
+    let i = c.loop.invariant in
+    (search rules, search rules, looks_with_ticket _ _ _ _ _ _ c.args.ticket _ i.1.alone i.1.ticket i.1.outside)

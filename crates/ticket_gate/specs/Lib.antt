@@ -1,0 +1,10 @@
+pub mod Journal
+pub mod Rule
+pub mod PlainRule
+pub mod Steps
+pub mod Gate
+pub mod Refusal
+pub mod Visit
+pub mod Turns
+pub mod Totals
+pub mod RunningTotal

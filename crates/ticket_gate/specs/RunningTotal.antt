@@ -1,0 +1,17 @@
+-- What contracts see of a running total.
+use Rattle.std.specs.Prelude.{ℕ, ◌+◌, ◌<◌, List}
+use Rattle.ticket_gate.specs.declared.running_total.RunningTotal.{RunningTotal}
+use Rattle.ticket_gate.specs.declared.running_total.AdditionRefusal.{AdditionRefusal}
+use Rattle.ticket_gate.specs.declared.running_total.AdditionRefusal.TheVariants.{PastLimit, NoMemory}
+use Rattle.ticket_gate.specs.Totals.{steps_in, amount_sum}
+
+abbrev pub journal_of : RunningTotal → List (ℕ × ℕ × ℕ)
+journal_of state = steps_in state.additions.items
+
+abbrev pub limit_of : RunningTotal → ℕ
+limit_of state = state.limit
+
+-- the amount would take the total past the limit; no journal says when memory runs out
+abbrev pub IsDue : ℕ → AdditionRefusal → ℕ → List (ℕ × ℕ × ℕ) → Type 0
+IsDue limit PastLimit amount journal = limit < amount_sum journal + amount
+IsDue limit NoMemory amount journal = Unit {0}

@@ -1,0 +1,35 @@
+-- What a worker sees of its turns.
+use Rattle.std.specs.Prelude.{◌≡◌, ℕ, List}
+use Rattle.ticket_gate.specs.declared.refusal.TurnRefusal.{TurnRefusal}
+use Rattle.ticket_gate.specs.declared.refusal.TurnRefusal.TheVariants.{Busy, Spent, State}
+use Rattle.ticket_gate.specs.Journal.{steps_of}
+use Rattle.ticket_gate.specs.Refusal.{RefusedByState}
+use Rattle.ticket_gate.specs.Gate.{GateFacts, PassFacts}
+
+module _ {E A R : Type 0} (cause : R → E → List (ℕ × E × A) → Type 0) (spent : Type 0) (n : ℕ) (before : List (ℕ × E × A)) (event : E) (after : List (ℕ × E × A)) where
+  -- A turn of the pass n was refused, and the event comes back. It is never refused for being busy, and for want of tickets only where `spent` holds.
+  abbrev pub RefusesTurn : TurnRefusal R E → Type 0
+  RefusesTurn (Busy served drawn back) = ⊥
+  RefusesTurn (Spent back) = (back ≡ event) × (after ≡ before) × spent
+  RefusesTurn (State why back) = (back ≡ event) × RefusedByState cause n before event why after
+
+-- a pass and its gate
+pub record SeatedFacts (E A C : Type 0) : Type 0 where
+  pub gate : GateFacts C
+  pub pass : PassFacts E A C
+
+abbrev pub seated_at : {E A C : Type 0} → GateFacts C → PassFacts E A C → SeatedFacts E A C
+seated_at gate pass = record { gate = gate; pass = pass }
+
+-- a state and the one pass that uses it
+pub record AloneFacts (S : Type 0) : Type 0 where
+  pub state : S
+  pub pass : ℕ
+
+abbrev pub alone_with : {S : Type 0} → S → ℕ → AloneFacts S
+alone_with state pass = record { state = state; pass = pass }
+
+-- the journal is legal, and all its steps are of this pass
+pub record IsUsedBy {S E A C : Type 0} (journal : S → List (ℕ × E × A)) (setting : S → C) (legal : C → List (ℕ × E × A) → Type 0) (state : S) (n : ℕ) : Type 0 where
+  pub is_legal : legal (setting state) (journal state)
+  pub own : steps_of n (journal state) ≡ journal state

@@ -1,0 +1,90 @@
+//! Turns on a state that one pass has for itself.
+ghost use Rattle.std.specs.Prelude.{◌≡◌, []};
+ghost use Rattle.ticket_gate.specs.Journal.{steps_of};
+ghost use Rattle.ticket_gate.specs.Turns.{AloneFacts, IsUsedBy, alone_with};
+
+use crate::recorded::Recorded;
+use crate::refusal::TurnRefusal;
+use crate::turns::Turns;
+use std::marker::Model;
+use std::sync::Wait;
+
+/// A state that one pass has for itself. All steps of its journal are of this pass.
+#[derive(Drop)]
+pub struct Alone<S: Recorded> {
+    state: S,
+    pass: u64,
+}
+
+impl<S: Recorded> Model for Alone<S> {
+    ghost Value = { AloneFacts S };
+
+    ghost view = { λ a. alone_with a.state a.pass };
+
+    ghost invariant = { λ a. IsUsedBy S.journal S.setting S.legal a.state a.pass };
+}
+
+impl<S: Recorded> Alone<S> {
+    /// Takes a state with an empty journal, for the pass with this number.
+    pub fn new(state: S, pass: u64) -> Alone<S>
+        requires { S.journal state ≡ [] }
+        ensures { result ≡ alone_with state pass }
+    {
+        Alone { state, pass }
+    }
+
+    /// The state.
+    pub fn state(&self) -> &S
+        ensures { result.now ≡ self.now.state }
+    {
+        &self.state
+    }
+
+    /// Gives the state. Its journal is legal, and all its steps are of this pass.
+    pub fn into_state(self) -> S
+        ensures state { result ≡ self.state }
+        ensures is_legal { S.legal (S.setting result) (S.journal result) }
+        ensures own { steps_of self.pass (S.journal result) ≡ S.journal result }
+    {
+        let Alone { state, pass: _ } = self;
+        state
+    }
+}
+
+/// No turn is refused for want of a ticket: `turn` is refused by the state alone.
+impl<S: Recorded> Turns for Alone<S> {
+    type Event = S::Event;
+
+    type Answer = S::Answer;
+
+    type Refusal = S::Refusal;
+
+    type Setting = S::Setting;
+
+    type Home = ();
+
+    ghost home = { λ a. tt };
+
+    ghost pass = { λ a. a.pass };
+
+    ghost seen = { λ a. S.journal a.state };
+
+    ghost setting = { λ a. S.setting a.state };
+
+    ghost legal = { S.legal };
+
+    ghost cause = { S.cause };
+
+    ghost spent = { λ a. ⊥ };
+
+    fn turn<R: Wait>(
+        &mut self,
+        _rt: &R,
+        event: S::Event,
+    ) -> Result<S::Answer, TurnRefusal<S::Refusal, S::Event>> {
+        match self.state.turn(self.pass, event) {
+            Ok(answer) => Ok(answer),
+            Err((cause, event)) => Err(TurnRefusal::State { cause, event }),
+        }
+    }
+}

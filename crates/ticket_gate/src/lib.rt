@@ -1,0 +1,33 @@
+//! A ticket lock round a state that keeps a journal of its turns: one legal journal for all threads.
+//!
+//! A thread's [`Pass`] draws a ticket, waits until it is served, makes one turn of the state and
+//! serves the next ticket. The contracts say more than those of a mutex can: each answered turn
+//! added one step of its pass to one legal journal, after all that this pass had seen.
+//! Nothing is promised of the order of arrival, of fairness or of progress.
+#![tactic(auto)]
+
+mod alone;
+mod close;
+mod enrol;
+mod gate;
+mod laws;
+mod meet;
+mod recorded;
+mod refusal;
+mod running_total;
+mod seated;
+mod steps;
+#[cfg(test)]
+mod tests;
+mod turn;
+mod turns;
+mod view;
+
+pub use alone::Alone;
+pub use gate::{Gate, Pass, Spare};
+pub use laws::rule_in_plain_sentences;
+pub use recorded::Recorded;
+pub use refusal::{GateRefusal, TurnRefusal};
+pub use running_total::{Addition, AdditionRefusal, RunningTotal};
+pub use seated::Seated;
+pub use turns::Turns;

@@ -1,0 +1,39 @@
+//! Two passes compare what they have seen.
+ghost use Rattle.std.specs.Prelude.{◌≡◌};
+ghost use Rattle.ticket_gate.specs.Gate.{IsPassOf, IsSamePass};
+ghost use Rattle.ticket_gate.specs.Journal.{Meets};
+
+use crate::gate::{Gate, Pass, SERVING};
+use crate::recorded::Recorded;
+use crate::steps::{ComparePasses, PairPasses};
+
+impl<S: Recorded> Gate<S> {
+    /// Gives both passes back in their order, and what they have seen is now known to be of one
+    /// journal: their numbers differ, one journal begins with the other, and the longer one is
+    /// legal and holds of each pass exactly the steps that the pass has seen.
+    ///
+    /// No number and no seen journal changes. It takes no memory and never waits.
+    pub fn meet(&self, first: Pass<S>, second: Pass<S>) -> (Pass<S>, Pass<S>)
+        requires { IsPassOf self.now first × IsPassOf self.now second }
+        ensures same { IsSamePass first result.0 × IsSamePass second result.1 }
+        ensures seen { (result.0.known.seen ≡ first.known.seen) × (result.1.known.seen ≡ second.known.seen) }
+        ensures meet { Meets (S.legal self.now.setting)
+            first.number first.known.seen second.number second.known.seen }
+    {
+        let Pass { number, mut seat } = first;
+        let Pass {
+            number: other_number,
+            seat: other,
+        } = second;
+        let shared = &self.table.shared;
+        shared.join_seat::<PairPasses>(&mut seat, other);
+        shared.load::<ComparePasses>(&mut seat, SERVING);
+        let other = shared.split_seat::<PairPasses>(&mut seat);
+        let first = Pass { number, seat };
+        let second = Pass {
+            number: other_number,
+            seat: other,
+        };
+        (first, second)
+    }
+}

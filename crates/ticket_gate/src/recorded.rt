@@ -1,0 +1,54 @@
+//! A state that keeps a journal of its turns.
+ghost use Rattle.std.specs.Prelude.{◌≡◌, ℕ, List, [], ◌∷◌, ◌++◌, IfOk, IfErr};
+
+/// A state that changes in turns and keeps a journal of them. A step of the journal is the number
+/// of the pass that made the turn, the event and the answer.
+///
+/// An answered turn adds exactly its own step, and what the setting allows stays so. A refused
+/// turn leaves the journal as it was, hands the event back, and its cause holds. No turn changes
+/// the setting.
+pub trait Recorded {
+    /// What a turn is made of.
+    type Event;
+
+    /// What an answered turn gives.
+    type Answer;
+
+    /// Why the state refuses a turn.
+    type Refusal;
+
+    /// What the state was made with, which no turn changes.
+    type Setting;
+
+    /// The steps so far, the oldest first.
+    ghost journal: { Self → List (ℕ × Self.Event × Self.Answer) };
+
+    /// What the state was made with.
+    ghost setting: { Self → Self.Setting };
+
+    /// Which journals a setting allows.
+    ghost legal: { Self.Setting → List (ℕ × Self.Event × Self.Answer) → Type 0 };
+
+    /// When a refusal of an event is due, over the journal so far.
+    ghost cause: { Self.Setting → Self.Refusal → Self.Event → List (ℕ × Self.Event × Self.Answer) → Type 0 };
+
+    /// One turn of the pass with this number.
+    fn turn(
+        &mut self,
+        pass: u64,
+        event: Self::Event,
+    ) -> Result<Self::Answer, (Self::Refusal, Self::Event)>
+        ensures setting { setting self.new ≡ setting self.old }
+        ensures answered { IfOk result (λ answer. journal self.new ≡ journal self.old ++ (pass, event, answer) ∷ []) }
+        ensures legal { IfOk result (λ answer. legal (setting self.old) (journal self.old)
+            → legal (setting self.old) (journal self.new)) }
+        ensures refused { IfErr result (λ refused. (journal self.new ≡ journal self.old) × (refused.1 ≡ event)
+            × cause (setting self.old) refused.0 event (journal self.old)) };
+
+    /// The empty journal is legal.
+    ghost legal_at_first: { (c : Self.Setting) → legal c [] };
+
+    /// Each beginning of a legal journal is legal.
+    ghost legal_before: { (c : Self.Setting) (log more : List (ℕ × Self.Event × Self.Answer))
+        → legal c (log ++ more) → legal c log };
+}

@@ -1,0 +1,110 @@
+//! A small state that keeps a journal, as an example and for measurements: a total that is added to.
+ghost use Rattle.std.specs.Prelude.{◌≡◌, ◌≤◌, []};
+ghost use Rattle.ticket_gate.specs.Totals.{AreTotals, amount_sum, steps_in, totals_at_first, totals_before};
+
+use crate::recorded::Recorded;
+use std::alloc::Global;
+use thiserror::Error;
+
+/// One addition: the pass that made it, its amount, and the total that it came to.
+#[derive(Clone, Copy, Debug, PartialEq, Eq)]
+pub struct Addition {
+    pub pass: u64,
+    pub amount: u64,
+    pub total: u64,
+}
+
+/// Why an amount was not added.
+#[derive(Clone, Copy, Debug, PartialEq, Eq, Error)]
+pub enum AdditionRefusal {
+    /// The total would pass its limit.
+    #[error("the total would pass its limit")]
+    PastLimit,
+    /// There was no memory for the journal.
+    #[error("there is no memory for the journal")]
+    NoMemory,
+}
+
+/// A total of amounts that stays within a limit, with the journal of its additions.
+/// An event is an amount, and its answer is the total that it came to.
+#[derive(Debug, Drop)]
+pub struct RunningTotal {
+    limit: u64,
+    total: u64,
+    additions: Vec<Addition>,
+    ghost totalled: { total ≡ amount_sum (steps_in additions.items) },
+    ghost within: { total ≤ limit },
+}
+
+impl RunningTotal {
+    ghost use Rattle.ticket_gate.specs.RunningTotal.{journal_of, limit_of};
+
+    /// A total of 0 that may rise to `limit`.
+    pub fn new(alloc: Global, limit: u64) -> RunningTotal
+        ensures limit { limit_of result ≡ limit }
+        ensures empty { journal_of result ≡ [] }
+    {
+        RunningTotal {
+            limit,
+            total: 0,
+            additions: Vec::new(alloc),
+        }
+    }
+
+    /// The sum of all amounts.
+    pub fn total(&self) -> u64
+        ensures { result ≡ amount_sum (journal_of self.now) }
+    {
+        self.total
+    }
+
+    /// The additions, the oldest first.
+    pub fn additions(&self) -> &[Addition]
+        ensures { steps_in result.now ≡ journal_of self.now }
+    {
+        self.additions.as_slice()
+    }
+}
+
+impl Recorded for RunningTotal {
+    ghost use Rattle.ticket_gate.specs.RunningTotal.{journal_of, limit_of, IsDue};
+
+    type Event = u64;
+
+    type Answer = u64;
+
+    type Refusal = AdditionRefusal;
+
+    type Setting = u64;
+
+    ghost journal = { journal_of };
+
+    ghost setting = { limit_of };
+
+    ghost legal = { AreTotals };
+
+    ghost cause = { IsDue };
+
+    fn turn(&mut self, pass: u64, event: u64) -> Result<u64, (AdditionRefusal, u64)> {
+        if event > self.limit - self.total {
+            return Err((AdditionRefusal::PastLimit, event));
+        }
+        let total = self.total + event;
+        let addition = Addition {
+            pass,
+            amount: event,
+            total,
+        };
+        match self.additions.push(addition) {
+            Ok(()) => {
+                self.total = total;
+                Ok(total)
+            }
+            Err(_) => Err((AdditionRefusal::NoMemory, event)),
+        }
+    }
+
+    ghost legal_at_first = { totals_at_first };
+
+    ghost legal_before = { totals_before };
+}

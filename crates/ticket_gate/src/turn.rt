@@ -1,0 +1,152 @@
+//! Turns at a gate: in, one turn of the state, and out.
+ghost use Rattle.std.specs.Prelude.{◌≡◌, ◌+◌, ◌-◌, ◌^◌, ◌<◌, ℕ, Some, IfOk, IfErr, MatchOption};
+ghost use Rattle.ticket_gate.specs.Gate.{IsAtRest, IsPassOf, IsSamePass};
+ghost use Rattle.ticket_gate.specs.Visit.{KeepsSeen, HoldsTicket, IsInside, HasMadeTurn};
+ghost use Rattle.ticket_gate.specs.Journal.{AddsTurn};
+ghost use Rattle.ticket_gate.specs.Refusal.{RefusesAtOnce, RefusesAfterWaiting};
+
+use crate::gate::{DRAWN, Gate, Pass, Place, SERVING, STATE};
+use crate::recorded::Recorded;
+use crate::refusal::TurnRefusal;
+use crate::steps::{DrawTicket, EnterAtOnce, LookAtServing, ReadDrawn, ServeNext};
+use crossbeam_utils::Backoff;
+use std::sync::Wait;
+
+impl<S: Recorded> Gate<S> {
+    // Draws a ticket. None where all are drawn.
+    fn draw<R: Wait>(&self, rt: &R, seat: &mut Place<S>) -> Option<u64>
+        requires { (seat.old.table_id ≡ self.now.id) × IsAtRest seat.old
+            × ((n : ℕ) × (seat.old.me.0.own.number ≡ Some n)) }
+        ensures gate { seat.new.table_id ≡ seat.old.table_id }
+        ensures ticket { MatchOption result
+            (IsAtRest seat.new × KeepsSeen seat.old.me.0.own seat.new.me.0.own
+            × (seat.new.me.0.own.last_drawn ≡ 2 ^ 64 - 1))
+            (λ t. (t < 2 ^ 64 - 1) × HoldsTicket seat.old.me.0.own t seat.new) }
+    {
+        let shared = &self.table.shared;
+        for _ in rt.forever() {
+            let ticket = shared.load::<ReadDrawn>(seat, DRAWN);
+            if ticket == u64::MAX {
+                return None;
+            }
+            if shared.compare_exchange::<DrawTicket>(seat, DRAWN, ticket, ticket + 1) == ticket {
+                return Some(ticket);
+            }
+        }
+        unreachable!()
+    }
+
+    // Waits until the ticket is served.
+    fn wait<R: Wait>(&self, rt: &R, seat: &mut Place<S>, ticket: u64)
+        requires { (seat.old.table_id ≡ self.now.id) × HoldsTicket seat.old.me.0.own ticket seat.old }
+        ensures gate { seat.new.table_id ≡ seat.old.table_id }
+        ensures inside { IsInside S.journal S.setting S.legal seat.old.me.0.own ticket seat.new }
+    {
+        let backoff = Backoff::new();
+        for _ in rt.forever() {
+            if self.table.shared.load::<LookAtServing>(seat, SERVING) == ticket {
+                return;
+            }
+            backoff.snooze();
+        }
+        unreachable!()
+    }
+
+    // Makes the turn, and serves the next ticket.
+    fn work(
+        &self,
+        seat: &mut Place<S>,
+        number: u64,
+        ticket: u64,
+        event: S::Event,
+    ) -> Result<S::Answer, (S::Refusal, S::Event)>
+        requires gate { seat.old.table_id ≡ self.now.id }
+        requires inside { IsInside S.journal S.setting S.legal seat.old.me.0.own ticket seat.old }
+        requires ticket { ticket + 1 < 2 ^ 64 }
+        requires setting { seat.old.me.0.own.setting ≡ Some self.now.setting }
+        requires number { seat.old.me.0.own.number ≡ Some number }
+        ensures gate { seat.new.table_id ≡ seat.old.table_id }
+        ensures done { HasMadeTurn S.legal S.cause seat.old.me.0.own number event result seat.new }
+    {
+        let shared = &self.table.shared;
+        let mut state = shared.exchange(seat, STATE, None).unwrap();
+        let outcome = state.turn(number, event);
+        match shared.exchange(seat, STATE, Some(state)) {
+            None => {}
+            Some(_) => unreachable!(),
+        }
+        shared.store::<ServeNext>(seat, SERVING, ticket + 1);
+        outcome
+    }
+
+    /// Draws a ticket, waits until it is served, and makes one turn.
+    ///
+    /// Answered: what the pass sees now is legal, begins with what it saw before, and ends with
+    /// its step. Refused `Spent` (1202), where all tickets were drawn: the pass has seen nothing
+    /// new. Refused `State`: the journal has no step of this turn, and the state's cause holds
+    /// over what the pass sees now. Each refusal hands the event back. It is never `Busy`.
+    pub fn take_turn<R: Wait>(
+        &self,
+        rt: &R,
+        pass: &mut Pass<S>,
+        event: S::Event,
+    ) -> Result<S::Answer, TurnRefusal<S::Refusal, S::Event>>
+        requires { IsPassOf self.now pass.old }
+        ensures same { IsSamePass pass.old pass.new }
+        ensures answered { IfOk result (λ answer. AddsTurn (S.legal self.now.setting)
+            pass.old.number pass.old.known.seen event answer pass.new.known.seen) }
+        ensures refused { IfErr result (RefusesAfterWaiting (S.cause self.now.setting)
+            pass.old.number pass.old.known event pass.new.known) }
+    {
+        let Some(ticket) = self.draw(rt, &mut pass.seat) else {
+            return Err(TurnRefusal::Spent { event });
+        };
+        self.wait(rt, &mut pass.seat, ticket);
+        let number = pass.number;
+        match self.work(&mut pass.seat, number, ticket, event) {
+            Ok(answer) => Ok(answer),
+            Err((cause, event)) => Err(TurnRefusal::State { cause, event }),
+        }
+    }
+
+    /// Makes one turn where nobody holds or awaits the gate. It never waits.
+    ///
+    /// Answered and refused as `take_turn` is, and `Busy` (1201) where more tickets were drawn
+    /// than served: it tells the two numbers that it found, and the pass has seen nothing new.
+    pub fn try_turn(
+        &self,
+        pass: &mut Pass<S>,
+        event: S::Event,
+    ) -> Result<S::Answer, TurnRefusal<S::Refusal, S::Event>>
+        requires { IsPassOf self.now pass.old }
+        ensures same { IsSamePass pass.old pass.new }
+        ensures answered { IfOk result (λ answer. AddsTurn (S.legal self.now.setting)
+            pass.old.number pass.old.known.seen event answer pass.new.known.seen) }
+        ensures refused { IfErr result (RefusesAtOnce (S.cause self.now.setting)
+            pass.old.number pass.old.known event pass.new.known) }
+    {
+        let shared = &self.table.shared;
+        let served = shared.load::<LookAtServing>(&mut pass.seat, SERVING);
+        if served == u64::MAX {
+            return Err(TurnRefusal::Spent { event });
+        }
+        let drawn = shared.compare_exchange::<EnterAtOnce>(
+            &mut pass.seat,
+            DRAWN,
+            served,
+            served + 1,
+        );
+        if drawn != served {
+            return Err(TurnRefusal::Busy {
+                served,
+                drawn,
+                event,
+            });
+        }
+        let number = pass.number;
+        match self.work(&mut pass.seat, number, served, event) {
+            Ok(answer) => Ok(answer),
+            Err((cause, event)) => Err(TurnRefusal::State { cause, event }),
+        }
+    }
+}
