@@ -18,7 +18,7 @@ pub enum GateRefusal {
 
 impl GateRefusal {
     /// 1203 or 1204.
-    pub fn number(self) -> u32
+    pub fn number(self) -> u16
         ensures { result ≡ gate_number self }
     {
         match self {
@@ -46,7 +46,7 @@ pub enum TurnRefusal<R, E> {
 
 impl<R, E> TurnRefusal<R, E> {
     /// 1201 or 1202, and `None` where the state refused.
-    pub fn number(&self) -> Option<u32>
+    pub fn number(&self) -> Option<u16>
         ensures { result ≡ turn_number self.now }
     {
         match self {
