@@ -1,0 +1,222 @@
+//! The pipe to one host.
+ghost use Rattle.std.specs.Prelude.{◌≡◌, ◌≢◌, ◌⊎◌, ◌<◌, ◌≤◌, ◌+◌, ◌^◌, ◌-◌, ◌↔◌, ◌∷◌, ◌++◌, [], List, ℕ, Option, Some, None, length, map, filter, slice_get, OnOk, OnErr, IfOk, IfErr, IfSome, IfNone, IsErrOf, IsErrAnd, IsSome};
+ghost use Rattle.std.specs.VecDeque.{deque_len, deque_capacity};
+ghost use Rattle.upstream_pipe.specs.declared.part.Owner.{Owner};
+ghost use Rattle.upstream_pipe.specs.Pipe.{HasSent, IsAsBefore, owner_in, is_kept, forgotten};
+
+use crate::lost::Lost;
+use crate::part::{Owner, Part};
+use crate::refusal::PipeRefusal;
+use std::alloc::Global;
+use std::collections::VecDeque;
+use std::marker::Model;
+
+/// How many parts may wait.
+pub const MAX_WAITING: usize = 1_024;
+
+/// The pipe to one host: the parts that wait to be sent, and the owners of those that fly, which were sent in this epoch
+/// and not answered yet.
+#[derive(Drop)]
+pub struct Pipe {
+    alloc: Global,
+    waiting: VecDeque<Part>,
+    // Its capacity has a place for each part that waits.
+    flying: VecDeque<Option<Owner>>,
+    epoch: u64,
+}
+
+impl Model for Pipe {
+    ghost use Rattle.std.specs.Prelude.{◌+◌, ◌≤◌};
+    ghost use Rattle.std.specs.VecDeque.{deque_len, deque_capacity};
+    ghost use Rattle.upstream_pipe.specs.Pipe.{PipeState};
+
+    ghost Value = { PipeState };
+
+    ghost view = { λ p. record { waiting = p.waiting.items; flying = p.flying.items; epoch = p.epoch } };
+
+    ghost invariant = { λ p. deque_len p.flying + deque_len p.waiting ≤ deque_capacity p.flying };
+}
+
+impl Pipe {
+    /// A pipe on which nothing waits and nothing flies, in epoch 0.
+    pub fn new(alloc: Global) -> Pipe
+        ensures waiting { result.waiting ≡ [] }
+        ensures flying { result.flying ≡ [] }
+        ensures epoch { result.epoch ≡ 0 }
+    {
+        Pipe {
+            alloc,
+            waiting: VecDeque::new(alloc),
+            flying: VecDeque::new(alloc),
+            epoch: 0,
+        }
+    }
+
+    /// The number of faults so far. It takes no memory.
+    pub fn epoch(&self) -> u64
+        ensures { result ≡ self.now.epoch }
+    {
+        self.epoch
+    }
+
+    /// Lets a part wait behind those that wait, and makes room for it to fly.
+    ///
+    /// Refused 602 (full) where 1,024 parts wait, or 601 (no memory). The part comes back then.
+    pub fn push(&mut self, part: Part) -> Result<(), (PipeRefusal, Part)>
+        ensures waiting { OnOk result (self.new.waiting ≡ self.old.waiting ++ part ∷ []) }
+        ensures flying { self.new.flying ≡ self.old.flying }
+        ensures epoch { self.new.epoch ≡ self.old.epoch }
+        ensures full { IfErr result (λ e. (e.0 ≡ PipeRefusal.Full) ↔ (MAX_WAITING ≤ length self.old.waiting)) }
+        ensures accepted { OnOk result (length self.old.waiting < MAX_WAITING) }
+        ensures memory { IfErr result (λ e. e.0 ≢ PipeRefusal.Full → e.0 ≡ PipeRefusal.NoMemory) }
+        ensures part { IfErr result (λ e. e.1 ≡ part) }
+        ensures err { OnErr result (self.new.waiting ≡ self.old.waiting) }
+    {
+        if self.waiting.len() >= MAX_WAITING {
+            return Err((PipeRefusal::Full, part));
+        }
+        if self.flying.reserve(self.waiting.len() + 1).is_err() {
+            return Err((PipeRefusal::NoMemory, part));
+        }
+        match self.waiting.push_back(part) {
+            Ok(()) => Ok(()),
+            Err(refused) => Err((PipeRefusal::NoMemory, refused.value)),
+        }
+    }
+
+    /// Takes the oldest part that waits, which flies from now on. `None` where none waits. It takes no memory.
+    pub fn take(&mut self) -> Option<Part>
+        ensures none { IfNone result ((self.old.waiting ≡ []) × IsAsBefore self.old self.new) }
+        ensures waiting { IfSome result (λ part. self.old.waiting ≡ part ∷ self.new.waiting) }
+        ensures flying { IfSome result (λ part. self.new.flying ≡ self.old.flying ++ Some part.owner ∷ []) }
+        ensures sent { IfSome result (λ part. (sent : List (Option Owner)) (count : ℕ) → HasSent self.old sent count
+            → HasSent self.new (sent ++ Some part.owner ∷ []) count) }
+        ensures epoch { self.new.epoch ≡ self.old.epoch }
+    {
+        let part = self.waiting.pop_front()?;
+        self.flying.push_back_reserved(Some(part.owner));
+        Some(part)
+    }
+
+    /// Takes a reply of this epoch, and tells whose it is: it belongs to the part that was sent `count`-th in the epoch,
+    /// where `count` replies came before. `None` where that part was forgotten. It takes no memory.
+    ///
+    /// Refused 603 (stale) exactly if the epoch isn't the pipe's, and 604 (unasked) exactly if it is and no part flies.
+    pub fn answered(&mut self, epoch: u64) -> Result<Option<Owner>, PipeRefusal>
+        ensures place { IfOk result (λ owner. (sent : List (Option Owner)) (count : ℕ) → HasSent self.old sent count
+            → (slice_get sent count ≡ Some owner) × HasSent self.new sent (count + 1)) }
+        ensures flying { IfOk result (λ owner. self.old.flying ≡ owner ∷ self.new.flying) }
+        ensures stale { IsErrOf result (PipeRefusal.Stale self.old.epoch) ↔ (epoch ≢ self.old.epoch) }
+        ensures unasked { IsErrOf result PipeRefusal.Unasked ↔ ((epoch ≡ self.old.epoch) × (self.old.flying ≡ [])) }
+        ensures refused { IfErr result (λ e. (epoch ≢ self.old.epoch) ⊎ (self.old.flying ≡ [])) }
+        ensures waiting { self.new.waiting ≡ self.old.waiting }
+        ensures epoch { self.new.epoch ≡ self.old.epoch }
+        ensures err { OnErr result (self.new.flying ≡ self.old.flying) }
+    {
+        if epoch != self.epoch {
+            return Err(PipeRefusal::Stale {
+                current: self.epoch,
+            });
+        }
+        let Some(owner) = self.flying.pop_front() else {
+            return Err(PipeRefusal::Unasked);
+        };
+        Ok(owner)
+    }
+
+    /// Ends the epoch by a fault of the host: all parts that fly or wait are lost and handed out, and the epoch is one
+    /// higher.
+    ///
+    /// Refused 603 (stale) exactly if the epoch isn't the pipe's, else 605 (epochs spent) exactly if it is the greatest
+    /// `u64`, else 601 (no memory).
+    pub fn fault(&mut self, epoch: u64) -> Result<Lost, PipeRefusal>
+        ensures flying { IfOk result (λ lost. lost.flying.items ≡ self.old.flying) }
+        ensures waiting { IfOk result (λ lost. lost.waiting.items ≡ map owner_in self.old.waiting) }
+        ensures empty { OnOk result ((self.new.flying ≡ []) × (self.new.waiting ≡ [])) }
+        ensures epoch { OnOk result (self.new.epoch ≡ self.old.epoch + 1) }
+        ensures stale { IsErrOf result (PipeRefusal.Stale self.old.epoch) ↔ (epoch ≢ self.old.epoch) }
+        ensures spent { IsErrOf result PipeRefusal.EpochsSpent ↔ ((epoch ≡ self.old.epoch) × (epoch ≡ 2 ^ 64 - 1)) }
+        ensures memory { epoch ≡ self.old.epoch → epoch < 2 ^ 64 - 1 → IfErr result (λ e. e ≡ PipeRefusal.NoMemory) }
+        ensures err { OnErr result (IsAsBefore self.old self.new) }
+    {
+        if self.epoch != epoch {
+            return Err(PipeRefusal::Stale {
+                current: self.epoch,
+            });
+        }
+        let Some(next) = self.epoch.checked_add(1) else {
+            return Err(PipeRefusal::EpochsSpent);
+        };
+        let waiting = owners(self.alloc, &self.waiting)?;
+        let flying = places(self.alloc, &self.flying)?;
+        self.waiting.clear();
+        self.flying.clear();
+        self.epoch = next;
+        Ok(Lost { flying, waiting })
+    }
+
+    /// Forgets a connection: its parts that wait are dropped, and those that fly keep their places without an owner, so
+    /// that their replies go to nobody. It takes no memory.
+    pub fn forget(&mut self, conn: u64)
+        ensures waiting { self.new.waiting ≡ filter (is_kept conn) self.old.waiting }
+        ensures flying { self.new.flying ≡ map (forgotten conn) self.old.flying }
+        ensures places { (sent : List (Option Owner)) (count : ℕ) → HasSent self.old sent count
+            → HasSent self.new (map (forgotten conn) sent) count }
+        ensures epoch { self.new.epoch ≡ self.old.epoch }
+    {
+        forget_waiting(&mut self.waiting, conn);
+        forget_flying(&mut self.flying, conn);
+    }
+}
+
+// Drops the parts of the connection.
+fn forget_waiting(waiting: &mut VecDeque<Part>, conn: u64)
+    ensures items { waiting.new.items ≡ filter (is_kept conn) waiting.old.items }
+    ensures len { deque_len waiting.new ≤ deque_len waiting.old }
+{
+    waiting.retain(|part| part.owner.conn != conn);
+}
+
+// Takes the owner out of each place of the connection.
+fn forget_flying(flying: &mut VecDeque<Option<Owner>>, conn: u64)
+    ensures items { flying.new.items ≡ map (forgotten conn) flying.old.items }
+    ensures len { deque_len flying.new ≡ deque_len flying.old }
+    ensures capacity { deque_capacity flying.new ≡ deque_capacity flying.old }
+{
+    for _ in 0..flying.len() {
+        if let Some(place) = flying.pop_front() {
+            flying.push_back_reserved(forgotten(conn, place));
+        }
+    }
+}
+
+// The place, without its owner if it is of the connection.
+fn forgotten(conn: u64, place: Option<Owner>) -> Option<Owner>
+    ensures { result ≡ forgotten conn place }
+{
+    match place {
+        Some(owner) if owner.conn == conn => None,
+        kept => kept,
+    }
+}
+
+// The owners of the parts.
+fn owners(alloc: Global, parts: &VecDeque<Part>) -> Result<Vec<Owner>, PipeRefusal>
+    ensures ok { IfOk result (λ owners. owners.items ≡ map owner_in parts.now.items) }
+    ensures err { IfErr result (λ e. e ≡ PipeRefusal.NoMemory) }
+{
+    let owners = parts.iter().map(|part| part.owner).collect(alloc)?;
+    Ok(owners)
+}
+
+// The places, copied.
+fn places(
+    alloc: Global,
+    flying: &VecDeque<Option<Owner>>,
+) -> Result<Vec<Option<Owner>>, PipeRefusal>
+    ensures ok { IfOk result (λ places. places.items ≡ flying.now.items) }
+    ensures err { IfErr result (λ e. e ≡ PipeRefusal.NoMemory) }
+{
+    let places = flying.iter().copied().collect(alloc)?;
+    Ok(places)
+}
