@@ -1,5 +1,5 @@
 -- A list of entries that says the rows of the table.
-use Rattle.std.proofs.Common.{◌≡◌, ◌≢◌, ◌<◌, ℕ, List, [], ◌∷◌, Option, Some, None, IfSome, IfNone, All, Contains, length, map, get_or, refl, sym, ap, ◌∙◌, subst, arith}
+use Rattle.std.proofs.Common.{◌≡◌, ◌≢◌, ◌<◌, ℕ, List, [], ◌∷◌, Option, Some, None, IfSome, IfNone, All, Contains, length, map, get_or, refl, sym, ap, ◌∙◌, arith}
 use Rattle.std.specs.Str.{str_to_ascii_lowercase}
 use Rattle.std.proofs.lemmas.List.{length-map, get_or-map}
 use Rattle.command_table.specs.declared.Entry.{Entry}

@@ -1,9 +1,8 @@
 -- The first row of a name, from one entry to the next.
-use Rattle.std.proofs.Common.{◌≡◌, ◌<◌, ◌+◌, ℕ, suc, add-one, List, [], Bool, true, false, Option, Some, map, length, get_or, inl, inr, ◌∷◌, drop, drop-cons, refl, sym, ap, ◌∙◌, arith}
+use Rattle.std.proofs.Common.{◌≡◌, ◌<◌, ◌+◌, ℕ, add-one, List, [], true, Some, map, length, get_or, inl, inr, ◌∷◌, drop, drop-cons, refl}
 use Rattle.std.specs.Str.{str_to_ascii_lowercase, bytes_eq}
 use Rattle.std.proofs.lemmas.Slice.Eq.{bytes_eq-Decides}
 use Rattle.std.proofs.lemmas.Bool.{cases_Bool}
-use Rattle.std.proofs.lemmas.Bool.Decides.{not_from_Decides}
 use Rattle.command_table.specs.declared.Entry.{Entry}
 use Rattle.command_table.specs.declared.Kind.TheVariants.{Ping}
 use Rattle.command_table.specs.Table.{row_in}

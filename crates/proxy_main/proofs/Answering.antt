@@ -1,16 +1,15 @@
 -- Answering the requests of a stream, one after the other.
-use Rattle.std.proofs.Common.{◌≡◌, ◌<◌, ◌≤◌, ℕ, Bool, true, false, if◌then◌else◌, List, [], ◌∷◌, ◌++◌, map, length, Option, None, Some, inl, inr, refl, sym, ap, ◌∙◌, subst, append_assoc, append-nil, arith}
-use Rattle.std.specs.List.{flat_map, list_any}
+use Rattle.std.proofs.Common.{◌≡◌, ℕ, true, false, List, [], ◌∷◌, ◌++◌, map, length, Option, None, Some, inl, inr, refl, sym, ap, ◌∙◌, subst, append_assoc, append-nil, arith}
+use Rattle.std.specs.List.{list_any}
 use Rattle.std.specs.Io.KnownBytes.{Consumes, Appends, IsAtEnd}
 use Rattle.std.proofs.lemmas.Bool.{cases_Bool}
 use Rattle.std.proofs.lemmas.List.{map-append, length-append}
 use Rattle.resp_core.specs.Tree.{Tree}
-use Rattle.resp_core.specs.Stream.{ReaderState, Stands, Splits, AreValues, IsRefusedAt, HasRefusal, HasNoRefusal}
-use Rattle.resp_core.specs.Laws.{Holds}
+use Rattle.resp_core.specs.Stream.{ReaderState, Stands, Splits, HasNoRefusal}
 use Rattle.resp_core.proofs.StreamLaws.{each_stream_holds, one_holding, refusal_stays, values_stay}
 use Rattle.proxy_main.specs.Request.{Request, read, broken, client_limit, end_of, AreRequests}
 use Rattle.proxy_main.specs.Stream.{finishes, accepted, answer_text, answer_texts, AreFirst, IsNext, IsAnswered, AnswersWhole, AnswersLast, AnswersAll}
-use Rattle.proxy_main.proofs.Known.{consumes_then, appends_then}
+use Rattle.proxy_main.proofs.Known.{appends_then}
 
 pub answer_texts-append : (xs ys : List Request) → answer_texts (xs ++ ys) ≡ answer_texts xs ++ answer_texts ys
 answer_texts-append [] ys = refl

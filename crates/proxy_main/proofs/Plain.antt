@@ -1,17 +1,17 @@
 -- Each answer of the proxy's own can be written: it has no CR and no LF in a line.
-use Rattle.std.proofs.Common.{◌≡◌, ◌++◌, ◌&&◌, ℕ, ◌≤◌, Bool, true, false, not, List, [], ◌∷◌, Option, Some, None, map, take, find, nat_le, ne_eqb, length, inl, inr, refl, sym, ap, ◌∙◌, subst, arith, codes}
+use Rattle.std.proofs.Common.{◌≡◌, ◌++◌, ◌&&◌, ℕ, ◌≤◌, Bool, true, List, [], ◌∷◌, Option, Some, None, map, take, find, ne_eqb, length, inl, inr, refl, ◌∙◌, subst, arith, codes}
 use Rattle.std.specs.List.{list_all}
 use Rattle.std.specs.Str.{str_to_ascii_lowercase, bytes_eq}
 use Rattle.std.proofs.lemmas.Bool.{cases_Bool, and_parts}
 use Rattle.std.proofs.lemmas.Bool.Decides.{leb_tells}
 use Rattle.std.proofs.lemmas.List.Folds.{list_all-append}
-use Rattle.resp_core.specs.Tree.{Tree, is_text_byte, is_plain_tree}
-use Rattle.command_table.specs.Table.{Row, rows, row_in, row_named}
+use Rattle.resp_core.specs.Tree.{is_text_byte, is_plain_tree}
+use Rattle.command_table.specs.Table.{Row, rows, row_named}
 use Rattle.command_table.specs.declared.Kind.{Kind}
 use Rattle.command_table.specs.declared.Kind.TheVariants.{Ping, Echo, Quit}
 use Rattle.proxy_main.specs.Command.{is_command, words_of, word}
 use Rattle.proxy_main.specs.Request.{Request, read, broken}
-use Rattle.proxy_main.specs.Local.{Local, shown_byte, shown, unsupported, wrong_number, takes, answer_of, answer_by, local_of}
+use Rattle.proxy_main.specs.Local.{shown_byte, shown, takes, answer_of, answer_by, local_of}
 
 both : (x y : Bool) → x ≡ true → y ≡ true → (x && y) ≡ true
 both x y e f = rw (e, f) refl

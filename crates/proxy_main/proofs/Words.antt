@@ -1,10 +1,10 @@
 -- The words of a command, as they stand in its value.
-use Rattle.std.proofs.Common.{◌≡◌, ◌<◌, ℕ, zero, suc, Bool, true, false, List, [], ◌∷◌, length, map, get_or, Global, refl, sym, ap, ◌∙◌, subst, arith}
+use Rattle.std.proofs.Common.{◌≡◌, ◌<◌, ℕ, zero, suc, true, false, List, [], ◌∷◌, length, map, get_or, Global, refl, ap, ◌∙◌, arith}
 use Rattle.std.specs.List.{list_all}
 use Rattle.std.proofs.lemmas.Bool.{and_parts}
 use Rattle.std.proofs.lemmas.List.{get_or-map, length-map}
 use Rattle.bytes.specs.declared.shared.Bytes.{Bytes}
-use Rattle.resp_core.specs.Tree.{Tree, list, trees_of, members}
+use Rattle.resp_core.specs.Tree.{Tree, list, trees_of}
 use Rattle.resp_core.specs.Value.{tree_of}
 use Rattle.resp_core.specs.declared.value.Value.{Value}
 use Rattle.resp_core.specs.declared.value.Value.TheVariants.{Simple, Fault, Whole, Bulk, NullBulk, NullList}

@@ -1,7 +1,7 @@
 -- What a command is, and its words.
-use Rattle.std.specs.Prelude.{◌≡◌, ℕ, Bool, true, false, not, ◌&&◌, List, [], ◌∷◌, map, length, nat_lt, slice_index_or}
+use Rattle.std.specs.Prelude.{◌≡◌, ℕ, Bool, true, false, ◌&&◌, List, [], map, length, nat_lt, slice_index_or}
 use Rattle.std.specs.List.{list_all}
-use Rattle.resp_core.specs.Tree.{Tree, Trees, simple, fault, whole, bulk, null_bulk, list, null_list, no_trees, tree, members, trees_of}
+use Rattle.resp_core.specs.Tree.{Tree, simple, fault, whole, bulk, null_bulk, list, null_list, members, trees_of}
 
 abbrev pub is_bulk : Tree → Bool
 is_bulk (simple s) = false

@@ -1,5 +1,5 @@
 -- What the proxy answers to a request by itself.
-use Rattle.std.specs.Prelude.{ℕ, ◌≤◌, Bool, true, false, ◌&&◌, ◌==◌, nat_le, if◌then◌else◌, Option, Some, None, List, [], ◌∷◌, ◌++◌, length, map, take, codes}
+use Rattle.std.specs.Prelude.{ℕ, Bool, true, false, ◌&&◌, ◌==◌, nat_le, if◌then◌else◌, Option, Some, None, List, ◌++◌, length, map, take, codes}
 use Rattle.resp_core.specs.Tree.{Tree, simple, fault, bulk}
 use Rattle.command_table.specs.Table.{Row, row_named}
 use Rattle.command_table.specs.declared.Kind.{Kind}

@@ -1,6 +1,7 @@
 //! What goes in and what comes out, with readers and writers that stop short, pause and fail.
 ghost use Rattle.std.specs.Prelude.{◌≤◌, ◌<◌, length};
 
+use crate::command_line::{Asked, Refused, read};
 use crate::ending::Ending;
 use crate::local::local_run;
 use std::alloc::Global;
@@ -233,6 +234,35 @@ fn endings_have_statuses_and_texts(rt: HostRuntime) -> Result<(), Fail> {
     for (ending, status, text) in rows {
         assert_eq!(rt; ending.status(), status);
         assert_eq!(rt; ending.to_string(rt.alloc())?.as_str(), text);
+    }
+    Ok(())
+}
+
+fn said(alloc: Global, words: &[&str]) -> Result<Option<i32>, Fail> {
+    let mut owned = Vec::new(alloc);
+    for word in words {
+        owned.push(String::from_str(alloc, word)?)?;
+    }
+    match read(alloc, &owned) {
+        Ok(Asked::Local) => Ok(None),
+        Err(Refused::Memory) => Ok(Some(6)),
+        Err(Refused::ByParser(error)) => Ok(Some(error.exit_code())),
+    }
+}
+
+// The words, and what the parser's answer is to end with, if it is one.
+#[test]
+fn command_lines_are_read(rt: HostRuntime) -> Result<(), Fail> {
+    let rows: [(&[&str], Option<i32>); 6] = [
+        (&["redproxy", "local"], None),
+        (&["redproxy"], Some(2)),
+        (&["redproxy", "serve"], Some(2)),
+        (&["redproxy", "local", "x"], Some(2)),
+        (&["redproxy", "--help"], Some(0)),
+        (&["redproxy", "help", "local"], Some(0)),
+    ];
+    for (words, status) in rows {
+        assert_eq!(rt; said(rt.alloc(), words)?, status);
     }
     Ok(())
 }

@@ -1,13 +1,13 @@
 -- The one spelling of a value is read as that value.
-use Rattle.std.proofs.Common.{◌≡◌, ◌≢◌, ◌<◌, ◌≤◌, ◌^◌, ℕ, zero, suc, ℤ, pos, negsuc, neg_ℤ, List, [], ◌∷◌, ◌++◌, length, Bool, true, not, ◌&&◌, decimal, inl, inr, refl, sym, ap, ◌∙◌, subst, append_assoc, arith, rules}
+use Rattle.std.proofs.Common.{◌≡◌, ◌≢◌, ◌<◌, ◌≤◌, ◌^◌, ℕ, zero, suc, ℤ, pos, negsuc, neg_ℤ, List, [], ◌∷◌, length, true, decimal, inl, inr, refl, sym, ap, arith, rules}
 use Rattle.std.specs.List.{AllByRecursion, list_all}
 use Rattle.std.proofs.lemmas.Bool.{and_parts, not-true, eqb-false}
 use Rattle.std.proofs.lemmas.Fmt.{digits_decimal, digits_value-decimal, decimal_nonempty, length-decimal-le}
-use Rattle.std.proofs.lemmas.Str.Parse.{IsNumeralModel, IsDigitsTest, FoldsDigits, numerals_by_fold}
-use Rattle.resp_core.specs.Tree.{Tree, Trees, simple, fault, whole, bulk, null_bulk, list, null_list, no_trees, tree, members, is_text_byte, is_plain_tree, are_plain_trees}
-use Rattle.resp_core.specs.Grammar.{IsDigit, IsLine, IsLength, IsInteger, max_line, max_bulk, number_after, IsText, AreTexts}
-use Rattle.resp_core.specs.Text.{line, line_end, text, texts}
-use Rattle.resp_core.specs.Within.{IsLong, IsWithin, AreWithin}
+use Rattle.std.proofs.lemmas.Str.Parse.{IsNumeralModel, numerals_by_fold}
+use Rattle.resp_core.specs.Tree.{Trees, simple, fault, whole, bulk, null_bulk, list, null_list, no_trees, tree, members, is_text_byte, is_plain_tree, are_plain_trees}
+use Rattle.resp_core.specs.Grammar.{IsDigit, IsLength, IsInteger, max_bulk, number_after, AreTexts}
+use Rattle.resp_core.specs.Text.{line, text, texts}
+use Rattle.resp_core.specs.Within.{IsLong, AreWithin}
 use Rattle.resp_core.specs.Laws.{TextIsRead}
 
 own : IsNumeralModel (AllByRecursion IsDigit) (number_after 0)

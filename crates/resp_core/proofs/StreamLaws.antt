@@ -6,10 +6,10 @@ use Rattle.resp_core.specs.Grammar.{IsText, max_text, max_depth}
 use Rattle.resp_core.specs.Reading.{Outcome, found, unfinished, refused, value_at}
 use Rattle.resp_core.specs.Text.{text}
 use Rattle.resp_core.specs.Front.{IsFirstValue, IsUnfinished, IsFault}
-use Rattle.resp_core.specs.Stream.{Begins, HasWhole, Splits, AreValues, IsRefusedAt, HasRefusal, HasNoRefusal, told_offset}
+use Rattle.resp_core.specs.Stream.{HasWhole, Splits, AreValues, IsRefusedAt, HasRefusal, HasNoRefusal, told_offset}
 use Rattle.resp_core.specs.Laws.{NoTextBeginsAnother, Holds, EachStreamHolds, OneHolding, RefusalStays, OneRefusal, ValuesStay, TextIsReadBack}
 use Rattle.resp_core.proofs.Whole.{value-reads, text_nonempty}
-use Rattle.resp_core.proofs.Firsts.{same_front, found_shorter, refused_shorter, first_found, first_too_long, first_unfinished, first_unfinished_long, first_refused}
+use Rattle.resp_core.proofs.Firsts.{same_front, first_found, first_too_long, first_unfinished, first_unfinished_long, first_refused}
 use Rattle.resp_core.proofs.Streams.{splits_fed, splits_more, are_values, no_refusal_of, refusal_of_fault, one_reading}
 use Rattle.resp_core.proofs.RoundTrip.{text_is_read}
 

@@ -1,4 +1,4 @@
-use Rattle.std.proofs.Common.{◌≡◌, IfOk, refl, sym, ap, ◌∙◌, subst}
+use Rattle.std.proofs.Common.{◌≡◌, IfOk, sym, ap, ◌∙◌, subst}
 use Rattle.resp_core.specs.Value.{tree_of}
 use Rattle.proxy_main.specs.Answer.{local_in}
 use Rattle.proxy_main.specs.Local.{Local, local_of}

@@ -1,4 +1,4 @@
-use Rattle.std.proofs.Common.{◌≡◌, ◌++◌, ℕ, List, [], length, min, map, take, drop, append-nil, sym, ap, ◌∙◌, arith}
+use Rattle.std.proofs.Common.{◌≡◌, ◌++◌, length, min, map, take, append-nil, sym, ap, ◌∙◌, arith}
 use Rattle.std.proofs.lemmas.List.{drop_all, take_min}
 use Rattle.proxy_main.specs.Local.{shown_byte}
 use Rattle.proxy_main.proofs.answer.append_shown.Goals as goal

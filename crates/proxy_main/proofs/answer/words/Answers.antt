@@ -1,4 +1,4 @@
-use Rattle.std.proofs.Common.{◌≡◌, refl, sym, ap, ◌∙◌}
+use Rattle.std.proofs.Common.{refl, sym, ◌∙◌}
 use Rattle.proxy_main.proofs.Words.{is_command-list, no_list}
 use Rattle.proxy_main.proofs.answer.words.Goals as goal
 

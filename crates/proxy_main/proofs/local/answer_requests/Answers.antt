@@ -1,4 +1,4 @@
-use Rattle.std.proofs.Common.{◌≡◌, sym, ap, ◌∙◌}
+use Rattle.std.proofs.Common.{sym, ap, ◌∙◌}
 use Rattle.proxy_main.specs.Answer.{is_finish}
 use Rattle.proxy_main.specs.Request.{request_of}
 use Rattle.proxy_main.proofs.Answering.{answered_more, answered_last}

@@ -1,4 +1,4 @@
-use Rattle.std.proofs.Common.{◌≡◌, true, sym, ap, ◌∙◌}
+use Rattle.std.proofs.Common.{ap, ◌∙◌}
 use Rattle.resp_core.specs.Tree.{is_plain_tree}
 use Rattle.proxy_main.specs.Request.{request_of}
 use Rattle.proxy_main.proofs.Plain.{plain_local}

@@ -1,7 +1,6 @@
-use Rattle.std.proofs.Common.{rules, ◌≡◌, ◌++◌, ◌<◌, ◌∷◌, ℕ, List, [], map, length, take, refl, sym, ap, ◌∙◌, subst, arith}
+use Rattle.std.proofs.Common.{rules, ◌++◌, ◌<◌, ◌∷◌, ℕ, List, [], map, length, take, refl, sym, ap, ◌∙◌, subst, arith}
 use Rattle.std.specs.Io.KnownBytes.{Consumes, Appends}
-use Rattle.resp_core.specs.Stream.{HasNoRefusal}
-use Rattle.proxy_main.specs.Request.{read, client_limit}
+use Rattle.proxy_main.specs.Request.{read}
 use Rattle.proxy_main.specs.Stream.{answer_texts, finishes}
 use Rattle.std.specs.List.{list_any}
 use Rattle.std.proofs.lemmas.List.{map-append}
