@@ -1,0 +1,11 @@
+//! Success rates of hosts, and which of them are outliers.
+//!
+//! The success-rate monitor is that of Envoy's outlier detection, in this project's own profile: whole
+//! numbers, no root, a strict test. Nothing here takes memory.
+#![tactic(auto)]
+
+mod outlier;
+mod share;
+
+pub use outlier::is_outlier;
+pub use share::rate;
