@@ -4,8 +4,10 @@
 //! numbers, no root, a strict test. Nothing here takes memory.
 #![tactic(auto)]
 
+mod laws;
 mod outlier;
 mod share;
 
+pub use laws::{far_below_is_by_deviation, spread_is_variance};
 pub use outlier::is_outlier;
 pub use share::rate;
