@@ -1,0 +1,14 @@
+//! Outlier detection: which hosts are put aside because they fail, and when they come back.
+//!
+//! After Envoy's outlier detection, in this project's own profile: consecutive failures and success rates
+//! trip a host, a limit says how many may be out, and an ejected host is out until a sweep at which its time
+//! is over. The ejector keeps the list of its marks, and counts in it at each question.
+#![tactic(auto)]
+
+mod answer;
+mod host;
+mod mark;
+mod settings;
+
+pub use answer::{Swept, Trip};
+pub use settings::{Field, Settings};
