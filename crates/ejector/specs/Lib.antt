@@ -6,3 +6,4 @@ pub mod Trips
 pub mod Sweeps
 pub mod Ejection
 pub mod Usable
+pub mod Next
