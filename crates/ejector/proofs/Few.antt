@@ -13,8 +13,8 @@ use Rattle.ejector.specs.Marks.{moment}
 use Rattle.ejector.specs.Deeds.{Deed, is_among, ejects, returns}
 use Rattle.ejector.specs.State.{host_after, State, hosts_of, host_of, is_out, out_count, at_moment, fresh_host}
 use Rattle.ejector.specs.Trips.{may_eject, most_out, is_trip}
-use Rattle.ejector.specs.Sweeps.{comes_back, stays_out, trips_in_sweep, out_at_turn, out_after_turn, is_ejected_in_sweep, is_time_over}
-use Rattle.ejector.specs.Ejection.{deed_by, deed_after, sweep_by, nothing_by, trip_by, state}
+use Rattle.ejector.specs.Sweeps.{comes_back, stays_out, trips_in_sweep, out_at, out_at_turn, out_after_turn, is_ejected_in_sweep, is_time_over}
+use Rattle.ejector.specs.Ejection.{deed_by, sweep_by, nothing_by, trip_by, state}
 use Rattle.ejector.specs.Next.{with_deed, next}
 
 -- the hosts of a state that has them all
@@ -67,16 +67,17 @@ turn_most R tripping out l = elim (cases_Bool (tripping && may_eject R out)) [
   | inr f ↦ rw f l
   ]
 
-turns_most : (R : Rules) (x : State) (k : ℕ) → out_at_turn R x zero ≤ most_out R → out_at_turn R x k ≤ most_out R
-turns_most R x zero l = l
-turns_most R x (suc k) l = turn_most R (trips_in_sweep R x k) (out_at_turn R x k) (turns_most R x k l)
+pub turns_most : (R : Rules) (tripping : ℕ → Bool) (first k : ℕ) → first ≤ most_out R → out_at R tripping first k ≤ most_out R
+turns_most R tripping first zero l = l
+turns_most R tripping first (suc k) l = turn_most R (tripping k) (out_at R tripping first k) (turns_most R tripping first k l)
 
--- at a host's turn those are out that the returns left out, and those that were ejected before it
-out_at_turn_is : (R : Rules) (x : State) (k : ℕ) → out_at_turn R x k ≡ count_by (stays_out R x) (hosts_of R) + count_by (is_ejected_in_sweep R x) (range_with_len 0 k)
-out_at_turn_is R x zero = omega arith
-out_at_turn_is R x (suc k) =
-    turn_out R (trips_in_sweep R x k) (out_at_turn R x k)
-    ∙ (let last = count_last (is_ejected_in_sweep R x) 0 k in let so_far = out_at_turn_is R x k in
+-- at a host's turn those are out that were at first, and those that went out before it
+out_at_is : (R : Rules) (tripping : ℕ → Bool) (first k : ℕ)
+  → out_at R tripping first k ≡ first + count_by (λ h. tripping h && may_eject R (out_at R tripping first h)) (range_with_len 0 k)
+out_at_is R tripping first zero = omega arith
+out_at_is R tripping first (suc k) =
+    turn_out R (tripping k) (out_at R tripping first k)
+    ∙ (let last = count_last (λ h. tripping h && may_eject R (out_at R tripping first h)) 0 k in let so_far = out_at_is R tripping first k in
       let place : 0 + k ≡ k = omega arith in
       rw (last, place) (omega (arith, so_far)))
 
@@ -101,8 +102,9 @@ stays_most R x = count_most (stays_out R x) (is_out x) 0 R.hosts (λ h _ _ e. an
 sweep_out : (R : Rules) (x : State) (m : Mark) → length x.hosts ≡ R.hosts → out_count x ≤ most_out R → count_by (out_with (sweep_by R x m) x) (hosts_of R) ≤ most_out R
 sweep_out R x m e l =
     let same = count_same (out_with (sweep_by R x m) x) (λ h. is_ejected_in_sweep R x h || stays_out R x h) 0 R.hosts (λ h _ u. sweep_at R x m h (omega (arith, u))) in
-    let first : out_at_turn R x zero ≤ most_out R = omega (arith, l, stays_most R x, out_count_is R x e) in
-    rw same (omega (arith, count_or (is_ejected_in_sweep R x) (stays_out R x) (hosts_of R), out_at_turn_is R x R.hosts, turns_most R x R.hosts first))
+    let few : count_by (stays_out R x) (hosts_of R) ≤ most_out R = omega (arith, l, stays_most R x, out_count_is R x e) in
+    let first = count_by (stays_out R x) (hosts_of R) in
+    rw same (omega (arith, count_or (is_ejected_in_sweep R x) (stays_out R x) (hosts_of R), out_at_is R (trips_in_sweep R x) first R.hosts, turns_most R (trips_in_sweep R x) first R.hosts few))
 
 -- MARKS
 
@@ -115,7 +117,7 @@ pub next_length : (R : Rules) (m : Mark) (x : State) → length (next R m x).hos
 next_length R m x = length-map-range_with_len _ 0 R.hosts
 
 pub next_out : (R : Rules) (m : Mark) (x : State) → length x.hosts ≡ R.hosts → out_count x ≤ most_out R → out_count (next R m x) ≤ most_out R
-next_out R m x e l = rw (out_count_with R (deed_after R x m) x) (deed_out R (at_moment (moment m) x) m e l)
+next_out R m x e l = let y = at_moment (moment m) x in rw (out_count_with R (deed_by R y m) y) (deed_out R y m e l)
 
 pub state_length : (R : Rules) (marks : List Mark) → length (state R marks).hosts ≡ R.hosts
 state_length R marks = length-map-range_with_len _ 0 R.hosts

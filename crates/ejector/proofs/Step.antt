@@ -12,8 +12,9 @@ use Rattle.ejector.specs.declared.host.HostState.{HostState}
 use Rattle.ejector.specs.declared.settings.Rules.{Rules}
 use Rattle.ejector.specs.Marks.{moment, is_good, is_bad, is_result, is_sweep}
 use Rattle.ejector.specs.Deeds.{Deed, is_among, ejects, trips, returns, lowers, after_last, up_to_last, clock_of, is_out_after, start_of, ends_streak, streak_of, max_results, results_of, multiplier_of, max_multiplier}
-use Rattle.ejector.specs.State.{State, hosts_of, host_of, host_after, state_after, fresh_host}
-use Rattle.ejector.specs.Ejection.{deed_after, deeds, state}
+use Rattle.ejector.specs.State.{State, hosts_of, host_of, out_count, at_moment, host_after, state_after, fresh_host}
+use Rattle.ejector.specs.Trips.{may_eject, is_trip}
+use Rattle.ejector.specs.Ejection.{nothing_by, deed_by, deeds, state}
 use Rattle.ejector.specs.Next.{host_with, with_deed, next, counts}
 
 -- OUT AND START
@@ -141,12 +142,24 @@ host_step R d p h = rw (streak_step R h d p, good_step h d p, results_step h d p
 pub host_at : (R : Rules) (f : ℕ → HostState) (h : ℕ) → h < R.hosts → get_or (map f (hosts_of R)) h fresh_host ≡ f h
 host_at R f h l = get_or-map-range_with_len f 0 R.hosts h h fresh_host l (omega arith)
 
-pub state_step : (R : Rules) (d : Deed) (p : List Deed) → state_after R (d ∷ p) ≡ with_deed R d (state_after R p)
+pub state_step : (R : Rules) (d : Deed) (p : List Deed) → state_after R (d ∷ p) ≡ with_deed R d (at_moment (moment d.mark) (state_after R p))
 state_step R d p =
     let hosts = map_range (host_after R (d ∷ p)) (λ h. host_with R (clock_of (d ∷ p)) d h (host_of (state_after R p) h)) 0 R.hosts
       (λ h _ l. host_step R d p h ∙ ap (λ (s : HostState). host_with R (clock_of (d ∷ p)) d h s) (sym (host_at R (host_after R p) h (omega (arith, l))))) in
     ap (λ (hs : List HostState). record { clock = clock_of (d ∷ p); hosts = hs }) hosts
 
+deed_mark : (R : Rules) (x : State) (m : Mark) → (deed_by R x m).mark ≡ m
+deed_mark R x (Good h t) = refl
+deed_mark R x (Bad h t) = bad (is_trip R x h) (may_eject R (out_count x))
+  where
+    bad : (b c : Bool) → (if b then (if c then record (nothing_by (Bad h t)) { ejected = h ∷ [] } else record (nothing_by (Bad h t)) { kept = h ∷ [] }) else nothing_by (Bad h t)).mark ≡ Bad h t
+    bad true true = refl
+    bad true false = refl
+    bad false c = refl
+deed_mark R x (Sweep t) = refl
+
 -- the state after one mark more
 pub next_is : (R : Rules) (m : Mark) (before : List Mark) → state R (m ∷ before) ≡ next R m (state R before)
-next_is R m before = state_step R (deed_after R (state R before) m) (deeds R before)
+next_is R m before =
+    let x = at_moment (moment m) (state R before) in
+    state_step R (deed_by R x m) (deeds R before) ∙ ap (λ (k : Mark). with_deed R (deed_by R x m) (at_moment (moment k) (state R before))) (deed_mark R x m)

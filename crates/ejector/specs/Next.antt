@@ -1,12 +1,12 @@
 -- The state after a mark, by the state before it alone: nothing else of the list of marks matters.
-use Rattle.std.specs.Prelude.{ℕ, Bool, true, false, ◌==◌, ◌+◌, ◌||◌, ◌&&◌, not, max, nat_lt, if◌then◌else◌, map}
+use Rattle.std.specs.Prelude.{ℕ, Bool, true, false, ◌==◌, ◌+◌, ◌||◌, ◌&&◌, not, nat_lt, if◌then◌else◌, map}
 use Rattle.ejector.specs.declared.host.HostState.{HostState}
 use Rattle.ejector.specs.declared.mark.Mark.{Mark}
 use Rattle.ejector.specs.declared.settings.Rules.{Rules}
 use Rattle.ejector.specs.Marks.{moment, is_good, is_bad, is_result, is_sweep}
 use Rattle.ejector.specs.Deeds.{Deed, ejects, returns, lowers, ends_streak, max_results, raised, lowered}
-use Rattle.ejector.specs.State.{State, hosts_of, host_of}
-use Rattle.ejector.specs.Ejection.{deed_after}
+use Rattle.ejector.specs.State.{State, hosts_of, host_of, at_moment}
+use Rattle.ejector.specs.Ejection.{deed_by}
 
 -- whether a mark is a result of a host that still counts in its interval
 abbrev pub counts : Bool → HostState → Bool
@@ -25,11 +25,13 @@ host_with R clock d h s = record {
     multiplier = raised R (ejects h d) (lowered (lowers h d) s.multiplier);
   }
 
+-- a state with one deed more, whose moment has come
 abbrev pub with_deed : Rules → Deed → State → State
-with_deed R d x = record {
-    clock = max x.clock (moment d.mark);
-    hosts = map (λ h. host_with R (max x.clock (moment d.mark)) d h (host_of x h)) (hosts_of R);
-  }
+with_deed R d x = record { clock = x.clock; hosts = map (λ h. host_with R x.clock d h (host_of x h)) (hosts_of R) }
+
+-- a state with one mark more, whose moment has come
+abbrev pub with_mark : Rules → Mark → State → State
+with_mark R m x = with_deed R (deed_by R x m) x
 
 abbrev pub next : Rules → Mark → State → State
-next R m before = with_deed R (deed_after R before m) before
+next R m before = with_mark R m (at_moment (moment m) before)

@@ -44,10 +44,13 @@ trips_in_sweep R x h = trips_by R (rates R x) h
 abbrev pub out_after_turn : Rules → Bool → ℕ → ℕ
 out_after_turn R tripping out = if tripping && may_eject R out then out + 1 else out
 
--- how many are out when a host's turn comes: after the returns, and after the trips of the hosts before it
+-- how many are out when a host's turn comes: those that were out at first, and those that tripped before it and went out
+abbrev pub out_at : Rules → (ℕ → Bool) → ℕ → ℕ → ℕ
+out_at R tripping first zero = first
+out_at R tripping first (suc h) = out_after_turn R (tripping h) (out_at R tripping first h)
+
 abbrev pub out_at_turn : Rules → State → ℕ → ℕ
-out_at_turn R x zero = count_by (stays_out R x) (hosts_of R)
-out_at_turn R x (suc h) = out_after_turn R (trips_in_sweep R x h) (out_at_turn R x h)
+out_at_turn R x h = out_at R (trips_in_sweep R x) (count_by (stays_out R x) (hosts_of R)) h
 
 abbrev pub is_ejected_in_sweep : Rules → State → ℕ → Bool
 is_ejected_in_sweep R x h = trips_in_sweep R x h && may_eject R (out_at_turn R x h)
