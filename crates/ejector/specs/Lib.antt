@@ -7,3 +7,4 @@ pub mod Sweeps
 pub mod Ejection
 pub mod Usable
 pub mod Next
+pub mod Counting

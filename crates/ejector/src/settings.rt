@@ -1,5 +1,5 @@
 ghost use Rattle.std.specs.Prelude.{◌≡◌};
-ghost use Rattle.ejector.specs.Settings.{default_settings};
+ghost use Rattle.ejector.specs.Settings.{default_settings, is_within, first_failing, first_fault, settings_tests};
 
 use std::fmt;
 
@@ -88,5 +88,52 @@ impl fmt::Display for Field {
             Field::Factor => "factor",
             Field::PanicPercent => "panic_percent",
         })
+    }
+}
+
+/// Whether a number is from `low` to `high`.
+fn is_within(low: u32, high: u32, n: u32) -> bool
+    ensures { result ≡ is_within low high n }
+{
+    low <= n && n <= high
+}
+
+impl Rules {
+    /// The first field that is out of its range: `hosts`, and then the settings in their order.
+    pub fn first_fault(&self) -> Option<Field>
+        ensures { result ≡ first_fault self.now }
+    {
+        if self.hosts < 1 || self.hosts > MAX_HOSTS {
+            return Some(Field::Hosts);
+        }
+        self.settings.first_fault()
+    }
+}
+
+impl Settings {
+    fn first_fault(&self) -> Option<Field>
+        ensures { result ≡ first_failing (settings_tests self.now) }
+    {
+        if !is_within(1, 3_600_000, self.interval_ms) {
+            Some(Field::IntervalMs)
+        } else if !is_within(1, 3_600_000, self.base_ms) {
+            Some(Field::BaseMs)
+        } else if !is_within(self.base_ms, 86_400_000, self.max_ms) {
+            Some(Field::MaxMs)
+        } else if !is_within(0, 100, self.max_percent) {
+            Some(Field::MaxPercent)
+        } else if !is_within(0, 1_000_000, self.consecutive) {
+            Some(Field::Consecutive)
+        } else if !is_within(1, 65, self.success_hosts) {
+            Some(Field::SuccessHosts)
+        } else if !is_within(1, 1_000_000, self.request_volume) {
+            Some(Field::RequestVolume)
+        } else if !is_within(0, 100_000, self.factor) {
+            Some(Field::Factor)
+        } else if !is_within(0, 100, self.panic_percent) {
+            Some(Field::PanicPercent)
+        } else {
+            None
+        }
     }
 }
