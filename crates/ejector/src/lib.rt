@@ -6,7 +6,9 @@
 #![tactic(auto)]
 
 mod answer;
+mod counting;
 mod host;
+mod sweep;
 mod mark;
 mod settings;
 
