@@ -1,5 +1,5 @@
 -- Counts and members over the numbers of a range.
-use Rattle.std.proofs.Common.{◌≡◌, ℕ, zero, suc, ◌+◌, ◌<◌, ◌≤◌, Bool, true, false, not, ◌||◌, ◌&&◌, ◌==◌, cond, List, [], ◌∷◌, map, filter, count_by, refl, sym, ap, ◌∙◌, inl, inr, arith, add-zero, if◌then◌else◌}
+use Rattle.std.proofs.Common.{◌≡◌, ℕ, zero, suc, ◌+◌, ◌<◌, ◌≤◌, Bool, true, false, not, ◌||◌, ◌&&◌, ◌==◌, cond, List, [], ◌∷◌, map, filter, count_by, refl, sym, ap, ◌∙◌, inl, inr, arith, add-zero, add-one, if◌then◌else◌}
 use Rattle.std.specs.List.{list_any, range_with_len}
 use Rattle.std.proofs.lemmas.Bool.{cases_Bool, cases_eq, cases_lt, eq-eqb, ne_eqb}
 use Rattle.std.proofs.lemmas.List.Sums.{sum_by-cons}
@@ -95,3 +95,8 @@ count_last p a (suc n) =
     let last = count_last p (a + 1) n in
     let place : (a + 1) + n ≡ a + suc n = omega arith in
     rw (count-cons p a (range_with_len (a + 1) (suc n)), count-cons p a (range_with_len (a + 1) n), last, place) (omega arith)
+
+pub count_more : (p : ℕ → Bool) (i : ℕ) (b : Bool) → p i ≡ b → count_by p (range_with_len 0 (i + 1)) ≡ count_by p (range_with_len 0 i) + (if b then 1 else 0)
+count_more p i b e =
+    let place : 0 + i ≡ i = omega arith in
+    rw (add-one, count_last p 0 i, place, e) refl

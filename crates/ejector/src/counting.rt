@@ -67,7 +67,7 @@ pub fn tripped(rules: &Rules, now: u64, may: bool, host: HostState) -> HostState
 /// Whether one more host may be put aside where `out` hosts are out.
 pub fn may_eject(rules: &Rules, out: usize) -> bool
     requires range { IsInRange rules.now }
-    requires few { out ≤ 64 }
+    requires few { out ≤ 128 }
     ensures { result ≡ may_eject rules.now out }
 {
     out == 0 || 100 * out < rules.settings.max_percent as usize * rules.hosts

@@ -1,7 +1,6 @@
-ghost use Rattle.std.specs.Prelude.{◌≡◌, ℕ, Bool, ◌+◌, ◌-◌, ◌*◌, ◌/◌, ◌<◌, ◌≤◌, ◌==◌, ◌&&◌, length, slice_index_or, slice_get, map, count_by, All};
+ghost use Rattle.std.specs.Prelude.{◌≡◌, ℕ, Bool, ◌+◌, ◌-◌, ◌*◌, ◌/◌, ◌<◌, ◌≤◌, ◌==◌, ◌&&◌, length, slice_index_or, slice_get, map, count_by, is_some, nat_le, All};
 ghost use Rattle.std.specs.Option.{ForSome};
 ghost use Rattle.std.specs.List.{range_with_len};
-ghost use Rattle.rate_core.specs.Outlier.{known};
 ghost use Rattle.ejector.specs.Settings.{IsInRange};
 ghost use Rattle.ejector.specs.State.{fresh_host};
 ghost use Rattle.ejector.specs.Sweeps.{is_time_over, trips_by};
@@ -76,4 +75,85 @@ fn rate_of(rules: &Rules, host: HostState) -> Option<u32>
         return None;
     }
     rate(host.good_results, host.results)
+}
+
+/// The success rates of the hosts, each in its host's place.
+fn set_rates(rules: &Rules, hosts: &[HostState], rates: &mut [Option<u32>])
+    requires same { length rates.old ≡ length hosts.now }
+    requires share { All (λ host. host.good_results ≤ host.results) hosts.now }
+    ensures value { rates.new ≡ map (rate_then rules.now) hosts.now }
+    ensures within { All (λ rate. ForSome rate (λ share. share ≤ 1000000)) rates.new }
+{
+    for i in 0..hosts.len() {
+        rates[i] = rate_of(rules, hosts[i]);
+    }
+}
+
+/// How many rates there are.
+fn known_count(rates: &[Option<u32>]) -> usize
+    ensures { result ≡ count_by is_some rates.now }
+{
+    rates.iter().filter(|rate| rate.is_some()).count()
+}
+
+/// How many hosts tripped and were put aside, and how many tripped and stayed.
+#[derive(Clone, Copy)]
+struct TripCounts {
+    ejected: u32,
+    kept: u32,
+}
+
+/// Whether a host trips by these rates, where `enough` says whether there are enough of them.
+fn trips(rules: &Rules, enough: bool, rates: &[Option<u32>], host: usize) -> bool
+    requires range { IsInRange rules.now }
+    requires same { length rates.now ≡ rules.now.hosts }
+    requires within { All (λ rate. ForSome rate (λ share. share ≤ 1000000)) rates.now }
+    requires among { host < rules.now.hosts }
+    requires enough { enough ≡ nat_le rules.now.settings.success_hosts (count_by is_some rates.now) }
+    ensures { result ≡ trips_by rules.now rates.now host }
+{
+    enough && is_outlier(rates, host, rules.settings.factor)
+}
+
+/// Trips the outliers by these rates, one after the other by rising number, at the clock `now`.
+fn trip_outliers(rules: &Rules, now: u64, hosts: &mut [HostState], rates: &[Option<u32>]) -> TripCounts
+    requires range { IsInRange rules.now }
+    requires all { length hosts.old ≡ rules.now.hosts }
+    requires same { length rates.now ≡ rules.now.hosts }
+    requires within { All (λ rate. ForSome rate (λ share. share ≤ 1000000)) rates.now }
+    ensures hosts { hosts.new ≡ map (at_turn rules.now now (trips_by rules.now rates.now) (outs hosts.old) hosts.old)
+        (range_with_len 0 rules.now.hosts) }
+    ensures ejected { result.ejected ≡ count_by (is_ejected_at rules.now (trips_by rules.now rates.now) (outs hosts.old))
+        (range_with_len 0 rules.now.hosts) }
+    ensures kept { result.kept ≡ count_by (is_kept_at rules.now (trips_by rules.now rates.now) (outs hosts.old))
+        (range_with_len 0 rules.now.hosts) }
+{
+    let enough = known_count(rates) >= rules.settings.success_hosts as usize;
+    let mut out = out_count(hosts);
+    let mut ejected = 0;
+    let mut kept = 0;
+    for i in 0..rates.len() {
+        if trips(rules, enough, rates, i) {
+            let may = may_eject(rules, out);
+            let before = hosts[i];
+            hosts[i] = tripped(rules, now, may, before);
+            if may {
+                out += 1;
+                ejected += 1;
+            } else {
+                kept += 1;
+            }
+        }
+    }
+    TripCounts { ejected, kept }
+}
+
+/// Begins a new interval.
+fn clear_tallies(hosts: &mut [HostState])
+    ensures { hosts.new ≡ map in_new_interval hosts.old }
+{
+    for host in hosts.iter_mut() {
+        host.good_results = 0;
+        host.results = 0;
+    }
 }
