@@ -1,14 +1,16 @@
 -- How counters of the hosts go on, a mark at a time. The contracts of the code that counts cite this; no public contract does.
 use Rattle.std.specs.Prelude.{◌≡◌, ℕ, Bool, true, false, ◌==◌, ◌+◌, ◌-◌, ◌*◌, ◌≤◌, ◌<◌, ◌||◌, ◌&&◌, not, min, nat_lt, nat_le, if◌then◌else◌, List, Option, None, length, map, get_or, set, count_by, replicate}
+use Rattle.std.specs.List.{range_with_len}
 use Rattle.rate_core.specs.Rate.{rate_of}
 use Rattle.ejector.specs.declared.answer.Trip.{Trip}
 use Rattle.ejector.specs.declared.answer.Trip.TheVariants as answer
+use Rattle.ejector.specs.declared.answer.Swept.{Swept}
 use Rattle.ejector.specs.declared.host.HostState.{HostState}
 use Rattle.ejector.specs.declared.settings.Rules.{Rules}
 use Rattle.ejector.specs.Deeds.{max_results, raised, lowered}
 use Rattle.ejector.specs.State.{State, fresh_host, host_of, is_out, out_count}
 use Rattle.ejector.specs.Trips.{may_eject, is_trip}
-use Rattle.ejector.specs.Sweeps.{is_time_over, out_at}
+use Rattle.ejector.specs.Sweeps.{is_time_over, trips_by, out_at}
 
 -- what holds of a host's counters
 pub record IsSound (R : Rules) (s : HostState) : Type 0 where
@@ -19,7 +21,7 @@ pub record IsSound (R : Rules) (s : HostState) : Type 0 where
 
 abbrev pub counted : Bool → HostState → HostState
 counted ok s =
-    if nat_lt s.results max_results then record s { good_results = s.good_results + (if ok then 1 else 0); results = s.results + 1 } else s
+    if nat_lt s.results max_results then record s { good_results = if ok then s.good_results + 1 else s.good_results; results = s.results + 1 } else s
 
 abbrev pub with_good : HostState → HostState
 with_good s = record (counted true s) { streak = 0 }
@@ -82,3 +84,22 @@ is_ejected_at R tripping first h = tripping h && may_eject R (out_at R tripping 
 
 abbrev pub is_kept_at : Rules → (ℕ → Bool) → ℕ → ℕ → Bool
 is_kept_at R tripping first h = tripping h && not (may_eject R (out_at R tripping first h))
+
+-- which hosts trip where these are the hosts after the returns
+abbrev pub tripping_of : Rules → List HostState → ℕ → Bool
+tripping_of R back = trips_by R (map (rate_then R) back)
+
+-- a whole sweep
+abbrev pub swept_hosts : Rules → ℕ → List HostState → List HostState
+swept_hosts R now hosts =
+    let back = map (with_return R now) hosts in
+    map in_new_interval (map (at_turn R now (tripping_of R back) (outs back) back) (range_with_len 0 R.hosts))
+
+abbrev pub swept_counts : Rules → ℕ → List HostState → Swept
+swept_counts R now hosts =
+    let back = map (with_return R now) hosts in
+    record {
+      returned = count_by (is_returning R now) hosts;
+      ejected = count_by (is_ejected_at R (tripping_of R back) (outs back)) (range_with_len 0 R.hosts);
+      kept = count_by (is_kept_at R (tripping_of R back) (outs back)) (range_with_len 0 R.hosts);
+    }

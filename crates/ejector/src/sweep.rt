@@ -4,7 +4,7 @@ ghost use Rattle.std.specs.List.{range_with_len};
 ghost use Rattle.ejector.specs.Settings.{IsInRange};
 ghost use Rattle.ejector.specs.State.{fresh_host};
 ghost use Rattle.ejector.specs.Sweeps.{is_time_over, trips_by};
-ghost use Rattle.ejector.specs.Counting.{IsSound, is_returning, with_return, rate_then, in_new_interval, at_turn, is_ejected_at, is_kept_at, outs};
+ghost use Rattle.ejector.specs.Counting.{IsSound, is_returning, with_return, rate_then, in_new_interval, at_turn, is_ejected_at, is_kept_at, outs, swept_hosts, swept_counts};
 
 use crate::answer::Swept;
 use crate::counting::{may_eject, out_count, tripped};
@@ -155,5 +155,26 @@ fn clear_tallies(hosts: &mut [HostState])
     for host in hosts.iter_mut() {
         host.good_results = 0;
         host.results = 0;
+    }
+}
+
+/// Counts a sweep at the clock `now`: hosts come back, then outliers trip, and then a new interval begins.
+pub fn take_sweep(rules: &Rules, now: u64, hosts: &mut [HostState]) -> Swept
+    requires range { IsInRange rules.now }
+    requires all { length hosts.old ≡ rules.now.hosts }
+    requires share { All (λ host. host.good_results ≤ host.results) hosts.old }
+    ensures hosts { hosts.new ≡ swept_hosts rules.now now hosts.old }
+    ensures swept { result ≡ swept_counts rules.now now hosts.old }
+{
+    let returned = return_hosts(rules, now, hosts);
+    let mut places = [None; MAX_HOSTS];
+    let rates = &mut places[..rules.hosts];
+    set_rates(rules, hosts, rates);
+    let TripCounts { ejected, kept } = trip_outliers(rules, now, hosts, rates);
+    clear_tallies(hosts);
+    Swept {
+        returned,
+        ejected,
+        kept,
     }
 }
