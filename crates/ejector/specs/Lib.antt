@@ -1,4 +1,5 @@
 pub mod Settings
+pub mod EjectError
 pub mod Marks
 pub mod Deeds
 pub mod State
@@ -8,3 +9,5 @@ pub mod Ejection
 pub mod Usable
 pub mod Next
 pub mod Counting
+pub mod Ejector
+pub mod Laws

@@ -1,5 +1,5 @@
 -- Marks: what an ejector is told. A list of marks has the newest first, so that what stands behind a mark came before it.
-use Rattle.std.specs.Prelude.{ℕ, Bool, true, false, ◌==◌, ◌||◌}
+use Rattle.std.specs.Prelude.{ℕ, ◌<◌, Bool, true, false, ◌==◌, ◌||◌}
 use Rattle.ejector.specs.declared.mark.Mark.{Mark}
 use Rattle.ejector.specs.declared.mark.Mark.TheVariants.{Good, Bad, Sweep}
 
@@ -27,3 +27,9 @@ abbrev pub is_sweep : Mark → Bool
 is_sweep (Good host t) = false
 is_sweep (Bad host t) = false
 is_sweep (Sweep t) = true
+
+-- whether the mark's host is one of so many
+abbrev pub IsAmong : ℕ → Mark → Type 0
+IsAmong n (Good host t) = host < n
+IsAmong n (Bad host t) = host < n
+IsAmong n (Sweep t) = Unit {0}

@@ -14,3 +14,13 @@ pub struct HostState {
     /// How many times `base_ms` an ejection lasts.
     pub multiplier: u32,
 }
+
+/// A host of which nothing was told.
+pub const FRESH: HostState = HostState {
+    is_out: false,
+    start: 0,
+    streak: 0,
+    good_results: 0,
+    results: 0,
+    multiplier: 0,
+};

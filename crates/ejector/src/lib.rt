@@ -7,10 +7,15 @@
 
 mod answer;
 mod counting;
+mod ejector;
+mod error;
 mod host;
 mod sweep;
 mod mark;
+mod replay;
 mod settings;
 
 pub use answer::{Swept, Trip};
+pub use ejector::Ejector;
+pub use error::EjectError;
 pub use settings::{Field, Settings};
