@@ -1,4 +1,4 @@
-ghost use Rattle.std.specs.Prelude.{◌≡◌, ◌+◌, ◌-◌, ◌*◌, ◌/◌, ◌<◌, ◌≤◌, ◌==◌, ◌&&◌, length, slice_index_or};
+ghost use Rattle.std.specs.Prelude.{◌≡◌, ◌+◌, ◌-◌, ◌*◌, ◌/◌, ◌<◌, ◌≤◌, ◌==◌, ◌&&◌, length, slice_index_or, nat_lt};
 ghost use Rattle.ejector.specs.Settings.{IsInRange};
 ghost use Rattle.ejector.specs.Deeds.{max_multiplier};
 ghost use Rattle.ejector.specs.State.{fresh_host};
@@ -71,6 +71,15 @@ pub fn may_eject(rules: &Rules, out: usize) -> bool
     ensures { result ≡ may_eject rules.now out }
 {
     out == 0 || 100 * out < rules.settings.max_percent as usize * rules.hosts
+}
+
+/// Whether all hosts are used where `out` of them are out.
+pub fn is_panic(rules: &Rules, out: usize) -> bool
+    requires range { IsInRange rules.now }
+    requires within { out ≤ rules.now.hosts }
+    ensures { result ≡ nat_lt (100 * (rules.now.hosts - out)) (rules.now.settings.panic_percent * rules.now.hosts) }
+{
+    100 * (rules.hosts - out) < rules.settings.panic_percent as usize * rules.hosts
 }
 
 /// How many hosts are out.

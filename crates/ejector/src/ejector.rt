@@ -2,14 +2,14 @@ ghost use Rattle.std.specs.Prelude.{◌≡◌, ℕ, Bool, List, [], ◌∷◌, �
 ghost use Rattle.ejector.specs.Settings.{first_fault};
 ghost use Rattle.ejector.specs.declared.mark.Mark.{Mark};
 ghost use Rattle.ejector.specs.declared.mark.Mark.TheVariants.{Sweep};
-ghost use Rattle.ejector.specs.State.{out_count};
+ghost use Rattle.ejector.specs.State.{host_of, is_out, out_count};
 ghost use Rattle.ejector.specs.Trips.{most_out};
 ghost use Rattle.ejector.specs.Ejection.{state, trip, swept};
 ghost use Rattle.ejector.specs.Usable.{is_usable, is_panic};
 ghost use Rattle.ejector.specs.Ejector.{result_mark};
 
 use crate::answer::{Swept, Trip};
-use crate::counting::{out_count, take_bad};
+use crate::counting::{is_panic, out_count, take_bad};
 use crate::error::EjectError;
 use crate::host::{FRESH, HostState};
 use crate::mark::Mark;
@@ -45,4 +45,139 @@ impl Model for Ejector {
     } };
 
     ghost invariant = { λ e. (first_fault e.rules ≡ None) × All (IsAmong e.rules.hosts) e.marks.items };
+}
+
+impl Ejector {
+    /// An ejector of `n` hosts to which nothing was told yet. It takes no memory.
+    ///
+    /// Refused with 502 and the first field that is out of its range: `hosts` where `n` is 0 or over 64, and then
+    /// the settings in their order. 501 comes only where no field is out of its range.
+    pub fn new(alloc: Global, n: usize, settings: Settings) -> Result<Ejector, EjectError>
+        ensures made { IfOk result (λ e. (e.rules ≡ record { hosts = n; settings = settings }) × (e.state ≡ state e.rules [])) }
+        ensures refused { MatchOption (first_fault (record { hosts = n; settings = settings }))
+            (IfErr result (λ e. e ≡ EjectError.NoMemory)) (λ field. IsErrOf result (EjectError.BadSettings field)) }
+    {
+        let rules = Rules { hosts: n, settings };
+        if let Some(field) = rules.first_fault() {
+            return Err(EjectError::BadSettings { field });
+        }
+        Ok(Ejector {
+            rules,
+            marks: Vec::new(alloc),
+        })
+    }
+
+    /// Makes room for one mark: after Ok the next `result` or `sweep` takes no memory and is Ok.
+    /// 501 comes only where memory for it was refused.
+    pub fn room(&mut self) -> Result<(), EjectError>
+        ensures room { OnOk result (0 < self.new.room) }
+        ensures succeeds { 0 < self.old.room → IsOk result }
+        ensures refused { IfErr result (λ e. e ≡ EjectError.NoMemory) }
+        ensures rules { self.new.rules ≡ self.old.rules }
+        ensures state { self.new.state ≡ self.old.state }
+    {
+        self.marks.reserve(1).map_err(|_| EjectError::NoMemory)
+    }
+
+    /// Takes a result of a host at moment `t`, and tells whether the host tripped by it.
+    ///
+    /// For every list of marks that has the ejector's state, it then has the state of that list with this mark, and the
+    /// answer is what the mark did. 501 comes only where memory was refused, and nothing changed then.
+    pub fn result(&mut self, host: usize, ok: bool, t: u64) -> Result<Trip, EjectError>
+        requires { host < self.old.rules.hosts }
+        ensures state { OnOk result ((marks : List Mark) → state self.old.rules marks ≡ self.old.state
+            → self.new.state ≡ state self.old.rules (result_mark ok host t ∷ marks)) }
+        ensures trip { IfOk result (λ answer. (marks : List Mark) → state self.old.rules marks ≡ self.old.state
+            → answer ≡ trip self.old.rules (result_mark ok host t) marks) }
+        ensures limit { out_count self.new.state ≤ most_out self.new.rules }
+
+        ensures err { OnErr result (self.new.state ≡ self.old.state) }
+        ensures refused { IfErr result (λ e. e ≡ EjectError.NoMemory) }
+        ensures succeeds { 0 < self.old.room → IsOk result }
+        ensures rules { self.new.rules ≡ self.old.rules }
+    {
+        let mark = if ok {
+            Mark::Good { host, moment: t }
+        } else {
+            Mark::Bad { host, moment: t }
+        };
+        let mut places = [FRESH; MAX_HOSTS];
+        let hosts = &mut places[..self.rules.hosts];
+        let clock = count_marks(&self.rules, &self.marks, hosts);
+        self.marks.push(mark).map_err(|_| EjectError::NoMemory)?;
+        if ok {
+            return Ok(Trip::None);
+        }
+        Ok(take_bad(&self.rules, clock.max(t), hosts, host))
+    }
+
+    /// Takes a sweep at moment `t`, and tells how many hosts came back, went out, and tripped and stayed.
+    ///
+    /// For every list of marks that has the ejector's state, it then has the state of that list with this mark, and the
+    /// answer is what the mark did. 501 comes only where memory was refused, and nothing changed then.
+    pub fn sweep(&mut self, t: u64) -> Result<Swept, EjectError>
+        ensures state { OnOk result ((marks : List Mark) → state self.old.rules marks ≡ self.old.state
+            → self.new.state ≡ state self.old.rules (Sweep t ∷ marks)) }
+        ensures swept { IfOk result (λ answer. (marks : List Mark) → state self.old.rules marks ≡ self.old.state
+            → answer ≡ swept self.old.rules (Sweep t) marks) }
+        ensures limit { out_count self.new.state ≤ most_out self.new.rules }
+
+        ensures err { OnErr result (self.new.state ≡ self.old.state) }
+        ensures refused { IfErr result (λ e. e ≡ EjectError.NoMemory) }
+        ensures succeeds { 0 < self.old.room → IsOk result }
+        ensures rules { self.new.rules ≡ self.old.rules }
+    {
+        let mut places = [FRESH; MAX_HOSTS];
+        let hosts = &mut places[..self.rules.hosts];
+        let clock = count_marks(&self.rules, &self.marks, hosts);
+        self.marks
+            .push(Mark::Sweep { moment: t })
+            .map_err(|_| EjectError::NoMemory)?;
+        Ok(take_sweep(&self.rules, clock.max(t), hosts))
+    }
+
+    /// Whether the host may be used: it isn't out, or all are used in panic.
+    pub fn usable(&self, host: usize) -> bool
+        requires { host < self.now.rules.hosts }
+        ensures { result ≡ is_usable self.now.rules self.now.state host }
+    {
+        self.in_panic() || !self.is_out(host)
+    }
+
+    /// Whether the host is put aside.
+    pub fn is_out(&self, host: usize) -> bool
+        requires { host < self.now.rules.hosts }
+        ensures { result ≡ is_out self.now.state host }
+    {
+        self.counted(host).is_out
+    }
+
+    /// The host's multiplier: how many times `base_ms` its last ejection lasts, less one for each sweep since its return.
+    pub fn multiplier(&self, host: usize) -> u32
+        requires { host < self.now.rules.hosts }
+        ensures { result ≡ (host_of self.now.state host).multiplier }
+    {
+        self.counted(host).multiplier
+    }
+
+    /// Whether so few hosts are available that all are used.
+    pub fn in_panic(&self) -> bool
+        ensures { result ≡ is_panic self.now.rules self.now.state }
+    {
+        let mut places = [FRESH; MAX_HOSTS];
+        let hosts = &mut places[..self.rules.hosts];
+        count_marks(&self.rules, &self.marks, hosts);
+        is_panic(&self.rules, out_count(hosts))
+    }
+
+    /// What is counted of a host.
+    fn counted(&self, host: usize) -> HostState
+        requires { host < self.now.rules.hosts }
+        ensures { result ≡ host_of self.now.state host }
+    {
+        let mut places = [FRESH; MAX_HOSTS];
+        let hosts = &mut places[..self.rules.hosts];
+        count_marks(&self.rules, &self.marks, hosts);
+        hosts[host]
+    }
 }
