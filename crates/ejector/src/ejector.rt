@@ -1,8 +1,10 @@
-ghost use Rattle.std.specs.Prelude.{◌≡◌, ℕ, Bool, List, [], ◌∷◌, ◌++◌, ◌+◌, ◌-◌, ◌<◌, ◌≤◌, length, IfOk, IfErr, OnOk, OnErr, IsOk, IsErrOf, MatchOption, Some, None};
-ghost use Rattle.ejector.specs.Settings.{first_fault};
+ghost use Rattle.std.specs.Prelude.{◌≡◌, ℕ, Bool, List, [], ◌∷◌, ◌++◌, ◌+◌, ◌-◌, ◌<◌, ◌≤◌, length, IfOk, IfErr, OnOk, OnErr, IsOk, IsErrOf, MatchOption, All, replicate};
+ghost use Rattle.ejector.specs.Settings.{first_fault, IsInRange};
+ghost use Rattle.ejector.specs.Marks.{IsAmong};
+ghost use Rattle.ejector.specs.Counting.{IsSound};
 ghost use Rattle.ejector.specs.declared.mark.Mark.{Mark};
 ghost use Rattle.ejector.specs.declared.mark.Mark.TheVariants.{Sweep};
-ghost use Rattle.ejector.specs.State.{host_of, is_out, out_count};
+ghost use Rattle.ejector.specs.State.{fresh_host, host_of, is_out, out_count};
 ghost use Rattle.ejector.specs.Trips.{most_out};
 ghost use Rattle.ejector.specs.Ejection.{state, trip, swept};
 ghost use Rattle.ejector.specs.Usable.{is_usable, is_panic};
@@ -96,19 +98,14 @@ impl Ejector {
         ensures succeeds { 0 < self.old.room → IsOk result }
         ensures rules { self.new.rules ≡ self.old.rules }
     {
-        let mark = if ok {
-            Mark::Good { host, moment: t }
-        } else {
-            Mark::Bad { host, moment: t }
-        };
         let mut places = [FRESH; MAX_HOSTS];
         let hosts = &mut places[..self.rules.hosts];
-        let clock = count_marks(&self.rules, &self.marks, hosts);
-        self.marks.push(mark).map_err(|_| EjectError::NoMemory)?;
+        let clock = self.count(hosts).max(t);
+        self.keep(result_mark(host, ok, t))?;
         if ok {
             return Ok(Trip::None);
         }
-        Ok(take_bad(&self.rules, clock.max(t), hosts, host))
+        Ok(take_bad(&self.rules, clock, hosts, host))
     }
 
     /// Takes a sweep at moment `t`, and tells how many hosts came back, went out, and tripped and stayed.
@@ -129,11 +126,9 @@ impl Ejector {
     {
         let mut places = [FRESH; MAX_HOSTS];
         let hosts = &mut places[..self.rules.hosts];
-        let clock = count_marks(&self.rules, &self.marks, hosts);
-        self.marks
-            .push(Mark::Sweep { moment: t })
-            .map_err(|_| EjectError::NoMemory)?;
-        Ok(take_sweep(&self.rules, clock.max(t), hosts))
+        let clock = self.count(hosts).max(t);
+        self.keep(Mark::Sweep { moment: t })?;
+        Ok(take_sweep(&self.rules, clock, hosts))
     }
 
     /// Whether the host may be used: it isn't out, or all are used in panic.
@@ -166,7 +161,7 @@ impl Ejector {
     {
         let mut places = [FRESH; MAX_HOSTS];
         let hosts = &mut places[..self.rules.hosts];
-        count_marks(&self.rules, &self.marks, hosts);
+        self.count(hosts);
         is_panic(&self.rules, out_count(hosts))
     }
 
@@ -177,7 +172,45 @@ impl Ejector {
     {
         let mut places = [FRESH; MAX_HOSTS];
         let hosts = &mut places[..self.rules.hosts];
-        count_marks(&self.rules, &self.marks, hosts);
+        self.count(hosts);
         hosts[host]
+    }
+
+    /// Counts all marks in fresh hosts, and gives the clock.
+    fn count(&self, hosts: &mut [HostState]) -> u64
+        requires { hosts.old ≡ replicate self.now.rules.hosts fresh_host }
+        ensures state { self.now.state ≡ record { clock = result; hosts = hosts.new } }
+        ensures sound { All (IsSound self.now.rules) hosts.new }
+        ensures range { IsInRange self.now.rules }
+    {
+        count_marks(&self.rules, &self.marks, hosts)
+    }
+
+    /// Adds a mark to the list.
+    fn keep(&mut self, mark: Mark) -> Result<(), EjectError>
+        requires { IsAmong self.old.rules.hosts mark }
+        ensures state { OnOk result ((marks : List Mark) → state self.old.rules marks ≡ self.old.state
+            → self.new.state ≡ state self.old.rules (mark ∷ marks)) }
+        ensures limit { out_count self.new.state ≤ most_out self.new.rules }
+        ensures err { OnErr result (self.new.state ≡ self.old.state) }
+        ensures refused { IfErr result (λ e. e ≡ EjectError.NoMemory) }
+        ensures succeeds { 0 < self.old.room → IsOk result }
+        ensures rules { self.new.rules ≡ self.old.rules }
+    {
+        match self.marks.push(mark) {
+            Ok(()) => Ok(()),
+            Err(_) => Err(EjectError::NoMemory),
+        }
+    }
+}
+
+/// The mark of a result.
+fn result_mark(host: usize, ok: bool, t: u64) -> Mark
+    ensures { result ≡ result_mark ok host t }
+{
+    if ok {
+        Mark::Good { host, moment: t }
+    } else {
+        Mark::Bad { host, moment: t }
     }
 }
