@@ -41,13 +41,13 @@ one_place R f xs h new e l here others =
 
 -- RESULTS
 
-good_here : (R : Rules) (c h t : ℕ) (s : HostState) → host_with R c (nothing_by (Good h t)) h s ≡ with_good s
+pub good_here : (R : Rules) (c h t : ℕ) (s : HostState) → host_with R c (nothing_by (Good h t)) h s ≡ with_good s
 good_here R c h t s = elim (cases_Bool (nat_lt s.results max_results)) [
     inl y ↦ rw (eq-eqb h h refl, y) refl
   | inr n ↦ rw (eq-eqb h h refl, n) refl
   ]
 
-good_other : (R : Rules) (c h t k : ℕ) (s : HostState) → (k ≡ h → ⊥) → host_with R c (nothing_by (Good h t)) k s ≡ s
+pub good_other : (R : Rules) (c h t k : ℕ) (s : HostState) → (k ≡ h → ⊥) → host_with R c (nothing_by (Good h t)) k s ≡ s
 good_other R c h t k s other = rw (ne_eqb h k (λ e. other (sym e))) refl
 
 pub good_link : (R : Rules) (x : State) (h t : ℕ) → length x.hosts ≡ R.hosts → h < R.hosts → (with_mark R (Good h t) x).hosts ≡ with_good_result h x.hosts
@@ -56,11 +56,11 @@ good_link R x h t e l =
       (good_here R x.clock h t (host_of x h)) (λ k other. good_other R x.clock h t k (host_of x k) other)
 
 -- what a bad result does, where it trips or not, and where one more may be out or not
-abbrev bad_deed : ℕ → ℕ → Bool → Bool → Deed
+abbrev pub bad_deed : ℕ → ℕ → Bool → Bool → Deed
 bad_deed h t trips may =
     if trips then (if may then record (nothing_by (Bad h t)) { ejected = h ∷ [] } else record (nothing_by (Bad h t)) { kept = h ∷ [] }) else nothing_by (Bad h t)
 
-bad_here : (R : Rules) (c h t : ℕ) (trips may : Bool) (s : HostState)
+pub bad_here : (R : Rules) (c h t : ℕ) (trips may : Bool) (s : HostState)
   → host_with R c (bad_deed h t trips may) h s ≡ (if trips then tripped R c may (counted false s) else with_bad R s)
 bad_here R c h t true true s = elim (cases_Bool (nat_lt s.results max_results)) [ inl y ↦ rw (eq-eqb h h refl, y) refl | inr n ↦ rw (eq-eqb h h refl, n) refl ]
 bad_here R c h t true false s = elim (cases_Bool (nat_lt s.results max_results)) [ inl y ↦ rw (eq-eqb h h refl, y) refl | inr n ↦ rw (eq-eqb h h refl, n) refl ]
@@ -69,7 +69,7 @@ bad_here R c h t false may s = elim (cases_Bool (nat_lt s.results max_results)) 
   | inr n ↦ elim (cases_Bool (s.is_out || (R.settings.consecutive == 0))) [ inl o ↦ rw (eq-eqb h h refl, n, o) refl | inr o ↦ rw (eq-eqb h h refl, n, o) refl ]
   ]
 
-bad_other : (R : Rules) (c h t k : ℕ) (trips may : Bool) (s : HostState) → (k ≡ h → ⊥) → host_with R c (bad_deed h t trips may) k s ≡ s
+pub bad_other : (R : Rules) (c h t k : ℕ) (trips may : Bool) (s : HostState) → (k ≡ h → ⊥) → host_with R c (bad_deed h t trips may) k s ≡ s
 bad_other R c h t k true true s other = rw (ne_eqb h k (λ e. other (sym e))) refl
 bad_other R c h t k true false s other = rw (ne_eqb h k (λ e. other (sym e))) refl
 bad_other R c h t k false may s other = rw (ne_eqb h k (λ e. other (sym e))) refl
@@ -77,7 +77,7 @@ bad_other R c h t k false may s other = rw (ne_eqb h k (λ e. other (sym e))) re
 is_trip_link : (R : Rules) (x : State) (h : ℕ) → h < R.hosts → is_trip R x h ≡ trips_then R (host_of x h)
 is_trip_link R x h l = rw (lt-ltb h R.hosts l) refl
 
-bad_deed_is : (R : Rules) (x : State) (h t : ℕ) → h < R.hosts → deed_by R x (Bad h t) ≡ bad_deed h t (trips_then R (host_of x h)) (may_eject R (out_count x))
+pub bad_deed_is : (R : Rules) (x : State) (h t : ℕ) → h < R.hosts → deed_by R x (Bad h t) ≡ bad_deed h t (trips_then R (host_of x h)) (may_eject R (out_count x))
 bad_deed_is R x h t l = ap (λ trips. bad_deed h t trips (may_eject R (out_count x))) (is_trip_link R x h l)
 
 pub bad_link : (R : Rules) (x : State) (h t : ℕ) → length x.hosts ≡ R.hosts → h < R.hosts → (with_mark R (Bad h t) x).hosts ≡ with_bad_result R x.clock h x.hosts
@@ -120,7 +120,7 @@ swept_case R now false over true true start streak good results m = refl
 swept_case R now false over true false start streak good results m = refl
 swept_case R now false over false may start streak good results m = refl
 
-sweep_at : (R : Rules) (x : State) (t k : ℕ) → k < R.hosts → host_with R x.clock (sweep_by R x (Sweep t)) k (host_of x k)
+pub sweep_at : (R : Rules) (x : State) (t k : ℕ) → k < R.hosts → host_with R x.clock (sweep_by R x (Sweep t)) k (host_of x k)
   ≡ in_new_interval (if trips_in_sweep R x k then tripped R x.clock (may_eject R (out_at_turn R x k)) (with_return R x.clock (host_of x k)) else with_return R x.clock (host_of x k))
 sweep_at R x t k l =
     let s = host_of x k in

@@ -19,5 +19,8 @@ mod settings;
 pub use answer::{Swept, Trip};
 pub use ejector::Ejector;
 pub use error::EjectError;
-pub use laws::{few_are_out, state_decides_next};
+pub use laws::{
+    few_are_out, good_ends_streak, others_change_nothing, others_matter_by_limit_and_rates,
+    out_until_time_is_over, state_decides_next,
+};
 pub use settings::{Field, Settings};
