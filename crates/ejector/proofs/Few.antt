@@ -35,9 +35,9 @@ out_count_with R d x = count-map (λ (s : HostState). s.is_out) _ (hosts_of R)
 
 pub room : (R : Rules) (out : ℕ) → may_eject R out ≡ true → out + 1 ≤ most_out R
 room R out e = elim (or_cases (out == 0) (nat_lt (100 * out) (R.settings.max_percent * R.hosts)) e) [
-    inl t ↦ omega (arith, eqb-true out 0 t)
+  | inl t ↦ omega (arith, eqb-true out 0 t)
   | inr t ↦ omega (arith, ltb-true _ _ t)
-  ]
+]
 
 ejects_one : (h k : ℕ) (out : Bool) → (if is_among k (h ∷ []) then true else out) ≡ ((h == k) || out)
 ejects_one h k out = elim (cases_Bool (h == k)) [ inl t ↦ rw t refl | inr f ↦ rw f refl ]
@@ -45,14 +45,14 @@ ejects_one h k out = elim (cases_Bool (h == k)) [ inl t ↦ rw t refl | inr f �
 -- a trip lets at most one host out, and that only where there is room
 trip_out : (R : Rules) (x : State) (h : ℕ) (m : Mark) → length x.hosts ≡ R.hosts → out_count x ≤ most_out R → count_by (out_with (trip_by R x h m) x) (hosts_of R) ≤ most_out R
 trip_out R x h m e l = elim (cases_Bool (may_eject R (out_count x))) [
-    inl t ↦ rw t
+  | inl t ↦ rw t
       (rw (count_same (out_with (record (nothing_by m) { ejected = h ∷ [] }) x) (λ k. (h == k) || is_out x k) 0 R.hosts (λ k _ _. ejects_one h k (is_out x k)))
       (omega (arith, room R (out_count x) t, count_or (λ k. h == k) (is_out x) (hosts_of R), count_one h 0 R.hosts, out_count_is R x e)))
   | inr f ↦ rw f (omega (arith, l, out_count_is R x e))
-  ]
+]
 
 if_most : (b : Bool) (d c : Deed) (R : Rules) (x : State) → count_by (out_with d x) (hosts_of R) ≤ most_out R → count_by (out_with c x) (hosts_of R) ≤ most_out R
-  → count_by (out_with (if b then d else c) x) (hosts_of R) ≤ most_out R
+    → count_by (out_with (if b then d else c) x) (hosts_of R) ≤ most_out R
 if_most true d c R x p q = p
 if_most false d c R x p q = q
 
@@ -63,9 +63,9 @@ turn_out R tripping out = elim (cases_Bool (tripping && may_eject R out)) [ inl 
 
 turn_most : (R : Rules) (tripping : Bool) (out : ℕ) → out ≤ most_out R → out_after_turn R tripping out ≤ most_out R
 turn_most R tripping out l = elim (cases_Bool (tripping && may_eject R out)) [
-    inl t ↦ (let parts = and_parts tripping (may_eject R out) t in rw t (room R out parts.1))
+  | inl t ↦ (let parts = and_parts tripping (may_eject R out) t in rw t (room R out parts.1))
   | inr f ↦ rw f l
-  ]
+]
 
 pub turns_most : (R : Rules) (tripping : ℕ → Bool) (first k : ℕ) → first ≤ most_out R → out_at R tripping first k ≤ most_out R
 turns_most R tripping first zero l = l
@@ -73,13 +73,13 @@ turns_most R tripping first (suc k) l = turn_most R (tripping k) (out_at R tripp
 
 -- at a host's turn those are out that were at first, and those that went out before it
 out_at_is : (R : Rules) (tripping : ℕ → Bool) (first k : ℕ)
-  → out_at R tripping first k ≡ first + count_by (λ h. tripping h && may_eject R (out_at R tripping first h)) (range_with_len 0 k)
+    → out_at R tripping first k ≡ first + count_by (λ h. tripping h && may_eject R (out_at R tripping first h)) (range_with_len 0 k)
 out_at_is R tripping first zero = omega arith
 out_at_is R tripping first (suc k) =
     turn_out R (tripping k) (out_at R tripping first k)
     ∙ (let last = count_last (λ h. tripping h && may_eject R (out_at R tripping first h)) 0 k in let so_far = out_at_is R tripping first k in
-      let place : 0 + k ≡ k = omega arith in
-      rw (last, place) (omega (arith, so_far)))
+    let place : 0 + k ≡ k = omega arith in
+    rw (last, place) (omega (arith, so_far)))
 
 out_at_end : (ejected out over : Bool) → (if ejected then true else (if out && over then false else out)) ≡ (ejected || (out && not over))
 out_at_end true out over = refl

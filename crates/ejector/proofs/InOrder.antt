@@ -17,8 +17,8 @@ pub reverse_more : (xs : List Mark) (i : ℕ) (d : Mark) → i < length xs → r
 reverse_more xs i d l = ap reverse (take_more xs i d l) ∙ reverse-append (take i xs) (get_or xs i d ∷ [])
 
 pub state_more : (R : Rules) (before : List Mark) (m : Mark) (clock now : ℕ) (hosts new : List HostState)
-  → state R before ≡ record { clock = clock; hosts = hosts } → now ≡ max clock (moment m) → new ≡ (with_mark R m (record { clock = now; hosts = hosts })).hosts
-  → state R (m ∷ before) ≡ record { clock = now; hosts = new }
+    → state R before ≡ record { clock = clock; hosts = hosts } → now ≡ max clock (moment m) → new ≡ (with_mark R m (record { clock = now; hosts = hosts })).hosts
+    → state R (m ∷ before) ≡ record { clock = now; hosts = new }
 state_more R before m clock now hosts new e n h =
     next_is R m before ∙ ap (next R m) e
     ∙ ap (λ (t : ℕ). with_mark R m (record { clock = t; hosts = hosts })) (sym n)

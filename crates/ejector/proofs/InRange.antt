@@ -34,8 +34,17 @@ in_range R e =
     let factor = within 0 100000 s.factor tests.1.1.1.1.1.1.1.1.0 in
     let panic = within 0 100 s.panic_percent tests.1.1.1.1.1.1.1.1.1.0 in
     record {
-      some_hosts = hosts.0; few_hosts = hosts.1; some_base = base.0; few_base = base.1; some_max = longest.0; few_max = longest.1;
-      few_percent = percent.1; few_consecutive = consecutive.1; some_volume = volume.0; few_factor = factor.1; few_panic = panic.1;
+      some_hosts = hosts.0;
+      few_hosts = hosts.1;
+      some_base = base.0;
+      few_base = base.1;
+      some_max = longest.0;
+      few_max = longest.1;
+      few_percent = percent.1;
+      few_consecutive = consecutive.1;
+      some_volume = volume.0;
+      few_factor = factor.1;
+      few_panic = panic.1;
     }
 
 pub few_hosts : (R : Rules) → first_fault R ≡ None → R.hosts ≤ 64

@@ -26,8 +26,8 @@ past R x h e l = get_or_past x.hosts h fresh_host (omega arith)
 
 -- one of them after a mark
 pub host_next : (R : Rules) (m : Mark) (before : List Mark) (h : ℕ) → h < R.hosts
-  → host_of (state R (m ∷ before)) h
-  ≡ (let x = at_moment (moment m) (state R before) in host_with R x.clock (deed_by R x m) h (host_of (state R before) h))
+    → host_of (state R (m ∷ before)) h
+    ≡ (let x = at_moment (moment m) (state R before) in host_with R x.clock (deed_by R x m) h (host_of (state R before) h))
 host_next R m before h l =
     let x = at_moment (moment m) (state R before) in
     ap (λ (y : State). host_of y h) (next_is R m before) ∙ host_at R (λ k. host_with R x.clock (deed_by R x m) k (host_of x k)) h l
@@ -36,11 +36,11 @@ host_next R m before h l =
 
 pub good_ends : GoodEndsStreak
 good_ends R marks h t = elim (cases_lt h R.hosts) [
-    inl l ↦
+  | inl l ↦
       (let x = at_moment t (state R marks) in
       ap (λ (s : HostState). s.streak) (host_next R (Good h t) marks h l ∙ good_here R x.clock h t (host_of (state R marks) h)))
   | inr g ↦ ap (λ (s : HostState). s.streak) (past R (state R (Good h t ∷ marks)) h (state_length R (Good h t ∷ marks)) g)
-  ]
+]
 
 -- RESULTS OF OTHERS
 
@@ -49,13 +49,14 @@ outside R m marks h g = past R (state R (m ∷ marks)) h (state_length R (m ∷ 
 
 pub others_nothing : OthersChangeNothing
 others_nothing R marks h k t other = elim (cases_lt h R.hosts) [
-    inl l ↦
+  | inl l ↦
       (let x = at_moment t (state R marks) in
-      let s = host_of (state R marks) h in
-      (host_next R (Good k t) marks h l ∙ good_other R x.clock k t h s other,
-        host_next R (Bad k t) marks h l ∙ bad_other R x.clock k t h (is_trip R x k) (may_eject R (out_count x)) s other))
+      let s = host_of (state R marks) h in (
+        host_next R (Good k t) marks h l ∙ good_other R x.clock k t h s other,
+        host_next R (Bad k t) marks h l ∙ bad_other R x.clock k t h (is_trip R x k) (may_eject R (out_count x)) s other,
+      ))
   | inr g ↦ (outside R (Good k t) marks h g, outside R (Bad k t) marks h g)
-  ]
+]
 
 -- RETURNS
 
@@ -70,7 +71,7 @@ swept_out false true out e f = refl
 swept_out false false out e f = absurd (false≢true (sym f ∙ e))
 
 out_until_at : (R : Rules) (m : Mark) (marks : List Mark) (h : ℕ) → h < R.hosts → is_out (state R marks) h ≡ true → is_out (state R (m ∷ marks)) h ≡ false
-  → (t : ℕ) × (m ≡ Sweep t)
+    → (t : ℕ) × (m ≡ Sweep t)
     × (min (R.settings.base_ms * (host_of (state R marks) h).multiplier) R.settings.max_ms ≤ max (state R marks).clock t - (host_of (state R marks) h).start)
 out_until_at R (Good k t) marks h l out back =
     let new = ap (λ (s : HostState). s.is_out) (host_next R (Good k t) marks h l) in
@@ -89,9 +90,9 @@ out_until_at R (Sweep t) marks h l out back =
 
 pub out_until : OutUntilTimeIsOver
 out_until R m marks h out back = elim (cases_lt h R.hosts) [
-    inl l ↦ out_until_at R m marks h l out back
+  | inl l ↦ out_until_at R m marks h l out back
   | inr g ↦ absurd (false≢true (sym back ∙ ap (λ (s : HostState). s.is_out) (outside R m marks h g) ∙ out))
-  ]
+]
 
 -- WHAT OTHERS ARE TO A HOST
 
@@ -99,33 +100,33 @@ trip_same : (R : Rules) (x y : State) (h : ℕ) → host_of x h ≡ host_of y h 
 trip_same R x y h e = ap (λ (s : HostState). nat_lt h R.hosts && not s.is_out && nat_lt 0 R.settings.consecutive && (s.streak + 1 == R.settings.consecutive)) e
 
 matter_at : (R : Rules) (m : Mark) (marks others : List Mark) (h : ℕ) → h < R.hosts
-  → host_of (state R marks) h ≡ host_of (state R others) h → (state R marks).clock ≡ (state R others).clock
-  → FindsTheSame R h m (state R marks) (state R others)
-  → host_of (state R (m ∷ marks)) h ≡ host_of (state R (m ∷ others)) h
+    → host_of (state R marks) h ≡ host_of (state R others) h → (state R marks).clock ≡ (state R others).clock
+    → FindsTheSame R h m (state R marks) (state R others)
+    → host_of (state R (m ∷ marks)) h ≡ host_of (state R (m ∷ others)) h
 matter_at R (Good k t) marks others h l e c same =
     host_next R (Good k t) marks h l
     ∙ ap (λ (n : ℕ). host_with R (max n t) (nothing_by (Good k t)) h (host_of (state R marks) h)) c
     ∙ ap (λ (s : HostState). host_with R (max (state R others).clock t) (nothing_by (Good k t)) h s) e
     ∙ sym (host_next R (Good k t) others h l)
 matter_at R (Bad k t) marks others h l e c same = elim (cases_eq h k) [
-    inl here ↦
+  | inl here ↦
       (let x = at_moment t (state R marks) in
       let y = at_moment t (state R others) in
       let this = host_next R (Bad h t) marks h l in
       let that = host_next R (Bad h t) others h l in
       let all =
-        this
-        ∙ ap (λ (b : Bool). host_with R x.clock (bad_deed h t b (may_eject R (out_count x))) h (host_of x h)) (trip_same R x y h e)
-        ∙ ap (λ (b : Bool). host_with R x.clock (bad_deed h t (is_trip R y h) b) h (host_of x h)) same
-        ∙ ap (λ (n : ℕ). host_with R (max n t) (bad_deed h t (is_trip R y h) (may_eject R (out_count y))) h (host_of x h)) c
-        ∙ ap (λ (s : HostState). host_with R y.clock (bad_deed h t (is_trip R y h) (may_eject R (out_count y))) h s) e
-        ∙ sym that in
+      this
+      ∙ ap (λ (b : Bool). host_with R x.clock (bad_deed h t b (may_eject R (out_count x))) h (host_of x h)) (trip_same R x y h e)
+      ∙ ap (λ (b : Bool). host_with R x.clock (bad_deed h t (is_trip R y h) b) h (host_of x h)) same
+      ∙ ap (λ (n : ℕ). host_with R (max n t) (bad_deed h t (is_trip R y h) (may_eject R (out_count y))) h (host_of x h)) c
+      ∙ ap (λ (s : HostState). host_with R y.clock (bad_deed h t (is_trip R y h) (may_eject R (out_count y))) h s) e
+      ∙ sym that in
       subst (λ (j : ℕ). host_of (state R (Bad j t ∷ marks)) h ≡ host_of (state R (Bad j t ∷ others)) h) here all)
   | inr other ↦
       (let one = others_nothing R marks h k t other in
       let two = others_nothing R others h k t other in
       one.1 ∙ e ∙ sym two.1)
-  ]
+]
 matter_at R (Sweep t) marks others h l e c same =
     let x = at_moment t (state R marks) in
     let y = at_moment t (state R others) in
@@ -141,6 +142,6 @@ matter_at R (Sweep t) marks others h l e c same =
 
 pub others_matter : OthersMatterByLimitAndRates
 others_matter R m marks others h e c same = elim (cases_lt h R.hosts) [
-    inl l ↦ matter_at R m marks others h l e c same
+  | inl l ↦ matter_at R m marks others h l e c same
   | inr g ↦ outside R m marks h g ∙ e ∙ sym (outside R m others h g)
-  ]
+]

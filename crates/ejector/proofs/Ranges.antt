@@ -58,9 +58,9 @@ count_before h a (suc n) l =
 pub count_one : (h a n : ℕ) → count_by (λ k. h == k) (range_with_len a n) ≤ 1
 count_one h a zero = omega arith
 count_one h a (suc n) = elim (cases_eq h a) [
-    inl e ↦ rw (count-cons (λ k. h == k) a (range_with_len (a + 1) n), eq-eqb h a e, count_before h (a + 1) n (omega arith)) (omega arith)
+  | inl e ↦ rw (count-cons (λ k. h == k) a (range_with_len (a + 1) n), eq-eqb h a e, count_before h (a + 1) n (omega arith)) (omega arith)
   | inr o ↦ rw (count-cons (λ k. h == k) a (range_with_len (a + 1) n), ne_eqb h a o) (omega (arith, count_one h (a + 1) n))
-  ]
+]
 
 -- members of a filter
 among_before : (p : ℕ → Bool) (h a n : ℕ) → h < a → is_among h (filter p (range_with_len a n)) ≡ false
@@ -69,24 +69,24 @@ among_before p h a (suc n) l =
     let other : a ≡ h → ⊥ = λ e. absurd (omega arith) in
     let rest = among_before p h (a + 1) n (omega arith) in
     elim (cases_Bool (p a)) [
-      inl t ↦ rw (t, ne_eqb a h other, rest) refl
-    | inr f ↦ rw (f, rest) refl
+      | inl t ↦ rw (t, ne_eqb a h other, rest) refl
+      | inr f ↦ rw (f, rest) refl
     ]
 
 pub among_filter : (p : ℕ → Bool) (h a n : ℕ) → a ≤ h → h < a + n → is_among h (filter p (range_with_len a n)) ≡ p h
 among_filter p h a zero l u = absurd (omega arith)
 among_filter p h a (suc n) l u = elim (cases_eq a h) [
-    inl e ↦ (let rest = among_before p h (a + 1) n (omega arith) in
+  | inl e ↦ (let rest = among_before p h (a + 1) n (omega arith) in
       elim (cases_Bool (p a)) [
-        inl t ↦ rw (t, eq-eqb a h e, ← e, t) refl
-      | inr f ↦ rw (f, rest, ← e, f) refl
+        | inl t ↦ rw (t, eq-eqb a h e, ← e, t) refl
+        | inr f ↦ rw (f, rest, ← e, f) refl
       ])
   | inr o ↦ (let rest = among_filter p h (a + 1) n (omega arith) (omega arith) in
       elim (cases_Bool (p a)) [
-        inl t ↦ rw (t, ne_eqb a h o, rest) refl
-      | inr f ↦ rw (f, rest) refl
+        | inl t ↦ rw (t, ne_eqb a h o, rest) refl
+        | inr f ↦ rw (f, rest) refl
       ])
-  ]
+]
 
 -- one number more at the end
 pub count_last : (p : ℕ → Bool) (a n : ℕ) → count_by p (range_with_len a (suc n)) ≡ count_by p (range_with_len a n) + (if p (a + n) then 1 else 0)

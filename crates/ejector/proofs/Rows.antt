@@ -41,7 +41,7 @@ five h = replicate 5 (Bad h 0)
 
 -- the limit, and a trip that ends in Kept ends the streak
 row_limit : answers ten (five 0 ++ five 1 ++ five 1)
-  ≡ answer.None ∷ answer.None ∷ answer.None ∷ answer.None ∷ answer.Ejected ∷ answer.None ∷ answer.None ∷ answer.None ∷ answer.None ∷ answer.Kept
+    ≡ answer.None ∷ answer.None ∷ answer.None ∷ answer.None ∷ answer.Ejected ∷ answer.None ∷ answer.None ∷ answer.None ∷ answer.None ∷ answer.Kept
     ∷ answer.None ∷ answer.None ∷ answer.None ∷ answer.None ∷ answer.Kept ∷ []
 row_limit = refl
 
@@ -51,7 +51,7 @@ row_streak = refl
 
 -- one host alone, with a limit of 0 percent
 row_alone : (trip (rules 1 0) (Bad 0 0) (replicate 4 (Bad 0 0)) ≡ answer.Ejected) × (is_usable (rules 1 0) (after (rules 1 0) (five 0)) 0 ≡ true)
-  × (is_panic (rules 1 0) (after (rules 1 0) (five 0)) ≡ true)
+    × (is_panic (rules 1 0) (after (rules 1 0) (five 0)) ≡ true)
 row_alone = (refl, refl, refl)
 
 -- out until the sweep at which its time is over, and the second time for twice as long
@@ -59,14 +59,14 @@ abbrev first_out : List Mark
 first_out = replicate 5 (Bad 0 1000) ++ Sweep 30999 ∷ []
 
 row_return : (is_out (after ten first_out) 0 ≡ true) × (is_out (after ten (first_out ++ Sweep 31000 ∷ [])) 0 ≡ false)
-  × ((host_of (after ten (first_out ++ Sweep 31000 ∷ [])) 0).multiplier ≡ 1)
+    × ((host_of (after ten (first_out ++ Sweep 31000 ∷ [])) 0).multiplier ≡ 1)
 row_return = (refl, refl, refl)
 
 abbrev again : List Mark
 again = first_out ++ Sweep 31000 ∷ replicate 5 (Bad 0 32000)
 
 row_again : ((host_of (after ten again) 0).multiplier ≡ 2) × (is_out (after ten (again ++ Sweep 91999 ∷ [])) 0 ≡ true)
-  × (is_out (after ten (again ++ Sweep 92000 ∷ [])) 0 ≡ false)
+    × (is_out (after ten (again ++ Sweep 92000 ∷ [])) 0 ≡ false)
 row_again = (refl, refl, refl)
 
 -- four hosts, of which three or two are out
@@ -74,7 +74,7 @@ abbrev four : Rules
 four = rules 4 100
 
 row_panic : (is_panic four (after four (five 0 ++ five 1 ++ five 2)) ≡ true) × (is_panic four (after four (five 0 ++ five 1)) ≡ false)
-  × (is_usable four (after four (five 0 ++ five 1)) 0 ≡ false) × (is_usable four (after four (five 0 ++ five 1)) 2 ≡ true)
+    × (is_usable four (after four (five 0 ++ five 1)) 0 ≡ false) × (is_usable four (after four (five 0 ++ five 1)) 2 ≡ true)
 row_panic = (refl, refl, refl, refl)
 
 -- SWEEPS
@@ -105,13 +105,13 @@ abbrev back_and_out : List Mark
 back_and_out = replicate 5 (Bad 9 0) ++ good_to 5 5 9
 
 row_back_and_out : (last_sweep (rated 5) back_and_out 30000 ≡ sums 1 1 0)
-  × ((host_of (after (rated 5) (back_and_out ++ Sweep 30000 ∷ [])) 9).multiplier ≡ 2)
-  × (last_sweep (rated 5) (back_and_out ++ Sweep 30000 ∷ Sweep 89999 ∷ []) 90000 ≡ sums 1 0 0)
+    × ((host_of (after (rated 5) (back_and_out ++ Sweep 30000 ∷ [])) 9).multiplier ≡ 2)
+    × (last_sweep (rated 5) (back_and_out ++ Sweep 30000 ∷ Sweep 89999 ∷ []) 90000 ≡ sums 1 0 0)
 row_back_and_out = (refl, refl, refl)
 
 -- tallies begin again with each interval
 row_second_interval : (last_sweep (rated 4) (good_to 4 0 9 ++ half 9 0 ++ Sweep 0 ∷ good_to 4 1 9) 1 ≡ sums 0 0 0)
-  × (last_sweep (rated 4) (good_to 4 0 10 ++ Sweep 0 ∷ good_to 4 1 9 ++ half 9 1) 1 ≡ sums 0 1 0)
+    × (last_sweep (rated 4) (good_to 4 0 10 ++ Sweep 0 ∷ good_to 4 1 9 ++ half 9 1) 1 ≡ sums 0 1 0)
 row_second_interval = (refl, refl)
 
 -- an ejection that is told with a moment below the clock begins at the clock
@@ -130,7 +130,7 @@ abbrev twice_out : List Mark
 twice_out = Bad 0 0 ∷ Sweep 10 ∷ Bad 0 10 ∷ Sweep 30 ∷ []
 
 row_lowered : ((host_of (after lower twice_out) 0).multiplier ≡ 2) × ((host_of (after lower (twice_out ++ Sweep 31 ∷ [])) 0).multiplier ≡ 1)
-  × ((host_of (after lower (twice_out ++ Sweep 31 ∷ Sweep 32 ∷ Sweep 33 ∷ [])) 0).multiplier ≡ 0)
+    × ((host_of (after lower (twice_out ++ Sweep 31 ∷ Sweep 32 ∷ Sweep 33 ∷ [])) 0).multiplier ≡ 0)
 row_lowered = (refl, refl, refl)
 
 -- with that monitor off no bad result trips, and rates still do

@@ -21,9 +21,9 @@ use Rattle.ejector.proofs.Links.{good_link, bad_link, sweep_link}
 module _ (R : Rules) where
   counted_share : (ok : Bool) (s : HostState) → s.good_results ≤ s.results → (counted ok s).good_results ≤ (counted ok s).results
   counted_share ok s l = elim (cases_Bool (nat_lt s.results max_results)) [
-      inl y ↦ rw y (one ok)
+    | inl y ↦ rw y (one ok)
     | inr n ↦ rw n l
-    ]
+  ]
     where
       one : (ok : Bool) → (if ok then s.good_results + 1 else s.good_results) ≤ s.results + 1
       one true = omega (arith, l)
@@ -40,12 +40,12 @@ module _ (R : Rules) where
   more : (out : Bool) (c n : ℕ) → n ≤ c - 1 → (not out && nat_lt 0 c && (n + 1 == c)) ≡ false → (if out || (c == 0) then n else n + 1) ≤ c - 1
   more true c n l e = l
   more false c n l e = elim (cases_eq c 0) [
-      inl none ↦ rw (eq-eqb c 0 none) l
+    | inl none ↦ rw (eq-eqb c 0 none) l
     | inr some ↦ elim (cases_eq (n + 1) c) [
-        inl trip ↦ absurd (false≢true (sym e ∙ trips trip some))
+      | inl trip ↦ absurd (false≢true (sym e ∙ trips trip some))
       | inr other ↦ rw (ne_eqb c 0 some) (omega arith)
-      ]
     ]
+  ]
     where
       trips : n + 1 ≡ c → (c ≡ 0 → ⊥) → (nat_lt 0 c && (n + 1 == c)) ≡ true
       trips trip some = rw (lt-ltb 0 c (omega arith), eq-eqb (n + 1) c trip) refl
@@ -55,13 +55,13 @@ module _ (R : Rules) where
 
   sound_bad_result : (now : ℕ) (may : Bool) (s : HostState) → IsSound R s → IsSound R (if trips_then R s then tripped R now may (counted false s) else with_bad R s)
   sound_bad_result now may s w = elim (cases_Bool (trips_then R s)) [
-      inl t ↦ rw t (sound_tripped now may (counted false s) (counted_share false s w.share))
+    | inl t ↦ rw t (sound_tripped now may (counted false s) (counted_share false s w.share))
     | inr f ↦ rw f (sound_bad s w f)
-    ]
+  ]
 
   -- in a sweep the tallies go to 0, and no streak grows
   short_return : (out over : Bool) (s : HostState) (m : ℕ) → s.streak ≤ R.settings.consecutive - 1
-    → (if out then (if over then record s { is_out = false; streak = 0 } else s) else record s { multiplier = m }).streak ≤ R.settings.consecutive - 1
+      → (if out then (if over then record s { is_out = false; streak = 0 } else s) else record s { multiplier = m }).streak ≤ R.settings.consecutive - 1
   short_return true true s m l = omega arith
   short_return true false s m l = l
   short_return false over s m l = l

@@ -21,9 +21,9 @@ use Rattle.ejector.specs.Next.{host_with, with_deed, next, counts}
 
 is_out_step : (h : ℕ) (d : Deed) (p : List Deed) → is_out_after h (d ∷ p) ≡ (if ejects h d then true else (if returns h d then false else is_out_after h p))
 is_out_step h d p = elim (cases_Bool (ejects h d)) [
-    inl t ↦ rw t refl
+  | inl t ↦ rw t refl
   | inr f ↦ rw f (returned (returns h d) (list_any (ejects h) p) (list_any (returns h) (after_last (ejects h) p)))
-  ]
+]
   where
     returned : (r any later : Bool) → (any && not (r || later)) ≡ (if r then false else (any && not later))
     returned true true later = refl
@@ -41,9 +41,9 @@ bads h p = count_by (λ (d : Deed). is_bad h d.mark) (after_last (ends_streak h)
 
 bads_step : (h : ℕ) (d : Deed) (p : List Deed) → bads h (d ∷ p) ≡ (if ends_streak h d then 0 else ((if is_bad h d.mark then 1 else 0) + bads h p))
 bads_step h d p = elim (cases_Bool (ends_streak h d)) [
-    inl t ↦ rw t refl
+  | inl t ↦ rw t refl
   | inr f ↦ rw f (sum_by-cons (λ (e : Deed). cond (is_bad h e.mark) 1 0) d (after_last (ends_streak h) p))
-  ]
+]
 
 -- a deed that ends no streak of a host leaves it out or in
 out_same : (h : ℕ) (d : Deed) (p : List Deed) → ends_streak h d ≡ false → is_out_after h (d ∷ p) ≡ is_out_after h p
@@ -65,26 +65,26 @@ never true z = refl
 never false z = refl
 
 streak_step : (R : Rules) (h : ℕ) (d : Deed) (p : List Deed) → streak_of R h (d ∷ p)
-  ≡ (if ends_streak h d then 0
+    ≡ (if ends_streak h d then 0
     else (if is_bad h d.mark && not (is_out_after h p || (R.settings.consecutive == 0)) then streak_of R h p + 1 else streak_of R h p))
 streak_step R h d p = elim (cases_Bool (ends_streak h d)) [
-    inl t ↦ rw (bads_step h d p, t) (never (is_out_after h (d ∷ p) || (R.settings.consecutive == 0)) 0)
+  | inl t ↦ rw (bads_step h d p, t) (never (is_out_after h (d ∷ p) || (R.settings.consecutive == 0)) 0)
   | inr f ↦ rw (bads_step h d p, out_same h d p f, f) (streak_one (is_out_after h p || (R.settings.consecutive == 0)) (is_bad h d.mark) (bads h p))
-  ]
+]
 
 -- TALLIES
 
 -- one item more behind those of which the first n count
 counted_push : {X : Type 0} (n : ℕ) (ys : List X) (y : X) → take n (ys ++ y ∷ []) ≡ (if nat_lt (length (take n ys)) n then take n ys ++ y ∷ [] else take n ys)
 counted_push n ys y = elim (cases_lt (length ys) n) [
-    inl l ↦
+  | inl l ↦
       (let all = take_all n ys (omega arith) in
       let more = take_all n (ys ++ y ∷ []) (omega (arith, length_push ys y)) in
       rw (more, all, lt-ltb (length ys) n l) refl)
   | inr g ↦
       (let long : length (take n ys) ≡ n = length-take-le n ys g in
       rw (take-append-le n ys (y ∷ []) g, long, le-ltb n n (omega arith)) refl)
-  ]
+]
 
 -- a host's results in the interval, in their order
 abbrev interval : ℕ → List Deed → List Mark
@@ -104,34 +104,34 @@ length_if true xs m = length_push xs m
 length_if false xs m = refl
 
 results_step : (h : ℕ) (d : Deed) (p : List Deed) → length (results_of h (d ∷ p))
-  ≡ (if is_sweep d.mark then 0
+    ≡ (if is_sweep d.mark then 0
     else (if is_result h d.mark && nat_lt (length (results_of h p)) max_results then length (results_of h p) + 1 else length (results_of h p)))
 results_step h d p = elim (cases_Bool (is_sweep d.mark)) [
-    inl t ↦ rw (interval_sweep h d p t, t) refl
+  | inl t ↦ rw (interval_sweep h d p t, t) refl
   | inr f ↦ elim (cases_Bool (is_result h d.mark)) [
-      inl r ↦ rw (interval_yes h d p f r, f, r, counted_push max_results (interval h p) d.mark) (length_if (nat_lt (length (results_of h p)) max_results) (results_of h p) d.mark)
+    | inl r ↦ rw (interval_yes h d p f r, f, r, counted_push max_results (interval h p) d.mark) (length_if (nat_lt (length (results_of h p)) max_results) (results_of h p) d.mark)
     | inr n ↦ rw (interval_no h d p f n, f, n) refl
-    ]
   ]
+]
 
 count_if : (h : ℕ) (b : Bool) (xs : List Mark) (m : Mark)
-  → count_by (is_good h) (if b then xs ++ m ∷ [] else xs) ≡ (if is_good h m && b then count_by (is_good h) xs + 1 else count_by (is_good h) xs)
+    → count_by (is_good h) (if b then xs ++ m ∷ [] else xs) ≡ (if is_good h m && b then count_by (is_good h) xs + 1 else count_by (is_good h) xs)
 count_if h true xs m = elim (cases_Bool (is_good h m)) [
-    inl t ↦ rw (sum_by_push (λ (k : Mark). cond (is_good h k) 1 0) xs m, t) refl
+  | inl t ↦ rw (sum_by_push (λ (k : Mark). cond (is_good h k) 1 0) xs m, t) refl
   | inr f ↦ rw (sum_by_push (λ (k : Mark). cond (is_good h k) 1 0) xs m, f) (omega arith)
-  ]
+]
 count_if h false xs m = elim (cases_Bool (is_good h m)) [ inl t ↦ rw t refl | inr f ↦ rw f refl ]
 
 good_step : (h : ℕ) (d : Deed) (p : List Deed) → count_by (is_good h) (results_of h (d ∷ p))
-  ≡ (if is_sweep d.mark then 0
+    ≡ (if is_sweep d.mark then 0
     else (if is_good h d.mark && nat_lt (length (results_of h p)) max_results then count_by (is_good h) (results_of h p) + 1 else count_by (is_good h) (results_of h p)))
 good_step h d p = elim (cases_Bool (is_sweep d.mark)) [
-    inl t ↦ rw (interval_sweep h d p t, t) refl
+  | inl t ↦ rw (interval_sweep h d p t, t) refl
   | inr f ↦ elim (cases_Bool (is_result h d.mark)) [
-      inl r ↦ rw (interval_yes h d p f r, f, counted_push max_results (interval h p) d.mark) (count_if h (nat_lt (length (results_of h p)) max_results) (results_of h p) d.mark)
+    | inl r ↦ rw (interval_yes h d p f r, f, counted_push max_results (interval h p) d.mark) (count_if h (nat_lt (length (results_of h p)) max_results) (results_of h p) d.mark)
     | inr n ↦ (let parts = or_parts (is_good h d.mark) (is_bad h d.mark) n in rw (interval_no h d p f n, f, parts.0) refl)
-    ]
   ]
+]
 
 -- ONE HOST, AND ALL
 
@@ -145,7 +145,7 @@ host_at R f h l = get_or-map-range_with_len f 0 R.hosts h h fresh_host l (omega 
 pub state_step : (R : Rules) (d : Deed) (p : List Deed) → state_after R (d ∷ p) ≡ with_deed R d (at_moment (moment d.mark) (state_after R p))
 state_step R d p =
     let hosts = map_range (host_after R (d ∷ p)) (λ h. host_with R (clock_of (d ∷ p)) d h (host_of (state_after R p) h)) 0 R.hosts
-      (λ h _ l. host_step R d p h ∙ ap (λ (s : HostState). host_with R (clock_of (d ∷ p)) d h s) (sym (host_at R (host_after R p) h (omega (arith, l))))) in
+    (λ h _ l. host_step R d p h ∙ ap (λ (s : HostState). host_with R (clock_of (d ∷ p)) d h s) (sym (host_at R (host_after R p) h (omega (arith, l))))) in
     ap (λ (hs : List HostState). record { clock = clock_of (d ∷ p); hosts = hs }) hosts
 
 deed_mark : (R : Rules) (x : State) (m : Mark) → (deed_by R x m).mark ≡ m

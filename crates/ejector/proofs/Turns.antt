@@ -12,16 +12,16 @@ module _ (R : Rules) (now : ℕ) (tripping : ℕ → Bool) (first : ℕ) (xs : L
   out_more = rw add-one refl
 
   pub turn_yes : (may : Bool) (s : HostState) → tripping h ≡ true → may ≡ may_eject R (out_at R tripping first h) → s ≡ get_or xs h fresh_host
-    → tripped R now may s ≡ at_turn R now tripping first xs h
+      → tripped R now may s ≡ at_turn R now tripping first xs h
   turn_yes may s t m e = rw (t, m, e) refl
 
   pub turn_no : tripping h ≡ false → at_turn R now tripping first xs h ≡ get_or xs h fresh_host
   turn_no f = rw f refl
 
   pub turned : (may : Bool) → tripping h ≡ true → may ≡ may_eject R (out_at R tripping first h)
-    → (is_ejected_at R tripping first h ≡ may) × (is_kept_at R tripping first h ≡ not may) × (out_at R tripping first (h + 1) ≡ (if may then out_at R tripping first h + 1 else out_at R tripping first h))
+      → (is_ejected_at R tripping first h ≡ may) × (is_kept_at R tripping first h ≡ not may) × (out_at R tripping first (h + 1) ≡ (if may then out_at R tripping first h + 1 else out_at R tripping first h))
   turned may t m = (rw (t, m) refl, rw (t, m) refl, rw (add-one, t, m) refl)
 
   pub not_turned : tripping h ≡ false
-    → (is_ejected_at R tripping first h ≡ false) × (is_kept_at R tripping first h ≡ false) × (out_at R tripping first (h + 1) ≡ out_at R tripping first h)
+      → (is_ejected_at R tripping first h ≡ false) × (is_kept_at R tripping first h ≡ false) × (out_at R tripping first (h + 1) ≡ out_at R tripping first h)
   not_turned f = (rw f refl, rw f refl, rw (add-one, f) refl)

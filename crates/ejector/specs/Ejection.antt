@@ -23,12 +23,12 @@ trip_by R x h m = if may_eject R (out_count x) then record (nothing_by m) { ejec
 
 abbrev pub sweep_by : Rules → State → Mark → Deed
 sweep_by R x m = record {
-    mark = m;
-    ejected = filter (is_ejected_in_sweep R x) (hosts_of R);
-    kept = filter (is_kept_in_sweep R x) (hosts_of R);
-    returned = filter (comes_back R x) (hosts_of R);
-    lowered = filter (λ h. not (is_out x h)) (hosts_of R);
-  }
+  mark = m;
+  ejected = filter (is_ejected_in_sweep R x) (hosts_of R);
+  kept = filter (is_kept_in_sweep R x) (hosts_of R);
+  returned = filter (comes_back R x) (hosts_of R);
+  lowered = filter (λ h. not (is_out x h)) (hosts_of R);
+}
 
 abbrev pub deed_by : Rules → State → Mark → Deed
 deed_by R x (Good h t) = nothing_by (Good h t)

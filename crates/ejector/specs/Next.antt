@@ -15,15 +15,15 @@ counts is_one s = is_one && nat_lt s.results max_results
 -- a host with one deed more, at the clock of that deed's mark
 abbrev pub host_with : Rules → ℕ → Deed → ℕ → HostState → HostState
 host_with R clock d h s = record {
-    is_out = if ejects h d then true else (if returns h d then false else s.is_out);
-    start = if ejects h d then clock else s.start;
-    streak =
+  is_out = if ejects h d then true else (if returns h d then false else s.is_out);
+  start = if ejects h d then clock else s.start;
+  streak =
       if ends_streak h d then 0
       else (if is_bad h d.mark && not (s.is_out || (R.settings.consecutive == 0)) then s.streak + 1 else s.streak);
-    good_results = if is_sweep d.mark then 0 else (if counts (is_good h d.mark) s then s.good_results + 1 else s.good_results);
-    results = if is_sweep d.mark then 0 else (if counts (is_result h d.mark) s then s.results + 1 else s.results);
-    multiplier = raised R (ejects h d) (lowered (lowers h d) s.multiplier);
-  }
+  good_results = if is_sweep d.mark then 0 else (if counts (is_good h d.mark) s then s.good_results + 1 else s.good_results);
+  results = if is_sweep d.mark then 0 else (if counts (is_result h d.mark) s then s.results + 1 else s.results);
+  multiplier = raised R (ejects h d) (lowered (lowers h d) s.multiplier);
+}
 
 -- a state with one deed more, whose moment has come
 abbrev pub with_deed : Rules → Deed → State → State

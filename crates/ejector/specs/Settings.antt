@@ -7,9 +7,17 @@ use Rattle.ejector.specs.declared.settings.Field.TheVariants.{Hosts, IntervalMs,
 
 abbrev pub default_settings : Settings
 default_settings = record {
-    tags = false; interval_ms = 10000; base_ms = 30000; max_ms = 300000; max_percent = 10; consecutive = 5; success_hosts = 5;
-    request_volume = 100; factor = 1900; panic_percent = 50;
-  }
+  tags = false;
+  interval_ms = 10000;
+  base_ms = 30000;
+  max_ms = 300000;
+  max_percent = 10;
+  consecutive = 5;
+  success_hosts = 5;
+  request_volume = 100;
+  factor = 1900;
+  panic_percent = 50;
+}
 
 abbrev pub is_within : ℕ → ℕ → ℕ → Bool
 is_within low high n = nat_le low n && nat_le n high

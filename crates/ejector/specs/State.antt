@@ -35,13 +35,13 @@ at_moment t x = record x { clock = max x.clock t }
 -- the state after deeds, read off their list
 abbrev pub host_after : Rules → List Deed → ℕ → HostState
 host_after R deeds h = record {
-    is_out = is_out_after h deeds;
-    start = start_of h deeds;
-    streak = streak_of R h deeds;
-    good_results = count_by (is_good h) (results_of h deeds);
-    results = length (results_of h deeds);
-    multiplier = multiplier_of R h deeds;
-  }
+  is_out = is_out_after h deeds;
+  start = start_of h deeds;
+  streak = streak_of R h deeds;
+  good_results = count_by (is_good h) (results_of h deeds);
+  results = length (results_of h deeds);
+  multiplier = multiplier_of R h deeds;
+}
 
 abbrev pub state_after : Rules → List Deed → State
 state_after R deeds = record { clock = clock_of deeds; hosts = map (host_after R deeds) (hosts_of R) }

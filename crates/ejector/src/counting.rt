@@ -33,21 +33,24 @@ fn max_multiplier(rules: &Rules) -> u32
     (settings.max_ms + settings.base_ms - 1) / settings.base_ms
 }
 
+/// The host with its streak at an end.
+fn without_streak(host: HostState) -> HostState
+    ensures { result ≡ kept host }
+{
+    HostState { streak: 0, ..host }
+}
+
 /// The host put aside from now on, for longer than the last time.
 fn ejected(rules: &Rules, now: u64, host: HostState) -> HostState
     requires { IsInRange rules.now }
     ensures { result ≡ ejected rules.now now host }
 {
-    let most = max_multiplier(rules);
+    let raised = host.multiplier.saturating_add(1);
     HostState {
         is_out: true,
         start: now,
         streak: 0,
-        multiplier: if host.multiplier < most {
-            host.multiplier + 1
-        } else {
-            most
-        },
+        multiplier: raised.min(max_multiplier(rules)),
         ..host
     }
 }
@@ -60,7 +63,7 @@ pub fn tripped(rules: &Rules, now: u64, may: bool, host: HostState) -> HostState
     if may {
         ejected(rules, now, host)
     } else {
-        HostState { streak: 0, ..host }
+        without_streak(host)
     }
 }
 
@@ -123,11 +126,8 @@ pub fn take_good(hosts: &mut [HostState], host: usize)
     requires share { (slice_index_or hosts.old host fresh_host).good_results ≤ (slice_index_or hosts.old host fresh_host).results }
     ensures { hosts.new ≡ with_good_result host hosts.old }
 {
-    let before = hosts[host];
-    hosts[host] = HostState {
-        streak: 0,
-        ..counted(before, true)
-    };
+    let after = counted(hosts[host], true);
+    hosts[host] = without_streak(after);
 }
 
 /// Counts a bad result of a host at the clock `now`, and says whether the host trips.

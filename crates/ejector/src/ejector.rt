@@ -41,9 +41,9 @@ impl Model for Ejector {
     ghost Value = { Ejection };
 
     ghost view = { λ e. record {
-        rules = e.rules;
-        state = state e.rules (reverse e.marks.items);
-        room = vec_capacity e.marks - vec_len e.marks;
+      rules = e.rules;
+      state = state e.rules (reverse e.marks.items);
+      room = vec_capacity e.marks - vec_len e.marks;
     } };
 
     ghost invariant = { λ e. (first_fault e.rules ≡ None) × All (IsAmong e.rules.hosts) e.marks.items };

@@ -11,10 +11,10 @@ mod ejector;
 mod error;
 mod host;
 mod laws;
-mod sweep;
 mod mark;
 mod replay;
 mod settings;
+mod sweep;
 
 pub use answer::{Swept, Trip};
 pub use ejector::Ejector;
@@ -24,3 +24,8 @@ pub use laws::{
     out_until_time_is_over, state_decides_next,
 };
 pub use settings::{Field, Settings};
+
+#[cfg(test)]
+mod bench;
+#[cfg(test)]
+mod tests;

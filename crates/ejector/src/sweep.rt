@@ -116,7 +116,12 @@ fn trips(rules: &Rules, enough: bool, rates: &[Option<u32>], host: usize) -> boo
 }
 
 /// Trips the outliers by these rates, one after the other by rising number, at the clock `now`.
-fn trip_outliers(rules: &Rules, now: u64, hosts: &mut [HostState], rates: &[Option<u32>]) -> TripCounts
+fn trip_outliers(
+    rules: &Rules,
+    now: u64,
+    hosts: &mut [HostState],
+    rates: &[Option<u32>],
+) -> TripCounts
     requires range { IsInRange rules.now }
     requires all { length hosts.old ≡ rules.now.hosts }
     requires same { length rates.now ≡ rules.now.hosts }

@@ -20,8 +20,8 @@ loop-mark-preserved c =
     let i = c.loop-mark.mark-index in
     record {
       state =
-        ap (state R) (reverse_more xs i _ c.loop-mark-test.true)
-        ∙ state_more R (reverse (take i xs)) _ c.loop-mark.clock c.max-clock.result c.loop-mark.hosts c.take.new.hosts c.loop-mark.invariant.state
+          ap (state R) (reverse_more xs i _ c.loop-mark-test.true)
+          ∙ state_more R (reverse (take i xs)) _ c.loop-mark.clock c.max-clock.result c.loop-mark.hosts c.take.new.hosts c.loop-mark.invariant.state
           (c.max-clock.ensures ∙ ap (max c.loop-mark.clock) c.moment.ensures) c.take.ensures.hosts;
       sound = c.take.ensures.sound;
     }

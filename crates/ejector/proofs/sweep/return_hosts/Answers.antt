@@ -17,10 +17,10 @@ loop-host-preserved c =
     record {
       hosts = rw (c.with_return.ensures, here, inv.hosts) (set-mapped_to change xs i fresh_host c.loop-host-test.true);
       count = elim c.if-is_returning.branch [
-          then-is_returning w ↦
+        | then-is_returning w ↦
             omega (arith, w.returned-is, inv.count, count_by_more_yes (is_returning c.args.rules.now c.args.now) xs i fresh_host c.loop-host-test.true (sym returning ∙ w.if-is_returning.true))
         | else-is_returning w ↦
             omega (arith, w.returned-is, inv.count, count_by_more_no (is_returning c.args.rules.now c.args.now) xs i fresh_host c.loop-host-test.true (sym returning ∙ w.if-is_returning.false))
-        ];
+      ];
       few = elim c.if-is_returning.branch [ then-is_returning w ↦ omega (arith, w.returned-is, inv.few) | else-is_returning w ↦ omega (arith, w.returned-is, inv.few) ];
     }

@@ -8,9 +8,9 @@ pub returns-clause-value : goal.returns-clause-value
 returns-clause-value c =
     let hosts = c.args.hosts.now in
     ext_get_or None c.loop-i.rates (map (rate_then c.args.rules.now) hosts) (omega (arith, length-map hosts (rate_then c.args.rules.now), c.loop-i.auto.rates, c.requires.same))
-      (λ k l.
-        let within : k < length hosts = omega (arith, l, c.loop-i.auto.rates, c.requires.same) in
-        c.loop-i.invariant.value k (omega (arith, within, c.loop-i-test.false)) ∙ sym (get_or-map (rate_then c.args.rules.now) hosts k fresh_host None within))
+    (λ k l.
+    let within : k < length hosts = omega (arith, l, c.loop-i.auto.rates, c.requires.same) in
+    c.loop-i.invariant.value k (omega (arith, within, c.loop-i-test.false)) ∙ sym (get_or-map (rate_then c.args.rules.now) hosts k fresh_host None within))
 
 pub returns-clause-within : goal.returns-clause-within
 returns-clause-within c k d l =

@@ -17,11 +17,11 @@ returns-clause-swept c =
     let R = c.args.rules.now in
     let back = c.return_hosts-returned.new.hosts in
     let ejected =
-      c.trip_outliers-ejected.ensures.ejected
-      ∙ ap (λ (rates : List (Option ℕ)). count_by (is_ejected_at R (trips_by R rates) (outs back)) (range_with_len 0 R.hosts)) c.set_rates.ensures.value
-      ∙ ap (λ (hosts : List HostState). count_by (is_ejected_at R (tripping_of R hosts) (outs hosts)) (range_with_len 0 R.hosts)) c.return_hosts-returned.ensures.hosts in
+    c.trip_outliers-ejected.ensures.ejected
+    ∙ ap (λ (rates : List (Option ℕ)). count_by (is_ejected_at R (trips_by R rates) (outs back)) (range_with_len 0 R.hosts)) c.set_rates.ensures.value
+    ∙ ap (λ (hosts : List HostState). count_by (is_ejected_at R (tripping_of R hosts) (outs hosts)) (range_with_len 0 R.hosts)) c.return_hosts-returned.ensures.hosts in
     let kept =
-      c.trip_outliers-ejected.ensures.kept
-      ∙ ap (λ (rates : List (Option ℕ)). count_by (is_kept_at R (trips_by R rates) (outs back)) (range_with_len 0 R.hosts)) c.set_rates.ensures.value
-      ∙ ap (λ (hosts : List HostState). count_by (is_kept_at R (tripping_of R hosts) (outs hosts)) (range_with_len 0 R.hosts)) c.return_hosts-returned.ensures.hosts in
+    c.trip_outliers-ejected.ensures.kept
+    ∙ ap (λ (rates : List (Option ℕ)). count_by (is_kept_at R (trips_by R rates) (outs back)) (range_with_len 0 R.hosts)) c.set_rates.ensures.value
+    ∙ ap (λ (hosts : List HostState). count_by (is_kept_at R (tripping_of R hosts) (outs hosts)) (range_with_len 0 R.hosts)) c.return_hosts-returned.ensures.hosts in
     rw (c.return_hosts-returned.ensures.count, ejected, kept) refl

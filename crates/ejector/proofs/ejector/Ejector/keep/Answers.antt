@@ -10,10 +10,10 @@ returns-clause-state c =
     let same = ap (λ (e : Ejection). e.rules) c.self.view_is in
     let kept = ap (λ (e : Ejection). e.state) c.self.view_is in
     elim c.match-push.branch [
-      in-Ok w ↦
-        on_ok c.match-push.result _ w.result-is
-        (pushed c.args.self.now.rules c.self.inside.rules c.args.self.now.state c.self.inside.marks.items c.push.new.self.items c.args.mark same kept w.in-Ok.ensures.items)
-    | in-Err w ↦ rw w.result-is tt
+      | in-Ok w ↦
+          on_ok c.match-push.result _ w.result-is
+          (pushed c.args.self.now.rules c.self.inside.rules c.args.self.now.state c.self.inside.marks.items c.push.new.self.items c.args.mark same kept w.in-Ok.ensures.items)
+      | in-Err w ↦ rw w.result-is tt
     ]
 
 pub returns-clause-limit : goal.returns-clause-limit
