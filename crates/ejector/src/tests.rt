@@ -3,6 +3,7 @@ use crate::bench::Bench;
 use crate::ejector::Ejector;
 use crate::error::EjectError;
 use crate::settings::{Field, Settings};
+use std::alloc::Global;
 use std::test::Fail;
 
 #[test]
@@ -144,16 +145,20 @@ fn multipliers_and_their_bound(rt: HostRuntime) -> Result<(), Fail> {
         ..Settings::default()
     };
     let mut ten = Bench::new(rt.alloc(), 10, settings)?;
-    let mut t = 0;
-    for (multiplier, lasts) in [(1, 30), (2, 60), (3, 90), (4, 100), (4, 100)] {
-        assert_eq!(rt; ten.result(0, false, t)?, Trip::Ejected);
+    for (multiplier, start, before, end) in [
+        (1, 0, 29, 30),
+        (2, 30, 89, 90),
+        (3, 90, 179, 180),
+        (4, 180, 279, 280),
+        (4, 280, 379, 380),
+    ] {
+        assert_eq!(rt; ten.result(0, false, start)?, Trip::Ejected);
         assert_eq!(rt; ten.multiplier(0), multiplier);
-        assert_eq!(rt; ten.sweep(t + lasts - 1)?, (0, 0, 0), "{lasts}");
-        assert_eq!(rt; ten.sweep(t + lasts)?, (1, 0, 0), "{lasts}");
-        t += lasts;
+        assert_eq!(rt; ten.sweep(before)?, (0, 0, 0), "{before}");
+        assert_eq!(rt; ten.sweep(end)?, (1, 0, 0), "{end}");
     }
     for multiplier in [3, 2, 1, 0, 0] {
-        assert_eq!(rt; ten.sweep(t)?, (0, 0, 0));
+        assert_eq!(rt; ten.sweep(380)?, (0, 0, 0));
         assert_eq!(rt; ten.multiplier(0), multiplier);
     }
     Ok(())
@@ -166,12 +171,22 @@ fn multipliers_by_default(rt: HostRuntime) -> Result<(), Fail> {
         ..Settings::default()
     };
     let mut ten = Bench::new(rt.alloc(), 10, settings)?;
-    let mut t = 0;
-    for multiplier in [1, 2, 3, 4, 5, 6, 7, 8, 9, 10, 10, 10] {
-        assert_eq!(rt; ten.result(0, false, t)?, Trip::Ejected);
+    for (multiplier, start, end) in [
+        (1, 0, 30_000),
+        (2, 30_000, 90_000),
+        (3, 90_000, 180_000),
+        (4, 180_000, 300_000),
+        (5, 300_000, 450_000),
+        (6, 450_000, 630_000),
+        (7, 630_000, 840_000),
+        (8, 840_000, 1_080_000),
+        (9, 1_080_000, 1_350_000),
+        (10, 1_350_000, 1_650_000),
+        (10, 1_650_000, 1_950_000),
+    ] {
+        assert_eq!(rt; ten.result(0, false, start)?, Trip::Ejected);
         assert_eq!(rt; ten.multiplier(0), multiplier);
-        t += 30_000 * u64::from(multiplier);
-        assert_eq!(rt; ten.sweep(t)?, (1, 0, 0));
+        assert_eq!(rt; ten.sweep(end)?, (1, 0, 0));
     }
     Ok(())
 }
@@ -325,231 +340,95 @@ fn monitors_turned_off(rt: HostRuntime) -> Result<(), Fail> {
     Ok(())
 }
 
-/// What `new` answers: None for Ok.
-fn refusal(rt: &HostRuntime, hosts: usize, settings: Settings) -> Option<EjectError> {
-    Ejector::new(rt.alloc(), hosts, settings).err()
+/// What `new` answers with one setting changed: None for Ok.
+fn refusal(alloc: Global, hosts: usize, field: Field, value: u32) -> Option<EjectError> {
+    let mut settings = Settings {
+        max_ms: 86_400_000,
+        ..Settings::default()
+    };
+    match field {
+        Field::Hosts => settings.tags = true,
+        Field::IntervalMs => settings.interval_ms = value,
+        Field::BaseMs => settings.base_ms = value,
+        Field::MaxMs => settings.max_ms = value,
+        Field::MaxPercent => settings.max_percent = value,
+        Field::Consecutive => settings.consecutive = value,
+        Field::SuccessHosts => settings.success_hosts = value,
+        Field::RequestVolume => settings.request_volume = value,
+        Field::Factor => settings.factor = value,
+        Field::PanicPercent => settings.panic_percent = value,
+    }
+    Ejector::new(alloc, hosts, settings).err()
 }
 
 #[test]
-fn settings_and_their_ranges(rt: HostRuntime) -> Result<(), Fail> {
-    let good = Settings::default();
-    let longest = Settings {
-        max_ms: 86_400_000,
-        ..good
+fn settings_at_their_bounds(rt: HostRuntime) {
+    for (field, least, most) in [
+        (Field::Hosts, 0, 0),
+        (Field::IntervalMs, 1, 3_600_000),
+        (Field::BaseMs, 1, 3_600_000),
+        (Field::MaxMs, 30_000, 86_400_000),
+        (Field::MaxPercent, 0, 100),
+        (Field::Consecutive, 0, 1_000_000),
+        (Field::SuccessHosts, 1, 65),
+        (Field::RequestVolume, 1, 1_000_000),
+        (Field::Factor, 0, 100_000),
+        (Field::PanicPercent, 0, 100),
+    ] {
+        for value in [least, most] {
+            for hosts in [1, 64] {
+                assert_eq!(rt; refusal(rt.alloc(), hosts, field, value), None, "{field}");
+            }
+        }
+    }
+}
+
+#[test]
+fn settings_out_of_their_ranges(rt: HostRuntime) {
+    for (field, value) in [
+        (Field::IntervalMs, 0),
+        (Field::IntervalMs, 3_600_001),
+        (Field::BaseMs, 0),
+        (Field::BaseMs, 3_600_001),
+        (Field::MaxMs, 29_999),
+        (Field::MaxMs, 86_400_001),
+        (Field::MaxPercent, 101),
+        (Field::Consecutive, 1_000_001),
+        (Field::SuccessHosts, 0),
+        (Field::SuccessHosts, 66),
+        (Field::RequestVolume, 0),
+        (Field::RequestVolume, 1_000_001),
+        (Field::Factor, 100_001),
+        (Field::PanicPercent, 101),
+    ] {
+        let refused = Some(EjectError::BadSettings { field });
+        assert_eq!(rt; refusal(rt.alloc(), 10, field, value), refused, "{field}");
+        let refused = Some(EjectError::BadSettings {
+            field: Field::Hosts,
+        });
+        assert_eq!(rt; refusal(rt.alloc(), 0, field, value), refused, "{field}");
+        assert_eq!(rt; refusal(rt.alloc(), 65, field, value), refused, "{field}");
+    }
+}
+
+#[test]
+fn the_first_field_is_named(rt: HostRuntime) {
+    let all_bad = Settings {
+        interval_ms: 1,
+        base_ms: 0,
+        max_ms: 0,
+        max_percent: 101,
+        consecutive: 1_000_001,
+        success_hosts: 0,
+        request_volume: 0,
+        factor: 100_001,
+        panic_percent: 101,
+        tags: false,
     };
-    for settings in [
-        good,
-        Settings { tags: true, ..good },
-        Settings {
-            interval_ms: 1,
-            ..good
-        },
-        Settings {
-            interval_ms: 3_600_000,
-            ..good
-        },
-        Settings { base_ms: 1, ..good },
-        Settings {
-            base_ms: 300_000,
-            ..good
-        },
-        Settings {
-            base_ms: 3_600_000,
-            ..longest
-        },
-        longest,
-        Settings {
-            max_ms: 30_000,
-            ..good
-        },
-        Settings {
-            max_percent: 0,
-            ..good
-        },
-        Settings {
-            max_percent: 100,
-            ..good
-        },
-        Settings {
-            consecutive: 0,
-            ..good
-        },
-        Settings {
-            consecutive: 1_000_000,
-            ..good
-        },
-        Settings {
-            success_hosts: 1,
-            ..good
-        },
-        Settings {
-            success_hosts: 65,
-            ..good
-        },
-        Settings {
-            request_volume: 1,
-            ..good
-        },
-        Settings {
-            request_volume: 1_000_000,
-            ..good
-        },
-        Settings { factor: 0, ..good },
-        Settings {
-            factor: 100_000,
-            ..good
-        },
-        Settings {
-            panic_percent: 0,
-            ..good
-        },
-        Settings {
-            panic_percent: 100,
-            ..good
-        },
-    ] {
-        assert_eq!(rt; refusal(&rt, 1, settings), None, "{settings:?}");
-        assert_eq!(rt; refusal(&rt, 64, settings), None, "{settings:?}");
-    }
-    for (field, settings) in [
-        (
-            Field::IntervalMs,
-            Settings {
-                interval_ms: 0,
-                ..good
-            },
-        ),
-        (
-            Field::IntervalMs,
-            Settings {
-                interval_ms: 3_600_001,
-                base_ms: 0,
-                ..good
-            },
-        ),
-        (
-            Field::BaseMs,
-            Settings {
-                base_ms: 0,
-                max_ms: 86_400_001,
-                ..good
-            },
-        ),
-        (
-            Field::BaseMs,
-            Settings {
-                base_ms: 3_600_001,
-                ..longest
-            },
-        ),
-        (
-            Field::MaxMs,
-            Settings {
-                max_ms: 29_999,
-                max_percent: 101,
-                ..good
-            },
-        ),
-        (
-            Field::MaxMs,
-            Settings {
-                max_ms: 86_400_001,
-                ..good
-            },
-        ),
-        (
-            Field::MaxPercent,
-            Settings {
-                max_percent: 101,
-                consecutive: 1_000_001,
-                ..good
-            },
-        ),
-        (
-            Field::Consecutive,
-            Settings {
-                consecutive: 1_000_001,
-                success_hosts: 0,
-                ..good
-            },
-        ),
-        (
-            Field::SuccessHosts,
-            Settings {
-                success_hosts: 0,
-                request_volume: 0,
-                ..good
-            },
-        ),
-        (
-            Field::SuccessHosts,
-            Settings {
-                success_hosts: 66,
-                ..good
-            },
-        ),
-        (
-            Field::RequestVolume,
-            Settings {
-                request_volume: 0,
-                factor: 100_001,
-                ..good
-            },
-        ),
-        (
-            Field::RequestVolume,
-            Settings {
-                request_volume: 1_000_001,
-                ..good
-            },
-        ),
-        (
-            Field::Factor,
-            Settings {
-                factor: 100_001,
-                panic_percent: 101,
-                ..good
-            },
-        ),
-        (
-            Field::PanicPercent,
-            Settings {
-                panic_percent: 101,
-                ..good
-            },
-        ),
-    ] {
-        assert_eq!(rt;
-            refusal(&rt, 10, settings),
-            Some(EjectError::BadSettings { field }),
-            "{settings:?}"
-        );
-        assert_eq!(rt;
-            refusal(&rt, 0, settings),
-            Some(EjectError::BadSettings {
-                field: Field::Hosts
-            })
-        );
-        assert_eq!(rt;
-            refusal(&rt, 65, settings),
-            Some(EjectError::BadSettings {
-                field: Field::Hosts
-            })
-        );
-    }
-    assert_eq!(rt;
-        refusal(&rt, 0, good),
-        Some(EjectError::BadSettings {
-            field: Field::Hosts
-        })
-    );
-    assert_eq!(rt;
-        refusal(&rt, 65, good),
-        Some(EjectError::BadSettings {
-            field: Field::Hosts
-        })
-    );
-    Ok(())
+    let refused = Some(EjectError::BadSettings {
+        field: Field::BaseMs,
+    });
+    assert_eq!(rt; Ejector::new(rt.alloc(), 1, all_bad).err(), refused);
 }
 
 #[test]
