@@ -23,12 +23,12 @@ above a s k e =
 
 pub distance : (a s : ℕ) → squared_distance a s + 2 * (a * s) ≡ a * a + s * s
 distance a s = elim (cases_lt a s) [
-    inl l ↦ below a s (s - a) (omega arith)
+  | inl l ↦ below a s (s - a) (omega arith)
   | inr g ↦ above a s (a - s) (omega arith)
-  ]
+]
 
 pub distances : (c s : ℕ) (xs : List ℕ)
-  → sum_by (λ x. squared_distance (c * x) s) xs + 2 * (c * s * sum xs) ≡ c * c * sum_by square xs + length xs * (s * s)
+    → sum_by (λ x. squared_distance (c * x) s) xs + 2 * (c * s * sum xs) ≡ c * c * sum_by square xs + length xs * (s * s)
 distances c s [] = omega arith
 distances c s (x ∷ xs) =
     rw (sum_by-cons (λ x. squared_distance (c * x) s) x xs, sum_by-cons (λ x. x) x xs, sum_by-cons square x xs)
@@ -37,14 +37,14 @@ distances c s (x ∷ xs) =
 -- what n times a difference is
 scaled : (n a b c : ℕ) → c + n * b ≡ n * a → c ≡ n * (a - b)
 scaled n a b c e = elim (cases_lt a b) [
-    inl l ↦ (let none : a - b ≡ 0 = omega arith in let more = mul-le-mul_left n l in rw none (omega (arith, more, e)))
+  | inl l ↦ (let none : a - b ≡ 0 = omega arith in let more = mul-le-mul_left n l in rw none (omega (arith, more, e)))
   | inr g ↦ (let parts : (a - b) + b ≡ a = omega arith in let same = ap (λ k. n * k) parts in omega (arith, same, e))
-  ]
+]
 
 pub spread_is : (all : List ℕ) → spread all ≡ length all * (length all * sum_by square all - square (sum all))
 spread_is all =
     scaled (length all) (length all * sum_by square all) (square (sum all)) (spread all)
-      (omega (arith, distances (length all) (sum all) all))
+    (omega (arith, distances (length all) (sum all) all))
 
 -- from here on a test is a comparison, scaled by the number of the rates
 tests : (n total rate v d : ℕ) → (nat_lt (n * rate) total && nat_lt v d) ≡ true → (n * rate < total) × (v < d)
@@ -69,10 +69,10 @@ near_scaled all factor =
 
 pub far_below_is : FarBelowIsByDeviation
 far_below_is all factor rate = (
-    (λ e.
+  (λ e.
       let t = tests (length all) (sum all) rate (near all factor) (far all rate factor) e in
       (t.0, rw (near_scaled all factor, distance_below (length all * rate) (sum all) t.0) (mul-lt-mul_of_pos_left t.1 (some_rates all _ t.0)))),
-    (λ p.
+  (λ p.
       let scaled_up : length all * near all factor < length all * far all rate factor = rw (near_scaled all factor, distance_below (length all * rate) (sum all) p.0) at p.1 in
-      and_from _ _ (lt-ltb _ _ p.0) (lt-ltb _ _ (lt_of_mul-lt-mul_left (length all) scaled_up)))
-  )
+      and_from _ _ (lt-ltb _ _ p.0) (lt-ltb _ _ (lt_of_mul-lt-mul_left (length all) scaled_up))),
+)

@@ -14,4 +14,4 @@ SpreadIsVariance = (all : List ℕ) → spread all ≡ length all * (length all 
 -- is more than (factor / 1000) * (factor / 1000) times the mean of all squared distances from it
 abbrev pub FarBelowIsByDeviation : Type 0
 FarBelowIsByDeviation = (all : List ℕ) (factor rate : ℕ) → (is_far_below all factor rate ≡ true)
-  ↔ ((length all * rate < sum all) × (square factor * spread all < length all * (squared_distance (length all * rate) (sum all) * 1000000)))
+    ↔ ((length all * rate < sum all) × (square factor * spread all < length all * (squared_distance (length all * rate) (sum all) * 1000000)))
