@@ -1,5 +1,5 @@
 -- No more hosts are out than the limit allows.
-use Rattle.std.proofs.Common.{◌≡◌, ℕ, zero, suc, ◌+◌, ◌*◌, ◌/◌, ◌<◌, ◌≤◌, max, Bool, true, false, not, ◌||◌, ◌&&◌, ◌==◌, nat_lt, cond, List, [], ◌∷◌, length, map, filter, count_by, get_or, refl, sym, ap, ◌∙◌, subst, inl, inr, arith, if◌then◌else◌}
+use Rattle.std.proofs.Common.{◌≡◌, ℕ, zero, suc, ◌+◌, ◌*◌, ◌<◌, ◌≤◌, Bool, true, false, not, ◌||◌, ◌&&◌, ◌==◌, nat_lt, List, [], ◌∷◌, length, map, count_by, refl, sym, ap, ◌∙◌, subst, inl, inr, arith, if◌then◌else◌}
 use Rattle.std.specs.List.{range_with_len}
 use Rattle.std.proofs.lemmas.Bool.{cases_Bool, or_cases, and_parts, eqb-true, ltb-true}
 use Rattle.std.proofs.lemmas.List.FromFn.{fill_by_all, length-map-range_with_len}
@@ -13,7 +13,7 @@ use Rattle.ejector.specs.Marks.{moment}
 use Rattle.ejector.specs.Deeds.{Deed, is_among, ejects, returns}
 use Rattle.ejector.specs.State.{host_after, State, hosts_of, host_of, is_out, out_count, at_moment, fresh_host}
 use Rattle.ejector.specs.Trips.{may_eject, most_out, is_trip}
-use Rattle.ejector.specs.Sweeps.{comes_back, stays_out, trips_in_sweep, out_at, out_at_turn, out_after_turn, is_ejected_in_sweep, is_time_over}
+use Rattle.ejector.specs.Sweeps.{comes_back, stays_out, trips_in_sweep, out_at, out_after_turn, is_ejected_in_sweep, is_time_over}
 use Rattle.ejector.specs.Ejection.{deed_by, sweep_by, nothing_by, trip_by, state}
 use Rattle.ejector.specs.Next.{with_deed, next}
 

@@ -1,13 +1,12 @@
 -- The state of marks that stand in a list with the oldest first.
-use Rattle.std.proofs.Common.{◌≡◌, ℕ, zero, suc, ◌+◌, ◌<◌, max, Bool, true, false, ◌==◌, List, [], ◌∷◌, ◌++◌, length, map, take, reverse, replicate, get_or, refl, sym, ap, ◌∙◌, inl, inr, arith, if◌then◌else◌}
+use Rattle.std.proofs.Common.{◌≡◌, ℕ, zero, suc, ◌+◌, ◌<◌, max, Bool, true, false, ◌==◌, List, [], ◌∷◌, length, map, take, reverse, replicate, get_or, refl, sym, ap, ◌∙◌, if◌then◌else◌}
 use Rattle.std.specs.List.{range_with_len}
-use Rattle.std.proofs.lemmas.Bool.{cases_Bool}
 use Rattle.std.proofs.lemmas.List.{take_more, reverse-append}
 use Rattle.ejector.specs.declared.mark.Mark.{Mark}
 use Rattle.ejector.specs.declared.host.HostState.{HostState}
 use Rattle.ejector.specs.declared.settings.Rules.{Rules}
 use Rattle.ejector.specs.Marks.{moment}
-use Rattle.ejector.specs.State.{State, at_moment, host_after, fresh_host}
+use Rattle.ejector.specs.State.{host_after, fresh_host}
 use Rattle.ejector.specs.Ejection.{state}
 use Rattle.ejector.specs.Next.{with_mark, next}
 use Rattle.ejector.proofs.Step.{next_is}

@@ -1,8 +1,6 @@
 -- A list of marks that grows at its end.
-use Rattle.std.proofs.Common.{◌≡◌, ℕ, ◌<◌, ◌≤◌, max, Result, Ok, OnOk, List, [], ◌∷◌, ◌++◌, length, reverse, sym, ap, ◌∙◌}
+use Rattle.std.proofs.Common.{◌≡◌, ℕ, ◌<◌, max, Result, Ok, OnOk, List, [], ◌∷◌, ◌++◌, length, reverse, sym, ap, ◌∙◌}
 use Rattle.std.proofs.lemmas.List.{reverse-append}
-use Rattle.ejector.specs.declared.answer.Trip.{Trip}
-use Rattle.ejector.specs.declared.answer.Swept.{Swept}
 use Rattle.ejector.specs.declared.mark.Mark.{Mark}
 use Rattle.ejector.specs.declared.mark.Mark.TheVariants.{Bad, Sweep}
 use Rattle.ejector.specs.declared.settings.Rules.{Rules}

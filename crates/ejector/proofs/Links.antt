@@ -1,26 +1,21 @@
 -- Counters that go on by a mark are the state with that mark.
-use Rattle.std.proofs.Common.{◌≡◌, ℕ, zero, suc, ◌+◌, ◌-◌, ◌<◌, ◌≤◌, Bool, true, false, not, ◌||◌, ◌&&◌, ◌==◌, nat_lt, cond, List, [], ◌∷◌, All, length, map, filter, get_or, set, count_by, Option, None, refl, sym, ap, ◌∙◌, inl, inr, arith, if◌then◌else◌}
-use Rattle.std.specs.List.{range_with_len}
+use Rattle.std.proofs.Common.{◌≡◌, ℕ, ◌-◌, ◌<◌, ◌≤◌, Bool, true, false, not, ◌||◌, ◌&&◌, ◌==◌, nat_lt, List, [], ◌∷◌, All, length, map, filter, get_or, set, count_by, refl, sym, ap, ◌∙◌, inl, inr, arith, if◌then◌else◌}
 use Rattle.std.proofs.lemmas.Bool.{cases_Bool, cases_eq, eq-eqb, ne_eqb, lt-ltb}
 use Rattle.std.proofs.lemmas.List.{ext_get_or, length-set, get_or-set_same, get_or-set_other, get_or-map, length-map}
 use Rattle.std.proofs.lemmas.Simd.{map-map}
 use Rattle.std.proofs.lemmas.List.Sums.{length-filter}
 use Rattle.std.proofs.lemmas.List.FromFn.{length-map-range_with_len, get_or-map-range_with_len}
-use Rattle.rate_core.specs.Rate.{rate_of}
-use Rattle.ejector.specs.declared.answer.Trip.{Trip}
 use Rattle.ejector.specs.declared.answer.Trip.TheVariants as answer
-use Rattle.ejector.specs.declared.answer.Swept.{Swept}
-use Rattle.ejector.specs.declared.mark.Mark.{Mark}
 use Rattle.ejector.specs.declared.mark.Mark.TheVariants.{Good, Bad, Sweep}
 use Rattle.ejector.specs.declared.host.HostState.{HostState}
 use Rattle.ejector.specs.declared.settings.Rules.{Rules}
 use Rattle.ejector.specs.Deeds.{Deed, max_results, raised, lowered}
 use Rattle.ejector.specs.State.{State, hosts_of, host_of, is_out, out_count, fresh_host}
 use Rattle.ejector.specs.Trips.{may_eject, is_trip}
-use Rattle.ejector.specs.Sweeps.{is_time_over, comes_back, stays_out, rate_after_returns, rates, trips_by, trips_in_sweep, is_ejected_in_sweep, is_kept_in_sweep, out_at, out_at_turn}
+use Rattle.ejector.specs.Sweeps.{is_time_over, comes_back, stays_out, rate_after_returns, rates, trips_by, trips_in_sweep, is_ejected_in_sweep, is_kept_in_sweep, out_at_turn}
 use Rattle.ejector.specs.Ejection.{nothing_by, deed_by, sweep_by, trip_of, swept_of}
 use Rattle.ejector.specs.Next.{host_with, with_deed, with_mark}
-use Rattle.ejector.specs.Counting.{counted, with_good, with_bad, ejected, kept, tripped, trips_then, trip_then, outs, with_good_result, with_bad_result, with_return, is_returning, rate_then, in_new_interval, at_turn, is_ejected_at, is_kept_at, tripping_of, swept_hosts, swept_counts}
+use Rattle.ejector.specs.Counting.{counted, with_good, with_bad, tripped, trips_then, trip_then, outs, with_good_result, with_bad_result, with_return, is_returning, rate_then, in_new_interval, at_turn, is_ejected_at, is_kept_at, tripping_of, swept_hosts, swept_counts}
 use Rattle.ejector.proofs.Ranges.{map_range, count-map, count_same, among_filter}
 use Rattle.ejector.proofs.Few.{hosts_are}
 

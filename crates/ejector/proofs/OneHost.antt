@@ -1,5 +1,5 @@
 -- What a mark does to one host.
-use Rattle.std.proofs.Common.{◌≡◌, ◌≢◌, ℕ, ◌-◌, ◌*◌, ◌<◌, ◌≤◌, min, max, Bool, true, false, not, ◌&&◌, List, [], ◌∷◌, length, get_or, refl, sym, ap, ◌∙◌, subst, inl, inr, arith, nat_lt, ◌+◌, ◌==◌, ◌||◌, Option, if◌then◌else◌}
+use Rattle.std.proofs.Common.{◌≡◌, ℕ, ◌-◌, ◌*◌, ◌<◌, ◌≤◌, min, max, Bool, true, false, not, ◌&&◌, List, ◌∷◌, length, refl, sym, ap, ◌∙◌, subst, inl, inr, arith, nat_lt, ◌+◌, ◌==◌, Option, if◌then◌else◌}
 use Rattle.std.proofs.lemmas.Bool.{cases_Bool, cases_eq, cases_lt, and_parts, leb-true, false≢true}
 use Rattle.std.proofs.lemmas.List.{get_or_past}
 use Rattle.ejector.specs.declared.mark.Mark.{Mark}
@@ -7,18 +7,18 @@ use Rattle.ejector.specs.declared.mark.Mark.TheVariants.{Good, Bad, Sweep}
 use Rattle.ejector.specs.declared.host.HostState.{HostState}
 use Rattle.ejector.specs.declared.settings.Rules.{Rules}
 use Rattle.ejector.specs.Marks.{moment}
-use Rattle.ejector.specs.Deeds.{Deed, ejects, returns}
+use Rattle.ejector.specs.Deeds.{ejects, returns}
 use Rattle.ejector.specs.State.{State, host_of, is_out, out_count, at_moment, fresh_host}
 use Rattle.ejector.specs.Trips.{may_eject, is_trip}
-use Rattle.ejector.specs.Sweeps.{comes_back, is_time_over, rates, trips_by, trips_in_sweep, out_at_turn}
+use Rattle.ejector.specs.Sweeps.{comes_back, is_time_over, trips_by, trips_in_sweep, out_at_turn}
 use Rattle.ejector.specs.Ejection.{state, deed_by, nothing_by}
-use Rattle.ejector.specs.Next.{host_with, with_mark, next}
-use Rattle.ejector.specs.Counting.{with_good, trips_then, tripped, counted, with_bad, with_return, in_new_interval}
+use Rattle.ejector.specs.Next.{host_with}
+use Rattle.ejector.specs.Counting.{tripped, with_return, in_new_interval}
 use Rattle.ejector.specs.Laws.{OutUntilTimeIsOver, GoodEndsStreak, OthersChangeNothing, FindsTheSame, OthersMatterByLimitAndRates}
 use Rattle.ejector.proofs.Ranges.{among_filter}
 use Rattle.ejector.proofs.Step.{next_is, host_at}
-use Rattle.ejector.proofs.Few.{next_length, state_length}
-use Rattle.ejector.proofs.Links.{good_here, good_other, bad_deed, bad_deed_is, bad_here, bad_other, sweep_at}
+use Rattle.ejector.proofs.Few.{state_length}
+use Rattle.ejector.proofs.Links.{good_here, good_other, bad_deed, bad_other, sweep_at}
 
 -- a host that isn't one of them
 past : (R : Rules) (x : State) (h : ℕ) → length x.hosts ≡ R.hosts → R.hosts ≤ h → host_of x h ≡ fresh_host

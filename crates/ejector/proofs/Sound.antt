@@ -1,8 +1,8 @@
 -- Counters stay sound.
-use Rattle.std.proofs.Common.{◌≡◌, ℕ, ◌+◌, ◌-◌, ◌<◌, ◌≤◌, Bool, true, false, not, ◌||◌, ◌&&◌, ◌==◌, nat_lt, List, All, length, map, replicate, get_or, set, refl, sym, ap, ◌∙◌, inl, inr, arith, if◌then◌else◌, subst}
+use Rattle.std.proofs.Common.{◌≡◌, ℕ, ◌+◌, ◌-◌, ◌<◌, ◌≤◌, Bool, true, false, not, ◌||◌, ◌&&◌, ◌==◌, nat_lt, List, All, length, map, replicate, get_or, refl, sym, ◌∙◌, inl, inr, arith, if◌then◌else◌}
 use Rattle.std.specs.List.{range_with_len}
 use Rattle.std.proofs.lemmas.Bool.{cases_Bool, lt-ltb, cases_eq, eq-eqb, ne_eqb, false≢true}
-use Rattle.std.proofs.lemmas.List.{get_or-map, length-map, get_or_default, get_or-replicate, length-replicate}
+use Rattle.std.proofs.lemmas.List.{get_or-map, length-map, get_or-replicate, length-replicate}
 use Rattle.std.proofs.lemmas.List.FromFn.{length-map-range_with_len, get_or-map-range_with_len}
 use Rattle.std.proofs.lemmas.List.Elements.{All-set}
 use Rattle.ejector.specs.declared.mark.Mark.{Mark}
@@ -15,7 +15,7 @@ use Rattle.ejector.specs.State.{State, fresh_host, host_of}
 use Rattle.ejector.specs.Trips.{may_eject}
 use Rattle.ejector.specs.Sweeps.{is_time_over}
 use Rattle.ejector.specs.Next.{with_mark}
-use Rattle.ejector.specs.Counting.{IsSound, counted, with_good, with_bad, ejected, kept, tripped, trips_then, outs, with_good_result, with_bad_result, with_return, in_new_interval, at_turn, tripping_of, swept_hosts}
+use Rattle.ejector.specs.Counting.{IsSound, counted, with_good, with_bad, tripped, trips_then, outs, with_return, in_new_interval, at_turn, tripping_of, swept_hosts}
 use Rattle.ejector.proofs.Links.{good_link, bad_link, sweep_link}
 
 module _ (R : Rules) where

@@ -1,6 +1,6 @@
 -- One deed more in the list: what is read off it then.
-use Rattle.std.proofs.Common.{◌≡◌, ℕ, zero, suc, ◌+◌, ◌<◌, ◌≤◌, Bool, true, false, not, ◌||◌, ◌&&◌, ◌==◌, nat_lt, cond, max, min, List, [], ◌∷◌, ◌++◌, length, map, filter, take, reverse, count_by, get_or, refl, sym, ap, ◌∙◌, inl, inr, arith, if◌then◌else◌}
-use Rattle.std.specs.List.{list_any, range_with_len}
+use Rattle.std.proofs.Common.{◌≡◌, ℕ, ◌+◌, ◌<◌, Bool, true, false, not, ◌||◌, ◌&&◌, ◌==◌, nat_lt, cond, List, [], ◌∷◌, ◌++◌, length, map, filter, take, reverse, count_by, get_or, refl, sym, ap, ◌∙◌, inl, inr, arith, if◌then◌else◌}
+use Rattle.std.specs.List.{list_any}
 use Rattle.std.proofs.lemmas.Bool.{cases_Bool, or_parts, cases_lt, lt-ltb, le-ltb}
 use Rattle.std.proofs.lemmas.List.{take_all, length_push, length-take-le, take-append-le, reverse-append}
 use Rattle.std.proofs.lemmas.List.Sums.{sum_by-cons, sum_by_push}
@@ -11,11 +11,11 @@ use Rattle.ejector.specs.declared.mark.Mark.TheVariants.{Good, Bad, Sweep}
 use Rattle.ejector.specs.declared.host.HostState.{HostState}
 use Rattle.ejector.specs.declared.settings.Rules.{Rules}
 use Rattle.ejector.specs.Marks.{moment, is_good, is_bad, is_result, is_sweep}
-use Rattle.ejector.specs.Deeds.{Deed, is_among, ejects, trips, returns, lowers, after_last, up_to_last, clock_of, is_out_after, start_of, ends_streak, streak_of, max_results, results_of, multiplier_of, max_multiplier}
+use Rattle.ejector.specs.Deeds.{Deed, is_among, ejects, trips, returns, after_last, clock_of, is_out_after, start_of, ends_streak, streak_of, max_results, results_of}
 use Rattle.ejector.specs.State.{State, hosts_of, host_of, out_count, at_moment, host_after, state_after, fresh_host}
 use Rattle.ejector.specs.Trips.{may_eject, is_trip}
 use Rattle.ejector.specs.Ejection.{nothing_by, deed_by, deeds, state}
-use Rattle.ejector.specs.Next.{host_with, with_deed, next, counts}
+use Rattle.ejector.specs.Next.{host_with, with_deed, next}
 
 -- OUT AND START
 

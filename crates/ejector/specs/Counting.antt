@@ -1,5 +1,5 @@
 -- How counters of the hosts go on, a mark at a time. The contracts of the code that counts cite this; no public contract does.
-use Rattle.std.specs.Prelude.{◌≡◌, ℕ, Bool, true, false, ◌==◌, ◌+◌, ◌-◌, ◌*◌, ◌≤◌, ◌<◌, ◌||◌, ◌&&◌, not, min, nat_lt, nat_le, if◌then◌else◌, List, Option, None, length, map, get_or, set, count_by, replicate}
+use Rattle.std.specs.Prelude.{ℕ, Bool, true, false, ◌==◌, ◌+◌, ◌-◌, ◌≤◌, ◌||◌, ◌&&◌, not, nat_lt, if◌then◌else◌, List, Option, None, map, get_or, set, count_by}
 use Rattle.std.specs.List.{range_with_len}
 use Rattle.rate_core.specs.Rate.{rate_of}
 use Rattle.ejector.specs.declared.answer.Trip.{Trip}
@@ -7,9 +7,9 @@ use Rattle.ejector.specs.declared.answer.Trip.TheVariants as answer
 use Rattle.ejector.specs.declared.answer.Swept.{Swept}
 use Rattle.ejector.specs.declared.host.HostState.{HostState}
 use Rattle.ejector.specs.declared.settings.Rules.{Rules}
-use Rattle.ejector.specs.Deeds.{max_results, raised, lowered}
-use Rattle.ejector.specs.State.{State, fresh_host, host_of, is_out, out_count}
-use Rattle.ejector.specs.Trips.{may_eject, is_trip}
+use Rattle.ejector.specs.Deeds.{max_results, raised}
+use Rattle.ejector.specs.State.{fresh_host}
+use Rattle.ejector.specs.Trips.{may_eject}
 use Rattle.ejector.specs.Sweeps.{is_time_over, trips_by, out_at}
 
 -- what holds of a host's counters

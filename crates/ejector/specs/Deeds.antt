@@ -1,5 +1,5 @@
 -- What marks did. The state is read off the list of what all marks did, the newest first, by counting in it.
-use Rattle.std.specs.Prelude.{ℕ, Bool, true, false, ◌==◌, ◌+◌, ◌-◌, ◌*◌, ◌/◌, ◌^◌, ◌||◌, ◌&&◌, not, min, max, if◌then◌else◌, List, [], ◌∷◌, length, map, filter, take, reverse, count_by}
+use Rattle.std.specs.Prelude.{ℕ, Bool, ◌==◌, ◌+◌, ◌-◌, ◌/◌, ◌^◌, ◌||◌, ◌&&◌, not, min, max, if◌then◌else◌, List, [], ◌∷◌, map, filter, take, reverse, count_by}
 use Rattle.std.specs.List.{list_any}
 use Rattle.ejector.specs.declared.mark.Mark.{Mark}
 use Rattle.ejector.specs.declared.settings.Rules.{Rules}

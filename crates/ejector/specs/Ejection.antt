@@ -1,6 +1,6 @@
 -- The ejection state of a list of marks, the newest first. What a mark does follows from the state before it,
 -- and the state is read off the list of what all marks did.
-use Rattle.std.specs.Prelude.{ℕ, Bool, ◌==◌, not, if◌then◌else◌, List, [], ◌∷◌, length, filter}
+use Rattle.std.specs.Prelude.{ℕ, ◌==◌, not, if◌then◌else◌, List, [], ◌∷◌, length, filter}
 use Rattle.ejector.specs.declared.answer.Trip.{Trip}
 use Rattle.ejector.specs.declared.answer.Trip.TheVariants as answer
 use Rattle.ejector.specs.declared.answer.Swept.{Swept}

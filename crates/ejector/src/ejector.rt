@@ -147,7 +147,7 @@ impl Ejector {
         self.counted(host).is_out
     }
 
-    /// The host's multiplier: how many times `base_ms` its last ejection lasts, less one for each sweep since its return.
+    /// The host's multiplier: how many times `base_ms` its last ejection lasts, less one for each sweep that found it not out.
     pub fn multiplier(&self, host: usize) -> u32
         requires { host < self.now.rules.hosts }
         ensures { result ≡ (host_of self.now.state host).multiplier }

@@ -1,9 +1,8 @@
 -- The rates that are there, one place further.
-use Rattle.std.proofs.Common.{◌≡◌, ℕ, ◌+◌, ◌*◌, ◌<◌, ◌≤◌, List, [], ◌∷◌, ◌++◌, Option, Some, None, length, take, get_or, sum, sum_by, refl, ap, ◌∙◌, arith, append-nil}
+use Rattle.std.proofs.Common.{◌≡◌, ℕ, ◌+◌, ◌*◌, ◌<◌, ◌≤◌, List, [], ◌∷◌, ◌++◌, Option, Some, None, length, take, get_or, ap, ◌∙◌, arith, append-nil}
 use Rattle.std.proofs.lemmas.List.{take_more}
 use Rattle.std.proofs.lemmas.Nat.{mul-le}
 use Rattle.std.proofs.lemmas.List.Elements.{filter_map-append}
-use Rattle.std.proofs.lemmas.List.Sums.{sum_by_push}
 use Rattle.rate_core.specs.Outlier.{known}
 
 pub known_more_some : (xs : List (Option ℕ)) (i r : ℕ) → i < length xs → get_or xs i None ≡ Some r → known (take (i + 1) xs) ≡ known (take i xs) ++ r ∷ []

@@ -1,8 +1,5 @@
-use Rattle.std.proofs.Common.{◌≡◌, ℕ, max, replicate, ap, ◌∙◌, sym, reverse, take, get_or}
-use Rattle.ejector.specs.declared.mark.Mark.{Mark}
-use Rattle.ejector.specs.declared.host.HostState.{HostState}
+use Rattle.std.proofs.Common.{max, ap, ◌∙◌, sym, reverse, take}
 use Rattle.ejector.specs.Ejection.{state}
-use Rattle.ejector.specs.State.{fresh_host}
 use Rattle.ejector.proofs.InOrder.{reverse_more, state_more, state_none}
 use Rattle.ejector.proofs.Sound.{sound_fresh}
 use Rattle.ejector.proofs.replay.count_marks.Goals as goal

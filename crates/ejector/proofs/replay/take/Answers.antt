@@ -1,4 +1,4 @@
-use Rattle.std.proofs.Common.{◌≡◌, sym, ◌∙◌}
+use Rattle.std.proofs.Common.{sym, ◌∙◌}
 use Rattle.ejector.specs.State.{State}
 use Rattle.ejector.proofs.Links.{good_link, bad_link, sweep_link}
 use Rattle.ejector.proofs.Sound.{sound_swept}

@@ -1,4 +1,4 @@
-use Rattle.std.proofs.Common.{◌≡◌, ℕ, ◌<◌, ◌≤◌, get_or, length, None, Option}
+use Rattle.std.proofs.Common.{◌≡◌, ℕ, ◌<◌, ◌≤◌, get_or, None}
 use Rattle.std.specs.Option.{ForSome}
 use Rattle.ejector.specs.State.{fresh_host}
 use Rattle.ejector.specs.Counting.{rate_then}

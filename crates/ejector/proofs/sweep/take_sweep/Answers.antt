@@ -1,6 +1,5 @@
-use Rattle.std.proofs.Common.{◌≡◌, ℕ, ◌≤◌, List, All, Option, count_by, map, refl, sym, ap, ◌∙◌}
+use Rattle.std.proofs.Common.{ℕ, List, Option, count_by, refl, ap, ◌∙◌}
 use Rattle.std.specs.List.{range_with_len}
-use Rattle.ejector.specs.declared.answer.Swept.{Swept}
 use Rattle.ejector.specs.declared.host.HostState.{HostState}
 use Rattle.ejector.specs.Sweeps.{trips_by}
 use Rattle.ejector.specs.Counting.{is_ejected_at, is_kept_at, tripping_of, outs}

@@ -1,7 +1,7 @@
-use Rattle.std.proofs.Common.{◌≡◌, ◌≤◌, ◌<◌, ◌+◌, true, false, length, get_or, set, sym, ap, ◌∙◌, arith}
+use Rattle.std.proofs.Common.{◌<◌, true, false, length, get_or, set, sym, ap, ◌∙◌, arith}
 use Rattle.ejector.specs.State.{fresh_host}
 use Rattle.ejector.specs.Trips.{may_eject}
-use Rattle.ejector.specs.Sweeps.{trips_by, out_at}
+use Rattle.ejector.specs.Sweeps.{trips_by}
 use Rattle.ejector.specs.Counting.{at_turn, is_ejected_at, is_kept_at, outs}
 use Rattle.ejector.proofs.Ranges.{count_more}
 use Rattle.ejector.proofs.InPlace.{get_or-made_to, set-made_to, made_to_same}

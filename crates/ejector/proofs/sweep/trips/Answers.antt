@@ -1,4 +1,4 @@
-use Rattle.std.proofs.Common.{◌≡◌, nat_le, sym, ap, ◌∙◌}
+use Rattle.std.proofs.Common.{nat_le, sym, ap, ◌∙◌}
 use Rattle.ejector.proofs.Rates.{length-known}
 use Rattle.ejector.proofs.sweep.trips.Goals as goal
 

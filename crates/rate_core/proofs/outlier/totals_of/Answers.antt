@@ -1,4 +1,4 @@
-use Rattle.std.proofs.Common.{◌≡◌, ◌≤◌, ◌*◌, None, refl, take, arith, length-append}
+use Rattle.std.proofs.Common.{◌≤◌, None, refl, take, arith, length-append}
 use Rattle.std.proofs.lemmas.List.Sums.{sum_by_push}
 use Rattle.rate_core.specs.Outlier.{known, square}
 use Rattle.rate_core.proofs.Known.{known_more_some, known_more_none, square_within}

@@ -1,4 +1,3 @@
-use Rattle.std.proofs.Common.{◌≡◌}
 use Rattle.ejector.proofs.InRange.{in_range}
 use Rattle.ejector.proofs.ejector.Ejector.count.Goals as goal
 
