@@ -3,7 +3,7 @@ ghost use Rattle.ejector.specs.Settings.{IsInRange};
 ghost use Rattle.ejector.specs.Deeds.{max_multiplier};
 ghost use Rattle.ejector.specs.State.{fresh_host};
 ghost use Rattle.ejector.specs.Trips.{may_eject};
-ghost use Rattle.ejector.specs.Counting.{IsSound, counted, with_good, with_bad, ejected, kept, tripped, outs, trips_then, with_good_result, with_bad_result, trip_then};
+ghost use Rattle.ejector.specs.Counting.{IsSound, counted, with_bad, ejected, kept, tripped, outs, trips_then, with_good_result, with_bad_result, trip_then};
 
 use crate::answer::Trip;
 use crate::host::HostState;

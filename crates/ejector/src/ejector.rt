@@ -1,4 +1,4 @@
-ghost use Rattle.std.specs.Prelude.{◌≡◌, ℕ, Bool, List, [], ◌∷◌, ◌++◌, ◌+◌, ◌-◌, ◌<◌, ◌≤◌, length, IfOk, IfErr, OnOk, OnErr, IsOk, IsErrOf, MatchOption, All, replicate};
+ghost use Rattle.std.specs.Prelude.{◌≡◌, List, [], ◌∷◌, ◌-◌, ◌<◌, ◌≤◌, IfOk, IfErr, OnOk, OnErr, IsOk, IsErrOf, MatchOption, All, replicate};
 ghost use Rattle.ejector.specs.Settings.{first_fault, IsInRange};
 ghost use Rattle.ejector.specs.Marks.{IsAmong};
 ghost use Rattle.ejector.specs.Counting.{IsSound};

@@ -1,10 +1,9 @@
-ghost use Rattle.std.specs.Prelude.{◌≡◌, ℕ, Bool, ◌+◌, ◌-◌, ◌*◌, ◌/◌, ◌<◌, ◌≤◌, ◌==◌, ◌&&◌, length, slice_index_or, slice_get, map, count_by, is_some, nat_le, All};
+ghost use Rattle.std.specs.Prelude.{◌≡◌, ◌+◌, ◌-◌, ◌*◌, ◌<◌, ◌≤◌, ◌&&◌, length, map, count_by, is_some, nat_le, All};
 ghost use Rattle.std.specs.Option.{ForSome};
 ghost use Rattle.std.specs.List.{range_with_len};
 ghost use Rattle.ejector.specs.Settings.{IsInRange};
-ghost use Rattle.ejector.specs.State.{fresh_host};
 ghost use Rattle.ejector.specs.Sweeps.{is_time_over, trips_by};
-ghost use Rattle.ejector.specs.Counting.{IsSound, is_returning, with_return, rate_then, in_new_interval, at_turn, is_ejected_at, is_kept_at, outs, swept_hosts, swept_counts};
+ghost use Rattle.ejector.specs.Counting.{is_returning, with_return, rate_then, in_new_interval, at_turn, is_ejected_at, is_kept_at, outs, swept_hosts, swept_counts};
 
 use crate::answer::Swept;
 use crate::counting::{may_eject, out_count, tripped};
