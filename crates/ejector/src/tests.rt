@@ -460,3 +460,42 @@ fn room_for_one_mark(rt: HostRuntime) -> Result<(), Fail> {
     }
     Ok(())
 }
+
+/// Takes a result, and once more if memory was refused.
+fn result_again(bench: &mut Bench, host: usize, t: u64) -> Result<Trip, EjectError> {
+    match bench.result(host, false, t) {
+        Err(EjectError::NoMemory) => bench.result(host, false, t),
+        answer => answer,
+    }
+}
+
+/// Takes a sweep, and once more if memory was refused.
+fn sweep_again(bench: &mut Bench, t: u64) -> Result<(u32, u32, u32), EjectError> {
+    match bench.sweep(t) {
+        Err(EjectError::NoMemory) => bench.sweep(t),
+        answer => answer,
+    }
+}
+
+// This one passes whichever allocation is refused.
+#[test]
+fn given_again_after_a_refusal(rt: HostRuntime) {
+    let settings = Settings {
+        consecutive: 2,
+        ..Settings::default()
+    };
+    if let Ok(mut ten) = Bench::new(rt.alloc(), 10, settings) {
+        for (start, before, end) in [
+            (0, 29_999, 30_000),
+            (100_000, 129_999, 130_000),
+            (200_000, 229_999, 230_000),
+        ] {
+            assert_eq!(rt; result_again(&mut ten, 0, start), Ok(Trip::None));
+            assert_eq!(rt; sweep_again(&mut ten, start), Ok((0, 0, 0)));
+            assert_eq!(rt; result_again(&mut ten, 0, start), Ok(Trip::Ejected));
+            assert_eq!(rt; ten.multiplier(0), 1);
+            assert_eq!(rt; sweep_again(&mut ten, before), Ok((0, 0, 0)));
+            assert_eq!(rt; sweep_again(&mut ten, end), Ok((1, 0, 0)));
+        }
+    }
+}
