@@ -1,0 +1,17 @@
+use Rattle.ejector.specs.declared.mark.Mark.{Mark}
+use Rattle.ejector.specs.Ejection.{state}
+use Rattle.std.proofs.Common.{◌∷◌, replicate, ap, ◌∙◌}
+use Rattle.std.proofs.lemmas.List.{take-replicate}
+use Rattle.ejector.specs.State.{fresh_host}
+use Rattle.ejector.specs.Ejector.{Ejection}
+use Rattle.ejector.proofs.InRange.{few_hosts}
+use Rattle.ejector.proofs.ejector.Ejector.result.Goals as goal
+
+pub count-requires : goal.count-requires
+count-requires c =
+    take-replicate c.self.inside.rules.hosts 64 fresh_host (few_hosts c.self.inside.rules c.self.invariant.0)
+    ∙ ap (λ (e : Ejection). replicate e.rules.hosts fresh_host) c.self.view_is
+
+pub returns-clause-state : goal.returns-clause-state
+returns-clause-state c marks before =
+    c.in_ok-keep.ensures.state marks before ∙ ap (λ (m : Mark). state c.args.self.now.rules (m ∷ marks)) c.result_mark.ensures

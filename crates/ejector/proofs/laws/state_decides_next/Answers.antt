@@ -1,0 +1,5 @@
+use Rattle.ejector.proofs.Kept.{same_next}
+use Rattle.ejector.proofs.laws.state_decides_next.Goals as goal
+
+pub returns : goal.returns
+returns c = same_next

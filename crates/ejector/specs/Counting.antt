@@ -1,0 +1,105 @@
+-- How counters of the hosts go on, a mark at a time. The contracts of the code that counts cite this; no public contract does.
+use Rattle.std.specs.Prelude.{ℕ, Bool, true, false, ◌==◌, ◌+◌, ◌-◌, ◌≤◌, ◌||◌, ◌&&◌, not, nat_lt, if◌then◌else◌, List, Option, None, map, get_or, set, count_by}
+use Rattle.std.specs.List.{range_with_len}
+use Rattle.rate_core.specs.Rate.{rate_of}
+use Rattle.ejector.specs.declared.answer.Trip.{Trip}
+use Rattle.ejector.specs.declared.answer.Trip.TheVariants as answer
+use Rattle.ejector.specs.declared.answer.Swept.{Swept}
+use Rattle.ejector.specs.declared.host.HostState.{HostState}
+use Rattle.ejector.specs.declared.settings.Rules.{Rules}
+use Rattle.ejector.specs.Deeds.{max_results, raised}
+use Rattle.ejector.specs.State.{fresh_host}
+use Rattle.ejector.specs.Trips.{may_eject}
+use Rattle.ejector.specs.Sweeps.{is_time_over, trips_by, out_at}
+
+-- what holds of a host's counters
+pub record IsSound (R : Rules) (s : HostState) : Type 0 where
+  pub share : s.good_results ≤ s.results
+  pub streak : s.streak ≤ R.settings.consecutive - 1
+
+-- ONE HOST
+
+abbrev pub counted : Bool → HostState → HostState
+counted ok s =
+    if nat_lt s.results max_results then record s { good_results = if ok then s.good_results + 1 else s.good_results; results = s.results + 1 } else s
+
+abbrev pub with_good : HostState → HostState
+with_good s = record (counted true s) { streak = 0 }
+
+abbrev pub with_bad : Rules → HostState → HostState
+with_bad R s = record (counted false s) { streak = if s.is_out || (R.settings.consecutive == 0) then s.streak else s.streak + 1 }
+
+abbrev pub ejected : Rules → ℕ → HostState → HostState
+ejected R now s = record s { is_out = true; start = now; streak = 0; multiplier = raised R true s.multiplier }
+
+abbrev pub kept : HostState → HostState
+kept s = record s { streak = 0 }
+
+-- with a trip, where `may` says whether one more may be out
+abbrev pub tripped : Rules → ℕ → Bool → HostState → HostState
+tripped R now may s = if may then ejected R now s else kept s
+
+abbrev pub is_returning : Rules → ℕ → HostState → Bool
+is_returning R now s = s.is_out && is_time_over R now s
+
+abbrev pub with_return : Rules → ℕ → HostState → HostState
+with_return R now s =
+    if s.is_out then (if is_time_over R now s then record s { is_out = false; streak = 0 } else s)
+    else record s { multiplier = s.multiplier - 1 }
+
+abbrev pub rate_then : Rules → HostState → Option ℕ
+rate_then R s = if s.is_out || nat_lt s.results R.settings.request_volume then None else rate_of s.good_results s.results
+
+abbrev pub in_new_interval : HostState → HostState
+in_new_interval s = record s { good_results = 0; results = 0 }
+
+-- ALL HOSTS
+
+abbrev pub with_good_result : ℕ → List HostState → List HostState
+with_good_result h hosts = set hosts h (with_good (get_or hosts h fresh_host))
+
+-- how many are out
+abbrev pub outs : List HostState → ℕ
+outs hosts = count_by (λ (s : HostState). s.is_out) hosts
+
+abbrev pub trips_then : Rules → HostState → Bool
+trips_then R s = not s.is_out && nat_lt 0 R.settings.consecutive && (s.streak + 1 == R.settings.consecutive)
+
+abbrev pub with_bad_result : Rules → ℕ → ℕ → List HostState → List HostState
+with_bad_result R now h hosts =
+    let s = get_or hosts h fresh_host in
+    set hosts h (if trips_then R s then tripped R now (may_eject R (outs hosts)) (counted false s) else with_bad R s)
+
+abbrev pub trip_then : Rules → ℕ → List HostState → Trip
+trip_then R h hosts =
+    if trips_then R (get_or hosts h fresh_host) then (if may_eject R (outs hosts) then answer.Ejected else answer.Kept) else answer.None
+
+-- a host at its turn in the sweep, where these trip
+abbrev pub at_turn : Rules → ℕ → (ℕ → Bool) → ℕ → List HostState → ℕ → HostState
+at_turn R now tripping first hosts h =
+    if tripping h then tripped R now (may_eject R (out_at R tripping first h)) (get_or hosts h fresh_host) else get_or hosts h fresh_host
+
+abbrev pub is_ejected_at : Rules → (ℕ → Bool) → ℕ → ℕ → Bool
+is_ejected_at R tripping first h = tripping h && may_eject R (out_at R tripping first h)
+
+abbrev pub is_kept_at : Rules → (ℕ → Bool) → ℕ → ℕ → Bool
+is_kept_at R tripping first h = tripping h && not (may_eject R (out_at R tripping first h))
+
+-- which hosts trip where these are the hosts after the returns
+abbrev pub tripping_of : Rules → List HostState → ℕ → Bool
+tripping_of R back = trips_by R (map (rate_then R) back)
+
+-- a whole sweep
+abbrev pub swept_hosts : Rules → ℕ → List HostState → List HostState
+swept_hosts R now hosts =
+    let back = map (with_return R now) hosts in
+    map in_new_interval (map (at_turn R now (tripping_of R back) (outs back) back) (range_with_len 0 R.hosts))
+
+abbrev pub swept_counts : Rules → ℕ → List HostState → Swept
+swept_counts R now hosts =
+    let back = map (with_return R now) hosts in
+    record {
+      returned = count_by (is_returning R now) hosts;
+      ejected = count_by (is_ejected_at R (tripping_of R back) (outs back)) (range_with_len 0 R.hosts);
+      kept = count_by (is_kept_at R (tripping_of R back) (outs back)) (range_with_len 0 R.hosts);
+    }

@@ -1,0 +1,8 @@
+-- The numbers of the refusals.
+use Rattle.std.specs.Prelude.{ℕ}
+use Rattle.ejector.specs.declared.error.EjectError.{EjectError}
+use Rattle.ejector.specs.declared.error.EjectError.TheVariants.{NoMemory, BadSettings}
+
+abbrev pub number_of : EjectError → ℕ
+number_of NoMemory = 501
+number_of (BadSettings field) = 502

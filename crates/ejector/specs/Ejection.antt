@@ -1,0 +1,68 @@
+-- The ejection state of a list of marks, the newest first. What a mark does follows from the state before it,
+-- and the state is read off the list of what all marks did.
+use Rattle.std.specs.Prelude.{ℕ, ◌==◌, not, if◌then◌else◌, List, [], ◌∷◌, length, filter}
+use Rattle.ejector.specs.declared.answer.Trip.{Trip}
+use Rattle.ejector.specs.declared.answer.Trip.TheVariants as answer
+use Rattle.ejector.specs.declared.answer.Swept.{Swept}
+use Rattle.ejector.specs.declared.mark.Mark.{Mark}
+use Rattle.ejector.specs.declared.mark.Mark.TheVariants.{Good, Bad, Sweep}
+use Rattle.ejector.specs.declared.settings.Rules.{Rules}
+use Rattle.ejector.specs.Marks.{moment}
+use Rattle.ejector.specs.Deeds.{Deed}
+use Rattle.ejector.specs.State.{State, hosts_of, is_out, out_count, at_moment, state_after}
+use Rattle.ejector.specs.Trips.{may_eject, is_trip}
+use Rattle.ejector.specs.Sweeps.{comes_back, is_ejected_in_sweep, is_kept_in_sweep}
+
+-- WHAT A MARK DOES, by the state before it with the mark's clock
+
+abbrev pub nothing_by : Mark → Deed
+nothing_by m = record { mark = m; ejected = []; kept = []; returned = []; lowered = [] }
+
+abbrev pub trip_by : Rules → State → ℕ → Mark → Deed
+trip_by R x h m = if may_eject R (out_count x) then record (nothing_by m) { ejected = h ∷ [] } else record (nothing_by m) { kept = h ∷ [] }
+
+abbrev pub sweep_by : Rules → State → Mark → Deed
+sweep_by R x m = record {
+  mark = m;
+  ejected = filter (is_ejected_in_sweep R x) (hosts_of R);
+  kept = filter (is_kept_in_sweep R x) (hosts_of R);
+  returned = filter (comes_back R x) (hosts_of R);
+  lowered = filter (λ h. not (is_out x h)) (hosts_of R);
+}
+
+abbrev pub deed_by : Rules → State → Mark → Deed
+deed_by R x (Good h t) = nothing_by (Good h t)
+deed_by R x (Bad h t) = if is_trip R x h then trip_by R x h (Bad h t) else nothing_by (Bad h t)
+deed_by R x (Sweep t) = sweep_by R x (Sweep t)
+
+-- what a mark does after this state
+abbrev pub deed_after : Rules → State → Mark → Deed
+deed_after R before m = deed_by R (at_moment (moment m) before) m
+
+-- THE STATE OF A LIST OF MARKS
+
+abbrev pub with_deed_of : Rules → Mark → List Deed → List Deed
+with_deed_of R m deeds = deed_after R (state_after R deeds) m ∷ deeds
+
+-- what the marks did
+abbrev pub deeds : Rules → List Mark → List Deed
+deeds R [] = []
+deeds R (m ∷ before) = with_deed_of R m (deeds R before)
+
+abbrev pub state : Rules → List Mark → State
+state R marks = state_after R (deeds R marks)
+
+-- WHAT THE LAST MARK DID
+
+abbrev pub trip_of : Deed → Trip
+trip_of d = if not (length d.ejected == 0) then answer.Ejected else (if not (length d.kept == 0) then answer.Kept else answer.None)
+
+abbrev pub swept_of : Deed → Swept
+swept_of d = record { returned = length d.returned; ejected = length d.ejected; kept = length d.kept }
+
+-- what a mark did to its host, and what a sweep did, after the marks before it
+abbrev pub trip : Rules → Mark → List Mark → Trip
+trip R m before = trip_of (deed_after R (state R before) m)
+
+abbrev pub swept : Rules → Mark → List Mark → Swept
+swept R m before = swept_of (deed_after R (state R before) m)

@@ -1,0 +1,17 @@
+-- What the contracts of an ejector see of it.
+use Rattle.std.specs.Prelude.{ℕ, Bool, true, false}
+use Rattle.ejector.specs.declared.mark.Mark.{Mark}
+use Rattle.ejector.specs.declared.mark.Mark.TheVariants.{Good, Bad}
+use Rattle.ejector.specs.declared.settings.Rules.{Rules}
+use Rattle.ejector.specs.State.{State}
+
+pub record Ejection : Type 0 where
+  pub rules : Rules
+  pub state : State
+  -- how many marks it can take before it needs memory
+  pub room : ℕ
+
+-- the mark of a result
+abbrev pub result_mark : Bool → ℕ → ℕ → Mark
+result_mark true host t = Good host t
+result_mark false host t = Bad host t

@@ -1,0 +1,13 @@
+pub mod Settings
+pub mod EjectError
+pub mod Marks
+pub mod Deeds
+pub mod State
+pub mod Trips
+pub mod Sweeps
+pub mod Ejection
+pub mod Usable
+pub mod Next
+pub mod Counting
+pub mod Ejector
+pub mod Laws

@@ -1,0 +1,55 @@
+-- The settings of outlier detection, and their ranges.
+use Rattle.std.specs.Prelude.{ℕ, Bool, false, ◌≤◌, ◌&&◌, nat_le, if◌then◌else◌, List, [], ◌∷◌, Option, Some, None}
+use Rattle.ejector.specs.declared.settings.Settings.{Settings}
+use Rattle.ejector.specs.declared.settings.Rules.{Rules}
+use Rattle.ejector.specs.declared.settings.Field.{Field}
+use Rattle.ejector.specs.declared.settings.Field.TheVariants.{Hosts, IntervalMs, BaseMs, MaxMs, MaxPercent, Consecutive, SuccessHosts, RequestVolume, Factor, PanicPercent}
+
+abbrev pub default_settings : Settings
+default_settings = record {
+  tags = false;
+  interval_ms = 10000;
+  base_ms = 30000;
+  max_ms = 300000;
+  max_percent = 10;
+  consecutive = 5;
+  success_hosts = 5;
+  request_volume = 100;
+  factor = 1900;
+  panic_percent = 50;
+}
+
+abbrev pub is_within : ℕ → ℕ → ℕ → Bool
+is_within low high n = nat_le low n && nat_le n high
+
+-- each field with the answer whether it is in its range, in the order in which they are looked at
+abbrev pub settings_tests : Settings → List (Field × Bool)
+settings_tests s =
+    (IntervalMs, is_within 1 3600000 s.interval_ms) ∷ (BaseMs, is_within 1 3600000 s.base_ms) ∷ (MaxMs, is_within s.base_ms 86400000 s.max_ms)
+    ∷ (MaxPercent, is_within 0 100 s.max_percent) ∷ (Consecutive, is_within 0 1000000 s.consecutive) ∷ (SuccessHosts, is_within 1 65 s.success_hosts)
+    ∷ (RequestVolume, is_within 1 1000000 s.request_volume) ∷ (Factor, is_within 0 100000 s.factor) ∷ (PanicPercent, is_within 0 100 s.panic_percent) ∷ []
+
+abbrev pub field_tests : Rules → List (Field × Bool)
+field_tests R = (Hosts, is_within 1 64 R.hosts) ∷ settings_tests R.settings
+
+abbrev pub first_failing : List (Field × Bool) → Option Field
+first_failing [] = None
+first_failing (t ∷ ts) = if t.1 then first_failing ts else Some t.0
+
+-- the first field that is out of its range
+abbrev pub first_fault : Rules → Option Field
+first_fault R = first_failing (field_tests R)
+
+-- what the ranges say of the numbers that are reckoned with
+pub record IsInRange (R : Rules) : Type 0 where
+  pub some_hosts : 1 ≤ R.hosts
+  pub few_hosts : R.hosts ≤ 64
+  pub some_base : 1 ≤ R.settings.base_ms
+  pub few_base : R.settings.base_ms ≤ 3600000
+  pub some_max : R.settings.base_ms ≤ R.settings.max_ms
+  pub few_max : R.settings.max_ms ≤ 86400000
+  pub few_percent : R.settings.max_percent ≤ 100
+  pub few_consecutive : R.settings.consecutive ≤ 1000000
+  pub some_volume : 1 ≤ R.settings.request_volume
+  pub few_factor : R.settings.factor ≤ 100000
+  pub few_panic : R.settings.panic_percent ≤ 100

@@ -1,0 +1,150 @@
+ghost use Rattle.std.specs.Prelude.{◌≡◌, ◌+◌, ◌-◌, ◌*◌, ◌/◌, ◌<◌, ◌≤◌, ◌==◌, ◌&&◌, length, slice_index_or, nat_lt};
+ghost use Rattle.ejector.specs.Settings.{IsInRange};
+ghost use Rattle.ejector.specs.Deeds.{max_multiplier};
+ghost use Rattle.ejector.specs.State.{fresh_host};
+ghost use Rattle.ejector.specs.Trips.{may_eject};
+ghost use Rattle.ejector.specs.Counting.{IsSound, counted, with_bad, ejected, kept, tripped, outs, trips_then, with_good_result, with_bad_result, trip_then};
+
+use crate::answer::Trip;
+use crate::host::HostState;
+use crate::settings::Rules;
+
+/// One result more in the interval, while it still counts.
+fn counted(host: HostState, ok: bool) -> HostState
+    requires { host.good_results ≤ host.results }
+    ensures { result ≡ counted ok host }
+{
+    if host.results == u32::MAX {
+        return host;
+    }
+    HostState {
+        good_results: host.good_results + u32::from(ok),
+        results: host.results + 1,
+        ..host
+    }
+}
+
+/// The most that a multiplier can be.
+fn max_multiplier(rules: &Rules) -> u32
+    requires { IsInRange rules.now }
+    ensures { result ≡ max_multiplier rules.now }
+{
+    let settings = &rules.settings;
+    (settings.max_ms + settings.base_ms - 1) / settings.base_ms
+}
+
+/// The host with its streak at an end.
+fn without_streak(host: HostState) -> HostState
+    ensures { result ≡ kept host }
+{
+    HostState { streak: 0, ..host }
+}
+
+/// The host put aside from now on, for longer than the last time.
+fn ejected(rules: &Rules, now: u64, host: HostState) -> HostState
+    requires { IsInRange rules.now }
+    ensures { result ≡ ejected rules.now now host }
+{
+    let raised = host.multiplier.saturating_add(1);
+    HostState {
+        is_out: true,
+        start: now,
+        streak: 0,
+        multiplier: raised.min(max_multiplier(rules)),
+        ..host
+    }
+}
+
+/// The host after a trip, where `may` says whether one more host may be out.
+pub fn tripped(rules: &Rules, now: u64, may: bool, host: HostState) -> HostState
+    requires { IsInRange rules.now }
+    ensures { result ≡ tripped rules.now now may host }
+{
+    if may {
+        ejected(rules, now, host)
+    } else {
+        without_streak(host)
+    }
+}
+
+/// Whether one more host may be put aside where `out` hosts are out.
+pub fn may_eject(rules: &Rules, out: usize) -> bool
+    requires range { IsInRange rules.now }
+    requires few { out ≤ 128 }
+    ensures { result ≡ may_eject rules.now out }
+{
+    out == 0 || 100 * out < rules.settings.max_percent as usize * rules.hosts
+}
+
+/// Whether all hosts are used where `out` of them are out.
+pub fn is_panic(rules: &Rules, out: usize) -> bool
+    requires range { IsInRange rules.now }
+    requires within { out ≤ rules.now.hosts }
+    ensures { result ≡ nat_lt (100 * (rules.now.hosts - out)) (rules.now.settings.panic_percent * rules.now.hosts) }
+{
+    100 * (rules.hosts - out) < rules.settings.panic_percent as usize * rules.hosts
+}
+
+/// How many hosts are out.
+pub fn out_count(hosts: &[HostState]) -> usize
+    ensures count { result ≡ outs hosts.now }
+    ensures within { result ≤ length hosts.now }
+{
+    hosts.iter().filter(|host| host.is_out).count()
+}
+
+/// Whether one more bad result makes the host trip.
+fn trips(rules: &Rules, host: HostState) -> bool
+    requires range { IsInRange rules.now }
+    requires sound { IsSound rules.now host }
+    ensures { result ≡ trips_then rules.now host }
+{
+    let consecutive = rules.settings.consecutive;
+    !host.is_out && 0 < consecutive && host.streak + 1 == consecutive
+}
+
+/// The host after a bad result that makes it trip nowhere.
+fn with_bad(rules: &Rules, host: HostState) -> HostState
+    requires range { IsInRange rules.now }
+    requires sound { IsSound rules.now host }
+    ensures { result ≡ with_bad rules.now host }
+{
+    let is_counted = !host.is_out && rules.settings.consecutive != 0;
+    HostState {
+        streak: if is_counted {
+            host.streak + 1
+        } else {
+            host.streak
+        },
+        ..counted(host, false)
+    }
+}
+
+/// Counts a good result of a host.
+pub fn take_good(hosts: &mut [HostState], host: usize)
+    requires among { host < length hosts.old }
+    requires share { (slice_index_or hosts.old host fresh_host).good_results ≤ (slice_index_or hosts.old host fresh_host).results }
+    ensures { hosts.new ≡ with_good_result host hosts.old }
+{
+    let after = counted(hosts[host], true);
+    hosts[host] = without_streak(after);
+}
+
+/// Counts a bad result of a host at the clock `now`, and says whether the host trips.
+pub fn take_bad(rules: &Rules, now: u64, hosts: &mut [HostState], host: usize) -> Trip
+    requires range { IsInRange rules.now }
+    requires all { length hosts.old ≡ rules.now.hosts }
+    requires among { host < length hosts.old }
+    requires sound { IsSound rules.now (slice_index_or hosts.old host fresh_host) }
+    ensures hosts { hosts.new ≡ with_bad_result rules.now now host hosts.old }
+    ensures trip { result ≡ trip_then rules.now host hosts.old }
+{
+    let before = hosts[host];
+    if !trips(rules, before) {
+        hosts[host] = with_bad(rules, before);
+        return Trip::None;
+    }
+    let may = may_eject(rules, out_count(hosts));
+    hosts[host] = tripped(rules, now, may, counted(before, false));
+    if may { Trip::Ejected } else { Trip::Kept }
+}

@@ -1,0 +1,28 @@
+ghost use Rattle.std.specs.Prelude.{◌≡◌};
+ghost use Rattle.ejector.specs.EjectError.{number_of};
+
+use crate::settings::Field;
+use thiserror::Error;
+
+/// Why an ejector refused a call.
+#[derive(Clone, Copy, Debug, PartialEq, Eq, Error)]
+pub enum EjectError {
+    /// 501: memory that was asked for was refused.
+    #[error("out of memory")]
+    NoMemory,
+    /// 502: this field is out of its range, and none before it is.
+    #[error("the setting {field} is out of its range")]
+    BadSettings { field: Field },
+}
+
+impl EjectError {
+    /// The error's number: 501 or 502.
+    pub fn number(&self) -> u16
+        ensures { result ≡ number_of self.now }
+    {
+        match self {
+            EjectError::NoMemory => 501,
+            EjectError::BadSettings { .. } => 502,
+        }
+    }
+}

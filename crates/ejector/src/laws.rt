@@ -1,0 +1,33 @@
+// What holds of every list of marks.
+ghost use Rattle.ejector.specs.Laws.{FewAreOut, GoodEndsStreak, OthersChangeNothing, OthersMatterByLimitAndRates, OutUntilTimeIsOver, StateDecidesNext};
+
+/// At every beginning of every list of marks no more hosts are out than the limit allows:
+/// `max_percent` of them, rounded up, but at least one.
+pub fn few_are_out()
+    ensures { FewAreOut }
+{}
+
+/// The state before a mark decides the state after it: nothing else of the list of marks matters.
+pub fn state_decides_next()
+    ensures { StateDecidesNext }
+{}
+
+/// A host that is out comes back only at a sweep at which its time is over.
+pub fn out_until_time_is_over()
+    ensures { OutUntilTimeIsOver }
+{}
+
+/// One good result puts a host's streak to 0.
+pub fn good_ends_streak()
+    ensures { GoodEndsStreak }
+{}
+
+/// The results of other hosts change nothing of a host.
+pub fn others_change_nothing()
+    ensures { OthersChangeNothing }
+{}
+
+/// Other hosts matter to a host through the limit and the rates of a sweep alone.
+pub fn others_matter_by_limit_and_rates()
+    ensures { OthersMatterByLimitAndRates }
+{}

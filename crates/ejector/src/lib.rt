@@ -1,0 +1,31 @@
+//! Outlier detection: which hosts are put aside because they fail, and when they come back.
+//!
+//! After Envoy's outlier detection, in this project's own profile: consecutive failures and success rates
+//! trip a host, a limit says how many may be out, and an ejected host is out until a sweep at which its time
+//! is over. The ejector keeps the list of its marks, and counts in it at each question.
+#![tactic(auto)]
+
+mod answer;
+mod counting;
+mod ejector;
+mod error;
+mod host;
+mod laws;
+mod mark;
+mod replay;
+mod settings;
+mod sweep;
+
+pub use answer::{Swept, Trip};
+pub use ejector::Ejector;
+pub use error::EjectError;
+pub use laws::{
+    few_are_out, good_ends_streak, others_change_nothing, others_matter_by_limit_and_rates,
+    out_until_time_is_over, state_decides_next,
+};
+pub use settings::{Field, Settings};
+
+#[cfg(test)]
+mod bench;
+#[cfg(test)]
+mod tests;

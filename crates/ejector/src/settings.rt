@@ -1,0 +1,139 @@
+ghost use Rattle.std.specs.Prelude.{◌≡◌};
+ghost use Rattle.ejector.specs.Settings.{default_settings, is_within, first_failing, first_fault, settings_tests};
+
+use std::fmt;
+
+/// The most hosts that one ejector watches.
+pub const MAX_HOSTS: usize = 64;
+
+/// The settings of outlier detection, as a settings file has them.
+#[derive(Clone, Copy, Debug, PartialEq, Eq)]
+pub struct Settings {
+    /// Whether keys are hashed by their tag. It changes nothing in an ejector.
+    pub tags: bool,
+    /// The time from one sweep to the next, in milliseconds: 1 to 3,600,000. Whoever calls `sweep` keeps it.
+    pub interval_ms: u32,
+    /// How long the first ejection of a host lasts, in milliseconds: 1 to 3,600,000.
+    pub base_ms: u32,
+    /// The longest that an ejection lasts, in milliseconds: `base_ms` to 86,400,000.
+    pub max_ms: u32,
+    /// How many of the hosts may be out, in percent: 0 to 100. One host may always be.
+    pub max_percent: u32,
+    /// How many bad results in a row make a host trip: 0 to 1,000,000. With 0 no bad result does.
+    pub consecutive: u32,
+    /// How many hosts must have a success rate before any is an outlier: 1 to 65.
+    pub success_hosts: u32,
+    /// How many results in an interval give a host a success rate: 1 to 1,000,000.
+    pub request_volume: u32,
+    /// How far below the mean an outlier is, in thousandths of the standard deviation: 0 to 100,000.
+    pub factor: u32,
+    /// Below how many available hosts, in percent, all are used: 0 to 100.
+    pub panic_percent: u32,
+}
+
+/// What stays the same as long as an ejector lives.
+#[derive(Clone, Copy, Debug, PartialEq, Eq)]
+pub struct Rules {
+    /// How many hosts there are, numbered from 0.
+    pub hosts: usize,
+    pub settings: Settings,
+}
+
+impl Default for Settings {
+    ghost is_default = { λ s. s ≡ default_settings };
+
+    fn default() -> Self {
+        Settings {
+            tags: false,
+            interval_ms: 10_000,
+            base_ms: 30_000,
+            max_ms: 300_000,
+            max_percent: 10,
+            consecutive: 5,
+            success_hosts: 5,
+            request_volume: 100,
+            factor: 1900,
+            panic_percent: 50,
+        }
+    }
+}
+
+/// A field that can be out of its range, in the order in which they are looked at.
+#[derive(Clone, Copy, Debug, PartialEq, Eq)]
+pub enum Field {
+    /// The number of hosts: 1 to 64.
+    Hosts,
+    IntervalMs,
+    BaseMs,
+    MaxMs,
+    MaxPercent,
+    Consecutive,
+    SuccessHosts,
+    RequestVolume,
+    Factor,
+    PanicPercent,
+}
+
+impl fmt::Display for Field {
+    fn fmt<W: fmt::Write>(&self, f: &mut fmt::Formatter<W>) -> fmt::Result {
+        f.write_str(match self {
+            Field::Hosts => "hosts",
+            Field::IntervalMs => "interval_ms",
+            Field::BaseMs => "base_ms",
+            Field::MaxMs => "max_ms",
+            Field::MaxPercent => "max_percent",
+            Field::Consecutive => "consecutive",
+            Field::SuccessHosts => "success_hosts",
+            Field::RequestVolume => "request_volume",
+            Field::Factor => "factor",
+            Field::PanicPercent => "panic_percent",
+        })
+    }
+}
+
+/// Whether a number is from `low` to `high`.
+fn is_within(low: u32, high: u32, n: u32) -> bool
+    ensures { result ≡ is_within low high n }
+{
+    low <= n && n <= high
+}
+
+impl Rules {
+    /// The first field that is out of its range: `hosts`, and then the settings in their order.
+    pub fn first_fault(&self) -> Option<Field>
+        ensures { result ≡ first_fault self.now }
+    {
+        if self.hosts < 1 || self.hosts > MAX_HOSTS {
+            return Some(Field::Hosts);
+        }
+        self.settings.first_fault()
+    }
+}
+
+impl Settings {
+    fn first_fault(&self) -> Option<Field>
+        ensures { result ≡ first_failing (settings_tests self.now) }
+    {
+        if !is_within(1, 3_600_000, self.interval_ms) {
+            Some(Field::IntervalMs)
+        } else if !is_within(1, 3_600_000, self.base_ms) {
+            Some(Field::BaseMs)
+        } else if !is_within(self.base_ms, 86_400_000, self.max_ms) {
+            Some(Field::MaxMs)
+        } else if !is_within(0, 100, self.max_percent) {
+            Some(Field::MaxPercent)
+        } else if !is_within(0, 1_000_000, self.consecutive) {
+            Some(Field::Consecutive)
+        } else if !is_within(1, 65, self.success_hosts) {
+            Some(Field::SuccessHosts)
+        } else if !is_within(1, 1_000_000, self.request_volume) {
+            Some(Field::RequestVolume)
+        } else if !is_within(0, 100_000, self.factor) {
+            Some(Field::Factor)
+        } else if !is_within(0, 100, self.panic_percent) {
+            Some(Field::PanicPercent)
+        } else {
+            None
+        }
+    }
+}

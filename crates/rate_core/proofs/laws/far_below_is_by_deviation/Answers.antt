@@ -1,0 +1,5 @@
+use Rattle.rate_core.proofs.Spread.{far_below_is}
+use Rattle.rate_core.proofs.laws.far_below_is_by_deviation.Goals as goal
+
+pub returns : goal.returns
+returns c = far_below_is

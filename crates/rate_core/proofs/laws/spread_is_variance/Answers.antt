@@ -1,0 +1,5 @@
+use Rattle.rate_core.proofs.Spread.{spread_is}
+use Rattle.rate_core.proofs.laws.spread_is_variance.Goals as goal
+
+pub returns : goal.returns
+returns c = spread_is

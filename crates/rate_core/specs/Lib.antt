@@ -1,0 +1,3 @@
+pub mod Rate
+pub mod Outlier
+pub mod Laws

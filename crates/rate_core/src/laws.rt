@@ -1,0 +1,12 @@
+// What holds of the definitions, for whoever reads a contract that cites them.
+ghost use Rattle.rate_core.specs.Laws.{FarBelowIsByDeviation, SpreadIsVariance};
+
+/// `n` times the sum of squares, less the square of the sum, is `n * n` times the variance.
+pub fn spread_is_variance()
+    ensures { SpreadIsVariance }
+{}
+
+/// An outlier is below the mean by more than the factor times the population's standard deviation.
+pub fn far_below_is_by_deviation()
+    ensures { FarBelowIsByDeviation }
+{}

@@ -1,0 +1,16 @@
+//! Success rates of hosts, and which of them are outliers.
+//!
+//! The success-rate monitor is that of Envoy's outlier detection, in this project's own profile: whole
+//! numbers, no root, a strict test. Nothing here takes memory.
+#![tactic(auto)]
+
+mod laws;
+mod outlier;
+mod share;
+
+pub use laws::{far_below_is_by_deviation, spread_is_variance};
+pub use outlier::is_outlier;
+pub use share::rate;
+
+#[cfg(test)]
+mod tests;

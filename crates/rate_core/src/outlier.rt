@@ -1,0 +1,73 @@
+ghost use Rattle.std.specs.Prelude.{◌≡◌, ◌<◌, ◌≤◌, length, sum, sum_by, All};
+ghost use Rattle.std.specs.Option.{ForSome};
+ghost use Rattle.rate_core.specs.Outlier.{is_outlier, known, square};
+
+/// How many rates there are, their sum and the sum of their squares.
+#[derive(Clone, Copy)]
+struct Totals {
+    count: u64,
+    sum: u64,
+    squares: u64,
+}
+
+/// The totals of the rates that are there.
+fn totals_of(rates: &[Option<u32>]) -> Totals
+    requires few { length rates.now ≤ 64 }
+    requires within { All (λ rate. ForSome rate (λ r. r ≤ 1000000)) rates.now }
+    ensures count { result.count ≡ length (known rates.now) }
+    ensures sum_is { result.sum ≡ sum (known rates.now) }
+    ensures squares { result.squares ≡ sum_by square (known rates.now) }
+    ensures few { result.count ≤ 64 }
+    ensures sum_within { result.sum ≤ 64000000 }
+    ensures squares_within { result.squares ≤ 64000000000000 }
+{
+    let mut count = 0u64;
+    let mut sum = 0u64;
+    let mut squares = 0u64;
+    for rate in rates {
+        if let Some(r) = *rate {
+            let r = u64::from(r);
+            count += 1;
+            sum += r;
+            squares += r * r;
+        }
+    }
+    Totals {
+        count,
+        sum,
+        squares,
+    }
+}
+
+/// Whether the host's rate is below the mean of all rates by more than `factor` thousandths of their
+/// (the population's) standard deviation, strictly. A host without a rate is no outlier.
+///
+/// With the sum `S` and the sum of squares `Q` of the `n` rates that are there, and the host's rate `r`:
+/// `S > n*r` and `(S - n*r)^2 * 1000000 > factor^2 * (n*Q - S^2)`, which is that test without a root.
+///
+/// `rates` has the rate of each host, in millionths: at most 64 of them, each at most 1,000,000. `factor` is at
+/// most 100,000.
+pub fn is_outlier(rates: &[Option<u32>], host: usize, factor: u32) -> bool
+    requires few { length rates.now ≤ 64 }
+    requires within { All (λ rate. ForSome rate (λ r. r ≤ 1000000)) rates.now }
+    requires among { host < length rates.now }
+    requires factor_within { factor ≤ 100000 }
+    ensures { result ≡ is_outlier rates.now host factor }
+{
+    let Some(rate) = rates[host] else {
+        return false;
+    };
+    let Totals {
+        count,
+        sum,
+        squares,
+    } = totals_of(rates);
+    let scaled = count * u64::from(rate);
+    if sum <= scaled {
+        return false;
+    }
+    let below = u128::from(sum - scaled);
+    let variance = u128::from((count * squares).saturating_sub(sum * sum));
+    let factor = u128::from(factor);
+    below * below * 1_000_000 > factor * factor * variance
+}
