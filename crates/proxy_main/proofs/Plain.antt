@@ -9,7 +9,7 @@ use Rattle.resp_core.specs.Tree.{is_text_byte, is_plain_tree}
 use Rattle.command_table.specs.Table.{Row, rows, row_named}
 use Rattle.command_table.specs.declared.Kind.{Kind}
 use Rattle.command_table.specs.declared.Kind.TheVariants.{Ping, Echo, Quit}
-use Rattle.proxy_main.specs.Command.{is_command, words_of, word}
+use Rattle.resp_core.specs.Command.{is_command, words_of, word}
 use Rattle.proxy_main.specs.Request.{Request, read, broken}
 use Rattle.proxy_main.specs.Local.{shown_byte, shown, takes, answer_of, answer_by, local_of}
 

@@ -1,5 +1,4 @@
 pub mod Ending
-pub mod Command
 pub mod Request
 pub mod Local
 pub mod Answer

@@ -4,7 +4,7 @@ use Rattle.resp_core.specs.Tree.{Tree, simple, fault, bulk}
 use Rattle.command_table.specs.Table.{Row, row_named}
 use Rattle.command_table.specs.declared.Kind.{Kind}
 use Rattle.command_table.specs.declared.Kind.TheVariants.{Ping, Echo, Quit}
-use Rattle.proxy_main.specs.Command.{is_command, words_of, word}
+use Rattle.resp_core.specs.Command.{is_command, words_of, word}
 use Rattle.proxy_main.specs.Request.{Request, read, broken}
 
 -- an answer of the proxy's own, and whether the connection finishes with it

@@ -5,7 +5,7 @@ ghost use Rattle.resp_core.specs.Tree.{fault};
 ghost use Rattle.command_table.specs.Entry.{row_of};
 ghost use Rattle.command_table.specs.Table.{row_named};
 ghost use Rattle.proxy_main.specs.Request.{request_of};
-ghost use Rattle.proxy_main.specs.Command.{is_command, are_words, is_bulk, payload_of, word, IsArrayOf};
+ghost use Rattle.resp_core.specs.Command.{are_words, payload_of, word};
 ghost use Rattle.proxy_main.specs.Local.{local_of, here, leave, answer_by, answer_of, takes, shown, shown_byte, unsupported, wrong_number};
 ghost use Rattle.proxy_main.specs.Answer.{local_in};
 
@@ -46,7 +46,7 @@ pub fn answer_to(alloc: Global, request: &Request) -> Result<Answer, AllocError>
         Request::Broken => Ok(leaves(Value::Fault(Bytes::from_static(
             b"downstream protocol error",
         )))),
-        Request::Read(value) => match words(value) {
+        Request::Read(value) => match value.words() {
             Some(words) => answer_command(alloc, words),
             None => Ok(goes_on(Value::Fault(Bytes::from_static(b"invalid request")))),
         },
@@ -71,59 +71,12 @@ fn leaves(value: Value) -> Answer
     }
 }
 
-// The words of the value, if it is a command.
-fn words(value: &Value) -> Option<&Values>
-    ensures command { IfSome result (λ words. is_command (tree_of value.now) ≡ true × are_words words.now ≡ true × IsArrayOf words.now (tree_of value.now)) }
-    ensures none { IfNone result (is_command (tree_of value.now) ≡ false) }
-{
-    match value {
-        Value::List(members) => {
-            if are_bulk_strings(members) {
-                Some(members)
-            } else {
-                None
-            }
-        }
-        _ => None,
-    }
-}
-
-// At least one bulk string, and bulk strings alone.
-fn are_bulk_strings(members: &Values) -> bool
-    ensures { result ≡ are_words members.now }
-{
-    for member in &members.0 {
-        if !is_bulk(member) {
-            return false;
-        }
-    }
-    !members.0.is_empty()
-}
-
-fn is_bulk(value: &Value) -> bool
-    ensures { result ≡ is_bulk (tree_of value.now) }
-{
-    matches!(value, Value::Bulk(_))
-}
-
-// The word of this number, of a command's words.
-fn word_at(words: &Values, at: usize) -> &Bytes
-    requires words { are_words words.now ≡ true }
-    requires inside { at < length words.now }
-    ensures { result.now ≡ word (map payload_of words.now) at }
-{
-    match &words.0[at] {
-        Value::Bulk(word) => word,
-        _ => unreachable!(),
-    }
-}
-
 // The answer to a command.
 fn answer_command(alloc: Global, words: &Values) -> Result<Answer, AllocError>
     requires { are_words words.now ≡ true }
     ensures { IfOk result (λ a. local_in a ≡ answer_by (row_named (word (map payload_of words.now) 0)) (map payload_of words.now)) }
 {
-    let name = word_at(words, 0).as_slice();
+    let name = words.word(0).as_slice();
     let Some(entry) = look(name) else {
         return Ok(goes_on(Value::Fault(unsupported(alloc, name)?)));
     };
@@ -132,7 +85,7 @@ fn answer_command(alloc: Global, words: &Values) -> Result<Answer, AllocError>
     }
     Ok(match entry.kind {
         Kind::Ping => goes_on(Value::Simple(Bytes::from_static(b"PONG"))),
-        Kind::Echo => goes_on(Value::Bulk(word_at(words, 1).clone()?)),
+        Kind::Echo => goes_on(Value::Bulk(words.word(1).clone()?)),
         Kind::Quit => leaves(Value::Simple(Bytes::from_static(b"OK"))),
     })
 }

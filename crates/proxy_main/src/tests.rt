@@ -208,7 +208,9 @@ fn failing_writer_is_told(rt: HostRuntime) -> Result<(), Fail> {
 #[test]
 fn want_of_memory_is_told(rt: HostRuntime) -> Result<(), Fail> {
     let mut taken = open_sink(rt.alloc());
-    taken.taken.reserve(1_000)?;
+    if taken.taken.reserve(1_000).is_err() {
+        taken.taken.reserve(1_000)?;
+    }
     match local_run(rt.alloc(), &mut Source::new(THREE, 9), &mut taken) {
         Ok(()) => assert_eq!(rt; taken.taken.as_slice(), THREE_ANSWERS),
         Err(ending) => {

@@ -7,3 +7,4 @@ pub mod Firsts
 pub mod TreeLemmas
 pub mod RoundTrip
 pub mod StreamLaws
+pub mod Words

@@ -12,3 +12,4 @@ pub mod Front
 pub mod Within
 pub mod Places
 pub mod Laws
+pub mod Command

@@ -6,6 +6,7 @@
 //! and the offsets of refusals are this project's own.
 #![tactic(auto)]
 
+mod command;
 mod error;
 mod laws;
 mod parse;

@@ -1,0 +1,60 @@
+//! Commands: arrays of at least one bulk string, and of bulk strings alone.
+ghost use Rattle.std.specs.Prelude.{◌≡◌, ◌<◌, IfSome, IfNone, true, false, length, map};
+ghost use Rattle.resp_core.specs.Value.{tree_of};
+ghost use Rattle.resp_core.specs.Command.{is_command, are_words, is_bulk, payload_of, word, IsArrayOf};
+
+use crate::value::{Value, Values};
+use bytes::Bytes;
+
+impl Value {
+    /// The words of the value, where it is a command: an array of at least one bulk string and of bulk strings alone. The
+    /// first word is the command's name.
+    pub fn words(&self) -> Option<&Values>
+        ensures command { IfSome result (λ words. is_command (tree_of self.now) ≡ true × are_words words.now ≡ true × IsArrayOf words.now (tree_of self.now)) }
+        ensures none { IfNone result (is_command (tree_of self.now) ≡ false) }
+    {
+        match self {
+            Value::List(members) => {
+                if members.are_words() {
+                    Some(members)
+                } else {
+                    None
+                }
+            }
+            _ => None,
+        }
+    }
+
+    fn is_bulk(&self) -> bool
+        ensures { result ≡ is_bulk (tree_of self.now) }
+    {
+        matches!(self, Value::Bulk(_))
+    }
+}
+
+impl Values {
+    // At least one bulk string, and bulk strings alone.
+    fn are_words(&self) -> bool
+        ensures { result ≡ are_words self.now }
+    {
+        for member in &self.0 {
+            if !member.is_bulk() {
+                return false;
+            }
+        }
+        !self.0.is_empty()
+    }
+
+    /// The bytes of the word of this number, the command's name being word 0. The values have to be the words of a
+    /// command, as `Value::words` gives them, and the number has to be below their number.
+    pub fn word(&self, at: usize) -> &Bytes
+        requires words { are_words self.now ≡ true }
+        requires inside { at < length self.now }
+        ensures { result.now ≡ word (map payload_of self.now) at }
+    {
+        match &self.0[at] {
+            Value::Bulk(word) => word,
+            _ => unreachable!(),
+        }
+    }
+}
