@@ -1,0 +1,4 @@
+pub mod WordLemmas
+pub mod Searched
+pub mod MapLemmas
+pub mod NumberLemmas

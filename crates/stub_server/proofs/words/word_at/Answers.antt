@@ -1,0 +1,19 @@
+use Rattle.std.proofs.Common.{◌≡◌, ◌<◌, List, length, map, true, sym, ap, ◌∙◌, subst}
+use Rattle.resp_core.specs.Tree.{Tree}
+use Rattle.resp_core.specs.Value.{tree_of}
+use Rattle.stub_server.specs.Request.{is_bulk, are_words, payload_of, word}
+use Rattle.stub_server.proofs.WordLemmas.{is_bulk_at, word-payload, no_bulk}
+use Rattle.stub_server.proofs.words.word_at.Goals as goal
+
+pub unreachable-requires : goal.unreachable-requires
+unreachable-requires c =
+    let v = sym c.words.view_is in
+    no_bulk c.index.result.now c.in_default.not-Bulk
+    (ap (λ z. is_bulk (tree_of z)) c.index.ensures ∙ is_bulk_at c.words.inside.0.items c.args.at c.index.result.now (subst (λ (z : List Tree). are_words z ≡ true) v c.requires.words) (subst (λ (z : List Tree). c.args.at < length z) v c.requires.inside))
+
+pub returns : goal.returns
+returns c =
+    let v = sym c.words.view_is in
+    sym
+    (ap (λ z. word (map payload_of z) c.args.at) v ∙ word-payload c.words.inside.0.items c.args.at c.index.result.now (subst (λ (z : List Tree). c.args.at < length z) v c.requires.inside)
+    ∙ ap (λ z. payload_of (tree_of z)) (sym c.index.ensures ∙ c.in-Bulk.is))
