@@ -32,9 +32,9 @@ digits_of_spelling bytes n e h =
     elim (cases_Bool (int_eq v n)) [
       | inl f ↦ (Decides-int_eq v n).0 f
       | inr f ↦
-        let differs : v ≢ n = λ q. let t = (Decides-int_eq v n).1 q in let u : false ≡ true = sym f ∙ t in cc in
-        let none : IsNumeral 10 (without_leading_sign bytes) × FitsSigned w64 v → ⊥ = λ q. let r : Result ℤ ℕ = Ok v in let s : r ≡ Ok n = parsed bytes n r e h (q, refl) in differs cc in
-        let r : Result ℤ ℕ = Err 0 in let s : r ≡ Ok n = parsed bytes n r e h none in absurd cc
+          let differs : v ≢ n = λ q. let t = (Decides-int_eq v n).1 q in let u : false ≡ true = sym f ∙ t in cc in
+          let none : IsNumeral 10 (without_leading_sign bytes) × FitsSigned w64 v → ⊥ = λ q. let r : Result ℤ ℕ = Ok v in let s : r ≡ Ok n = parsed bytes n r e h (q, refl) in differs cc in
+          let r : Result ℤ ℕ = Err 0 in let s : r ≡ Ok n = parsed bytes n r e h none in absurd cc
     ]
 
 pub number_in-spelling : (bytes : List ℕ) (n : ℤ) → bytes ≡ signed_decimal n → is_long n ≡ true → number_in bytes ≡ Some n

@@ -70,11 +70,7 @@ impl Stub {
 }
 
 // The answer to a request of these words.
-fn answer_words(
-    alloc: Global,
-    entries: &mut Vec<Entry>,
-    words: &Values,
-) -> Result<Value, StubError>
+fn answer_words(alloc: Global, entries: &mut Vec<Entry>, words: &Values) -> Result<Value, StubError>
     requires { are_words words.now ≡ true }
     ensures answer { IfOk result (λ answer. tree_of answer ≡ (outcome_of_words entries.old.items (map payload_of words.now)).answer) }
     ensures map { IfOk result (λ _. entries.new.items ≡ (outcome_of_words entries.old.items (map payload_of words.now)).map) }
