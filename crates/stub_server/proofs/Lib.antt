@@ -1,0 +1,5 @@
+pub mod WordLemmas
+pub mod Searched
+pub mod MapLemmas
+pub mod NumberLemmas
+pub mod LookupLemmas

@@ -1,0 +1,6 @@
+-- A named command as a row of the table of names.
+use Rattle.stub_server.specs.declared.command.NamedCommand.{NamedCommand}
+use Rattle.stub_server.specs.Command.{Row, row}
+
+abbrev pub row_of : NamedCommand → Row
+row_of n = row n.name.now n.command

@@ -1,0 +1,24 @@
+//! A Redis host in memory, for tests and for `redproxy local`.
+//!
+//! A `Stub` answers requests by a small table of commands over a map from keys to byte strings, which is empty at first.
+//! The commands and their meanings are those of the Redis commands of the same names; which of them the table has, and
+//! the texts of its errors, are this project's own.
+#![tactic(auto)]
+
+mod command;
+mod error;
+mod laws;
+mod map;
+mod number;
+mod stub;
+mod words;
+
+pub use error::StubError;
+pub use laws::{
+    a_number_has_one_spelling, a_removed_key_has_no_value, a_set_key_has_its_value,
+    keys_stay_distinct,
+};
+pub use stub::Stub;
+
+#[cfg(test)]
+mod tests;

@@ -1,0 +1,191 @@
+//! The stub host.
+ghost use Rattle.std.specs.Prelude.{◌≡◌, [], IfOk, IfErr, OnErr, true, map, length, pos};
+ghost use Rattle.resp_core.specs.Value.{tree_of};
+ghost use Rattle.resp_core.specs.Tree.{whole, fault};
+ghost use Rattle.stub_server.specs.Command.{takes};
+ghost use Rattle.resp_core.specs.Command.{are_words, payload_of};
+ghost use Rattle.stub_server.specs.Map.{value_at, with_value, without, count_among};
+ghost use Rattle.stub_server.specs.Table.{answer_of, map_after, outcome_of_words, outcome_by, incremented, number_at, bulk_of, done};
+
+use crate::command::{Command, command_named};
+use crate::error::StubError;
+use crate::map::{Entry, count_among, count_keys, put, take_out, value_at};
+use crate::number::{number_in, spelling};
+use crate::words::keys_of;
+use bytes::Bytes;
+use resp_core::{Value, Values};
+use std::alloc::Global;
+use std::marker::Model;
+
+/// A Redis host in memory: a map from keys to byte strings, and the answers to requests.
+#[derive(Drop)]
+pub struct Stub {
+    alloc: Global,
+    entries: Vec<Entry>,
+}
+
+impl Model for Stub {
+    ghost use Rattle.stub_server.specs.Map.{Map};
+
+    ghost Value = { Map };
+
+    ghost view = { λ s. s.entries.items };
+}
+
+impl Stub {
+    /// A stub whose map is empty.
+    pub fn new(alloc: Global) -> Stub
+        ensures { result ≡ [] }
+    {
+        Stub {
+            alloc,
+            entries: Vec::new(alloc),
+        }
+    }
+
+    /// The answer to the request, and the map after it, by the table of commands:
+    ///
+    /// - GET key: the value as a bulk string, or the null bulk string.
+    /// - SET key value: simple `OK`; the key has this value from now on.
+    /// - DEL or UNLINK key ..: how many keys are taken out of the map, as an integer.
+    /// - EXISTS or TOUCH key ..: how many of the words are keys, repeats counted, as an integer.
+    /// - INCR key: the number at the key grows by one, and is the answer, an integer. A missing key counts as 0. The
+    ///   value has to be the one decimal spelling of a signed 64-bit number below the greatest, or the answer is the
+    ///   error `ERR value is not an integer or out of range`.
+    /// - One of these with another number of words: the error `ERR wrong number of arguments`.
+    /// - Any other request: the error `ERR unknown command`.
+    ///
+    /// Names are compared without ASCII case. Refused 1501 (no memory), and then the map is as it was.
+    pub fn answer(&mut self, request: &Value) -> Result<Value, StubError>
+        ensures answer { IfOk result (λ answer. tree_of answer ≡ answer_of self.old (tree_of request.now)) }
+        ensures map { IfOk result (λ _. self.new ≡ map_after self.old (tree_of request.now)) }
+        ensures err { OnErr result (self.new ≡ self.old) }
+        ensures memory { IfErr result (λ e. e ≡ StubError.NoMemory) }
+    {
+        match request.words() {
+            Some(words) => answer_words(self.alloc, &mut self.entries, words),
+            None => Ok(fault(b"ERR unknown command")),
+        }
+    }
+}
+
+// The answer to a request of these words.
+fn answer_words(alloc: Global, entries: &mut Vec<Entry>, words: &Values) -> Result<Value, StubError>
+    requires { are_words words.now ≡ true }
+    ensures answer { IfOk result (λ answer. tree_of answer ≡ (outcome_of_words entries.old.items (map payload_of words.now)).answer) }
+    ensures map { IfOk result (λ _. entries.new.items ≡ (outcome_of_words entries.old.items (map payload_of words.now)).map) }
+    ensures err { OnErr result (entries.new.items ≡ entries.old.items) }
+    ensures memory { IfErr result (λ e. e ≡ StubError.NoMemory) }
+{
+    let Some(command) = command_named(words.word(0).as_slice()) else {
+        return Ok(fault(b"ERR unknown command"));
+    };
+    if !command.takes(words.0.len()) {
+        return Ok(fault(b"ERR wrong number of arguments"));
+    }
+    answer_command(alloc, entries, command, words)
+}
+
+// The answer to a command with a right number of words.
+fn answer_command(
+    alloc: Global,
+    entries: &mut Vec<Entry>,
+    command: Command,
+    words: &Values,
+) -> Result<Value, StubError>
+    requires words { are_words words.now ≡ true }
+    requires count { takes command (length words.now) ≡ true }
+    ensures answer { IfOk result (λ answer. tree_of answer ≡ (outcome_by entries.old.items command (map payload_of words.now)).answer) }
+    ensures map { IfOk result (λ _. entries.new.items ≡ (outcome_by entries.old.items command (map payload_of words.now)).map) }
+    ensures err { OnErr result (entries.new.items ≡ entries.old.items) }
+    ensures memory { IfErr result (λ e. e ≡ StubError.NoMemory) }
+{
+    match command {
+        Command::Get => get(entries, words.word(1)),
+        Command::Set => set(entries, words.word(1), words.word(2)),
+        Command::Del => delete(entries, keys_of(words)),
+        Command::Exists => count_answer(count_keys(entries, keys_of(words))),
+        Command::Incr => increment(alloc, entries, words.word(1)),
+    }
+}
+
+// GET
+fn get(entries: &[Entry], key: &Bytes) -> Result<Value, StubError>
+    ensures answer { IfOk result (λ answer. tree_of answer ≡ bulk_of (value_at key.now entries.now)) }
+    ensures memory { IfErr result (λ e. e ≡ StubError.NoMemory) }
+{
+    match value_at(entries, key.as_slice()) {
+        Some(value) => Ok(Value::Bulk(value.clone()?)),
+        None => Ok(Value::NullBulk),
+    }
+}
+
+// SET
+fn set(entries: &mut Vec<Entry>, key: &Bytes, value: &Bytes) -> Result<Value, StubError>
+    ensures answer { IfOk result (λ answer. tree_of answer ≡ done) }
+    ensures map { IfOk result (λ _. entries.new.items ≡ with_value key.now value.now entries.old.items) }
+    ensures err { OnErr result (entries.new.items ≡ entries.old.items) }
+    ensures memory { IfErr result (λ e. e ≡ StubError.NoMemory) }
+{
+    put(entries, key.clone()?, value.clone()?)?;
+    Ok(Value::Simple(Bytes::from_static(b"OK")))
+}
+
+// DEL and UNLINK
+fn delete(entries: &mut Vec<Entry>, keys: &[Value]) -> Result<Value, StubError>
+    ensures answer { IfOk result (λ answer. tree_of answer ≡ whole (pos (count_among (map payload_of (map tree_of keys.now)) entries.old.items))) }
+    ensures map { IfOk result (λ _. entries.new.items ≡ without (map payload_of (map tree_of keys.now)) entries.old.items) }
+    ensures err { OnErr result (entries.new.items ≡ entries.old.items) }
+    ensures memory { IfErr result (λ e. e ≡ StubError.NoMemory) }
+{
+    let answer = count_answer(count_among(entries, keys))?;
+    take_out(entries, keys);
+    Ok(answer)
+}
+
+// INCR
+fn increment(alloc: Global, entries: &mut Vec<Entry>, key: &Bytes) -> Result<Value, StubError>
+    ensures answer { IfOk result (λ answer. tree_of answer ≡ (incremented entries.old.items key.now (number_at key.now entries.old.items)).answer) }
+    ensures map { IfOk result (λ _. entries.new.items ≡ (incremented entries.old.items key.now (number_at key.now entries.old.items)).map) }
+    ensures err { OnErr result (entries.new.items ≡ entries.old.items) }
+    ensures memory { IfErr result (λ e. e ≡ StubError.NoMemory) }
+{
+    let Some(number) = number_at(alloc, entries, key.as_slice())? else {
+        return Ok(fault(b"ERR value is not an integer or out of range"));
+    };
+    let Some(next) = number.checked_add(1) else {
+        return Ok(fault(b"ERR value is not an integer or out of range"));
+    };
+    put(entries, key.clone()?, spelling(alloc, next)?)?;
+    Ok(Value::Whole(next))
+}
+
+// The number at the key, 0 where the key is missing, or `None` where the value is no number.
+fn number_at(alloc: Global, entries: &[Entry], key: &[u8]) -> Result<Option<i64>, StubError>
+    ensures number { IfOk result (λ number. number ≡ number_at key.now entries.now) }
+    ensures memory { IfErr result (λ e. e ≡ StubError.NoMemory) }
+{
+    match value_at(entries, key) {
+        Some(value) => number_in(alloc, value.as_slice()),
+        None => Ok(Some(0)),
+    }
+}
+
+// A count as an answer.
+//
+// Memory has no room for more entries or words than an integer can count.
+fn count_answer(count: usize) -> Result<Value, StubError>
+    ensures answer { IfOk result (λ answer. tree_of answer ≡ whole (pos count)) }
+    ensures memory { IfErr result (λ e. e ≡ StubError.NoMemory) }
+{
+    match i64::try_from(count) {
+        Ok(count) => Ok(Value::Whole(count)),
+        Err(_) => Err(StubError::NoMemory),
+    }
+}
+
+fn fault(text: &'static [u8]) -> Value
+    ensures { tree_of result ≡ fault text.now }
+{
+    Value::Fault(Bytes::from_static(text))
+}

@@ -1,0 +1,24 @@
+//! The words of a request.
+ghost use Rattle.std.specs.Prelude.{◌≡◌, true, map, drop};
+ghost use Rattle.resp_core.specs.Value.{tree_of};
+ghost use Rattle.resp_core.specs.Command.{are_words, payload_of};
+
+use resp_core::{Value, Values};
+
+/// The words behind the first.
+pub fn keys_of(words: &Values) -> &[Value]
+    requires { are_words words.now ≡ true }
+    ensures { map tree_of result.now ≡ drop 1 words.now }
+{
+    &words.0[1..]
+}
+
+/// The bytes of a bulk string, and no bytes for any other value.
+pub fn payload(value: &Value) -> &[u8]
+    ensures { result.now ≡ payload_of (tree_of value.now) }
+{
+    match value {
+        Value::Bulk(bytes) => bytes.as_slice(),
+        _ => &[],
+    }
+}
