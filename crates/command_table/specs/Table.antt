@@ -2,7 +2,7 @@
 use Rattle.std.specs.Prelude.{ℕ, List, [], ◌∷◌, Option, find, codes}
 use Rattle.std.specs.Str.{str_to_ascii_lowercase, bytes_eq}
 use Rattle.command_table.specs.declared.Kind.{Kind}
-use Rattle.command_table.specs.declared.Kind.TheVariants.{Ping, Echo, Quit}
+use Rattle.command_table.specs.declared.Kind.TheVariants.{Ping, Echo, Quit, One}
 
 -- how a command is treated, its name in lower case, its least number of words, and the word that is its key
 pub record Row : Type 0 where
@@ -19,6 +19,8 @@ rows =
     row Ping (codes "ping") 1 0
     ∷ row Echo (codes "echo") 2 0
     ∷ row Quit (codes "quit") 1 0
+    ∷ row One (codes "get") 2 1
+    ∷ row One (codes "set") 2 1
     ∷ []
 
 -- the first of these rows that has this name, compared without ASCII case

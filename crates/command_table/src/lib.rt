@@ -19,6 +19,8 @@ pub enum Kind {
     Echo,
     /// QUIT: answered by the proxy, which then takes no further command of the connection.
     Quit,
+    /// A command that goes whole to the host that owns its key, which answers it.
+    One,
 }
 
 /// What the table knows of a command.
@@ -34,7 +36,7 @@ pub struct Entry {
     pub key_at: usize,
 }
 
-const ENTRIES: [Entry; 3] = [
+const ENTRIES: [Entry; 5] = [
     Entry {
         kind: Kind::Ping,
         name: "ping",
@@ -52,6 +54,18 @@ const ENTRIES: [Entry; 3] = [
         name: "quit",
         least: 1,
         key_at: 0,
+    },
+    Entry {
+        kind: Kind::One,
+        name: "get",
+        least: 2,
+        key_at: 1,
+    },
+    Entry {
+        kind: Kind::One,
+        name: "set",
+        least: 2,
+        key_at: 1,
     },
 ];
 

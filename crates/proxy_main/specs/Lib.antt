@@ -1,5 +1,6 @@
 pub mod Ending
 pub mod Request
-pub mod Local
-pub mod Answer
+pub mod Plan
+pub mod Planned
+pub mod Reply
 pub mod Stream

@@ -1,28 +1,17 @@
 -- What goes out for what comes in.
 use Rattle.std.specs.Prelude.{◌≡◌, ℕ, Bool, true, false, if◌then◌else◌, List, [], ◌∷◌, ◌++◌, map, length, ◌<◌, Option, IfSome}
-use Rattle.std.specs.List.{flat_map, list_any}
+use Rattle.std.specs.List.{list_any}
 use Rattle.std.specs.Io.KnownBytes.{Appends}
 use Rattle.resp_core.specs.Tree.{Tree}
-use Rattle.resp_core.specs.Text.{text}
+use Rattle.stub_server.specs.Map.{Map}
 use Rattle.resp_core.specs.Stream.{ReaderState, Stands, HasNoRefusal, HasRefusal}
 use Rattle.proxy_main.specs.Request.{Request, read, broken, client_limit, AreRequests}
-use Rattle.proxy_main.specs.Local.{local_of}
-
-abbrev pub finishes : Request → Bool
-finishes r = (local_of r).finishes
+use Rattle.proxy_main.specs.Reply.{finishes, reply_texts, map_after_all}
 
 -- the requests up to and with the first that finishes
 abbrev pub accepted : List Request → List Request
 accepted [] = []
 accepted (r ∷ rs) = r ∷ (if finishes r then [] else accepted rs)
-
--- the text of the answer to a request
-abbrev pub answer_text : Request → List ℕ
-answer_text r = text (local_of r).value
-
--- the answers to requests, joined
-abbrev pub answer_texts : List Request → List ℕ
-answer_texts rs = flat_map answer_text rs
 
 -- these are the first requests of a stream that begins with these bytes, whatever comes behind them
 abbrev pub AreFirst : List ℕ → List Request → Type 0
@@ -39,14 +28,14 @@ IsAnswered r s = (s ≡ r) × ((b : List ℕ) (ts : List Tree) → Stands r b ts
 
 -- From one state of a reader to the next its whole values were answered, and none of them finishes: `out` was the bytes to
 -- write, and `out'` is.
-abbrev pub AnswersWhole : ReaderState → ReaderState → List ℕ → List ℕ → Type 0
-AnswersWhole r s out out' = (b : List ℕ) (ts : List Tree) → Stands r b ts → (us : List Tree) × Stands s b (ts ++ us) × HasNoRefusal client_limit b (ts ++ us) × (list_any finishes (map read us) ≡ false) × (out' ≡ out ++ answer_texts (map read us))
+abbrev pub AnswersWhole : ReaderState → ReaderState → Map → Map → List ℕ → List ℕ → Type 0
+AnswersWhole r s m m' out out' = (b : List ℕ) (ts : List Tree) → Stands r b ts → (us : List Tree) × Stands s b (ts ++ us) × HasNoRefusal client_limit b (ts ++ us) × (list_any finishes (map read us) ≡ false) × (out' ≡ out ++ reply_texts m (map read us)) × (m' ≡ map_after_all m (map read us))
 
 -- From a state of a reader on the requests were answered up to and with the first that finishes.
-abbrev pub AnswersLast : ReaderState → List ℕ → List ℕ → Type 0
-AnswersLast r out out' = (b : List ℕ) (ts : List Tree) → Stands r b ts → (front : List Request) × (last : Request) × AreFirst b (map read ts ++ front ++ last ∷ []) × (list_any finishes front ≡ false) × (finishes last ≡ true) × (out' ≡ out ++ answer_texts (front ++ last ∷ []))
+abbrev pub AnswersLast : ReaderState → Map → List ℕ → List ℕ → Type 0
+AnswersLast r m out out' = (b : List ℕ) (ts : List Tree) → Stands r b ts → (front : List Request) × (last : Request) × AreFirst b (map read ts ++ front ++ last ∷ []) × (list_any finishes front ≡ false) × (finishes last ≡ true) × (out' ≡ out ++ reply_texts m (front ++ last ∷ []))
 
--- Where the reader's bytes are known, the writer got the answers to the requests of all of them, up to and with the first
--- that finishes, and no other byte.
+-- Where the reader's bytes are known, the writer got the replies to the requests of all of them, up to and with the first
+-- that finishes, from a host whose map was empty at first, and no other byte.
 abbrev pub AnswersAll : Option (List ℕ) → Option (List ℕ) → Option (List ℕ) → Type 0
-AnswersAll came held holds = IfSome came (λ b. (rs : List Request) × AreRequests b rs × Appends held holds (answer_texts (accepted rs)))
+AnswersAll came held holds = IfSome came (λ b. (rs : List Request) × AreRequests b rs × Appends held holds (reply_texts [] (accepted rs)))

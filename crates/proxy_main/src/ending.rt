@@ -3,6 +3,7 @@ ghost use Rattle.std.specs.Prelude.{◌≡◌};
 
 use resp_core::RespError;
 use std::alloc::{AllocError, AllocFailed};
+use stub_server::StubError;
 use thiserror::Error;
 
 /// Why the program ended before its work was done. Its text is what is told on standard error.
@@ -56,5 +57,11 @@ impl From<RespError> for Ending {
             RespError::NoMemory => Ending::Memory,
             _ => Ending::Socket,
         }
+    }
+}
+
+impl From<StubError> for Ending {
+    fn from(_error: StubError) -> Ending {
+        Ending::Memory
     }
 }

@@ -1,10 +1,11 @@
 //! `redproxy`: a proxy that clients speak to as to one Redis server.
 #![tactic(auto)]
 
-mod answer;
 mod command_line;
 mod ending;
+mod host;
 mod local;
+mod plan;
 mod request;
 #[cfg(test)]
 mod tests;

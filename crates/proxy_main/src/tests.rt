@@ -162,6 +162,54 @@ fn cuts_change_nothing(rt: HostRuntime) -> Result<(), Fail> {
     Ok(())
 }
 
+// Commands of one host, whose map is empty at first.
+const HOST_ROWS: [(&[u8], &[u8]); 7] = [
+    (
+        b"*3\r\n$3\r\nSET\r\n$1\r\na\r\n$1\r\n1\r\n*2\r\n$3\r\nGET\r\n$1\r\na\r\n",
+        b"+OK\r\n$1\r\n1\r\n",
+    ),
+    (
+        b"*2\r\n$3\r\nget\r\n$1\r\na\r\n*1\r\n$4\r\nPING\r\n",
+        b"$-1\r\n+PONG\r\n",
+    ),
+    // Keys and values of any bytes, the empty ones among them.
+    (
+        b"*3\r\n$3\r\nsEt\r\n$0\r\n\r\n$4\r\n\x00\xff\r\n\r\n*2\r\n$3\r\nGET\r\n$0\r\n\r\n",
+        b"+OK\r\n$4\r\n\x00\xff\r\n\r\n",
+    ),
+    (
+        b"*3\r\n$3\r\nSET\r\n$2\r\n\r\n\r\n$0\r\n\r\n*2\r\n$3\r\nGET\r\n$2\r\n\r\n\r\n",
+        b"+OK\r\n$0\r\n\r\n",
+    ),
+    // The host's errors go out as they are.
+    (
+        b"*2\r\n$3\r\nSET\r\n$1\r\na\r\n*3\r\n$3\r\nGET\r\n$1\r\na\r\n$1\r\nb\r\n",
+        b"-ERR wrong number of arguments\r\n-ERR wrong number of arguments\r\n",
+    ),
+    // The proxy asks for a key.
+    (
+        b"*1\r\n$3\r\nGET\r\n",
+        b"-wrong number of arguments for 'get' command\r\n",
+    ),
+    (
+        b"*3\r\n$3\r\nSET\r\n$1\r\na\r\n$1\r\n1\r\n*1\r\n$4\r\nQUIT\r\n*2\r\n$3\r\nGET\r\n$1\r\na\r\n",
+        b"+OK\r\n+OK\r\n",
+    ),
+];
+
+#[test]
+fn the_host_answers(rt: HostRuntime) -> Result<(), Fail> {
+    for (text, answers) in HOST_ROWS {
+        for step in [1, 7, 20_000] {
+            let mut taken = open_sink(rt.alloc());
+            let end = local_run(rt.alloc(), &mut Source::new(text, step), &mut taken);
+            assert_eq!(rt; end, Ok(()));
+            assert_eq!(rt; taken.taken.as_slice(), answers);
+        }
+    }
+    Ok(())
+}
+
 const THREE: &[u8] = b"*1\r\n$4\r\nPING\r\n*1\r\n$1\r\n?\r\n*1\r\n$4\r\nPING\r\n";
 
 const THREE_ANSWERS: &[u8] = b"+PONG\r\n-unsupported command '?'\r\n+PONG\r\n";

@@ -1,7 +1,7 @@
 use Rattle.std.proofs.Common.{◌≡◌, ◌++◌, length, min, map, take, append-nil, sym, ap, ◌∙◌, arith}
 use Rattle.std.proofs.lemmas.List.{drop_all, take_min}
-use Rattle.proxy_main.specs.Local.{shown_byte}
-use Rattle.proxy_main.proofs.answer.append_shown.Goals as goal
+use Rattle.proxy_main.specs.Plan.{shown_byte}
+use Rattle.proxy_main.proofs.plan.append_shown.Goals as goal
 
 pub returns : goal.returns
 returns c =

@@ -1,13 +1,12 @@
-//! What the proxy answers to a request by itself.
-ghost use Rattle.std.specs.Prelude.{◌≡◌, ◌<◌, ◌++◌, IfOk, OnOk, IfSome, IfNone, IsTrue, true, false, length, map, take};
+//! What the proxy does with a request.
+ghost use Rattle.std.specs.Prelude.{◌≡◌, ◌<◌, ◌++◌, IfOk, OnOk, true, length, map};
 ghost use Rattle.resp_core.specs.Value.{tree_of};
-ghost use Rattle.resp_core.specs.Tree.{fault};
+ghost use Rattle.resp_core.specs.Command.{are_words, payload_of, word};
 ghost use Rattle.command_table.specs.Entry.{row_of};
 ghost use Rattle.command_table.specs.Table.{row_named};
 ghost use Rattle.proxy_main.specs.Request.{request_of};
-ghost use Rattle.resp_core.specs.Command.{are_words, payload_of, word};
-ghost use Rattle.proxy_main.specs.Local.{local_of, here, leave, answer_by, answer_of, takes, shown, shown_byte, unsupported, wrong_number};
-ghost use Rattle.proxy_main.specs.Answer.{local_in};
+ghost use Rattle.proxy_main.specs.Plan.{plan_of, plan_by_row, takes, shown, shown_byte, unsupported, wrong_number};
+ghost use Rattle.proxy_main.specs.Planned.{plan_in};
 
 use crate::request::Request;
 use bytes::Bytes;
@@ -15,78 +14,54 @@ use command_table::{Entry, Kind, look};
 use resp_core::{Value, Values};
 use std::alloc::{AllocError, Global};
 
-/// Whether the connection goes on after an answer.
-#[derive(Clone, Copy, Debug, PartialEq, Eq)]
-pub enum Flow {
-    /// Further commands are taken.
-    GoesOn,
-    /// No later command of the connection is taken.
-    Finishes,
-}
-
-/// An answer of the proxy's own, and whether the connection goes on after it.
+/// What the proxy does with a request.
 #[derive(Drop)]
-pub struct Answer {
-    /// What is written.
-    pub value: Value,
-    /// Whether the connection goes on.
-    pub flow: Flow,
+pub enum Plan {
+    /// The proxy answers this itself.
+    Here(Value),
+    /// The proxy answers this itself, and takes no later command of the connection.
+    Leave(Value),
+    /// The request goes whole to the host.
+    Host,
 }
 
 // The bytes of an unknown name that are shown.
 const SHOWN: usize = 64;
 
-/// The proxy's own answer to the request.
+/// The plan of a request, by the table of commands.
 ///
 /// Fails only where memory is refused.
-pub fn answer_to(alloc: Global, request: &Request) -> Result<Answer, AllocError>
-    ensures { IfOk result (λ a. local_in a ≡ local_of (request_of request.now)) }
+pub fn plan_request(alloc: Global, request: &Request) -> Result<Plan, AllocError>
+    ensures { IfOk result (λ p. plan_in p ≡ plan_of (request_of request.now)) }
 {
     match request {
-        Request::Broken => Ok(leaves(Value::Fault(Bytes::from_static(
+        Request::Broken => Ok(Plan::Leave(Value::Fault(Bytes::from_static(
             b"downstream protocol error",
         )))),
         Request::Read(value) => match value.words() {
-            Some(words) => answer_command(alloc, words),
-            None => Ok(goes_on(Value::Fault(Bytes::from_static(b"invalid request")))),
+            Some(words) => plan_command(alloc, words),
+            None => Ok(Plan::Here(Value::Fault(Bytes::from_static(b"invalid request")))),
         },
     }
 }
 
-fn goes_on(value: Value) -> Answer
-    ensures { local_in result ≡ here (tree_of value) }
-{
-    Answer {
-        value,
-        flow: Flow::GoesOn,
-    }
-}
-
-fn leaves(value: Value) -> Answer
-    ensures { local_in result ≡ leave (tree_of value) }
-{
-    Answer {
-        value,
-        flow: Flow::Finishes,
-    }
-}
-
-// The answer to a command.
-fn answer_command(alloc: Global, words: &Values) -> Result<Answer, AllocError>
+// The plan of a command.
+fn plan_command(alloc: Global, words: &Values) -> Result<Plan, AllocError>
     requires { are_words words.now ≡ true }
-    ensures { IfOk result (λ a. local_in a ≡ answer_by (row_named (word (map payload_of words.now) 0)) (map payload_of words.now)) }
+    ensures { IfOk result (λ p. plan_in p ≡ plan_by_row (row_named (word (map payload_of words.now) 0)) (map payload_of words.now)) }
 {
     let name = words.word(0).as_slice();
     let Some(entry) = look(name) else {
-        return Ok(goes_on(Value::Fault(unsupported(alloc, name)?)));
+        return Ok(Plan::Here(Value::Fault(unsupported(alloc, name)?)));
     };
     if !takes(entry, words.0.len()) {
-        return Ok(goes_on(Value::Fault(wrong_number(alloc, entry)?)));
+        return Ok(Plan::Here(Value::Fault(wrong_number(alloc, entry)?)));
     }
     Ok(match entry.kind {
-        Kind::Ping => goes_on(Value::Simple(Bytes::from_static(b"PONG"))),
-        Kind::Echo => goes_on(Value::Bulk(words.word(1).clone()?)),
-        Kind::Quit => leaves(Value::Simple(Bytes::from_static(b"OK"))),
+        Kind::Ping => Plan::Here(Value::Simple(Bytes::from_static(b"PONG"))),
+        Kind::Echo => Plan::Here(Value::Bulk(words.word(1).clone()?)),
+        Kind::Quit => Plan::Leave(Value::Simple(Bytes::from_static(b"OK"))),
+        Kind::One => Plan::Host,
     })
 }
 
@@ -96,7 +71,7 @@ fn takes(entry: Entry, words: usize) -> bool
 {
     match entry.kind {
         Kind::Ping | Kind::Echo => words == entry.least,
-        Kind::Quit => words >= entry.least,
+        Kind::Quit | Kind::One => words >= entry.least,
     }
 }
 
