@@ -100,3 +100,6 @@ fn find_entry(entries: &[Entry], name: &[u8]) -> Option<Entry>
     }
     None
 }
+
+#[cfg(test)]
+mod tests;
