@@ -21,6 +21,12 @@ pub enum Kind {
     Quit,
     /// A command that goes whole to the host that owns its key, which answers it.
     One,
+    /// MGET: split into a GET for each key.
+    SplitGet,
+    /// MSET: split into a SET for each key and its value. The number of its words is odd.
+    SplitSet,
+    /// A command that counts keys (DEL, EXISTS, TOUCH, UNLINK): split into one of its own for each key.
+    SplitSum,
 }
 
 /// What the table knows of a command.
