@@ -1,0 +1,1 @@
+//! Rows of calls of a journal, with their answers.
