@@ -1,0 +1,14 @@
+pub mod Growing
+pub mod Good
+pub mod NoCause
+pub mod Beginnings
+pub mod SentOnce
+pub mod Fresh
+pub mod Values
+pub mod Stays
+pub mod Order
+pub mod AfterClose
+pub mod Waiting
+pub mod Apart
+pub mod Own
+pub mod OfPast

@@ -1,0 +1,5 @@
+use Rattle.proxy_history.proofs.Stays.{stays}
+use Rattle.proxy_history.proofs.laws.outcomes_stay.Goals as goal
+
+pub returns : goal.returns
+returns c = stays

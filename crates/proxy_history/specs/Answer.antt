@@ -1,0 +1,67 @@
+-- The answer to each event.
+use Rattle.std.specs.Prelude.{ℕ, Bool, false, List, [], ◌∷◌, ◌+◌, not, if◌then◌else◌, Option, Some, None, length, count_by, is_some}
+use Rattle.std.specs.Option.{unwrap_or}
+use Rattle.resp_core.specs.Tree.{null_bulk}
+use Rattle.resp_core.specs.Text.{text}
+use Rattle.splitter.specs.declared.plan.Local.{Local}
+use Rattle.splitter.specs.Plan.{Plan, here, leave, parts}
+use Rattle.ejector.specs.declared.mark.Mark.{Mark}
+use Rattle.ejector.specs.declared.mark.Mark.TheVariants.{Sweep}
+use Rattle.ejector.specs.declared.answer.Trip.{Trip}
+use Rattle.ejector.specs.declared.answer.Trip.TheVariants as trips
+use Rattle.ejector.specs.declared.answer.Swept.{Swept as SweptHosts}
+use Rattle.ejector.specs.Ejection.{trip, swept}
+use Rattle.proxy_history.specs.Setting.{Setting}
+use Rattle.proxy_history.specs.History.{opened, accepted, handed, epoch, plan_for}
+use Rattle.proxy_history.specs.Part.{Part, Past}
+use Rattle.proxy_history.specs.Waiting.{waiting, flying, sent_to}
+use Rattle.proxy_history.specs.Arrival.{parts_by}
+use Rattle.proxy_history.specs.Marks.{mark_by}
+use Rattle.proxy_history.specs.Outcome.{outcome}
+use Rattle.proxy_history.specs.declared.event.Event.{Event}
+use Rattle.proxy_history.specs.declared.event.Event.TheVariants.{Opened, Arrived, Finished, Taken, Answered, Failed, Swept, Handed, Closed}
+use Rattle.proxy_history.specs.declared.answer.Answer.{Answer}
+use Rattle.proxy_history.specs.declared.answer.Answer.TheVariants as answer
+
+-- the name of the proxy's own answer, if it gives one
+abbrev pub local_of : Plan → Option Local
+local_of (here name value) = Some name
+local_of (leave name value) = Some name
+local_of (parts how list) = None
+
+abbrev pub is_hostless : Part → Bool
+is_hostless p = not (is_some p.host)
+
+-- it has a host, and got a value at once
+abbrev pub is_busy : Part → Bool
+is_busy p = if is_some p.host then is_some p.local else false
+
+abbrev pub accepts : ℕ → Option Local → List Part → Answer
+accepts index local placed = answer.Accepted index local (length placed) (count_by is_hostless placed) (count_by is_busy placed)
+
+abbrev pub text_of_first : List Part → List ℕ
+text_of_first [] = []
+text_of_first (p ∷ _) = p.text
+
+-- what the mark of a step does to its host, if it has one
+abbrev pub trip_of : Setting → Past → List Mark → Trip
+trip_of S past [] = trips.None
+trip_of S past (m ∷ _) = trip S.rules m past.marks
+
+abbrev pub counts_of : SweptHosts → Answer
+counts_of n = answer.Swept n.returned n.ejected n.kept
+
+-- the answer to an event that has no cause of refusal
+abbrev pub answer_to : Setting → Past → Event → Answer
+answer_to S past Opened = answer.Opened (opened past.steps)
+answer_to S past (Arrived conn request) =
+    accepts (accepted conn past.steps) (local_of (plan_for request)) (parts_by S past (Arrived conn request))
+answer_to S past (Finished conn) = answer.Finishing
+answer_to S past (Taken host) =
+    let e = epoch host past.steps in answer.Sent e (length (sent_to host e past)) (text_of_first (waiting host past))
+answer_to S past (Answered host e value t) = answer.Matched (trip_of S past (mark_by past (Answered host e value t)))
+answer_to S past (Failed host e kind t) =
+    answer.Lost (length (waiting host past) + flying host past) (trip_of S past (mark_by past (Failed host e kind t)))
+answer_to S past (Swept t) = counts_of (swept S.rules (Sweep t) past.marks)
+answer_to S past (Handed conn) = answer.Bytes (text (unwrap_or (outcome conn (handed conn past.steps) past) null_bulk))
+answer_to S past (Closed conn) = answer.Closed

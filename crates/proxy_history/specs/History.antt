@@ -1,0 +1,92 @@
+-- A history: its steps, the newest first. What stands behind a step is what came before it.
+use Rattle.std.specs.Prelude.{ℕ, Bool, true, false, List, [], ◌∷◌, ◌++◌, ◌==◌, ◌+◌, ◌||◌, ◌&&◌, not, nat_lt, if◌then◌else◌}
+use Rattle.journal_core.specs.declared.step.Step.{Step as StepOf}
+use Rattle.splitter.specs.declared.request.Request.{Request}
+use Rattle.splitter.specs.Request.{request_of}
+use Rattle.splitter.specs.Plan.{Plan, plan_of, is_last}
+use Rattle.proxy_history.specs.declared.answer.Answer.{Answer}
+use Rattle.proxy_history.specs.declared.event.Event.{Event}
+use Rattle.proxy_history.specs.declared.event.Event.TheVariants.{Opened, Arrived, Finished, Taken, Answered, Failed, Swept, Handed, Closed}
+
+-- who made a turn, of which event, and what was answered
+abbrev pub Step : Type 0
+Step = StepOf Event Answer
+
+abbrev pub History : Type 0
+History = List Step
+
+-- how many steps of a kind there are
+abbrev pub times : (Event → Bool) → History → ℕ
+times is [] = 0
+times is (s ∷ before) = if is s.event then times is before + 1 else times is before
+
+-- whether there is one
+abbrev pub has : (Event → Bool) → History → Bool
+has is [] = false
+has is (s ∷ before) = is s.event || has is before
+
+abbrev pub is_opening : Event → Bool
+is_opening Opened = true
+is_opening _ = false
+
+abbrev pub is_arrival : ℕ → Event → Bool
+is_arrival c (Arrived conn request) = conn == c
+is_arrival c _ = false
+
+abbrev pub is_handing : ℕ → Event → Bool
+is_handing c (Handed conn) = conn == c
+is_handing c _ = false
+
+abbrev pub is_closing : ℕ → Event → Bool
+is_closing c (Closed conn) = conn == c
+is_closing c _ = false
+
+abbrev pub is_any_closing : Event → Bool
+is_any_closing (Closed conn) = true
+is_any_closing _ = false
+
+abbrev pub is_fault : ℕ → Event → Bool
+is_fault h (Failed host epoch kind t) = host == h
+is_fault h _ = false
+
+-- the plan of a request
+abbrev pub plan_for : Request → Plan
+plan_for request = plan_of (request_of request)
+
+abbrev pub finishes : ℕ → Event → Bool
+finishes c (Finished conn) = conn == c
+finishes c (Arrived conn request) = (conn == c) && is_last (plan_for request)
+finishes c _ = false
+
+-- how many connections were opened
+abbrev pub opened : History → ℕ
+opened H = times is_opening H
+
+-- how many commands of a connection arrived, and how many replies were handed out
+abbrev pub accepted : ℕ → History → ℕ
+accepted c H = times (is_arrival c) H
+
+abbrev pub handed : ℕ → History → ℕ
+handed c H = times (is_handing c) H
+
+-- the epoch of a host: how many faults it has had
+abbrev pub epoch : ℕ → History → ℕ
+epoch h H = times (is_fault h) H
+
+abbrev pub is_closed : ℕ → History → Bool
+is_closed c H = has (is_closing c) H
+
+abbrev pub is_open : ℕ → History → Bool
+is_open c H = nat_lt c (opened H) && not (is_closed c H)
+
+abbrev pub is_finishing : ℕ → History → Bool
+is_finishing c H = has (finishes c) H
+
+-- the requests of a connection, in their order
+abbrev pub request_by : ℕ → Event → List Request
+request_by c (Arrived conn request) = if conn == c then request ∷ [] else []
+request_by c _ = []
+
+abbrev pub requests : ℕ → History → List Request
+requests c [] = []
+requests c (s ∷ before) = requests c before ++ request_by c s.event

@@ -1,0 +1,17 @@
+pub mod Setting
+pub mod Refusal
+pub mod History
+pub mod Replies
+pub mod Part
+pub mod Waiting
+pub mod Arrival
+pub mod Marks
+pub mod Past
+pub mod Value
+pub mod Outcome
+pub mod Cause
+pub mod Payload
+pub mod Answer
+pub mod Legal
+pub mod Output
+pub mod Laws

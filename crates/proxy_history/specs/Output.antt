@@ -1,0 +1,30 @@
+-- What goes out, and whose steps are whose.
+use Rattle.std.specs.Prelude.{ℕ, List, [], ◌∷◌, ◌++◌, ◌==◌, if◌then◌else◌}
+use Rattle.proxy_history.specs.History.{History}
+use Rattle.proxy_history.specs.declared.event.Event.{Event}
+use Rattle.proxy_history.specs.declared.event.Event.TheVariants.{Taken, Handed}
+use Rattle.proxy_history.specs.declared.answer.Answer.{Answer}
+use Rattle.proxy_history.specs.declared.answer.Answer.TheVariants as answer
+
+-- all that was handed out to a connection
+abbrev pub handed_text : ℕ → Event → Answer → List ℕ
+handed_text c (Handed conn) (answer.Bytes t) = if conn == c then t else []
+handed_text c _ _ = []
+
+abbrev pub transcript : ℕ → History → List ℕ
+transcript c [] = []
+transcript c (s ∷ before) = transcript c before ++ handed_text c s.event s.answer
+
+-- all that was sent to a host in an epoch
+abbrev pub sent_text : ℕ → ℕ → Event → Answer → List ℕ
+sent_text h e (Taken host) (answer.Sent ep place t) = if host == h then (if ep == e then t else []) else []
+sent_text h e _ _ = []
+
+abbrev pub upstream : ℕ → ℕ → History → List ℕ
+upstream h e [] = []
+upstream h e (s ∷ before) = upstream h e before ++ sent_text h e s.event s.answer
+
+-- the steps of one caller
+abbrev pub of : ℕ → History → History
+of pass [] = []
+of pass (s ∷ before) = if s.pass == pass then s ∷ of pass before else of pass before

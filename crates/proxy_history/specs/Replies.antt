@@ -1,0 +1,16 @@
+-- The replies that came.
+use Rattle.std.specs.Prelude.{ℕ, List, [], ◌∷◌, ◌++◌, ◌==◌, ◌&&◌, if◌then◌else◌}
+use Rattle.resp_core.specs.Tree.{Tree}
+use Rattle.resp_core.specs.Value.{tree_of}
+use Rattle.proxy_history.specs.History.{History}
+use Rattle.proxy_history.specs.declared.event.Event.{Event}
+use Rattle.proxy_history.specs.declared.event.Event.TheVariants.{Answered}
+
+-- the replies of a host that came in an epoch, in their order
+abbrev pub reply_by : ℕ → ℕ → Event → List Tree
+reply_by h e (Answered host ep value t) = if (host == h) && (ep == e) then tree_of value ∷ [] else []
+reply_by h e _ = []
+
+abbrev pub came : ℕ → ℕ → History → List Tree
+came h e [] = []
+came h e (s ∷ before) = came h e before ++ reply_by h e s.event
