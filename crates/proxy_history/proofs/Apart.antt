@@ -38,7 +38,7 @@ below_with : (n : ℕ) (ps : List Part) (q : Part) → AreBelow n ps → q.numbe
 below_with n [] q b e = (omega (arith, e), tt)
 below_with n (p ∷ ps) q b e = (omega (arith, b.0), below_with n ps q b.1 e)
 
-host_keeps_number : (x : Past) (placed : List Part) (o : Option ℕ) (p : Part) → (with_host x placed o p).number ≡ p.number
+pub host_keeps_number : (x : Past) (placed : List Part) (o : Option ℕ) (p : Part) → (with_host x placed o p).number ≡ p.number
 host_keeps_number x placed None p = refl
 host_keeps_number x placed (Some h) p = refl
 

@@ -46,11 +46,11 @@ are_of_with : (conn command : ℕ) (ps : List Part) (q : Part) → AreOf conn co
 are_of_with conn command [] q a e f = (e, f, tt)
 are_of_with conn command (p ∷ ps) q a e f = (a.0, a.1, are_of_with conn command ps q a.2 e f)
 
-host_keeps_conn : (x : Past) (placed : List Part) (o : Option ℕ) (p : Part) → (with_host x placed o p).conn ≡ p.conn
+pub host_keeps_conn : (x : Past) (placed : List Part) (o : Option ℕ) (p : Part) → (with_host x placed o p).conn ≡ p.conn
 host_keeps_conn x placed None p = refl
 host_keeps_conn x placed (Some h) p = refl
 
-host_keeps_command : (x : Past) (placed : List Part) (o : Option ℕ) (p : Part) → (with_host x placed o p).command ≡ p.command
+pub host_keeps_command : (x : Past) (placed : List Part) (o : Option ℕ) (p : Part) → (with_host x placed o p).command ≡ p.command
 host_keeps_command x placed None p = refl
 host_keeps_command x placed (Some h) p = refl
 

@@ -12,3 +12,6 @@ pub mod Waiting
 pub mod Apart
 pub mod Own
 pub mod OfPast
+pub mod Faults
+pub mod Asked
+pub mod Arrived

@@ -11,7 +11,9 @@ use Rattle.proxy_history.specs.Part.{Past, Part, is_same}
 use Rattle.proxy_history.specs.Past.{past}
 use Rattle.proxy_history.specs.Waiting.{sent_to}
 use Rattle.proxy_history.specs.Value.{replies, reply_to, or_lost, value_at, value_or, value_of, upstream_failure}
-use Rattle.proxy_history.specs.Laws.{IsReply}
+use Rattle.proxy_history.specs.Legal.{IsLegal}
+use Rattle.proxy_history.specs.Laws.{IsReply, IsLost}
+use Rattle.proxy_history.proofs.Faults.{epochs_end_by_faults}
 
 -- a pair that is found stands in one place of both lists
 record IsAt {A B : Type 0} (t : A × B → Bool) (xs : List A) (ys : List B) (r : A × B) : Type 0 where
@@ -37,18 +39,40 @@ has_reply x h p v (Some r) q e =
     let a = found_at (λ r. is_same p r.0) (sent_to h p.epoch x) (came h p.epoch x.steps) r q in
     record { place = a.place; sent = r.0; is_sent = a.left; is_same = a.passes; came = a.right ∙ e }
 
+-- where no pair is found none stands in one place of both lists
+none_at : {A B : Type 0} (t : A × B → Bool) (xs : List A) (ys : List B) (place : ℕ) (a : A) (b : B) → find t (zip xs ys) ≡ None
+  → slice_get xs place ≡ Some a → slice_get ys place ≡ Some b → t (a, b) ≡ true → ⊥
+none_at t [] ys place a b e l r p = absurd cc
+none_at t (x ∷ xs) [] place a b e l r p = absurd cc
+none_at t (x ∷ xs) (y ∷ ys) zero a b e l r p =
+    let left : x ≡ a = cc in
+    let right : y ≡ b = cc in
+    let q : t (x, y) ≡ true = ap (λ z. t (z, y)) left ∙ ap (λ z. t (a, z)) right ∙ p in
+    let f : Some (x, y) ≡ None = rw q at e in
+    absurd cc
+none_at t (x ∷ xs) (y ∷ ys) (suc place) a b e l r p = elim (cases_Bool (t (x, y))) [
+    inl q ↦ let f : Some (x, y) ≡ None = rw q at e in absurd cc
+  | inr q ↦ none_at t xs ys place a b (rw q at e) l r p
+  ]
+
+no_reply_at : (x : Past) (h : ℕ) (p : Part) (o : Option (Part × Tree)) → find (λ r. is_same p r.0) (replies h p.epoch x) ≡ o → option_map (λ r. r.1) o ≡ None → (v : Tree) → IsReply x h p v → ⊥
+no_reply_at x h p None q e v a = none_at (λ r. is_same p r.0) (sent_to h p.epoch x) (came h p.epoch x.steps) a.place a.sent v q a.is_sent a.came a.is_same
+no_reply_at x h p (Some r) q e v a = absurd cc
+
 by_reply : (x : Past) (h : ℕ) (p : Part) (v : Tree) (b : Bool) (o : Option Tree) → reply_to p h x ≡ o → or_lost b o ≡ Some v
-  → IsReply x h p v ⊎ ((v ≡ upstream_failure) × (b ≡ true))
+  → IsReply x h p v ⊎ ((v ≡ upstream_failure) × (b ≡ true) × (reply_to p h x ≡ None))
 by_reply x h p v b (Some w) q e = inl (has_reply x h p v (find (λ r. is_same p r.0) (replies h p.epoch x)) refl (q ∙ e))
-by_reply x h p v true None q e = let is : upstream_failure ≡ v = cc in inr (sym is, refl)
+by_reply x h p v true None q e = let is : upstream_failure ≡ v = cc in inr (sym is, refl, q)
 by_reply x h p v false None q e = absurd cc
 
-lt_from : {A B C : Type 0} → A ⊎ (B × C) → {D : Type 0} → (C → D) → A ⊎ (B × D)
-lt_from (inl a) f = inl a
-lt_from (inr b) f = inr (b.0, f b.1)
-
-pub values_are_own : (S : Setting) (H : History) (p : Part) (h : ℕ) (v : Tree) → p.local ≡ None → p.host ≡ Some h → value_of (past S H) p ≡ Some v
-  → IsReply (past S H) h p v ⊎ ((v ≡ upstream_failure) × (p.epoch < epoch h H))
-values_are_own S H p h v l o e =
+pub values_are_own : (S : Setting) (H : History) (p : Part) (h : ℕ) (v : Tree) → IsLegal S H → p.local ≡ None → p.host ≡ Some h → value_of (past S H) p ≡ Some v
+  → IsReply (past S H) h p v ⊎ ((v ≡ upstream_failure) × IsLost S H h p)
+values_are_own S H p h v legal l o e =
     let here : value_at (past S H) p (Some h) ≡ Some v = rw (l, o) at e in
-    lt_from (by_reply (past S H) h p v (nat_lt p.epoch (epoch h H)) (reply_to p h (past S H)) refl here) (ltb-true p.epoch (epoch h H))
+    elim (by_reply (past S H) h p v (nat_lt p.epoch (epoch h H)) (reply_to p h (past S H)) refl here) [
+        inl reply ↦ inl reply
+      | inr lost ↦ inr (lost.0, record {
+            fault = (epochs_end_by_faults S H h p.epoch legal).1 (ltb-true p.epoch (epoch h H) lost.1);
+            unanswered = no_reply_at (past S H) h p (find (λ r. is_same p r.0) (replies h p.epoch (past S H))) refl lost.2;
+          })
+      ]

@@ -1,5 +1,5 @@
 //! What holds of every legal history.
-ghost use Rattle.proxy_history.specs.Laws.{BeginningsAreLegal, ClosedGetsNothing, FewAreOut, NoneIsSentTwice, OutcomesStay, RepliesAreInOrder, ValuesAreOwn};
+ghost use Rattle.proxy_history.specs.Laws.{BeginningsAreLegal, ClosedGetsNothing, EpochsEndByFaults, FaultsRaiseEpochs, FewAreOut, NoneIsSentTwice, OutcomesStay, OwnersStay, PartsHaveArrived, RepliesAreInOrder, RepliesWereAsked, SentPartsArrived, ValuesAreOwn};
 
 /// Each beginning of a legal history is legal.
 pub fn beginnings_are_legal()
@@ -31,7 +31,40 @@ pub fn few_are_out()
     ensures { FewAreOut }
 {}
 
-/// A part has its own host's reply, or that host had a fault in the part's epoch.
+/// A part that got no value at its arrival has its own host's reply, which came in its own place, or `upstream failure`
+/// where that host had a fault in the part's epoch before a reply came in its place.
 pub fn values_are_own()
     ensures { ValuesAreOwn }
+{}
+
+/// Each part is the part of its number of a command that arrived. It has the host of its key by what stood before, for
+/// good, or `no upstream host` where there was none; and `proxy busy` exactly if 1,024 parts waited for that host when its
+/// turn within its command came.
+pub fn parts_have_arrived()
+    ensures { PartsHaveArrived }
+{}
+
+/// Each part that was sent is a part that arrived.
+pub fn sent_parts_arrived()
+    ensures { SentPartsArrived }
+{}
+
+/// Of each host and epoch no more replies came than parts were sent.
+pub fn replies_were_asked()
+    ensures { RepliesWereAsked }
+{}
+
+/// A key whose owner among all hosts is usable goes to that owner, whatever else is out.
+pub fn owners_stay()
+    ensures { OwnersStay }
+{}
+
+/// An epoch is over exactly if a fault of its host in that epoch stands in the history.
+pub fn epochs_end_by_faults()
+    ensures { EpochsEndByFaults }
+{}
+
+/// The epoch of a host stays the same exactly if no fault of it comes.
+pub fn faults_raise_epochs()
+    ensures { FaultsRaiseEpochs }
 {}

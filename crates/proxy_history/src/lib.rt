@@ -15,8 +15,9 @@ mod refusal;
 pub use answer::Answer;
 pub use event::{Event, Kind};
 pub use laws::{
-    beginnings_are_legal, closed_gets_nothing, few_are_out, none_is_sent_twice, outcomes_stay,
-    replies_are_in_order, values_are_own,
+    beginnings_are_legal, closed_gets_nothing, epochs_end_by_faults, faults_raise_epochs,
+    few_are_out, none_is_sent_twice, outcomes_stay, owners_stay, parts_have_arrived,
+    replies_are_in_order, replies_were_asked, sent_parts_arrived, values_are_own,
 };
 pub use refusal::Refusal;
 

@@ -1,0 +1,6 @@
+use Rattle.ejector.proofs.Few.{state_out}
+use Rattle.proxy_history.specs.Past.{past}
+use Rattle.proxy_history.proofs.laws.few_are_out.Goals as goal
+
+pub returns : goal.returns
+returns c = λ S H. state_out S.rules (past S H).marks

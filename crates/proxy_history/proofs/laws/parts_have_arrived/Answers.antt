@@ -1,0 +1,5 @@
+use Rattle.proxy_history.proofs.Arrived.{parts_have_arrived as law}
+use Rattle.proxy_history.proofs.laws.parts_have_arrived.Goals as goal
+
+pub returns : goal.returns
+returns c = law

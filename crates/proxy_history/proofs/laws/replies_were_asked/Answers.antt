@@ -1,0 +1,5 @@
+use Rattle.proxy_history.proofs.Asked.{replies_were_asked as law}
+use Rattle.proxy_history.proofs.laws.replies_were_asked.Goals as goal
+
+pub returns : goal.returns
+returns c = law
