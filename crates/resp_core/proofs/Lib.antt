@@ -1,4 +1,5 @@
 pub mod Readers
+pub mod Places
 pub mod Parts
 pub mod Whole
 pub mod Front
@@ -8,3 +9,5 @@ pub mod TreeLemmas
 pub mod RoundTrip
 pub mod StreamLaws
 pub mod Words
+pub mod Lowest
+pub mod LowestInValue
