@@ -11,3 +11,4 @@ pub mod StreamLaws
 pub mod Words
 pub mod Lowest
 pub mod LowestInValue
+pub mod FitsReading
