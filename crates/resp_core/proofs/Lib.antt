@@ -12,3 +12,4 @@ pub mod Words
 pub mod Lowest
 pub mod LowestInValue
 pub mod FitsReading
+pub mod Numbers

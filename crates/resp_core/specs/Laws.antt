@@ -4,6 +4,7 @@ use Rattle.resp_core.specs.Tree.{Tree, is_plain_tree}
 use Rattle.resp_core.specs.Grammar.{IsText, max_text, max_depth}
 use Rattle.resp_core.specs.Text.{text}
 use Rattle.resp_core.specs.Within.{IsWithin}
+use Rattle.resp_core.specs.Refusals.{IsTold}
 use Rattle.resp_core.specs.Stream.{Splits, AreValues, IsRefusedAt, HasRefusal, HasNoRefusal}
 
 -- No text begins another: a text that begins with a text is that text, of the same value.
@@ -21,7 +22,7 @@ OneReading = (most : ℕ) (b : List ℕ) (ts us : List Tree) (rest left : List �
 -- The values of a stream, and whether a byte behind them is refused.
 abbrev pub Holds : ℕ → List ℕ → List Tree → Bool → Type 0
 Holds most b ts false = HasNoRefusal most b ts
-Holds most b ts true = (offset : ℕ) × HasRefusal most b ts offset
+Holds most b ts true = (offset number : ℕ) × HasRefusal most b ts offset number
 
 -- Each stream has its values, and a refused byte or none.
 abbrev pub EachStreamHolds : Type 0
@@ -33,11 +34,19 @@ OneHolding = (most : ℕ) (b : List ℕ) (ts us : List Tree) (refused other : Bo
 
 -- What was refused stays so, whatever comes behind it.
 abbrev pub RefusalStays : Type 0
-RefusalStays = (most : ℕ) (b more : List ℕ) (ts : List Tree) (offset : ℕ) → HasRefusal most b ts offset → HasRefusal most (b ++ more) ts offset
+RefusalStays = (most : ℕ) (b more : List ℕ) (ts : List Tree) (offset number : ℕ) → HasRefusal most b ts offset number → HasRefusal most (b ++ more) ts offset number
 
 -- Of an unfinished value one byte at most is refused.
+abbrev pub OneRefusedByte : Type 0
+OneRefusedByte = (most : ℕ) (rest : List ℕ) (m n : ℕ) → IsRefusedAt most rest m → IsRefusedAt most rest n → m ≡ n
+
+-- A byte is told by one number.
+abbrev pub OneNumber : Type 0
+OneNumber = (most : ℕ) (came : List ℕ) (byte m n : ℕ) → IsTold most came byte m → IsTold most came byte n → m ≡ n
+
+-- A stream has one refusal at most: one offset, and one number.
 abbrev pub OneRefusal : Type 0
-OneRefusal = (most : ℕ) (rest : List ℕ) (m n : ℕ) → IsRefusedAt most rest m → IsRefusedAt most rest n → m ≡ n
+OneRefusal = (most : ℕ) (b : List ℕ) (ts us : List Tree) (offset other number another : ℕ) → HasRefusal most b ts offset number → HasRefusal most b us other another → (offset ≡ other) × (number ≡ another)
 
 -- A stream that goes on keeps the values it had.
 abbrev pub ValuesStay : Type 0

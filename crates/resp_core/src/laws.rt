@@ -1,5 +1,5 @@
 //! Laws of texts and streams, each the contract of a function that does nothing: whoever stands on them calls it.
-ghost use Rattle.resp_core.specs.Laws.{NoTextBeginsAnother, TextIsRead, OneReading, EachStreamHolds, OneHolding, RefusalStays, OneRefusal, ValuesStay, TextIsReadBack};
+ghost use Rattle.resp_core.specs.Laws.{NoTextBeginsAnother, TextIsRead, OneReading, EachStreamHolds, OneHolding, RefusalStays, OneRefusedByte, OneNumber, OneRefusal, ValuesStay, TextIsReadBack};
 
 /// No text begins another, so a stream can be read from its front with no look ahead.
 pub fn no_text_begins_another()
@@ -31,9 +31,11 @@ pub fn one_holding()
     ensures { OneHolding }
 {}
 
-/// One byte at most of an unfinished value is refused.
+/// A stream is refused at one offset at most, and by one number.
 pub fn one_refusal()
-    ensures { OneRefusal }
+    ensures byte { OneRefusedByte }
+    ensures number { OneNumber }
+    ensures refusal { OneRefusal }
 {}
 
 /// What was refused stays refused at the same offset, whatever comes behind it.
