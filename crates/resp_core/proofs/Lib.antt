@@ -7,6 +7,7 @@ pub mod Streams
 pub mod Firsts
 pub mod TreeLemmas
 pub mod RoundTrip
+pub mod Spelling
 pub mod StreamLaws
 pub mod Words
 pub mod Lowest

@@ -1,5 +1,5 @@
 -- The number by which reading refuses a byte is the lowest that fits.
-use Rattle.std.proofs.Common.{◌≡◌, ◌≢◌, ⊎_elim, inl, inr, ℕ, ◌≤◌, List, [], ◌∷◌, ◌++◌, length, refl, sym, ap, ◌∙◌, subst, arith}
+use Rattle.std.proofs.Common.{◌≡◌, ◌≢◌, ◌⊎◌, ⊎_elim, inl, inr, ℕ, ◌≤◌, List, [], ◌∷◌, ◌++◌, length, refl, sym, ap, ◌∙◌, subst, arith}
 use Rattle.resp_core.specs.declared.error.Refusal.{Refusal}
 use Rattle.resp_core.specs.declared.error.Refusal.TheVariants.{BadType, BadLength, BadNumber, BadLineEnd, TooLong, TooDeep}
 use Rattle.resp_core.specs.Offset.{refusal_number}
@@ -48,6 +48,14 @@ module _ (most : ℕ) (came : List ℕ) (c : ℕ) where
     fits = inr (l, refl);
     lowest = λ m. ⊎_elim (λ r. let q = refused_there m r in absurd (well q.0 q.1 q.2)) (λ h. omega (arith, h.1));
   }
+
+pub cases_deep : (w : Refusal) → (w ≡ TooDeep) ⊎ (w ≢ TooDeep)
+cases_deep BadType = inr (λ e. cc)
+cases_deep BadLength = inr (λ e. cc)
+cases_deep BadNumber = inr (λ e. cc)
+cases_deep BadLineEnd = inr (λ e. cc)
+cases_deep TooLong = inr (λ e. cc)
+cases_deep TooDeep = inl refl
 
 -- the other numbers are no higher than that of a value too long
 pub number_le : (w : Refusal) → w ≢ TooDeep → refusal_number w ≤ 106

@@ -14,8 +14,8 @@ use Rattle.resp_core.specs.Front.{IsFirstValue, IsUnfinished, IsFault}
 use Rattle.resp_core.specs.Stream.{HasWhole, Splits, AreValues, IsRefusedAt, HasRefusal, HasNoRefusal, told_offset}
 use Rattle.resp_core.specs.Laws.{NoTextBeginsAnother, Holds, EachStreamHolds, OneHolding, RefusalStays, OneRefusedByte, OneRefusal, ValuesStay, TextIsReadBack}
 use Rattle.resp_core.proofs.Whole.{value-reads, text_nonempty}
-use Rattle.resp_core.proofs.Firsts.{same_front, first_found, first_too_long, first_unfinished, first_unfinished_long, first_refused, first_refused_deep}
-use Rattle.resp_core.proofs.Numbers.{one_number}
+use Rattle.resp_core.proofs.Firsts.{same_front, first_found, first_too_long, first_unfinished, first_unfinished_long, first_told}
+use Rattle.resp_core.proofs.Numbers.{cases_deep, one_number}
 use Rattle.resp_core.proofs.Streams.{splits_fed, splits_more, are_values, no_refusal_of, refusal_of_fault, one_reading}
 use Rattle.resp_core.proofs.RoundTrip.{text_is_read}
 
@@ -58,17 +58,11 @@ module _ (most : ℕ) (held : List ℕ) where
       (λ l. fault max_text 106 (first_unfinished_long most held seen _ split e (length-take-le (max_text + 1) held (omega (arith, l))))) (le_or_lt (length held) max_text)
   stood_by (refused r rest) e =
       elim (cases_eq (length seen - length rest) max_text) [
-        | inl l ↦ at_the_end r rest e l
-        | inr l ↦ fault (length seen - length rest) (refusal_number r) (first_refused most held seen _ split r rest e few_seen (λ m. absurd (l m)))
+        | inl l ↦
+            ⊎_elim (λ h. fault (length seen - length rest) (refusal_number TooLong) (first_told most held seen _ split r TooLong rest e few_seen (inl (h, l, refl))))
+            (λ h. fault (length seen - length rest) (refusal_number r) (first_told most held seen _ split r r rest e few_seen (inr ((λ _. h), refl)))) (cases_deep r)
+        | inr l ↦ fault (length seen - length rest) (refusal_number r) (first_told most held seen _ split r r rest e few_seen (inr ((λ m. absurd (l m)), refl)))
       ]
-    where
-      at_the_end : (r : Refusal) (rest : List ℕ) → value_at most max_depth seen ≡ refused r rest → length seen - length rest ≡ max_text → Stood most held
-      at_the_end TooDeep rest e l = fault (length seen - length rest) 106 (first_refused_deep most held seen _ split rest e few_seen l)
-      at_the_end BadType rest e l = fault (length seen - length rest) 102 (first_refused most held seen _ split BadType rest e few_seen (λ _ f. cc))
-      at_the_end BadLength rest e l = fault (length seen - length rest) 103 (first_refused most held seen _ split BadLength rest e few_seen (λ _ f. cc))
-      at_the_end BadNumber rest e l = fault (length seen - length rest) 104 (first_refused most held seen _ split BadNumber rest e few_seen (λ _ f. cc))
-      at_the_end BadLineEnd rest e l = fault (length seen - length rest) 105 (first_refused most held seen _ split BadLineEnd rest e few_seen (λ _ f. cc))
-      at_the_end TooLong rest e l = fault (length seen - length rest) 106 (first_refused most held seen _ split TooLong rest e few_seen (λ _ f. cc))
 
   stood : Stood most held
   stood = stood_by (value_at most max_depth seen) refl

@@ -15,6 +15,14 @@ NoTextBeginsAnother = (most : ℕ) (b more : List ℕ) (t u : Tree) → IsText m
 abbrev pub TextIsRead : Type 0
 TextIsRead = (most left : ℕ) (t : Tree) → most < 2 ^ 32 → IsWithin most left t → is_plain_tree t ≡ true → IsText most left (text t) t
 
+-- No text of a value is shorter than its one spelling.
+abbrev pub SpellingIsShortest : Type 0
+SpellingIsShortest = (most left : ℕ) (b : List ℕ) (t : Tree) → IsText most left b t → length (text t) ≤ length b
+
+-- A value that has a text is plain and within the limits.
+abbrev pub ReadValuesArePlain : Type 0
+ReadValuesArePlain = (most left : ℕ) (b : List ℕ) (t : Tree) → IsText most left b t → (is_plain_tree t ≡ true) × IsWithin most left t
+
 -- A stream has one list of values, and whatever else it is split into is a beginning of that list.
 abbrev pub OneReading : Type 0
 OneReading = (most : ℕ) (b : List ℕ) (ts us : List Tree) (rest left : List ℕ) → AreValues most b ts rest → Splits most b us left → (more : List Tree) × (ts ≡ us ++ more)

@@ -1,5 +1,5 @@
 //! Laws of texts and streams, each the contract of a function that does nothing: whoever stands on them calls it.
-ghost use Rattle.resp_core.specs.Laws.{NoTextBeginsAnother, TextIsRead, OneReading, EachStreamHolds, OneHolding, RefusalStays, OneRefusedByte, OneNumber, OneRefusal, ValuesStay, TextIsReadBack};
+ghost use Rattle.resp_core.specs.Laws.{NoTextBeginsAnother, TextIsRead, SpellingIsShortest, ReadValuesArePlain, OneReading, EachStreamHolds, OneHolding, RefusalStays, OneRefusedByte, OneNumber, OneRefusal, ValuesStay, TextIsReadBack};
 
 /// No text begins another, so a stream can be read from its front with no look ahead.
 pub fn no_text_begins_another()
@@ -9,6 +9,16 @@ pub fn no_text_begins_another()
 /// The one spelling of a plain value within the limits is a text of it.
 pub fn text_is_read()
     ensures { TextIsRead }
+{}
+
+/// No text of a value is shorter than its one spelling, so what was read and is written again is no longer than it came.
+pub fn spelling_is_shortest()
+    ensures { SpellingIsShortest }
+{}
+
+/// A value that was read is plain and within the limits.
+pub fn read_values_are_plain()
+    ensures { ReadValuesArePlain }
 {}
 
 /// What a plain value within the limits was written as is read as that value, whatever follows it.
