@@ -12,7 +12,7 @@ use Rattle.resp_core.specs.declared.error.Refusal.{Refusal}
 use Rattle.resp_core.specs.declared.error.Refusal.TheVariants.{BadType, BadLength, BadNumber, BadLineEnd, TooLong, TooDeep}
 use Rattle.resp_core.specs.Front.{IsFirstValue, IsUnfinished, IsFault}
 use Rattle.resp_core.specs.Stream.{HasWhole, Splits, AreValues, IsRefusedAt, HasRefusal, HasNoRefusal, told_offset}
-use Rattle.resp_core.specs.Laws.{NoTextBeginsAnother, Holds, EachStreamHolds, OneHolding, RefusalStays, OneRefusedByte, OneRefusal, ValuesStay, TextIsReadBack}
+use Rattle.resp_core.specs.Laws.{NoTextBeginsAnother, Holds, EachStreamHolds, OneHolding, RefusalStays, OneRefusedByte, OneRefusal, ValuesStay, TextIsReadBack, TextIsReadNext}
 use Rattle.resp_core.proofs.Whole.{value-reads, text_nonempty}
 use Rattle.resp_core.proofs.Firsts.{same_front, first_found, first_too_long, first_unfinished, first_unfinished_long, first_told}
 use Rattle.resp_core.proofs.Numbers.{cases_deep, one_number}
@@ -214,3 +214,9 @@ pub text_is_read_back : TextIsReadBack
 text_is_read_back most t more ts r small within plain few h =
     let (rest, f) = values_of most (text t ++ more) ts r h in
     one_reading most (text t ++ more) ts (t ∷ []) rest more f (text t, more, refl, text_is_read most max_depth t small within plain, few, refl)
+
+pub text_is_read_next : TextIsReadNext
+text_is_read_next most b more ts us t r small within plain few g h =
+    let (rest, f) = values_of most b us r h in
+    let q = one_reading most b us (ts ++ t ∷ []) rest more f (splits_more most b (text t ++ more) (text t) more ts t g refl (text_is_read most max_depth t small within plain) few) in
+    (q.0, q.1 ∙ append_assoc ts (t ∷ []) q.0)

@@ -3,6 +3,7 @@ use Rattle.std.specs.Prelude.{◌≡◌, ◌<◌, ◌≤◌, ◌^◌, ℕ, Bool,
 use Rattle.resp_core.specs.Tree.{Tree, is_plain_tree}
 use Rattle.resp_core.specs.Grammar.{IsText, max_text, max_depth}
 use Rattle.resp_core.specs.Text.{text}
+use Rattle.resp_core.specs.Command.{is_command}
 use Rattle.resp_core.specs.Within.{IsWithin}
 use Rattle.resp_core.specs.Refusals.{IsTold}
 use Rattle.resp_core.specs.Stream.{Splits, AreValues, IsRefusedAt, HasRefusal, HasNoRefusal}
@@ -22,6 +23,10 @@ SpellingIsShortest = (most left : ℕ) (b : List ℕ) (t : Tree) → IsText most
 -- A value that has a text is plain and within the limits.
 abbrev pub ReadValuesArePlain : Type 0
 ReadValuesArePlain = (most left : ℕ) (b : List ℕ) (t : Tree) → IsText most left b t → (is_plain_tree t ≡ true) × IsWithin most left t
+
+-- A command is plain: its words are bulk strings.
+abbrev pub CommandsArePlain : Type 0
+CommandsArePlain = (t : Tree) → is_command t ≡ true → is_plain_tree t ≡ true
 
 -- A stream has one list of values, and whatever else it is split into is a beginning of that list.
 abbrev pub OneReading : Type 0
@@ -63,3 +68,7 @@ ValuesStay = (most : ℕ) (b more rest : List ℕ) (ts us : List Tree) (refused 
 -- What was written is read again, whatever follows it.
 abbrev pub TextIsReadBack : Type 0
 TextIsReadBack = (most : ℕ) (t : Tree) (more : List ℕ) (ts : List Tree) (refused : Bool) → most < 2 ^ 32 → IsWithin most max_depth t → is_plain_tree t ≡ true → length (text t) ≤ max_text → Holds most (text t ++ more) ts refused → (others : List Tree) × (ts ≡ t ∷ others)
+
+-- And so it is behind other values: whatever follows, that value comes next.
+abbrev pub TextIsReadNext : Type 0
+TextIsReadNext = (most : ℕ) (b more : List ℕ) (ts us : List Tree) (t : Tree) (refused : Bool) → most < 2 ^ 32 → IsWithin most max_depth t → is_plain_tree t ≡ true → length (text t) ≤ max_text → Splits most b ts (text t ++ more) → Holds most b us refused → (others : List Tree) × (us ≡ ts ++ t ∷ others)

@@ -11,5 +11,5 @@ pub mod Refusals
 pub mod Stream
 pub mod Front
 pub mod Within
-pub mod Laws
 pub mod Command
+pub mod Laws

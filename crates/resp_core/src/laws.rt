@@ -1,5 +1,5 @@
 //! Laws of texts and streams, each the contract of a function that does nothing: whoever stands on them calls it.
-ghost use Rattle.resp_core.specs.Laws.{NoTextBeginsAnother, TextIsRead, SpellingIsShortest, ReadValuesArePlain, OneReading, EachStreamHolds, OneHolding, RefusalStays, OneRefusedByte, OneNumber, OneRefusal, ValuesStay, TextIsReadBack};
+ghost use Rattle.resp_core.specs.Laws.{NoTextBeginsAnother, TextIsRead, SpellingIsShortest, ReadValuesArePlain, CommandsArePlain, OneReading, EachStreamHolds, OneHolding, RefusalStays, OneRefusedByte, OneNumber, OneRefusal, ValuesStay, TextIsReadBack, TextIsReadNext};
 
 /// No text begins another, so a stream can be read from its front with no look ahead.
 pub fn no_text_begins_another()
@@ -21,9 +21,16 @@ pub fn read_values_are_plain()
     ensures { ReadValuesArePlain }
 {}
 
-/// What a plain value within the limits was written as is read as that value, whatever follows it.
+/// A command is plain, so it can be written.
+pub fn commands_are_plain()
+    ensures { CommandsArePlain }
+{}
+
+/// What a plain value within the limits was written as is read as that value, whatever follows it: at the front of a
+/// stream, and behind other values.
 pub fn text_is_read_back()
-    ensures { TextIsReadBack }
+    ensures front { TextIsReadBack }
+    ensures next { TextIsReadNext }
 {}
 
 /// A stream has one list of values, and whatever else it is split into is a beginning of that list.
