@@ -2,7 +2,7 @@ use Rattle.std.proofs.Common.{◌≡◌, ◌+◌, ◌-◌, ℕ, List, length, ta
 use Rattle.std.proofs.lemmas.List.{take_all, length-drop}
 use Rattle.resp_core.specs.Value.{tree_of}
 use Rattle.resp_core.specs.Front.{IsFirstValue, IsUnfinished, IsFault}
-use Rattle.resp_core.specs.Offset.{offset_of}
+use Rattle.resp_core.specs.Offset.{offset_of, number_of, refusal_number}
 use Rattle.resp_core.specs.Stream.{told_offset}
 use Rattle.resp_core.proofs.Streams.{first_value_some, stands_given, stands_told, no_refusal, has_refusal}
 use Rattle.resp_core.proofs.reader.Reader.next_value.Goals as goal
@@ -46,8 +46,8 @@ returns-in-Err-Refused-clause-refused c =
     let i = c.self.inside in
     let v = c.self.view_is in
     let e = tail_is c.deref.result.now i.bytes.items i.start c.deref.ensures.value ∙ ap (λ z. z.held) v in
-    let f = moved (λ m h. IsFault m h c.in-Err-Refused.place) (ap (λ z. z.most) v) e (rw c.in-Err-Refused.field-0-is at c.in-Err-Refused.ensures.refused) in
+    let f = moved (λ m h. IsFault m h c.in-Err-Refused.place (refusal_number c.in-Err-Refused.refusal)) (ap (λ z. z.most) v) e (rw c.in-Err-Refused.field-0-is at c.in-Err-Refused.ensures.refused) in
     let at = c.at-error.ensures.offset ∙ c.saturating_add.ensures ∙ ap (λ z. told_offset (z.consumed + c.in-Err-Refused.place)) v in
     λ ne b ts h.
-    let w = has_refusal c.args.self.now b ts c.in-Err-Refused.place (offset_of c.at-error.result) h f at in
+    let w = has_refusal c.args.self.now b ts c.in-Err-Refused.place (offset_of c.at-error.result) (number_of c.at-error.result) h (subst (λ (z : ℕ). IsFault c.args.self.now.most c.args.self.now.held c.in-Err-Refused.place z) (sym c.at-error.ensures.number) f) at in
     (stands_told c.args.self.now b ts c.at-error.result h _ (ap (λ z. z.most) v) (ap (λ z. z.consumed) v) (ap (λ z. z.held) v) refl w, w)
