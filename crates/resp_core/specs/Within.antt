@@ -1,5 +1,5 @@
 -- The limits that a value keeps.
-use Rattle.std.specs.Prelude.{◌<◌, ◌≤◌, ◌^◌, ℕ, zero, suc, ℤ, pos, negsuc, length}
+use Rattle.std.specs.Prelude.{◌<◌, ◌≤◌, ◌^◌, ℕ, zero, suc, ℤ, pos, negsuc, Bool, nat_lt, length}
 use Rattle.resp_core.specs.Tree.{Tree, Trees, simple, fault, whole, bulk, null_bulk, list, null_list, no_trees, tree, members}
 use Rattle.resp_core.specs.Grammar.{max_line, max_bulk}
 
@@ -7,6 +7,11 @@ use Rattle.resp_core.specs.Grammar.{max_line, max_bulk}
 abbrev pub IsLong : ℤ → Type 0
 IsLong (pos n) = n < 2 ^ 63
 IsLong (negsuc n) = n < 2 ^ 63
+
+-- whether a number is in that range
+abbrev pub is_long : ℤ → Bool
+is_long (pos n) = nat_lt n (2 ^ 63)
+is_long (negsuc n) = nat_lt n (2 ^ 63)
 
 -- lists of at most so many members, of which so many may nest
 abbrev mutual

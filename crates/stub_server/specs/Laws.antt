@@ -4,7 +4,8 @@ use Rattle.std.specs.Fmt.{signed_decimal}
 use Rattle.std.specs.Str.{bytes_eq}
 use Rattle.resp_core.specs.Tree.{Tree}
 use Rattle.stub_server.specs.Map.{Map, value_at, with_value, without, names_key, has_distinct_keys}
-use Rattle.stub_server.specs.Number.{number_in, is_long}
+use Rattle.stub_server.specs.Number.{number_in}
+use Rattle.resp_core.specs.Within.{is_long}
 use Rattle.stub_server.specs.Table.{map_after}
 
 -- After a value was set at a key it is that key's value, and all other keys have the values that they had.

@@ -3,11 +3,7 @@ use Rattle.std.specs.Prelude.{◌<◌, ◌^◌, ℕ, ◌+◌, ◌-◌, ◌==◌,
 use Rattle.std.specs.Fmt.{signed_decimal}
 use Rattle.std.specs.Str.{bytes_eq}
 use Rattle.std.specs.Str.Parse.{signed_digits_value}
-
--- the signed 64-bit range
-abbrev pub is_long : ℤ → Bool
-is_long (pos n) = nat_lt n (2 ^ 63)
-is_long (negsuc n) = nat_lt n (2 ^ 63)
+use Rattle.resp_core.specs.Within.{is_long}
 
 -- the signed 64-bit number whose one spelling these bytes are: decimal, with `-` below zero, without a plus sign and
 -- without leading zeros

@@ -1,0 +1,5 @@
+pub mod Request
+pub mod Split
+pub mod Plan
+pub mod Planned
+pub mod Join
