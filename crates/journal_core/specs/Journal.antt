@@ -1,0 +1,24 @@
+-- What contracts see of a journal, and its limits.
+use Rattle.std.specs.Prelude.{◌⊎◌, ◌+◌, ◌<◌, ◌≤◌, ℕ, List, Option, Some, None, length}
+use Rattle.journal_core.specs.declared.journal.TheConstants.{MAX_STEPS, MAX_BYTES}
+use Rattle.journal_core.specs.declared.step.Step.{Step}
+
+-- the steps, the oldest first; the bytes of payload that they hold; and the bytes of the step for which room was made,
+-- where room was made and no step was added since
+pub record JournalState (E A : Type 0) : Type 0 where
+  pub steps : List (Step E A)
+  pub bytes : ℕ
+  pub room : Option ℕ
+
+-- one more step with so many bytes of payload would pass a limit
+abbrev pub IsFull : {E A : Type 0} → JournalState E A → ℕ → Type 0
+IsFull journal bytes = (MAX_STEPS ≤ length journal.steps) ⊎ (MAX_BYTES < journal.bytes + bytes)
+
+-- so many steps with so many bytes of payload pass no limit
+abbrev pub IsWithinLimits : ℕ → ℕ → Type 0
+IsWithinLimits steps bytes = (steps ≤ MAX_STEPS) × (bytes ≤ MAX_BYTES)
+
+-- where room was made, the places of the steps are more than the steps, and with one more step no limit is passed
+abbrev pub HasRoom : (steps places bytes : ℕ) → Option ℕ → Type 0
+HasRoom steps places bytes None = Unit {0}
+HasRoom steps places bytes (Some more) = (steps < places) × IsWithinLimits (steps + 1) (bytes + more)

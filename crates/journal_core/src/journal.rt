@@ -1,0 +1,110 @@
+//! The journal.
+ghost use Rattle.std.specs.Prelude.{◌≡◌, ◌+◌, ◌≤◌, ◌<◌, ◌↔◌, [], ◌∷◌, ◌++◌, Some, None, length, slice_get, OnOk, OnErr, IfErr, IsErrOf, IsSome};
+ghost use Rattle.std.specs.Option.{option_copied};
+ghost use Rattle.journal_core.specs.Journal.{IsFull};
+
+use crate::error::JournalError;
+use crate::step::Step;
+use std::alloc::Global;
+use std::marker::Model;
+
+/// How many steps a journal may have.
+pub const MAX_STEPS: usize = 262_144;
+
+/// How many bytes of payload the steps of a journal may hold.
+pub const MAX_BYTES: u64 = 67_108_864;
+
+/// Steps in the order in which they were made, with their bytes of payload. None is ever changed or taken out.
+///
+/// Contracts see the steps, the oldest first, their bytes, and what room was made for.
+#[derive(Drop)]
+pub struct Journal<E, A> {
+    steps: Vec<Step<E, A>>,
+    bytes: u64,
+    // The bytes that there is room for, from `room` to `add`.
+    room: Option<u64>,
+}
+
+impl<E, A> Model for Journal<E, A> {
+    ghost use Rattle.std.specs.Prelude.{vec_len, vec_capacity};
+    ghost use Rattle.journal_core.specs.Journal.{JournalState, IsWithinLimits, HasRoom};
+
+    ghost Value = { JournalState E A };
+
+    ghost view = { λ j. record { steps = j.steps.items; bytes = j.bytes; room = j.room } };
+
+    ghost invariant = { λ j. IsWithinLimits (vec_len j.steps) j.bytes × HasRoom (vec_len j.steps) (vec_capacity j.steps) j.bytes j.room };
+}
+
+impl<E, A> Journal<E, A> {
+    /// A journal with no step, which has no room yet.
+    pub fn new(alloc: Global) -> Journal<E, A>
+        ensures steps { result.steps ≡ [] }
+        ensures bytes { result.bytes ≡ 0 }
+        ensures room { result.room ≡ None }
+    {
+        Journal {
+            steps: Vec::new(alloc),
+            bytes: 0,
+            room: None,
+        }
+    }
+
+    /// Makes room for one step with this many bytes of payload, so that the next call may be `add` with as many. Room
+    /// that was made before and not used is given up for it.
+    ///
+    /// Refused 902 (journal full) exactly if 262,144 steps stand or the bytes would be more than 67,108,864, else 901 (no
+    /// memory). After a refusal the journal is unchanged, and so is the room made before.
+    pub fn room(&mut self, bytes: u64) -> Result<(), JournalError>
+        ensures room { OnOk result (self.new.room ≡ Some bytes) }
+        ensures full { IsErrOf result JournalError.JournalFull ↔ IsFull self.old bytes }
+        ensures accepted { OnOk result ((length self.old.steps < MAX_STEPS) × (self.old.bytes + bytes ≤ MAX_BYTES)) }
+        // Where there is room already, no memory is asked for.
+        ensures reserved { IsSome self.old.room → IfErr result (λ e. e ≡ JournalError.JournalFull) }
+        ensures steps { self.new.steps ≡ self.old.steps }
+        ensures bytes { self.new.bytes ≡ self.old.bytes }
+        ensures err { OnErr result (self.new ≡ self.old) }
+    {
+        if self.steps.len() >= MAX_STEPS || bytes > MAX_BYTES - self.bytes {
+            return Err(JournalError::JournalFull);
+        }
+        self.steps.reserve(1)?;
+        self.room = Some(bytes);
+        Ok(())
+    }
+
+    /// Adds a step with this many bytes of payload behind all others, for which room was made. It takes no memory.
+    pub fn add(&mut self, step: Step<E, A>, bytes: u64)
+        requires { self.old.room ≡ Some bytes }
+        ensures steps { self.new.steps ≡ self.old.steps ++ step ∷ [] }
+        ensures bytes { self.new.bytes ≡ self.old.bytes + bytes }
+        ensures room { self.new.room ≡ None }
+    {
+        self.steps.push_reserved(step);
+        self.bytes += bytes;
+        self.room = None;
+    }
+
+    /// How many steps there are, at most 262,144. It takes no memory.
+    pub fn len(&self) -> usize
+        ensures steps { result ≡ length self.now.steps }
+        ensures limit { result ≤ MAX_STEPS }
+    {
+        self.steps.len()
+    }
+
+    /// How many bytes of payload the steps hold, at most 67,108,864. It takes no memory.
+    pub fn bytes(&self) -> u64
+        ensures bytes { result ≡ self.now.bytes }
+        ensures limit { result ≤ MAX_BYTES }
+    {
+        self.bytes
+    }
+
+    /// Step `i`, counted from 0 at the oldest, or `None` where there are no more than `i`. It takes no memory.
+    pub fn get(&self, i: usize) -> Option<&Step<E, A>>
+        ensures { option_copied result ≡ slice_get self.now.steps i }
+    {
+        self.steps.get(i)
+    }
+}
