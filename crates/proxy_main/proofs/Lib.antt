@@ -1,4 +1,2 @@
-pub mod Words
-pub mod Plain
 pub mod Known
-pub mod Answering
+pub mod ReadBack

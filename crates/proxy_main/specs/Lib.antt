@@ -1,6 +1,3 @@
 pub mod Ending
 pub mod Request
-pub mod Plan
-pub mod Planned
-pub mod Reply
-pub mod Stream
+pub mod Sendable

@@ -1,7 +1,7 @@
 //! A reader of a stream that comes in pieces.
 ghost use Rattle.std.specs.Prelude.{◌≡◌, ◌≢◌, ◌⊎◌, ◌∷◌, ◌++◌, [], Ok, Err, Some, None, OnOk, OnErr, IfOk, IfErr, IfSome, IfNone, IsErrOf, ◌<◌, ◌^◌, length, List, ℕ};
 ghost use Rattle.resp_core.specs.Tree.{Tree};
-ghost use Rattle.resp_core.specs.Stream.{Stands, HasRefusal, HasNoRefusal};
+ghost use Rattle.resp_core.specs.Stream.{Stands, IsFront, HasRefusal, HasNoRefusal};
 ghost use Rattle.resp_core.specs.Offset.{offset_of, number_of};
 ghost use Rattle.resp_core.specs.Value.{tree_of};
 ghost use Rattle.resp_core.specs.Front.{IsFirstValue, IsUnfinished, IsHaltOf};
@@ -123,6 +123,7 @@ impl Reader {
     pub fn next_value(&mut self) -> Result<Option<Value>, RespError>
         ensures value { IfOk result (λ o. IfSome o (λ v. (b : List ℕ) (ts : List Tree) → Stands self.old b ts
             → Stands self.new b (ts ++ tree_of v ∷ []))) }
+        ensures front { IfOk result (λ o. IfSome o (λ v. IsFront self.old.most self.old.held (tree_of v) self.new.held)) }
         ensures shorter { IfOk result (λ o. IfSome o (λ _. length self.new.held < length self.old.held)) }
         ensures none { IfOk result (λ o. IfNone o ((b : List ℕ) (ts : List Tree) → Stands self.old b ts
             → HasNoRefusal self.old.most b ts)) }

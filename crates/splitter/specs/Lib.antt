@@ -1,5 +1,6 @@
 pub mod Request
 pub mod Split
 pub mod Plan
+pub mod Commands
 pub mod Planned
 pub mod Join

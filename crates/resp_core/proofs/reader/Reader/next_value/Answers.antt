@@ -1,5 +1,5 @@
-use Rattle.std.proofs.Common.{◌≡◌, ◌+◌, ◌-◌, ℕ, List, length, take, refl, sym, ap, ◌∙◌, drop, drop-drop, subst, arith}
-use Rattle.std.proofs.lemmas.List.{take_all, length-drop}
+use Rattle.std.proofs.Common.{◌≡◌, ◌+◌, ◌-◌, ◌++◌, ℕ, List, length, take, refl, sym, ap, ◌∙◌, drop, drop-drop, subst, arith}
+use Rattle.std.proofs.lemmas.List.{take_all, length-drop, take-append-drop, length-take-le}
 use Rattle.resp_core.specs.Value.{tree_of}
 use Rattle.resp_core.specs.Front.{IsFirstValue, IsUnfinished, IsFault}
 use Rattle.resp_core.specs.Offset.{offset_of, number_of, refusal_number}
@@ -32,6 +32,16 @@ returns-in-Ok-Some-clause-shorter c =
     let e = tail_is c.deref.result.now i.bytes.items i.start c.deref.ensures.value ∙ ap (λ z. z.held) v in
     let f = moved (λ m h. IsFirstValue m h (tree_of c.in-Ok-Some.value) c.in-Ok-Some.len) (ap (λ z. z.most) v) e (rw c.in-Ok-Some.field-0-is at c.in-Ok-Some.ensures.found) in
     omega (arith, length-drop (i.start + c.in-Ok-Some.len) i.bytes.items, length-drop i.start i.bytes.items, ap (λ z. length z.held) v, f.inside, first_value_some c.args.self.now.most c.args.self.now.held (tree_of c.in-Ok-Some.value) c.in-Ok-Some.len f)
+
+pub returns-in-Ok-Some-clause-front : goal.returns-in-Ok-Some-clause-front
+returns-in-Ok-Some-clause-front c =
+    let i = c.self.inside in
+    let v = c.self.view_is in
+    let e = tail_is c.deref.result.now i.bytes.items i.start c.deref.ensures.value ∙ ap (λ z. z.held) v in
+    let f = moved (λ m h. IsFirstValue m h (tree_of c.in-Ok-Some.value) c.in-Ok-Some.len) (ap (λ z. z.most) v) e (rw c.in-Ok-Some.field-0-is at c.in-Ok-Some.ensures.found) in
+    let rest : drop c.in-Ok-Some.len c.args.self.now.held ≡ drop (i.start + c.in-Ok-Some.len) i.bytes.items = sym (ap (λ z. drop c.in-Ok-Some.len z.held) v) ∙ drop-drop c.in-Ok-Some.len i.start i.bytes.items in
+    (take c.in-Ok-Some.len c.args.self.now.held, sym (take-append-drop c.in-Ok-Some.len c.args.self.now.held) ∙ ap (λ z. take c.in-Ok-Some.len c.args.self.now.held ++ z) rest,
+     f.text, omega (arith, f.few, length-take-le c.in-Ok-Some.len c.args.self.now.held f.inside))
 
 pub returns-in-Ok-None-clause-none : goal.returns-in-Ok-None-clause-none
 returns-in-Ok-None-clause-none c =
