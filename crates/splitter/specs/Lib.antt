@@ -3,4 +3,6 @@ pub mod Split
 pub mod Plan
 pub mod Commands
 pub mod Planned
+pub mod Part
 pub mod Join
+pub mod Refusal
