@@ -1,9 +1,56 @@
 //! `redproxy`: a proxy that clients speak to as to one Redis server.
 #![tactic(auto)]
+
+mod command_line;
 mod ending;
 mod host;
+mod local;
+mod reply;
+#[cfg(test)]
+mod tests;
+
+use command_line::{Asked, Refused};
+use ending::Ending;
 use std::process::ExitCode;
+use std::rt::Runtime;
+use std::{env, io};
+
+// The status of a command line that asks for nothing that can be done.
+const BAD_COMMAND_LINE: u8 = 2;
+
+// Serves the one client on standard input and output, and gives the status.
+fn run_local<R: Runtime + AllocGlobal>(rt: &R) -> u8 {
+    match local::local_run(rt.alloc(), &mut rt.reader(), &mut io::writer(rt)) {
+        Ok(()) => 0,
+        Err(ending) => ended(rt, ending),
+    }
+}
+
+// Tells why the program ends, and gives the status.
+fn ended<R: Eprint>(rt: &R, ending: Ending) -> u8 {
+    let _ = eprintln!(rt; "{ending}");
+    ending.status()
+}
+
+fn run<R: Runtime + AllocGlobal>(rt: &R) -> u8 {
+    let Ok(words) = env::args(rt) else {
+        let _ = eprintln!(rt; "error: the arguments are not UTF-8");
+        return BAD_COMMAND_LINE;
+    };
+    let Ok(words) = words.collect::<Vec<String>>(rt.alloc()) else {
+        return ended(rt, Ending::Memory);
+    };
+    match command_line::read(rt.alloc(), words.as_slice()) {
+        Ok(Asked::Local) => run_local(rt),
+        Err(Refused::Memory) => ended(rt, Ending::Memory),
+        Err(Refused::ByParser(error)) => match error.print(rt) {
+            Ok(()) if error.exit_code() == 0 => 0,
+            Ok(()) => BAD_COMMAND_LINE,
+            Err(_) => ended(rt, Ending::Socket),
+        },
+    }
+}
+
 fn main(rt: HostRuntime) -> ExitCode {
-    let mut host = host::Host::new(rt.alloc());
-    ExitCode::from(0)
+    ExitCode::from(run(&rt))
 }
