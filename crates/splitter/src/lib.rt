@@ -4,8 +4,16 @@
 //! and the rules of the joins are this project's own profile.
 #![tactic(auto)]
 
-mod plan;
+mod error;
+mod joining;
+mod local;
+mod parts;
+mod plans;
+mod planning;
 mod request;
 
-pub use plan::{Join, Local, PartPlan, PartPlans, Plan};
+pub use error::SplitError;
+pub use joining::join;
+pub use plans::{Join, Local, PartPlan, PartPlans, Plan};
+pub use planning::plan;
 pub use request::Request;

@@ -55,7 +55,7 @@ pub struct PartPlans(pub Vec<PartPlan>);
 
 impl Model for PartPlans {
     ghost use Rattle.std.specs.Prelude.{List};
-    ghost use Rattle.splitter.specs.declared.plan.PartPlan.{PartPlan};
+    ghost use Rattle.splitter.specs.declared.plans.PartPlan.{PartPlan};
 
     ghost Value = { List PartPlan };
 

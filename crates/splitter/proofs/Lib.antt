@@ -1,0 +1,4 @@
+pub mod PartTexts
+pub mod Totals
+pub mod KnownRows
+pub mod PlanLemmas
