@@ -107,7 +107,7 @@ module _ (r s s' : ReaderState) (m m' m'' : Map) (out mid out' : List ℕ) (q : 
           (map read k.0 ++ end_of refused, is ∙ ap (λ z. map read z ++ end_of refused) k.1 ∙ values ts us t k.0 (end_of refused))
       first broken next b ts us h more all (vs, refused, holds, is) =
           let g = next b (ts ++ us) h in
-          let k = one_holding client_limit (b ++ more) vs (ts ++ us) refused true holds (g.0, refusal_stays client_limit b more (ts ++ us) g.0 g.1) in
+          let k = one_holding client_limit (b ++ more) vs (ts ++ us) refused true holds (g.0, g.1, refusal_stays client_limit b more (ts ++ us) g.0 g.1 g.2) in
           ([], is ∙ ap (λ z. map read z ++ end_of refused) k.0 ∙ ap (λ z. map read (ts ++ us) ++ end_of z) k.1 ∙ ap (λ z. z ++ broken ∷ []) (map-append read ts us) ∙ sym (append-nil _))
 
 -- the reader has given all that came

@@ -20,7 +20,7 @@ AreFirst b rs = (more : List ℕ) (all : List Request) → AreRequests (b ++ mor
 -- From one state of a reader to the next it gave this request, for which it takes bytes of those that it held.
 abbrev pub IsNext : ReaderState → ReaderState → Request → Type 0
 IsNext r s (read t) = (length s.held < length r.held) × ((b : List ℕ) (ts : List Tree) → Stands r b ts → Stands s b (ts ++ t ∷ []))
-IsNext r s broken = (b : List ℕ) (ts : List Tree) → Stands r b ts → (offset : ℕ) × HasRefusal client_limit b ts offset
+IsNext r s broken = (b : List ℕ) (ts : List Tree) → Stands r b ts → (offset number : ℕ) × HasRefusal client_limit b ts offset number
 
 -- The reader has given all values that came whole, and nothing behind them is refused.
 abbrev pub IsAnswered : ReaderState → ReaderState → Type 0
