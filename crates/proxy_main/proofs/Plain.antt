@@ -5,11 +5,12 @@ use Rattle.std.specs.Str.{str_to_ascii_lowercase, bytes_eq}
 use Rattle.std.proofs.lemmas.Bool.{cases_Bool, and_parts}
 use Rattle.std.proofs.lemmas.Bool.Decides.{leb_tells}
 use Rattle.std.proofs.lemmas.List.Folds.{list_all-append}
-use Rattle.resp_core.specs.Tree.{Tree, Trees, simple, fault, whole, bulk, null_bulk, list, null_list, no_trees, tree, members, is_text_byte, is_plain_tree, are_plain_trees}
+use Rattle.resp_core.specs.Tree.{Tree, fault, is_text_byte, is_plain_tree}
 use Rattle.command_table.specs.Table.{Row, rows, row_named}
 use Rattle.command_table.specs.declared.Kind.{Kind}
 use Rattle.command_table.specs.declared.Kind.TheVariants.{Ping, Echo, Quit, One}
-use Rattle.resp_core.specs.Command.{is_bulk, is_command, words_of, word}
+use Rattle.resp_core.specs.Command.{is_command, words_of, word}
+use Rattle.resp_core.proofs.Words.{commands_are_plain}
 use Rattle.proxy_main.specs.Request.{Request, read, broken}
 use Rattle.proxy_main.specs.Plan.{Plan, here, leave, host, shown_byte, shown, takes, plan_by_kind, plan_by_row, plan_of}
 use Rattle.proxy_main.specs.Reply.{asked}
@@ -127,34 +128,10 @@ plain_by_plan m t host h = plain_host m t
 pub plain_outcome : (m : Map) (r : Request) → is_plain_tree (replies.outcome m r).answer ≡ true
 plain_outcome m r = plain_by_plan m (asked r) (plan_of r) (plain_plan r)
 
--- and a command itself
-plain_bulks : (ts : Trees) → list_all is_bulk (members ts) ≡ true → are_plain_trees ts ≡ true
-plain_bulks no_trees h = refl
-plain_bulks (tree t ts) h =
-    let parts = and_parts (is_bulk t) (list_all is_bulk (members ts)) h in
-    both (is_plain_tree t) (are_plain_trees ts) (plain_bulk_tree t parts.0) (plain_bulks ts parts.1)
-  where
-    plain_bulk_tree : (t : Tree) → is_bulk t ≡ true → is_plain_tree t ≡ true
-    plain_bulk_tree (simple s) h = absurd cc
-    plain_bulk_tree (fault s) h = absurd cc
-    plain_bulk_tree (whole n) h = refl
-    plain_bulk_tree (bulk s) h = refl
-    plain_bulk_tree null_bulk h = refl
-    plain_bulk_tree (list us) h = absurd cc
-    plain_bulk_tree null_list h = refl
-
-plain_command : (t : Tree) → is_command t ≡ true → is_plain_tree t ≡ true
-plain_command (simple s) h = absurd cc
-plain_command (fault s) h = absurd cc
-plain_command (whole n) h = refl
-plain_command (bulk s) h = refl
-plain_command null_bulk h = refl
-plain_command (list ts) h = plain_bulks ts (and_parts _ (list_all is_bulk (members ts)) h).1
-plain_command null_list h = refl
-
+-- so can a command
 pub plain_asked : (t : Tree) → plan_of (read t) ≡ host → is_plain_tree t ≡ true
 plain_asked t h =
     elim (cases_Bool (is_command t)) [
-      | inl f ↦ plain_command t f
+      | inl f ↦ commands_are_plain t f
       | inr f ↦ let g : here (fault (codes "invalid request")) ≡ host = rw f at h in absurd cc
     ]
