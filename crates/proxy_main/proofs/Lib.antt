@@ -1,2 +1,5 @@
 pub mod Known
 pub mod ReadBack
+pub mod Gathered
+pub mod Plain
+pub mod Answering
