@@ -6,6 +6,7 @@
 
 mod error;
 mod joining;
+mod laws;
 mod local;
 mod parts;
 mod plans;
@@ -14,6 +15,10 @@ mod request;
 
 pub use error::SplitError;
 pub use joining::join;
+pub use laws::{
+    joins_of_plain_values_are_plain, parts_are_commands, parts_are_read_back, parts_keep_limits,
+    plan_texts_are_plain,
+};
 pub use plans::{Join, Local, PartPlan, PartPlans, Plan};
 pub use planning::plan;
 pub use request::Request;
