@@ -4,3 +4,4 @@ pub mod KnownRows
 pub mod PlanLemmas
 pub mod PlainLaws
 pub mod PartLaws
+pub mod CommandLaws

@@ -33,22 +33,22 @@ use Rattle.splitter.proofs.PartTexts.{command_of-payloads, plain_words}
 use Rattle.splitter.proofs.PlanLemmas.{one_inside}
 
 -- what holds of each element, by recursion
-all_none : {X : Type 0} (P : X → Type 0) → All P []
+pub all_none : {X : Type 0} (P : X → Type 0) → All P []
 all_none P k d l = absurd (omega (arith, l))
 
-all_more : {X : Type 0} (P : X → Type 0) (x : X) (xs : List X) → P x → All P xs → All P (x ∷ xs)
+pub all_more : {X : Type 0} (P : X → Type 0) (x : X) (xs : List X) → P x → All P xs → All P (x ∷ xs)
 all_more P x xs h g zero d l = h
 all_more P x xs h g (suc k) d l = g k d (omega (arith, l))
 
-all_made : {X Y : Type 0} (P : Y → Type 0) (f : X → Y) (xs : List X) → All (λ x. P (f x)) xs → All P (map f xs)
+pub all_made : {X Y : Type 0} (P : Y → Type 0) (f : X → Y) (xs : List X) → All (λ x. P (f x)) xs → All P (map f xs)
 all_made P f [] h = all_none P
 all_made P f (x ∷ xs) h = all_more P (f x) (map f xs) (h zero x (omega arith)) (all_made P f xs (λ k d l. h (suc k) d (omega (arith, l))))
 
 -- the bytes of a word's text, and of the texts of words
-word_len : List ℕ → ℕ
+pub word_len : List ℕ → ℕ
 word_len w = length (text (bulk w))
 
-words_len : Words → ℕ
+pub words_len : Words → ℕ
 words_len ws = length (texts (trees_of (map bulk ws)))
 
 word_len-is : (w : List ℕ) → word_len w ≡ length (decimal (length w)) + length w + 5
@@ -95,6 +95,10 @@ command_of-is ws l =
 abbrev IsPartOf : Words → PartPlan → Type 0
 IsPartOf ws p = (words : Words) × IsPart p words × (IsWithin client_members max_depth (command_of ws) → IsWithin client_members max_depth (command_of words) × (length p.text ≤ length (text (command_of ws))))
 
+-- these words make a command that keeps the limits that the command of those words keeps, and is no longer
+abbrev pub Keeps : Words → Words → Type 0
+Keeps ws words = IsWithin client_members max_depth (command_of ws) → IsWithin client_members max_depth (command_of words) × (length (text (command_of words)) ≤ length (text (command_of ws)))
+
 whole_part : (ws : Words) (at : ℕ) → 0 < at → at < length ws → IsPartOf ws (part_at at ws)
 whole_part ws at low high = (
   ws,
@@ -126,54 +130,60 @@ pair_text_short w0 rest name key value short long some =
     omega (arith, command_len (name ∷ key ∷ value ∷ []), command_len (w0 ∷ rest), words_len-more name (key ∷ value ∷ []), words_len-more key (value ∷ []), words_len-more value [], words_len-none, words_len-more w0 rest, short, long, some, one_digit.1)
 
 -- the name that a part has in place of the first word
-record Names (name w0 : List ℕ) : Type 0 where
-  small : length name ≤ length w0
-  short : length w0 ≤ max_bulk → word_len name ≤ word_len w0
+pub record Names (name w0 : List ℕ) : Type 0 where
+  pub small : length name ≤ length w0
+  pub short : length w0 ≤ max_bulk → word_len name ≤ word_len w0
 
--- a part of a key alone
+-- a key alone
+pub key_keeps : (w0 : List ℕ) (rest : Words) (name : List ℕ) → Names name w0 → (k : ℕ) (d : List ℕ) → k < length rest → Keeps (w0 ∷ rest) (name ∷ get_or rest k d ∷ [])
+key_keeps w0 rest name n k d l = λ h. (
+    (omega arith, (omega (arith, n.small, h.1.0), (word_within client_members 7 rest k d h.1.1 l, tt))),
+    key_text_short w0 rest name (get_or rest k d) (n.short h.1.0) (word_short rest k d l) (counted (w0 ∷ rest) h),
+  )
+
 key_part : (w0 : List ℕ) (rest : Words) (name : List ℕ) → Names name w0 → (k : ℕ) (d : List ℕ) → k < length rest → IsPartOf (w0 ∷ rest) (part_at 1 (name ∷ get_or rest k d ∷ []))
 key_part w0 rest name n k d l = (
   name ∷ get_or rest k d ∷ [],
   record { command = refl; key_at = 1; behind_name = omega arith; inside = omega arith; part_is = refl },
-  λ h. (
-    (omega arith, (omega (arith, n.small, h.1.0), (word_within client_members 7 rest k d h.1.1 l, tt))),
-    key_text_short w0 rest name (get_or rest k d) (n.short h.1.0) (word_short rest k d l) (counted (w0 ∷ rest) h),
-  ),
+  key_keeps w0 rest name n k d l,
 )
 
 -- what holds of a key and its value among words
-abbrev IsPairIn : Words → List ℕ × List ℕ → Type 0
+abbrev pub IsPairIn : Words → List ℕ × List ℕ → Type 0
 IsPairIn ws p = (AreWithin client_members 7 (trees_of (map bulk ws)) → (length p.0 ≤ max_bulk) × (length p.1 ≤ max_bulk)) × (word_len p.0 + word_len p.1 ≤ words_len ws)
 
 pair_further : (a b : List ℕ) (ws : Words) (p : List ℕ × List ℕ) → IsPairIn ws p → IsPairIn (a ∷ b ∷ ws) p
 pair_further a b ws p h = (λ g. h.0 g.1.1, omega (arith, h.1, words_len-more a (b ∷ ws), words_len-more b ws))
 
-pairs_in : (ws : Words) → All (IsPairIn ws) (pairs ws)
+pub pairs_in : (ws : Words) → All (IsPairIn ws) (pairs ws)
 pairs_in [] = all_none (IsPairIn [])
 pairs_in (a ∷ []) = all_none (IsPairIn (a ∷ []))
 pairs_in (a ∷ b ∷ ws) =
     all_more (IsPairIn (a ∷ b ∷ ws)) (a, b) (pairs ws) (λ g. (g.0, g.1.0), omega (arith, words_len-more a (b ∷ ws), words_len-more b ws))
     (λ k d l. pair_further a b ws (get_or (pairs ws) k d) (pairs_in ws k d l))
 
--- a part of a key and its value
+-- a key and its value
+pub pair_keeps : (w0 : List ℕ) (rest : Words) (name : List ℕ) (p : List ℕ × List ℕ) → Names name w0 → IsPairIn rest p → Keeps (w0 ∷ rest) (name ∷ p.0 ∷ p.1 ∷ [])
+pair_keeps w0 rest name p n g = λ h. (
+    (omega arith, (omega (arith, n.small, h.1.0), ((g.0 h.1.1).0, ((g.0 h.1.1).1, tt)))),
+    pair_text_short w0 rest name p.0 p.1 (n.short h.1.0) g.1 (counted (w0 ∷ rest) h),
+  )
+
 pair_part : (w0 : List ℕ) (rest : Words) (name : List ℕ) (p : List ℕ × List ℕ) → Names name w0 → IsPairIn rest p → IsPartOf (w0 ∷ rest) (part_at 1 (name ∷ p.0 ∷ p.1 ∷ []))
 pair_part w0 rest name p n g = (
   name ∷ p.0 ∷ p.1 ∷ [],
   record { command = refl; key_at = 1; behind_name = omega arith; inside = omega arith; part_is = refl },
-  λ h. (
-    (omega arith, (omega (arith, n.small, h.1.0), ((g.0 h.1.1).0, ((g.0 h.1.1).1, tt)))),
-    pair_text_short w0 rest name p.0 p.1 (n.short h.1.0) g.1 (counted (w0 ∷ rest) h),
-  ),
+  pair_keeps w0 rest name p n g,
 )
 
 -- names of three bytes in place of longer ones, and names of the same length
-three_names : (name w0 : List ℕ) → length name ≡ 3 → 2 < length w0 → Names name w0
+pub three_names : (name w0 : List ℕ) → length name ≡ 3 → 2 < length w0 → Names name w0
 three_names name w0 e l = record {
   small = omega (arith, e, l);
   short = λ h. omega (arith, word_len-is name, word_len-is w0, ap (λ z. length (decimal z)) e, one_digit.1, some_digit (length w0) (omega (arith, h)), e, l);
 }
 
-same_names : (name w0 : List ℕ) → length name ≡ length w0 → Names name w0
+pub same_names : (name w0 : List ℕ) → length name ≡ length w0 → Names name w0
 same_names name w0 e = record {
   small = omega (arith, e);
   short = λ h. omega (arith, word_len-is name, word_len-is w0, ap (λ z. length (decimal z)) e, e);
@@ -251,7 +261,7 @@ trees_members no_trees = refl
 trees_members (tree t ts) = ap (tree t) (trees_members ts)
 
 -- a command is that of its words
-command_words : (t : Tree) → is_command t ≡ true → t ≡ command_of (words_of t)
+pub command_words : (t : Tree) → is_command t ≡ true → t ≡ command_of (words_of t)
 command_words (simple s) h = absurd cc
 command_words (fault s) h = absurd cc
 command_words (whole n) h = absurd cc
@@ -260,7 +270,7 @@ command_words null_bulk h = absurd cc
 command_words (list ts) h = sym (command_of-payloads (members ts) h ∙ ap list (trees_members ts))
 command_words null_list h = absurd cc
 
-some_words : (t : Tree) → is_command t ≡ true → 0 < length (words_of t)
+pub some_words : (t : Tree) → is_command t ≡ true → 0 < length (words_of t)
 some_words (simple s) h = absurd cc
 some_words (fault s) h = absurd cc
 some_words (whole n) h = absurd cc

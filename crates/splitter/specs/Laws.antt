@@ -1,5 +1,5 @@
 -- Laws of plans and joins, for whoever stands on them.
-use Rattle.std.specs.Prelude.{◌≡◌, ◌<◌, ◌≤◌, ℕ, Bool, true, List, ◌∷◌, ◌++◌, All, length}
+use Rattle.std.specs.Prelude.{◌≡◌, ◌<◌, ◌≤◌, ℕ, Bool, true, List, ◌∷◌, ◌++◌, All, length, map}
 use Rattle.std.specs.List.{list_all}
 use Rattle.resp_core.specs.Tree.{Tree, is_plain_tree}
 use Rattle.resp_core.specs.Text.{text}
@@ -12,6 +12,7 @@ use Rattle.splitter.specs.declared.plans.PartPlan.{PartPlan}
 use Rattle.splitter.specs.Request.{Request, read}
 use Rattle.splitter.specs.Plan.{Plan, here, leave, parts, plan_of}
 use Rattle.splitter.specs.Split.{Words, command_of, part_at}
+use Rattle.splitter.specs.Commands.{commands_of}
 use Rattle.splitter.specs.Join.{MayJoin, join_of}
 
 -- the part of a command of these words: its text is that command's, and its key is one of them, behind the name
@@ -33,6 +34,14 @@ client_members = 1024
 -- The parts of a command that keeps a client's limits keep them too, and none has a longer text than the command.
 abbrev pub PartsKeepLimits : Type 0
 PartsKeepLimits = (t : Tree) (how : Join) (ps : List PartPlan) → plan_of (read t) ≡ parts how ps → IsWithin client_members max_depth t → All (λ p. (words : Words) × IsPart p words × IsWithin client_members max_depth (command_of words) × (length p.text ≤ length (text t))) ps
+
+-- Parts are those of the commands that hosts are asked for a request.
+abbrev pub PartsAreOfCommands : Type 0
+PartsAreOfCommands = (r : Request) (how : Join) (ps : List PartPlan) → plan_of r ≡ parts how ps → (key_at : ℕ) × (ps ≡ map (part_at key_at) (commands_of r))
+
+-- The commands that hosts are asked for a command that keeps a client's limits keep them too, and none is longer than it.
+abbrev pub CommandsKeepLimits : Type 0
+CommandsKeepLimits = (t : Tree) → IsWithin client_members max_depth t → All (λ words. IsWithin client_members max_depth (command_of words) × (length (text (command_of words)) ≤ length (text t))) (commands_of (read t))
 
 -- whatever follows these bytes in a stream, under a client's limits its first value is this one
 abbrev pub IsReadFirst : List ℕ → Tree → Type 0

@@ -1,5 +1,5 @@
 //! Laws of plans and joins, each the contract of a function that does nothing: whoever stands on them calls it.
-ghost use Rattle.splitter.specs.Laws.{PartsAreCommands, PartsKeepLimits, PartsAreReadBack, PlanTextsArePlain, JoinsOfPlainValuesArePlain};
+ghost use Rattle.splitter.specs.Laws.{CommandsKeepLimits, PartsAreCommands, PartsAreOfCommands, PartsKeepLimits, PartsAreReadBack, PlanTextsArePlain, JoinsOfPlainValuesArePlain};
 
 /// The parts of a command are as many as their join asks for, and the text of each is that of a command of words, among
 /// which its key is, behind the name.
@@ -11,6 +11,17 @@ pub fn parts_are_commands()
 /// than the command's.
 pub fn parts_keep_limits()
     ensures { PartsKeepLimits }
+{}
+
+/// The parts of a command are those of the commands that hosts are asked for it, in their order.
+pub fn parts_are_of_commands()
+    ensures { PartsAreOfCommands }
+{}
+
+/// The commands that hosts are asked for a command that keeps the limits on what a client may send keep them too, and none
+/// has a longer text.
+pub fn commands_keep_limits()
+    ensures { CommandsKeepLimits }
 {}
 
 /// A host that reads with a client's limits reads the text of a part as the part's command, whatever follows it, where the

@@ -16,8 +16,8 @@ mod request;
 pub use error::SplitError;
 pub use joining::join;
 pub use laws::{
-    joins_of_plain_values_are_plain, parts_are_commands, parts_are_read_back, parts_keep_limits,
-    plan_texts_are_plain,
+    commands_keep_limits, joins_of_plain_values_are_plain, parts_are_commands,
+    parts_are_of_commands, parts_are_read_back, parts_keep_limits, plan_texts_are_plain,
 };
 pub use plans::{Join, Local, PartPlan, PartPlans, Plan};
 pub use planning::plan;
