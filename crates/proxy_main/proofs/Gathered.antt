@@ -74,7 +74,7 @@ accepted-one q q' c e f = f ∙ ap (λ z. z ++ c ∷ []) e
 pub accepted-first : (q q' : QueueState) (command : ℕ) → q.commands ≡ [] → command ≡ q.popped + length q.commands → q'.popped ≡ q.popped → command ≡ q'.popped
 accepted-first q q' command e f g = let h : length q.commands ≡ 0 = ap length e in omega (arith, f, g, h)
 
-some_same : (a b : Tree) → Some a ≡ Some b → a ≡ b
+pub some_same : (a b : Tree) → Some a ≡ Some b → a ≡ b
 some_same a b e = cc
 
 -- what a reply is, by what is told of it

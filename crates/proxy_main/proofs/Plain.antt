@@ -1,13 +1,19 @@
 -- Each reply can be written: it has no CR and no LF in a line.
 use Rattle.std.proofs.Common.{◌≡◌, ℕ, ℤ, Bool, true, List, [], ◌∷◌, Option, Some, None, map, length, inl, inr, refl}
+use Rattle.std.specs.List.{list_all}
 use Rattle.std.proofs.lemmas.Bool.{cases_Bool}
 use Rattle.resp_core.specs.Tree.{Tree, is_plain_tree}
 use Rattle.resp_core.specs.Command.{is_command, words_of, word}
+use Rattle.splitter.specs.Request.{Request}
+use Rattle.splitter.specs.Plan.{Plan, here, leave, parts, plan_of}
+use Rattle.splitter.specs.Laws.{has_plain_value}
+use Rattle.splitter.proofs.PlainLaws.{plan_texts_are_plain, joins_of_plain_values_are_plain}
+use Rattle.proxy_main.specs.Reply as replies
 use Rattle.stub_server.specs.Map.{Map, value_at}
 use Rattle.stub_server.specs.Number.{one_more}
 use Rattle.stub_server.specs.Command.{command_named}
 use Rattle.stub_server.specs.Command as commands
-use Rattle.stub_server.specs.Table.{bulk_of, counted, incremented, number_at, outcome_by, outcome_named, outcome_of}
+use Rattle.stub_server.specs.Table.{answers_of, map_after, bulk_of, counted, incremented, number_at, outcome_by, outcome_named, outcome_of}
 use Rattle.stub_server.specs.declared.command.Command.{Command}
 use Rattle.stub_server.specs.declared.command.Command.TheVariants.{Get, Set, Del, Exists, Incr}
 
@@ -46,3 +52,17 @@ plain_host m t =
       | inl f ↦ rw f (plain_named m (command_named (word (words_of t) 0)) (words_of t))
       | inr f ↦ rw f refl
     ]
+
+-- ALL REPLIES
+
+plain_answers : (m : Map) (ts : List Tree) → list_all is_plain_tree (answers_of m ts) ≡ true
+plain_answers m [] = refl
+plain_answers m (t ∷ ts) = rw (plain_host m t, plain_answers (map_after m t) ts) refl
+
+plain_by_plan : (m : Map) (ts : List Tree) (p : Plan) → has_plain_value p ≡ true → is_plain_tree (replies.outcome_by m ts p).answer ≡ true
+plain_by_plan m ts (here name v) h = h
+plain_by_plan m ts (leave name v) h = h
+plain_by_plan m ts (parts how ps) h = joins_of_plain_values_are_plain how (answers_of m ts) (plain_answers m ts)
+
+pub plain_outcome : (m : Map) (r : Request) → is_plain_tree (replies.outcome m r).answer ≡ true
+plain_outcome m r = plain_by_plan m (replies.asked r) (plan_of r) (plan_texts_are_plain r)

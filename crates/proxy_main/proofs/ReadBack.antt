@@ -3,7 +3,9 @@ use Rattle.std.proofs.Common.{◌≡◌, ◌<◌, ◌^◌, ℕ, Bool, true, fals
 use Rattle.resp_core.specs.Tree.{Tree}
 use Rattle.resp_core.specs.Text.{text}
 use Rattle.resp_core.specs.Laws.{Holds}
-use Rattle.resp_core.specs.Stream.{Splits, HasNoRefusal, HasRefusal}
+use Rattle.resp_core.specs.Stream.{Splits, IsFront, HasNoRefusal, HasRefusal}
+use Rattle.resp_core.specs.Grammar.{max_depth}
+use Rattle.resp_core.proofs.Spelling.{spelling_is_shortest, read_values_are_plain}
 use Rattle.resp_core.proofs.StreamLaws.{each_stream_holds, values_stay, text_is_read_back}
 use Rattle.proxy_main.specs.Request.{client_limit}
 use Rattle.proxy_main.specs.Sendable.{IsSendable}
@@ -28,3 +30,9 @@ module _ (t : Tree) (h : IsSendable t) where
       let g = values_stay client_limit (text t) [] rest (v ∷ []) ts refused s (subst (λ (z : List ℕ). Holds client_limit z ts refused) (sym (append-nil (text t))) holds) in
       let same : v ∷ g.0 ≡ t ∷ f.0 = sym g.1 ∙ f.1 in
       cc
+
+-- a value that was read can be written and read back
+pub sendable_front : (held : List ℕ) (t : Tree) (rest : List ℕ) → IsFront client_limit held t rest → IsSendable t
+sendable_front held t rest (x, e, text_of, few) =
+    let plain = read_values_are_plain client_limit max_depth x t text_of in
+    record { within = plain.1; plain = plain.0; few = omega (arith, few, spelling_is_shortest client_limit max_depth x t text_of) }

@@ -302,7 +302,7 @@ parts_keep_limits t how ps e within k d l =
     (h.0, h.1, keeps, subst (λ (z : Tree). length (get_or ps k d).text ≤ length (text z)) (sym is) short)
 
 -- a command is plain
-plain_command : (ws : Words) → is_plain_tree (command_of ws) ≡ true
+pub plain_command : (ws : Words) → is_plain_tree (command_of ws) ≡ true
 plain_command [] = refl
 plain_command (w ∷ ws) = plain_command ws
 
