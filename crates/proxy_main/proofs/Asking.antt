@@ -1,5 +1,5 @@
 -- What the host is asked for a request can be read back.
-use Rattle.std.proofs.Common.{◌≡◌, ◌≤◌, ◌<◌, ◌+◌, ◌^◌, ℕ, List, [], ◌∷◌, Option, Some, None, All, length, map, drop, get_or, codes, inl, inr, refl, sym, ap, ◌∙◌, subst, arith}
+use Rattle.std.proofs.Common.{◌≡◌, ◌≤◌, ◌<◌, ◌+◌, ◌^◌, ℕ, List, [], ◌∷◌, Option, Some, None, length, map, drop, get_or, codes, inl, inr, refl, ap, ◌∙◌, arith}
 use Rattle.std.specs.Str.{str_to_ascii_uppercase}
 use Rattle.std.proofs.lemmas.Bool.{cases_Bool}
 use Rattle.std.proofs.lemmas.List.{length-map}
@@ -42,8 +42,8 @@ pub asked-sendable : (r : Request) → IsRead r → AreSendable (asked r)
 asked-sendable broken h = none_sendable
 asked-sendable (read t) h =
     all_made IsSendable command_of (commands_of (read t)) (λ k d l.
-      let a = commands_keep_limits t h.within k d l in
-      record { within = a.0; plain = plain_command (get_or (commands_of (read t)) k d); few = omega (arith, a.1, h.few) })
+    let a = commands_keep_limits t h.within k d l in
+    record { within = a.0; plain = plain_command (get_or (commands_of (read t)) k d); few = omega (arith, a.1, h.few) })
 
 -- as many parts as the join asks for
 pub asked-join : (r : Request) (how : Join) (ps : List PartPlan) → plan_of r ≡ parts how ps → MayJoin how (length ps)
@@ -84,9 +84,9 @@ few_words null_list h = omega arith
 
 few_commands : (t : Tree) → IsWithin client_limit max_depth t → length (commands_of (read t)) ≤ client_limit + 1
 few_commands t h = elim (cases_Bool (is_command t)) [
-    inl f ↦ rw f (omega (arith, few_by_row (row_named (word (words_of t) 0)) (words_of t), few_words t h))
+  | inl f ↦ rw f (omega (arith, few_by_row (row_named (word (words_of t) 0)) (words_of t), few_words t h))
   | inr f ↦ rw f (omega arith)
-  ]
+]
 
 pub asked-few : (r : Request) (how : Join) (ps : List PartPlan) → IsRead r → plan_of r ≡ parts how ps → length ps < 2 ^ 32
 asked-few broken how ps h e = absurd cc

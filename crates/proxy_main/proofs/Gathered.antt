@@ -1,5 +1,5 @@
 -- The values of a command's parts as they come, one after the other.
-use Rattle.std.proofs.Common.{◌≡◌, ◌+◌, ◌-◌, ◌<◌, ◌≤◌, ℕ, zero, suc, Bool, false, nat_lt, List, [], ◌∷◌, ◌++◌, map, length, replicate, take, drop, get_or, Option, Some, None, Result, Ok, Err, IfOk, refl, sym, ap, ◌∙◌, subst, append_assoc, append-nil, add-one, arith}
+use Rattle.std.proofs.Common.{◌≡◌, ◌+◌, ◌-◌, ℕ, suc, false, nat_lt, List, [], ◌∷◌, ◌++◌, map, length, replicate, Option, Some, None, Result, Ok, Err, IfOk, refl, sym, ap, ◌∙◌, arith}
 use Rattle.std.specs.Prelude.{slice_get, slice_set}
 use Rattle.std.specs.Option.{option_map}
 use Rattle.std.proofs.lemmas.Bool.{ltb-true, false_from_ne_true}
@@ -64,7 +64,7 @@ length-answers_of m (t ∷ ts) = ap suc (length-answers_of (map_after m t) ts)
 
 -- the only command of a queue with one value more
 pub one_more-command : (q q' : QueueState) (c : AwaitedCommand) (command part : ℕ) (v : Tree) → q.commands ≡ c ∷ [] → command ≡ q.popped → q' ≡ with_part command part v q
-  → q'.commands ≡ with_value part v c ∷ []
+    → q'.commands ≡ with_value part v c ∷ []
 one_more-command q q' c command part v one first e = ap (λ (z : QueueState). z.commands) e ∙ with_part-one q c one command first part v
 
 -- a command was accepted into an empty queue
@@ -79,6 +79,6 @@ some_same a b e = cc
 
 -- what a reply is, by what is told of it
 pub by_reply : {E : Type 0} (r : Result Value E) (cs : List AwaitedCommand) (c : AwaitedCommand) (v : Tree) → cs ≡ c ∷ [] → reply_to c ≡ Some v
-  → IfOk r (λ reply. (c : AwaitedCommand) → cs ≡ c ∷ [] → reply_to c ≡ Some (tree_of reply)) → IfOk r (λ reply. tree_of reply ≡ v)
+    → IfOk r (λ reply. (c : AwaitedCommand) → cs ≡ c ∷ [] → reply_to c ≡ Some (tree_of reply)) → IfOk r (λ reply. tree_of reply ≡ v)
 by_reply (Ok reply) cs c v one e h = some_same (tree_of reply) v (sym (h c one) ∙ e)
 by_reply (Err error) cs c v one e h = tt

@@ -1,5 +1,5 @@
 -- The parts of a command, answered one after the other.
-use Rattle.std.proofs.Common.{◌≡◌, ◌+◌, ◌-◌, ◌<◌, ◌≤◌, ℕ, zero, suc, List, [], ◌∷◌, ◌++◌, map, length, replicate, take, get_or, All, Option, Some, None, Result, Ok, Err, IfOk, OnOk, refl, sym, ap, ◌∙◌, subst, arith}
+use Rattle.std.proofs.Common.{◌≡◌, ◌+◌, ◌-◌, ◌<◌, ◌≤◌, ℕ, suc, List, [], ◌∷◌, ◌++◌, length, replicate, take, get_or, Some, None, Result, Ok, Err, IfOk, OnOk, refl, sym, ap, ◌∙◌, arith}
 use Rattle.std.specs.Prelude.{slice_get, slice_set}
 use Rattle.std.proofs.lemmas.List.{length-map, length-take-le, take_more, take_all, get_or-map}
 use Rattle.resp_core.specs.Tree.{Tree}
@@ -53,7 +53,7 @@ module _ (how : Join) (m : Map) (ts : List Tree) (n : ℕ) (all : length ts ≡ 
       let v = answer_of (map_after_all m (take k ts)) (get_or ts k t) in
       let grown : answers_of m (take (k + 1) ts) ≡ vs ++ v ∷ [] = ap (answers_of m) (take_more ts k t (omega (arith, l, all))) ∙ answers_of-append m (take k ts) (get_or ts k t) in
       let set : slice_set (gathered vs (n - k)) k (Some v) ≡ gathered (vs ++ v ∷ []) (n - (k + 1)) =
-        ap (λ z. slice_set (gathered vs z) k (Some v)) (left k l) ∙ ap (λ z. slice_set (gathered vs (suc (n - (k + 1)))) z (Some v)) (sym (count k (omega (arith, l)))) ∙ gathered-set vs (n - (k + 1)) v in
+      ap (λ z. slice_set (gathered vs z) k (Some v)) (left k l) ∙ ap (λ z. slice_set (gathered vs (suc (n - (k + 1)))) z (Some v)) (sym (count k (omega (arith, l)))) ∙ gathered-set vs (n - (k + 1)) v in
       ap (λ z. record { how = how; values = z }) (set ∙ ap (λ z. gathered z (n - (k + 1))) (sym grown))
 
   pub map_more : (k : ℕ) (t : Tree) → k < n → map_after (map_after_all m (take k ts)) (get_or ts k t) ≡ map_after_all m (take (k + 1) ts)
@@ -77,8 +77,8 @@ answered_none how ps commands m e ts texts sendable =
 
 -- the next one
 pub answered_more : (how : Join) (ps : List PartPlan) (k : ℕ) (p : PartPlan) (commands commands' : List AwaitedCommand) (m m' m'' : Map) → k < length ps → AreAnswered how ps k commands m m'
-  → ((t : Tree) (c : AwaitedCommand) → (get_or ps k p).text ≡ text t → IsSendable t → commands ≡ c ∷ [] → commands' ≡ with_value k (answer_of m' t) c ∷ [])
-  → ((t : Tree) → (get_or ps k p).text ≡ text t → IsSendable t → m'' ≡ map_after m' t) → AreAnswered how ps (k + 1) commands' m m''
+    → ((t : Tree) (c : AwaitedCommand) → (get_or ps k p).text ≡ text t → IsSendable t → commands ≡ c ∷ [] → commands' ≡ with_value k (answer_of m' t) c ∷ [])
+    → ((t : Tree) → (get_or ps k p).text ≡ text t → IsSendable t → m'' ≡ map_after m' t) → AreAnswered how ps (k + 1) commands' m m''
 answered_more how ps k p commands commands' m m' m'' l before reply moved [] texts sendable = absurd (omega (arith, l, as_many ps [] texts))
 answered_more how ps k p commands commands' m m' m'' l before reply moved (u ∷ us) texts sendable =
     let ts = u ∷ us in
@@ -86,9 +86,10 @@ answered_more how ps k p commands commands' m m' m'' l before reply moved (u ∷
     let t = get_or ts k u in
     let is = text_at ps ts k p u texts l in
     let can = sendable k u (omega (arith, l, all)) in
-    let (one, map_is) = before ts texts sendable in
-    (reply t (with_first how m ts (length ps) k) is can one ∙ ap (λ z. with_value k (answer_of z t) (with_first how m ts (length ps) k) ∷ []) map_is ∙ ap (λ z. z ∷ []) (one_more how m ts (length ps) all k u l),
-     moved t is can ∙ ap (λ z. map_after z t) map_is ∙ map_more how m ts (length ps) all k u l)
+    let (one, map_is) = before ts texts sendable in (
+      reply t (with_first how m ts (length ps) k) is can one ∙ ap (λ z. with_value k (answer_of z t) (with_first how m ts (length ps) k) ∷ []) map_is ∙ ap (λ z. z ∷ []) (one_more how m ts (length ps) all k u l),
+      moved t is can ∙ ap (λ z. map_after z t) map_is ∙ map_more how m ts (length ps) all k u l,
+    )
 
 -- the text of a part can be read back
 pub sendable_at : (ps : List PartPlan) (ts : List Tree) (k : ℕ) (p : PartPlan) → AreTextsOf ps ts → AreSendable ts → k < length ps → IsSendableText (get_or ps k p).text
@@ -97,14 +98,14 @@ sendable_at ps (u ∷ us) k p texts sendable l = (get_or (u ∷ us) k u, text_at
 
 -- the join of all answers, and the map behind them
 pub joined_is : {E : Type 0} (how : Join) (ps : List PartPlan) (k : ℕ) (commands : List AwaitedCommand) (m m' : Map) (r : Result Value E) → length ps ≤ k → AreAnswered how ps k commands m m'
-  → IfOk r (λ reply. (c : AwaitedCommand) → commands ≡ c ∷ [] → reply_to c ≡ Some (tree_of reply))
-  → IfOk r (λ reply. (ts : List Tree) → AreTextsOf ps ts → AreSendable ts → tree_of reply ≡ join_of how (answers_of m ts))
+    → IfOk r (λ reply. (c : AwaitedCommand) → commands ≡ c ∷ [] → reply_to c ≡ Some (tree_of reply))
+    → IfOk r (λ reply. (ts : List Tree) → AreTextsOf ps ts → AreSendable ts → tree_of reply ≡ join_of how (answers_of m ts))
 joined_is how ps k commands m m' (Ok reply) l before h = λ ts texts sendable.
     let (one, map_is) = before ts texts sendable in
     some_same (tree_of reply) (join_of how (answers_of m ts)) (sym (h (with_first how m ts (length ps) k) one) ∙ all_answered how m ts (length ps) (as_many ps ts texts) k l)
 joined_is how ps k commands m m' (Err e) l before h = tt
 
 pub map_is : {E : Type 0} (how : Join) (ps : List PartPlan) (k : ℕ) (commands : List AwaitedCommand) (m m' : Map) (r : Result Value E) → length ps ≤ k → AreAnswered how ps k commands m m'
-  → OnOk r ((ts : List Tree) → AreTextsOf ps ts → AreSendable ts → m' ≡ map_after_all m ts)
+    → OnOk r ((ts : List Tree) → AreTextsOf ps ts → AreSendable ts → m' ≡ map_after_all m ts)
 map_is how ps k commands m m' (Ok reply) l before = λ ts texts sendable. (before ts texts sendable).1 ∙ map_all how m ts (length ps) (as_many ps ts texts) k l
 map_is how ps k commands m m' (Err e) l before = tt

@@ -1,5 +1,5 @@
 -- Each reply can be written: it has no CR and no LF in a line.
-use Rattle.std.proofs.Common.{◌≡◌, ℕ, ℤ, Bool, true, List, [], ◌∷◌, Option, Some, None, map, length, inl, inr, refl}
+use Rattle.std.proofs.Common.{◌≡◌, ℕ, ℤ, true, List, [], ◌∷◌, Option, Some, None, length, inl, inr, refl}
 use Rattle.std.specs.List.{list_all}
 use Rattle.std.proofs.lemmas.Bool.{cases_Bool}
 use Rattle.resp_core.specs.Tree.{Tree, is_plain_tree}

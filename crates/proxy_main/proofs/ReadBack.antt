@@ -1,5 +1,5 @@
 -- A text that was written is read back.
-use Rattle.std.proofs.Common.{◌≡◌, ◌<◌, ◌^◌, ℕ, Bool, true, false, List, [], ◌∷◌, ◌++◌, length, refl, sym, ap, ◌∙◌, subst, append-nil, arith}
+use Rattle.std.proofs.Common.{◌≡◌, ℕ, Bool, true, false, List, [], ◌∷◌, sym, ◌∙◌, subst, append-nil, arith}
 use Rattle.resp_core.specs.Tree.{Tree}
 use Rattle.resp_core.specs.Text.{text}
 use Rattle.resp_core.specs.Laws.{Holds}
@@ -15,7 +15,7 @@ module _ (t : Tree) (h : IsSendable t) where
   first : (ts : List Tree) (refused : Bool) → Holds client_limit (text t) ts refused → (others : List Tree) × (ts ≡ t ∷ others)
   first ts refused holds =
       text_is_read_back client_limit t [] ts refused (omega arith) h.within h.plain h.few
-        (subst (λ (z : List ℕ). Holds client_limit z ts refused) (sym (append-nil (text t))) holds)
+      (subst (λ (z : List ℕ). Holds client_limit z ts refused) (sym (append-nil (text t))) holds)
 
   pub is_not_nothing : HasNoRefusal client_limit (text t) [] → ⊥
   is_not_nothing n = let f = first [] false n in absurd cc

@@ -2,7 +2,7 @@
 use Rattle.std.specs.Prelude.{ℕ, Bool, List, [], ◌∷◌, ◌++◌, map}
 use Rattle.resp_core.specs.Tree.{Tree}
 use Rattle.resp_core.specs.Text.{text}
-use Rattle.splitter.specs.Request.{Request, read, broken}
+use Rattle.splitter.specs.Request.{Request}
 use Rattle.splitter.specs.Split.{command_of}
 use Rattle.splitter.specs.Plan.{Plan, here, leave, parts, plan_of, is_last}
 use Rattle.splitter.specs.Commands.{commands_of}

@@ -7,4 +7,4 @@ use Rattle.proxy_main.proofs.local.next_request.Goals as goal
 pub returns-in-Ok-Some-clause-read : goal.returns-in-Ok-Some-clause-read
 returns-in-Ok-Some-clause-read c =
     sendable_front c.args.reader.now.held (tree_of c.in-Ok-Some.value) c.next_value.new.self.held
-      (subst (λ (z : ℕ). IsFront z c.args.reader.now.held (tree_of c.in-Ok-Some.value) c.next_value.new.self.held) c.requires (rw c.in-Ok-Some.field-0-is at c.in-Ok-Some.ensures.front))
+    (subst (λ (z : ℕ). IsFront z c.args.reader.now.held (tree_of c.in-Ok-Some.value) c.next_value.new.self.held) c.requires (rw c.in-Ok-Some.field-0-is at c.in-Ok-Some.ensures.front))

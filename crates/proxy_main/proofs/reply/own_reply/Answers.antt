@@ -1,8 +1,7 @@
-use Rattle.std.proofs.Common.{◌≡◌, ◌∷◌, [], Some, IfOk, refl, sym, ap, ◌∙◌}
-use Rattle.resp_core.specs.Tree.{Tree}
+use Rattle.std.proofs.Common.{refl}
 use Rattle.resp_core.specs.Value.{tree_of}
 use Rattle.splitter.specs.declared.Join.TheVariants.{Same}
-use Rattle.reply_queue.specs.Command.{AwaitedCommand, awaited, with_value}
+use Rattle.reply_queue.specs.Command.{awaited, with_value}
 use Rattle.proxy_main.proofs.Gathered.{accepted-one, accepted-first, one_more-command, by_reply}
 use Rattle.proxy_main.proofs.reply.own_reply.Goals as goal
 

@@ -1,9 +1,8 @@
 use Rattle.std.proofs.Common.{◌≡◌, sym, ap, ◌∙◌}
-use Rattle.resp_core.specs.Value.{tree_of}
 use Rattle.splitter.specs.Request.{request_of}
-use Rattle.splitter.specs.Plan.{Plan, parts, plan_of}
+use Rattle.splitter.specs.Plan.{parts, plan_of}
 use Rattle.splitter.specs.Planned.{plan_in}
-use Rattle.proxy_main.specs.Reply.{asked, outcome, outcome_by, map_after}
+use Rattle.proxy_main.specs.Reply.{asked, outcome_by}
 use Rattle.proxy_main.proofs.Asking.{asked-join, asked-few, asked-texts, asked-sendable}
 use Rattle.proxy_main.proofs.reply.reply_to.Goals as goal
 
