@@ -1,2 +1,4 @@
+pub mod Names
 pub mod Table
 pub mod Entry
+pub mod Laws

@@ -4,11 +4,21 @@
 //! its key stands is this project's own profile.
 #![tactic(auto)]
 
-ghost use Rattle.std.specs.Prelude.{◌≡◌, ◌≢◌, IfSome, IfNone, Contains, All, map};
+ghost use Rattle.std.specs.Prelude.{◌≡◌, ◌≢◌, IfSome, IfNone, Contains, All};
 ghost use Rattle.std.specs.Str.{str_to_ascii_lowercase};
 ghost use Rattle.std.specs.Option.{option_map};
-ghost use Rattle.command_table.specs.Table.{rows, row_in, row_named};
-ghost use Rattle.command_table.specs.Entry.{row_of, HasName};
+ghost use Rattle.command_table.specs.Table.{rows, row_named};
+ghost use Rattle.command_table.specs.Entry.{row_of};
+
+mod entries;
+mod laws;
+mod names;
+
+use entries::own_entry;
+pub use laws::{
+    each_row_is_found, found_stands_in_table, names_are_distinct, names_are_lower_case,
+};
+use names::one_key_entry;
 
 /// How the proxy treats a command.
 #[derive(Clone, Copy, Debug, PartialEq, Eq, Hash)]
@@ -42,39 +52,6 @@ pub struct Entry {
     pub key_at: usize,
 }
 
-const ENTRIES: [Entry; 5] = [
-    Entry {
-        kind: Kind::Ping,
-        name: "ping",
-        least: 1,
-        key_at: 0,
-    },
-    Entry {
-        kind: Kind::Echo,
-        name: "echo",
-        least: 2,
-        key_at: 0,
-    },
-    Entry {
-        kind: Kind::Quit,
-        name: "quit",
-        least: 1,
-        key_at: 0,
-    },
-    Entry {
-        kind: Kind::One,
-        name: "get",
-        least: 2,
-        key_at: 1,
-    },
-    Entry {
-        kind: Kind::One,
-        name: "set",
-        least: 2,
-        key_at: 1,
-    },
-];
-
 /// The entry of the command of this name, compared without ASCII case, or `None` where the table has none.
 ///
 /// It takes no memory.
@@ -83,28 +60,7 @@ pub fn look(name: &[u8]) -> Option<Entry>
     ensures unknown { IfNone result (All (λ r. str_to_ascii_lowercase name.now ≢ r.name) rows) }
     ensures row { option_map row_of result ≡ row_named name.now }
 {
-    find_entry(entries(), name)
-}
-
-// All entries.
-fn entries() -> &'static [Entry]
-    ensures { map row_of result.now ≡ rows }
-{
-    &ENTRIES
-}
-
-// The first of the entries that has this name.
-fn find_entry(entries: &[Entry], name: &[u8]) -> Option<Entry>
-    ensures found { IfSome result (λ e. Contains entries.now e × HasName name.now e) }
-    ensures unknown { IfNone result (All (λ e. HasName name.now e → ⊥) entries.now) }
-    ensures row { option_map row_of result ≡ row_in (map row_of entries.now) name.now }
-{
-    for entry in entries {
-        if name.eq_ignore_ascii_case(entry.name.as_bytes()) {
-            return Some(*entry);
-        }
-    }
-    None
+    own_entry(name).or_else(|| one_key_entry(name))
 }
 
 #[cfg(test)]

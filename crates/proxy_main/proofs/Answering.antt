@@ -7,7 +7,8 @@ use Rattle.std.proofs.lemmas.List.{map-append, length-append}
 use Rattle.resp_core.specs.Tree.{Tree}
 use Rattle.resp_core.specs.Stream.{ReaderState, Stands, Splits, HasNoRefusal}
 use Rattle.resp_core.proofs.StreamLaws.{each_stream_holds, one_holding, refusal_stays, values_stay}
-use Rattle.proxy_main.specs.Request.{Request, read, broken, client_limit, end_of, AreRequests}
+use Rattle.splitter.specs.Request.{Request, read, broken}
+use Rattle.proxy_main.specs.Request.{client_limit, end_of, AreRequests}
 use Rattle.proxy_main.specs.Stream.{accepted, AreFirst, IsNext, IsAnswered, AnswersWhole, AnswersLast, AnswersAll}
 use Rattle.proxy_main.specs.Reply.{finishes, reply_text, reply_texts, map_after, map_after_all}
 use Rattle.stub_server.specs.Map.{Map}
@@ -107,7 +108,7 @@ module _ (r s s' : ReaderState) (m m' m'' : Map) (out mid out' : List ℕ) (q : 
           (map read k.0 ++ end_of refused, is ∙ ap (λ z. map read z ++ end_of refused) k.1 ∙ values ts us t k.0 (end_of refused))
       first broken next b ts us h more all (vs, refused, holds, is) =
           let g = next b (ts ++ us) h in
-          let k = one_holding client_limit (b ++ more) vs (ts ++ us) refused true holds (g.0, refusal_stays client_limit b more (ts ++ us) g.0 g.1) in
+          let k = one_holding client_limit (b ++ more) vs (ts ++ us) refused true holds (g.0, g.1, refusal_stays client_limit b more (ts ++ us) g.0 g.1 g.2) in
           ([], is ∙ ap (λ z. map read z ++ end_of refused) k.0 ∙ ap (λ z. map read (ts ++ us) ++ end_of z) k.1 ∙ ap (λ z. z ++ broken ∷ []) (map-append read ts us) ∙ sym (append-nil _))
 
 -- the reader has given all that came

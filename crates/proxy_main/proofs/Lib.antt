@@ -1,4 +1,7 @@
-pub mod Words
-pub mod Plain
 pub mod Known
+pub mod ReadBack
+pub mod Gathered
+pub mod InParts
+pub mod Asking
+pub mod Plain
 pub mod Answering

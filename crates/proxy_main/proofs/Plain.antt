@@ -1,90 +1,24 @@
--- Each answer, the proxy's own and the host's, can be written: it has no CR and no LF in a line. So can a command.
-use Rattle.std.proofs.Common.{◌≡◌, ◌++◌, ◌&&◌, ℕ, ℤ, ◌≤◌, Bool, true, List, [], ◌∷◌, Option, Some, None, map, take, find, ne_eqb, length, inl, inr, refl, ◌∙◌, subst, arith, codes}
+-- Each reply can be written: it has no CR and no LF in a line.
+use Rattle.std.proofs.Common.{◌≡◌, ℕ, ℤ, true, List, [], ◌∷◌, Option, Some, None, length, inl, inr, refl}
 use Rattle.std.specs.List.{list_all}
-use Rattle.std.specs.Str.{str_to_ascii_lowercase, bytes_eq}
-use Rattle.std.proofs.lemmas.Bool.{cases_Bool, and_parts}
-use Rattle.std.proofs.lemmas.Bool.Decides.{leb_tells}
-use Rattle.std.proofs.lemmas.List.Folds.{list_all-append}
-use Rattle.resp_core.specs.Tree.{Tree, Trees, simple, fault, whole, bulk, null_bulk, list, null_list, no_trees, tree, members, is_text_byte, is_plain_tree, are_plain_trees}
-use Rattle.command_table.specs.Table.{Row, rows, row_named}
-use Rattle.command_table.specs.declared.Kind.{Kind}
-use Rattle.command_table.specs.declared.Kind.TheVariants.{Ping, Echo, Quit, One}
-use Rattle.resp_core.specs.Command.{is_bulk, is_command, words_of, word}
-use Rattle.proxy_main.specs.Request.{Request, read, broken}
-use Rattle.proxy_main.specs.Plan.{Plan, here, leave, host, shown_byte, shown, takes, plan_by_kind, plan_by_row, plan_of}
-use Rattle.proxy_main.specs.Reply.{asked}
+use Rattle.std.proofs.lemmas.Bool.{cases_Bool}
+use Rattle.resp_core.specs.Tree.{Tree, is_plain_tree}
+use Rattle.resp_core.specs.Command.{is_command, words_of, word}
+use Rattle.splitter.specs.Request.{Request}
+use Rattle.splitter.specs.Plan.{Plan, here, leave, parts, plan_of}
+use Rattle.splitter.specs.Laws.{has_plain_value}
+use Rattle.splitter.proofs.PlainLaws.{plan_texts_are_plain, joins_of_plain_values_are_plain}
 use Rattle.proxy_main.specs.Reply as replies
 use Rattle.stub_server.specs.Map.{Map, value_at}
 use Rattle.stub_server.specs.Number.{one_more}
 use Rattle.stub_server.specs.Command.{command_named}
 use Rattle.stub_server.specs.Command as commands
-use Rattle.stub_server.specs.Table.{bulk_of, counted, incremented, number_at, outcome_by, outcome_named, outcome_of}
+use Rattle.stub_server.specs.Table.{answers_of, map_after, bulk_of, counted, incremented, number_at, outcome_by, outcome_named, outcome_of}
 use Rattle.stub_server.specs.declared.command.Command.{Command}
 use Rattle.stub_server.specs.declared.command.Command.TheVariants.{Get, Set, Del, Exists, Incr}
 
-both : (x y : Bool) → x ≡ true → y ≡ true → (x && y) ≡ true
-both x y e f = rw (e, f) refl
+-- THE HOST'S ANSWERS
 
-joined : (xs ys : List ℕ) → list_all is_text_byte xs ≡ true → list_all is_text_byte ys ≡ true → list_all is_text_byte (xs ++ ys) ≡ true
-joined xs ys e f = list_all-append is_text_byte xs ys ∙ both _ _ e f
-
-text_byte : (b : ℕ) → 32 ≤ b → is_text_byte b ≡ true
-text_byte b l = rw (ne_eqb b 13 (λ e. omega (arith, e, l)), ne_eqb b 10 (λ e. omega (arith, e, l))) refl
-
-shown_is_text : (b : ℕ) → is_text_byte (shown_byte b) ≡ true
-shown_is_text b =
-    elim (leb_tells 32 b) [
-      | inl p ↦ elim (leb_tells b 126) [ inl q ↦ rw (p.0, q.0) (text_byte b p.1) | inr q ↦ rw (p.0, q.0) refl ]
-      | inr p ↦ rw p.0 refl
-    ]
-
-all_shown : (bs : List ℕ) → list_all is_text_byte (map shown_byte bs) ≡ true
-all_shown [] = refl
-all_shown (b ∷ bs) = both (is_text_byte (shown_byte b)) (list_all is_text_byte (map shown_byte bs)) (shown_is_text b) (all_shown bs)
-
--- the names of the table are plain: each is computed here
-plain_names : list_all (λ r. list_all is_text_byte r.name) rows ≡ true
-plain_names = refl
-
--- the row that a search finds passes what all rows pass
-found_passes : (p q : Row → Bool) (rs : List Row) (r : Row) → list_all q rs ≡ true → find p rs ≡ Some r → q r ≡ true
-found_passes p q [] r h e = cc
-found_passes p q (x ∷ rs) r h e =
-    let parts = and_parts (q x) (list_all q rs) h in
-    elim (cases_Bool (p x)) [
-      | inl f ↦ let g : Some x ≡ Some r = rw f at e in let is : x ≡ r = cc in subst (λ (z : Row). q z ≡ true) is parts.0
-      | inr f ↦ found_passes p q rs r parts.1 (rw f at e)
-    ]
-
--- the value of a plan can be written
-abbrev pub has_plain_value : Plan → Bool
-has_plain_value (here v) = is_plain_tree v
-has_plain_value (leave v) = is_plain_tree v
-has_plain_value host = true
-
-plain_by_kind : (kind : Kind) (words : List (List ℕ)) → has_plain_value (plan_by_kind kind words) ≡ true
-plain_by_kind Ping words = refl
-plain_by_kind Echo words = refl
-plain_by_kind Quit words = refl
-plain_by_kind One words = refl
-
-plain_by_row : (o : Option Row) (words : List (List ℕ)) → row_named (word words 0) ≡ o → has_plain_value (plan_by_row o words) ≡ true
-plain_by_row None words e = joined (codes "unsupported command '") (shown (word words 0) ++ codes "'") refl (joined (shown (word words 0)) (codes "'") (all_shown (take 64 (word words 0))) refl)
-plain_by_row (Some r) words e =
-    elim (cases_Bool (takes r.kind r.least (length words))) [
-      | inl f ↦ rw f (plain_by_kind r.kind words)
-      | inr f ↦ rw f (joined (codes "wrong number of arguments for '") (r.name ++ codes "' command") refl (joined r.name (codes "' command") (found_passes (λ z. bytes_eq (str_to_ascii_lowercase (word words 0)) (str_to_ascii_lowercase z.name)) (λ z. list_all is_text_byte z.name) rows r plain_names e) refl))
-    ]
-
-plain_plan : (r : Request) → has_plain_value (plan_of r) ≡ true
-plain_plan broken = refl
-plain_plan (read t) =
-    elim (cases_Bool (is_command t)) [
-      | inl f ↦ rw f (plain_by_row (row_named (word (words_of t) 0)) (words_of t) refl)
-      | inr f ↦ rw f refl
-    ]
-
--- so can the host's answers
 plain_bulk : (o : Option (List ℕ)) → is_plain_tree (bulk_of o) ≡ true
 plain_bulk None = refl
 plain_bulk (Some value) = refl
@@ -112,49 +46,23 @@ plain_named m (Some c) words =
       | inr f ↦ rw f refl
     ]
 
-plain_host : (m : Map) (t : Tree) → is_plain_tree (outcome_of m t).answer ≡ true
+pub plain_host : (m : Map) (t : Tree) → is_plain_tree (outcome_of m t).answer ≡ true
 plain_host m t =
     elim (cases_Bool (is_command t)) [
       | inl f ↦ rw f (plain_named m (command_named (word (words_of t) 0)) (words_of t))
       | inr f ↦ rw f refl
     ]
 
-plain_by_plan : (m : Map) (t : Tree) (p : Plan) → has_plain_value p ≡ true → is_plain_tree (replies.outcome_by m t p).answer ≡ true
-plain_by_plan m t (here v) h = h
-plain_by_plan m t (leave v) h = h
-plain_by_plan m t host h = plain_host m t
+-- ALL REPLIES
+
+plain_answers : (m : Map) (ts : List Tree) → list_all is_plain_tree (answers_of m ts) ≡ true
+plain_answers m [] = refl
+plain_answers m (t ∷ ts) = rw (plain_host m t, plain_answers (map_after m t) ts) refl
+
+plain_by_plan : (m : Map) (ts : List Tree) (p : Plan) → has_plain_value p ≡ true → is_plain_tree (replies.outcome_by m ts p).answer ≡ true
+plain_by_plan m ts (here name v) h = h
+plain_by_plan m ts (leave name v) h = h
+plain_by_plan m ts (parts how ps) h = joins_of_plain_values_are_plain how (answers_of m ts) (plain_answers m ts)
 
 pub plain_outcome : (m : Map) (r : Request) → is_plain_tree (replies.outcome m r).answer ≡ true
-plain_outcome m r = plain_by_plan m (asked r) (plan_of r) (plain_plan r)
-
--- and a command itself
-plain_bulks : (ts : Trees) → list_all is_bulk (members ts) ≡ true → are_plain_trees ts ≡ true
-plain_bulks no_trees h = refl
-plain_bulks (tree t ts) h =
-    let parts = and_parts (is_bulk t) (list_all is_bulk (members ts)) h in
-    both (is_plain_tree t) (are_plain_trees ts) (plain_bulk_tree t parts.0) (plain_bulks ts parts.1)
-  where
-    plain_bulk_tree : (t : Tree) → is_bulk t ≡ true → is_plain_tree t ≡ true
-    plain_bulk_tree (simple s) h = absurd cc
-    plain_bulk_tree (fault s) h = absurd cc
-    plain_bulk_tree (whole n) h = refl
-    plain_bulk_tree (bulk s) h = refl
-    plain_bulk_tree null_bulk h = refl
-    plain_bulk_tree (list us) h = absurd cc
-    plain_bulk_tree null_list h = refl
-
-plain_command : (t : Tree) → is_command t ≡ true → is_plain_tree t ≡ true
-plain_command (simple s) h = absurd cc
-plain_command (fault s) h = absurd cc
-plain_command (whole n) h = refl
-plain_command (bulk s) h = refl
-plain_command null_bulk h = refl
-plain_command (list ts) h = plain_bulks ts (and_parts _ (list_all is_bulk (members ts)) h).1
-plain_command null_list h = refl
-
-pub plain_asked : (t : Tree) → plan_of (read t) ≡ host → is_plain_tree t ≡ true
-plain_asked t h =
-    elim (cases_Bool (is_command t)) [
-      | inl f ↦ plain_command t f
-      | inr f ↦ let g : here (fault (codes "invalid request")) ≡ host = rw f at h in absurd cc
-    ]
+plain_outcome m r = plain_by_plan m (replies.asked r) (plan_of r) (plan_texts_are_plain r)

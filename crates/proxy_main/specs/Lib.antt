@@ -1,6 +1,6 @@
 pub mod Ending
 pub mod Request
-pub mod Plan
-pub mod Planned
+pub mod Sendable
+pub mod Flow
 pub mod Reply
 pub mod Stream

@@ -1,22 +1,25 @@
 -- The reply to a request, and the host's map after it.
-use Rattle.std.specs.Prelude.{ℕ, Bool, List, [], ◌∷◌, ◌++◌}
-use Rattle.resp_core.specs.Tree.{Tree, null_list}
+use Rattle.std.specs.Prelude.{ℕ, Bool, List, [], ◌∷◌, ◌++◌, map}
+use Rattle.resp_core.specs.Tree.{Tree}
 use Rattle.resp_core.specs.Text.{text}
+use Rattle.splitter.specs.Request.{Request}
+use Rattle.splitter.specs.Split.{command_of}
+use Rattle.splitter.specs.Plan.{Plan, here, leave, parts, plan_of, is_last}
+use Rattle.splitter.specs.Commands.{commands_of}
+use Rattle.splitter.specs.Join.{join_of}
 use Rattle.stub_server.specs.Map.{Map}
-use Rattle.stub_server.specs.Table.{Outcome, gives, outcome_of}
-use Rattle.proxy_main.specs.Request.{Request, read, broken}
-use Rattle.proxy_main.specs.Plan.{Plan, here, leave, host, plan_of, is_last}
+use Rattle.stub_server.specs.Table.{Outcome, gives, answers_of, map_after_all as map_after_commands}
 
--- the value that is asked, if one is
-abbrev pub asked : Request → Tree
-asked (read t) = t
-asked broken = null_list
+-- what the host is asked for a request: the commands of its parts, in their order
+abbrev pub asked : Request → List Tree
+asked r = map command_of (commands_of r)
 
--- an answer of the proxy's own leaves the host's map, and else the host answers
-abbrev pub outcome_by : Map → Tree → Plan → Outcome
-outcome_by m t (here v) = gives v m
-outcome_by m t (leave v) = gives v m
-outcome_by m t host = outcome_of m t
+-- an answer of the proxy's own leaves the host's map; else the host answers the parts in their order, and its answers are
+-- joined
+abbrev pub outcome_by : Map → List Tree → Plan → Outcome
+outcome_by m ts (here name v) = gives v m
+outcome_by m ts (leave name v) = gives v m
+outcome_by m ts (parts how ps) = gives (join_of how (answers_of m ts)) (map_after_commands m ts)
 
 abbrev pub outcome : Map → Request → Outcome
 outcome m r = outcome_by m (asked r) (plan_of r)

@@ -1,19 +1,8 @@
 -- What a client's stream asks.
 use Rattle.std.specs.Prelude.{◌≡◌, ℕ, Bool, true, false, List, [], ◌∷◌, ◌++◌, map}
 use Rattle.resp_core.specs.Tree.{Tree}
-use Rattle.resp_core.specs.Value.{tree_of}
 use Rattle.resp_core.specs.Laws.{Holds}
-use Rattle.proxy_main.specs.declared.request.Request.{Request as Request'}
-use Rattle.proxy_main.specs.declared.request.Request.TheVariants as requests
-
--- a value, or bytes that are no text of one
-pub data Request : Type 0 where
-  read : Tree → Request
-  broken : Request
-
-abbrev pub request_of : Request' → Request
-request_of (requests.Read v) = read (tree_of v)
-request_of requests.Broken = broken
+use Rattle.splitter.specs.Request.{Request, read, broken}
 
 -- the members of an array that a client may send
 abbrev pub client_limit : ℕ

@@ -1,11 +1,12 @@
 -- What goes out for what comes in.
-use Rattle.std.specs.Prelude.{◌≡◌, ℕ, Bool, true, false, if◌then◌else◌, List, [], ◌∷◌, ◌++◌, map, length, ◌<◌, Option, IfSome}
+use Rattle.std.specs.Prelude.{◌≡◌, ℕ, true, false, if◌then◌else◌, List, [], ◌∷◌, ◌++◌, map, length, ◌<◌, Option, IfSome}
 use Rattle.std.specs.List.{list_any}
 use Rattle.std.specs.Io.KnownBytes.{Appends}
 use Rattle.resp_core.specs.Tree.{Tree}
 use Rattle.stub_server.specs.Map.{Map}
 use Rattle.resp_core.specs.Stream.{ReaderState, Stands, HasNoRefusal, HasRefusal}
-use Rattle.proxy_main.specs.Request.{Request, read, broken, client_limit, AreRequests}
+use Rattle.splitter.specs.Request.{Request, read, broken}
+use Rattle.proxy_main.specs.Request.{client_limit, AreRequests}
 use Rattle.proxy_main.specs.Reply.{finishes, reply_texts, map_after_all}
 
 -- the requests up to and with the first that finishes
@@ -20,7 +21,7 @@ AreFirst b rs = (more : List ℕ) (all : List Request) → AreRequests (b ++ mor
 -- From one state of a reader to the next it gave this request, for which it takes bytes of those that it held.
 abbrev pub IsNext : ReaderState → ReaderState → Request → Type 0
 IsNext r s (read t) = (length s.held < length r.held) × ((b : List ℕ) (ts : List Tree) → Stands r b ts → Stands s b (ts ++ t ∷ []))
-IsNext r s broken = (b : List ℕ) (ts : List Tree) → Stands r b ts → (offset : ℕ) × HasRefusal client_limit b ts offset
+IsNext r s broken = (b : List ℕ) (ts : List Tree) → Stands r b ts → (offset number : ℕ) × HasRefusal client_limit b ts offset number
 
 -- The reader has given all values that came whole, and nothing behind them is refused.
 abbrev pub IsAnswered : ReaderState → ReaderState → Type 0

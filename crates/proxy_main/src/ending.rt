@@ -1,7 +1,9 @@
 //! How the program ends where it can't go on.
 ghost use Rattle.std.specs.Prelude.{◌≡◌};
 
+use reply_queue::QueueRefusal;
 use resp_core::RespError;
+use splitter::SplitError;
 use std::alloc::{AllocError, AllocFailed};
 use stub_server::StubError;
 use thiserror::Error;
@@ -18,7 +20,7 @@ pub enum Ending {
     /// Status 6: memory was refused.
     #[error("memory")]
     Memory,
-    /// Status 7: the gate's tickets are spent.
+    /// Status 7: numbers are spent: those of the gate's tickets, or of a connection's commands.
     #[error("gate spent")]
     Spent,
 }
@@ -63,5 +65,20 @@ impl From<RespError> for Ending {
 impl From<StubError> for Ending {
     fn from(_error: StubError) -> Ending {
         Ending::Memory
+    }
+}
+
+impl From<SplitError> for Ending {
+    fn from(_error: SplitError) -> Ending {
+        Ending::Memory
+    }
+}
+
+impl From<QueueRefusal> for Ending {
+    fn from(error: QueueRefusal) -> Ending {
+        match error {
+            QueueRefusal::NoMemory => Ending::Memory,
+            QueueRefusal::Crowded | QueueRefusal::Spent => Ending::Spent,
+        }
     }
 }

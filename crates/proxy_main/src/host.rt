@@ -1,12 +1,14 @@
 //! One host behind its pipe.
-ghost use Rattle.std.specs.Prelude.{◌≡◌, [], true, IfOk, OnOk};
+ghost use Rattle.std.specs.Prelude.{◌≡◌, [], List, ℕ, IfOk, OnOk};
+ghost use Rattle.resp_core.specs.Tree.{Tree};
+ghost use Rattle.resp_core.specs.Text.{text as spelling};
 ghost use Rattle.resp_core.specs.Value.{tree_of};
-ghost use Rattle.resp_core.specs.Tree.{is_plain_tree};
 ghost use Rattle.stub_server.specs.Table.{answer_of, map_after};
+ghost use Rattle.proxy_main.specs.Sendable.{IsSendable, IsSendableText};
 
 use crate::ending::Ending;
 use bytes::Bytes;
-use resp_core::{Value, put_text};
+use resp_core::{Limits, Reader, Value};
 use std::alloc::Global;
 use std::marker::Model;
 use stub_server::Stub;
@@ -18,8 +20,6 @@ pub struct Host {
     alloc: Global,
     pipe: Pipe,
     stub: Stub,
-    // Commands that were sent.
-    commands: u64,
 }
 
 impl Model for Host {
@@ -30,7 +30,7 @@ impl Model for Host {
 
     ghost view = { λ h. h.stub };
 
-    // Nothing waits and nothing flies between two requests.
+    // Nothing waits and nothing flies between two parts.
     ghost invariant = { λ h. (h.pipe.waiting ≡ []) × (h.pipe.flying ≡ []) };
 }
 
@@ -43,46 +43,53 @@ impl Host {
             alloc,
             pipe: Pipe::new(alloc),
             stub: Stub::new(alloc),
-            commands: 0,
         }
     }
 
-    /// Sends the request through the pipe, and gives the reply that belongs to it.
+    /// Sends a part through the pipe, and gives the reply with the owner to whom the pipe says that it belongs.
     ///
-    /// Fails only where memory is refused.
-    pub fn ask(&mut self, request: &Value) -> Result<Value, Ending>
-        requires { is_plain_tree (tree_of request.now) ≡ true }
-        ensures reply { IfOk result (λ reply. tree_of reply ≡ answer_of self.old (tree_of request.now)) }
-        ensures map { OnOk result (self.new ≡ map_after self.old (tree_of request.now)) }
+    /// The host reads the part's text with a client's limits, and answers what it reads. Fails only where memory is
+    /// refused.
+    pub fn ask(&mut self, owner: Owner, text: Bytes) -> Result<(Owner, Value), Ending>
+        requires { IsSendableText text }
+        ensures owner { IfOk result (λ r. r.0 ≡ owner) }
+        ensures reply { IfOk result (λ r. (t : Tree) → text ≡ spelling t → IsSendable t → tree_of r.1 ≡ answer_of self.old t) }
+        ensures map { OnOk result ((t : Tree) → text ≡ spelling t → IsSendable t → self.new ≡ map_after self.old t) }
     {
-        let owner = Owner {
-            conn: 0,
-            command: self.commands,
-            part: 0,
-        };
-        let part = Part {
-            owner,
-            text: request_text(self.alloc, request)?,
-        };
-        if self.pipe.push(part).is_err() {
+        if self.pipe.push(Part { owner, text }).is_err() {
             return Err(Ending::Memory);
         }
-        drop(self.pipe.take());
-        let reply = self.stub.answer(request);
+        let Some(part) = self.pipe.take() else {
+            unreachable!();
+        };
+        let reply = answer_text(self.alloc, &mut self.stub, &part.text);
         match self.pipe.answered(self.pipe.epoch()) {
-            Ok(Some(answered)) if answered == owner => {}
+            Ok(Some(owner)) => Ok((owner, reply?)),
             _ => unreachable!(),
         }
-        self.commands = self.commands.saturating_add(1);
-        Ok(reply?)
     }
 }
 
-// The one spelling of a request.
-fn request_text(alloc: Global, request: &Value) -> Result<Bytes, Ending>
-    requires { is_plain_tree (tree_of request.now) ≡ true }
+// The stub's answer to the request of this text.
+fn answer_text(alloc: Global, stub: &mut Stub, text: &[u8]) -> Result<Value, Ending>
+    requires { IsSendableText text.now }
+    ensures reply { IfOk result (λ reply. (t : Tree) → text.now ≡ spelling t → IsSendable t → tree_of reply ≡ answer_of stub.old t) }
+    ensures map { OnOk result ((t : Tree) → text.now ≡ spelling t → IsSendable t → stub.new ≡ map_after stub.old t) }
 {
-    let mut text = Vec::new(alloc);
-    put_text(alloc, request, &mut text)?;
-    Ok(Bytes::from_vec(text)?)
+    let request = read_back(alloc, text)?;
+    Ok(stub.answer(&request)?)
+}
+
+// The value whose one spelling this is.
+fn read_back(alloc: Global, text: &[u8]) -> Result<Value, Ending>
+    requires { IsSendableText text.now }
+    ensures { IfOk result (λ value. (t : Tree) → text.now ≡ spelling t → IsSendable t → tree_of value ≡ t) }
+{
+    let mut reader = Reader::new(alloc, Limits::CLIENT);
+    reader.feed(text)?;
+    match reader.next_value() {
+        Ok(Some(value)) => Ok(value),
+        Ok(None) => unreachable!(),
+        Err(error) => Err(error.into()),
+    }
 }

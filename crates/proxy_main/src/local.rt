@@ -1,31 +1,21 @@
 //! One client, answered from a reader to a writer, with one host behind it.
 ghost use Rattle.std.specs.Prelude.{◌≡◌, ◌++◌, [], OnOk, IfOk, IfSome, IfNone};
 ghost use Rattle.std.specs.Io.KnownBytes.{Appends};
-ghost use Rattle.proxy_main.specs.Request.{client_limit, request_of};
-ghost use Rattle.proxy_main.specs.Planned.{is_finish};
-ghost use Rattle.proxy_main.specs.Reply.{reply_text, map_after, finishes, asked, outcome};
-ghost use Rattle.proxy_main.specs.Plan.{plan_of};
-ghost use Rattle.proxy_main.specs.Plan.{host as goes_to_host};
-ghost use Rattle.stub_server.specs.Table.{answer_of, map_after as map_of};
-ghost use Rattle.resp_core.specs.Value.{tree_of};
+ghost use Rattle.splitter.specs.Request.{request_of};
+ghost use Rattle.proxy_main.specs.Request.{client_limit};
+ghost use Rattle.proxy_main.specs.Flow.{is_finish};
+ghost use Rattle.proxy_main.specs.Sendable.{IsRead};
+ghost use Rattle.proxy_main.specs.Reply.{reply_text, map_after, finishes};
 ghost use Rattle.proxy_main.specs.Stream.{AnswersAll, AnswersWhole, AnswersLast, IsNext, IsAnswered};
 
 use crate::ending::Ending;
 use crate::host::Host;
-use crate::plan::{Plan, plan_request};
-use crate::request::Request;
-use resp_core::{Limits, Reader, RespError, Value, put_text};
+use crate::reply::{Flow, reply_to};
+use reply_queue::Queue;
+use resp_core::{Limits, Reader, RespError, put_text};
+use splitter::Request;
 use std::alloc::Global;
 use std::io::{ErrorKind, Read, Write};
-
-/// Whether the connection goes on after a request.
-#[derive(Clone, Copy, Debug, PartialEq, Eq)]
-pub enum Flow {
-    /// Further commands are taken.
-    GoesOn,
-    /// No later command of the connection is taken.
-    Finishes,
-}
 
 // Bytes that one read takes at most.
 const READ_SIZE: usize = 16_384;
@@ -47,6 +37,7 @@ pub fn local_run<R: Read, W: Write>(
     ensures { OnOk result (AnswersAll (R.remaining input.old) (W.contents output.old) (W.contents output.new)) }
 {
     let mut reader = Reader::new(alloc, Limits::CLIENT);
+    let mut queue = Queue::new(alloc);
     let mut host = Host::new(alloc);
     let mut answers = Vec::new(alloc);
     let mut piece = [0; READ_SIZE];
@@ -58,7 +49,7 @@ pub fn local_run<R: Read, W: Write>(
             Err(_) => return Err(Ending::Socket),
         };
         reader.feed(&piece[..len])?;
-        let answered = answer_requests(alloc, &mut reader, &mut host, &mut answers);
+        let answered = answer_requests(alloc, &mut reader, &mut queue, &mut host, &mut answers);
         write_out(output, &mut answers)?;
         match answered? {
             Flow::GoesOn => {}
@@ -83,16 +74,19 @@ fn write_out<W: Write>(output: &mut W, answers: &mut Vec<u8>) -> Result<(), Endi
 fn answer_requests(
     alloc: Global,
     reader: &mut Reader,
+    queue: &mut Queue,
     host: &mut Host,
     answers: &mut Vec<u8>,
 ) -> Result<Flow, Ending>
-    requires { reader.old.most ≡ client_limit }
+    requires most { reader.old.most ≡ client_limit }
+    requires empty { queue.old.commands ≡ [] }
+    ensures empty { OnOk result (queue.new.commands ≡ []) }
     ensures most { reader.new.most ≡ reader.old.most }
     ensures goes_on { IfOk result (λ flow. flow ≡ Flow.GoesOn → AnswersWhole reader.old reader.new host.old host.new answers.old.items answers.new.items) }
     ensures finishes { IfOk result (λ flow. flow ≡ Flow.Finishes → AnswersLast reader.old host.old answers.old.items answers.new.items) }
 {
     while let Some(request) = next_request(reader)? {
-        match append_answer(alloc, request, host, answers)? {
+        match append_answer(alloc, request, queue, host, answers)? {
             Flow::GoesOn => {}
             Flow::Finishes => return Ok(Flow::Finishes),
         }
@@ -104,6 +98,7 @@ fn answer_requests(
 fn next_request(reader: &mut Reader) -> Result<Option<Request>, Ending>
     requires { reader.old.most ≡ client_limit }
     ensures most { reader.new.most ≡ reader.old.most }
+    ensures read { IfOk result (λ o. IfSome o (λ r. IsRead (request_of r))) }
     ensures next { IfOk result (λ o. IfSome o (λ r. IsNext reader.old reader.new (request_of r))) }
     ensures none { IfOk result (λ o. IfNone o (IsAnswered reader.old reader.new)) }
 {
@@ -119,39 +114,18 @@ fn next_request(reader: &mut Reader) -> Result<Option<Request>, Ending>
 fn append_answer(
     alloc: Global,
     request: Request,
+    queue: &mut Queue,
     host: &mut Host,
     answers: &mut Vec<u8>,
 ) -> Result<Flow, Ending>
+    requires empty { queue.old.commands ≡ [] }
+    requires read { IsRead (request_of request) }
+    ensures empty { OnOk result (queue.new.commands ≡ []) }
     ensures text { OnOk result (answers.new.items ≡ answers.old.items ++ reply_text host.old (request_of request)) }
     ensures map { OnOk result (host.new ≡ map_after host.old (request_of request)) }
     ensures flow { IfOk result (λ flow. is_finish flow ≡ finishes (request_of request)) }
 {
-    let (reply, flow) = reply_to(alloc, &request, host)?;
+    let (reply, flow) = reply_to(alloc, &request, queue, host)?;
     put_text(alloc, &reply, answers)?;
     Ok(flow)
-}
-
-// The reply to the request, and whether the connection goes on.
-fn reply_to(alloc: Global, request: &Request, host: &mut Host) -> Result<(Value, Flow), Ending>
-    ensures reply { IfOk result (λ r. tree_of r.0 ≡ (outcome host.old (request_of request.now)).answer) }
-    ensures map { OnOk result (host.new ≡ map_after host.old (request_of request.now)) }
-    ensures flow { IfOk result (λ r. is_finish r.1 ≡ finishes (request_of request.now)) }
-{
-    match plan_request(alloc, request)? {
-        Plan::Here(value) => Ok((value, Flow::GoesOn)),
-        Plan::Leave(value) => Ok((value, Flow::Finishes)),
-        Plan::Host => Ok((ask(request, host)?, Flow::GoesOn)),
-    }
-}
-
-// The host's reply to a command.
-fn ask(request: &Request, host: &mut Host) -> Result<Value, Ending>
-    requires { plan_of (request_of request.now) ≡ goes_to_host }
-    ensures reply { IfOk result (λ r. tree_of r ≡ answer_of host.old (asked (request_of request.now))) }
-    ensures map { OnOk result (host.new ≡ map_of host.old (asked (request_of request.now))) }
-{
-    match request {
-        Request::Read(value) => host.ask(value),
-        Request::Broken => unreachable!(),
-    }
 }

@@ -5,8 +5,7 @@ mod command_line;
 mod ending;
 mod host;
 mod local;
-mod plan;
-mod request;
+mod reply;
 #[cfg(test)]
 mod tests;
 

@@ -210,6 +210,100 @@ fn the_host_answers(rt: HostRuntime) -> Result<(), Fail> {
     Ok(())
 }
 
+// Commands of several keys, and what else the table has.
+const SPLIT_ROWS: [(&[u8], &[u8]); 9] = [
+    // A repeated key has its value in each of its places.
+    (
+        b"*3\r\n$3\r\nSET\r\n$1\r\na\r\n$1\r\n1\r\n*4\r\n$4\r\nMGET\r\n$1\r\na\r\n$1\r\nb\r\n$1\r\na\r\n",
+        b"+OK\r\n*3\r\n$1\r\n1\r\n$-1\r\n$1\r\n1\r\n",
+    ),
+    // Nothing is sent of a command with a wrong number of words.
+    (
+        b"*4\r\n$4\r\nMSET\r\n$1\r\na\r\n$1\r\n1\r\n$1\r\nb\r\n*2\r\n$3\r\nGET\r\n$1\r\na\r\n",
+        b"-wrong number of arguments for 'mset' command\r\n$-1\r\n",
+    ),
+    // The last value of a key stands.
+    (
+        b"*7\r\n$4\r\nmset\r\n$1\r\na\r\n$1\r\n1\r\n$1\r\nb\r\n$1\r\n2\r\n$1\r\na\r\n$1\r\n3\r\n*3\r\n$4\r\nmget\r\n$1\r\nb\r\n$1\r\na\r\n",
+        b"+OK\r\n*2\r\n$1\r\n2\r\n$1\r\n3\r\n",
+    ),
+    // A repeated key is taken out once.
+    (
+        b"*5\r\n$4\r\nMSET\r\n$1\r\na\r\n$1\r\n1\r\n$1\r\nb\r\n$1\r\n2\r\n*4\r\n$3\r\nDEL\r\n$1\r\na\r\n$1\r\na\r\n$1\r\nc\r\n*2\r\n$6\r\nunlink\r\n$1\r\nb\r\n",
+        b"+OK\r\n:1\r\n:1\r\n",
+    ),
+    // And counted as often as it is asked.
+    (
+        b"*3\r\n$3\r\nSET\r\n$1\r\na\r\n$1\r\n1\r\n*4\r\n$6\r\nEXISTS\r\n$1\r\na\r\n$1\r\nb\r\n$1\r\na\r\n*2\r\n$5\r\nTouch\r\n$1\r\nb\r\n",
+        b"+OK\r\n:2\r\n:0\r\n",
+    ),
+    (
+        b"*2\r\n$4\r\nINCR\r\n$1\r\nn\r\n*2\r\n$4\r\nincr\r\n$1\r\nn\r\n*2\r\n$4\r\nMGET\r\n$1\r\nn\r\n",
+        b":1\r\n:2\r\n*1\r\n$1\r\n2\r\n",
+    ),
+    (
+        b"*3\r\n$3\r\nSET\r\n$1\r\na\r\n$1\r\nx\r\n*2\r\n$4\r\nINCR\r\n$1\r\na\r\n",
+        b"+OK\r\n-ERR value is not an integer or out of range\r\n",
+    ),
+    // Commands that this host doesn't know go to it all the same.
+    (
+        b"*2\r\n$6\r\nSTRLEN\r\n$1\r\na\r\n*4\r\n$4\r\neval\r\n$1\r\nx\r\n$1\r\n1\r\n$1\r\na\r\n*1\r\n$4\r\nPING\r\n",
+        b"-ERR unknown command\r\n-ERR unknown command\r\n+PONG\r\n",
+    ),
+    (
+        b"*1\r\n$4\r\nmget\r\n*1\r\n$3\r\nDEL\r\n*3\r\n$4\r\nEVAL\r\n$1\r\nx\r\n$1\r\n0\r\n",
+        b"-wrong number of arguments for 'mget' command\r\n-wrong number of arguments for 'del' command\r\n-wrong number of arguments for 'eval' command\r\n",
+    ),
+];
+
+#[test]
+fn parts_are_joined(rt: HostRuntime) -> Result<(), Fail> {
+    for (text, answers) in SPLIT_ROWS {
+        for step in [1, 7, 20_000] {
+            let mut taken = open_sink(rt.alloc());
+            let end = local_run(rt.alloc(), &mut Source::new(text, step), &mut taken);
+            assert_eq!(rt; end, Ok(()));
+            assert_eq!(rt; taken.taken.as_slice(), answers);
+        }
+    }
+    Ok(())
+}
+
+// A head, and a text so many times.
+fn repeated(alloc: Global, head: &[u8], times: usize, text: &[u8]) -> Result<Vec<u8>, Fail> {
+    let mut all = Vec::new(alloc);
+    all.extend_from_slice(head)?;
+    for _ in 0..times {
+        all.extend_from_slice(text)?;
+    }
+    Ok(all)
+}
+
+// MGET of 1,023 keys has 1,024 words, the most that a client may send.
+#[test]
+fn widest_request_is_answered(rt: HostRuntime) -> Result<(), Fail> {
+    let alloc = rt.alloc();
+    let rows: [(&[u8], usize, &[u8], usize); 2] = [
+        (b"*1024\r\n$4\r\nMGET\r\n", 1_023, b"*1023\r\n", 1_023),
+        (
+            b"*1025\r\n$4\r\nMGET\r\n",
+            1_024,
+            b"-downstream protocol error\r\n",
+            0,
+        ),
+    ];
+    for (head, keys, answer_head, values) in rows {
+        let text = repeated(alloc, head, keys, b"$1\r\nk\r\n")?;
+        let answer = repeated(alloc, answer_head, values, b"$-1\r\n")?;
+        let mut taken = open_sink(alloc);
+        taken.step = 20_000;
+        let end = local_run(alloc, &mut Source::new(text.as_slice(), 20_000), &mut taken);
+        assert_eq!(rt; end, Ok(()));
+        assert_eq!(rt; taken.taken.as_slice(), answer.as_slice());
+    }
+    Ok(())
+}
+
 const THREE: &[u8] = b"*1\r\n$4\r\nPING\r\n*1\r\n$1\r\n?\r\n*1\r\n$4\r\nPING\r\n";
 
 const THREE_ANSWERS: &[u8] = b"+PONG\r\n-unsupported command '?'\r\n+PONG\r\n";
@@ -259,15 +353,18 @@ fn want_of_memory_is_told(rt: HostRuntime) -> Result<(), Fail> {
     if taken.taken.reserve(1_000).is_err() {
         taken.taken.reserve(1_000)?;
     }
-    match local_run(rt.alloc(), &mut Source::new(THREE, 9), &mut taken) {
-        Ok(()) => assert_eq!(rt; taken.taken.as_slice(), THREE_ANSWERS),
-        Err(ending) => {
-            assert_eq!(rt; ending, Ending::Memory);
-            assert!(rt; THREE_ANSWERS.starts_with(taken.taken.as_slice()));
-            taken.taken.clear();
-            let end = local_run(rt.alloc(), &mut Source::new(THREE, 9), &mut taken);
-            assert_eq!(rt; end, Ok(()));
-            assert_eq!(rt; taken.taken.as_slice(), THREE_ANSWERS);
+    for (text, answers) in [(THREE, THREE_ANSWERS), SPLIT_ROWS[0], SPLIT_ROWS[2]] {
+        taken.taken.clear();
+        match local_run(rt.alloc(), &mut Source::new(text, 9), &mut taken) {
+            Ok(()) => assert_eq!(rt; taken.taken.as_slice(), answers),
+            Err(ending) => {
+                assert_eq!(rt; ending, Ending::Memory);
+                assert!(rt; answers.starts_with(taken.taken.as_slice()));
+                taken.taken.clear();
+                let end = local_run(rt.alloc(), &mut Source::new(text, 9), &mut taken);
+                assert_eq!(rt; end, Ok(()));
+                assert_eq!(rt; taken.taken.as_slice(), answers);
+            }
         }
     }
     Ok(())

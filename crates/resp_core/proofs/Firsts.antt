@@ -1,5 +1,5 @@
 -- What reading gives at the front of the bytes that are held, of which at most max_text + 1 are looked at.
-use Rattle.std.proofs.Common.{◌≡◌, inl, inr, ℕ, ◌+◌, ◌-◌, ◌<◌, ◌≤◌, List, [], ◌∷◌, ◌++◌, length, take, drop, refl, sym, ap, ◌∙◌, subst, append_assoc, append-nil, arith}
+use Rattle.std.proofs.Common.{◌≡◌, ◌≢◌, ◌⊎◌, inl, inr, ℕ, ◌+◌, ◌-◌, ◌<◌, ◌≤◌, List, [], ◌∷◌, ◌++◌, length, take, drop, refl, sym, ap, ◌∙◌, subst, append_assoc, append-nil, arith}
 use Rattle.std.proofs.lemmas.List.{length-append, take_at, take-append-drop, length-take-le}
 use Rattle.resp_core.specs.Tree.{Tree}
 use Rattle.resp_core.specs.Grammar.{IsText, max_text, max_depth}
@@ -7,8 +7,12 @@ use Rattle.resp_core.specs.Reading.{Outcome, found, unfinished, refused, value_a
 use Rattle.resp_core.specs.Stream.{HasWhole}
 use Rattle.resp_core.specs.Front.{IsFirstValue, IsUnfinished, IsFault}
 use Rattle.resp_core.specs.declared.error.Refusal.{Refusal}
-use Rattle.resp_core.proofs.Readers.{IsReader}
+use Rattle.resp_core.specs.declared.error.Refusal.TheVariants.{TooLong, TooDeep}
+use Rattle.resp_core.specs.Offset.{refusal_number}
+use Rattle.resp_core.specs.Refusals.{IsTold}
+use Rattle.resp_core.proofs.Readers.{IsFirst, IsReader}
 use Rattle.resp_core.proofs.Whole.{value-reads, InValue}
+use Rattle.resp_core.proofs.Numbers.{told_by, told_deep, told_long, number_le}
 
 -- the front of a list that two splits share
 pub same_front : (x y a b : List ℕ) → x ++ y ≡ a ++ b → length x ≤ length a → (z : List ℕ) × (a ≡ x ++ z)
@@ -53,34 +57,36 @@ module _ (most : ℕ) where
         }
 
     -- bytes past the greatest length of a text that begins well
-    too_long : (x : List ℕ) (t : Tree) (z : List ℕ) → IsText most max_depth (seen ++ x) t → length seen ≡ max_text + 1 → (HasWhole most held → ⊥) → IsFault most held max_text
-    too_long x t z g h none =
+    too_long : (x : List ℕ) (t : Tree) → IsText most max_depth (seen ++ x) t → ((w : Refusal) (rest : List ℕ) → value_at most max_depth seen ≡ refused w rest → ⊥) → length seen ≡ max_text + 1 → (HasWhole most held → ⊥) → IsFault most held max_text 106
+    too_long x t g well h none =
         let parts : seen ≡ take max_text seen ++ drop max_text seen = sym (take-append-drop max_text seen) in
         let len : length (take max_text seen) ≡ max_text = length-take-le max_text seen (omega arith) in
         by_rest (drop max_text seen) parts (omega (arith, ap length parts, length-append (take max_text seen) (drop max_text seen))) len
       where
-        by_rest : (d : List ℕ) → seen ≡ take max_text seen ++ d → length d ≡ 1 → length (take max_text seen) ≡ max_text → IsFault most held max_text
+        by_rest : (d : List ℕ) → seen ≡ take max_text seen ++ d → length d ≡ 1 → length (take max_text seen) ≡ max_text → IsFault most held max_text 106
         by_rest [] p l m = absurd (omega arith)
-        by_rest (c ∷ cs) p l m = record {
+        by_rest (c ∷ d ∷ cs) p l m = absurd (omega arith)
+        by_rest (c ∷ []) p l m = record {
           refused = record {
             before = take max_text seen;
             byte = c;
-            after = cs ++ after;
-            split = split ∙ ap (λ w. w ++ after) p ∙ append_assoc (take max_text seen) (c ∷ cs) after;
+            after = after;
+            split = split ∙ ap (λ w. w ++ after) p ∙ append_assoc (take max_text seen) (c ∷ []) after;
             place_is = m;
-            fits = (c ∷ cs ++ x, t, subst (λ (w : List ℕ). IsText most max_depth w t) (ap (λ w. w ++ x) p ∙ append_assoc (take max_text seen) (c ∷ cs) x) g);
+            fits = (c ∷ x, t, subst (λ (w : List ℕ). IsText most max_depth w t) (ap (λ w. w ++ x) p ∙ append_assoc (take max_text seen) (c ∷ []) x) g);
             few = omega arith;
             fails = inl m;
           };
+          told = told_long most (take max_text seen) c (λ w rest e. well w rest (ap (value_at most max_depth) p ∙ e)) m;
           not_whole = none;
         }
 
-    pub first_too_long : (t : Tree) (rest : List ℕ) → value_at most max_depth seen ≡ found t rest → length seen ≤ max_text + 1 → max_text < length seen - length rest → IsFault most held max_text
+    pub first_too_long : (t : Tree) (rest : List ℕ) → value_at most max_depth seen ≡ found t rest → length seen ≤ max_text + 1 → max_text < length seen - length rest → IsFault most held max_text 106
     first_too_long t rest e small h =
         let q = law.sound seen rest t e in
         let len = ap length q.1 in
         let nil : rest ≡ [] = nil_of rest (omega (arith, len, length-append q.0 rest)) in
-        too_long [] t [] (subst (λ (w : List ℕ). IsText most max_depth w t) (sym (append-nil seen ∙ q.1 ∙ ap (λ w. q.0 ++ w) nil ∙ append-nil q.0)) q.2) (omega arith)
+        too_long [] t (subst (λ (w : List ℕ). IsText most max_depth w t) (sym (append-nil seen ∙ q.1 ∙ ap (λ w. q.0 ++ w) nil ∙ append-nil q.0)) q.2) (λ w left f. cc) (omega arith)
         (λ w.
         let f = whole_is_found w.0 w.1 w.2 w.3 w.4 (omega (arith, w.5)) in
         let g : found t rest ≡ found w.0 f.0 = sym e ∙ f.2 in
@@ -94,13 +100,14 @@ module _ (most : ℕ) where
     not_whole_before : value_at most max_depth seen ≡ unfinished → max_text ≤ length seen → HasWhole most held → ⊥
     not_whole_before e h w = let f = whole_is_found w.0 w.1 w.2 w.3 w.4 (omega (arith, w.5)) in let g = f.2 in cc
 
-    pub first_unfinished_long : value_at most max_depth seen ≡ unfinished → length seen ≡ max_text + 1 → IsFault most held max_text
+    pub first_unfinished_long : value_at most max_depth seen ≡ unfinished → length seen ≡ max_text + 1 → IsFault most held max_text 106
     first_unfinished_long e h =
         let q = law.opens seen e in
-        too_long q.0 q.1 [] q.2 h (not_whole_before e (omega arith))
+        too_long q.0 q.1 q.2 (λ w left f. cc) h (not_whole_before e (omega arith))
 
-    pub first_refused : (r : Refusal) (rest : List ℕ) → value_at most max_depth seen ≡ refused r rest → length seen ≤ max_text + 1 → IsFault most held (length seen - length rest)
-    first_refused r rest e small =
+    -- a refused byte, by the number that it is told
+    refused_by : (r : Refusal) (rest : List ℕ) (number : ℕ) → value_at most max_depth seen ≡ refused r rest → length seen ≤ max_text + 1 → ((q : IsFirst (InValue most max_depth) (value_at most max_depth) seen rest r) → length q.before ≡ length seen - length rest → IsTold most q.before q.byte number) → IsFault most held (length seen - length rest) number
+    refused_by r rest number e small told =
         let q = law.first seen rest r e in
         let len = ap length q.split in
         let rest_len = ap length q.rest_is in
@@ -115,6 +122,7 @@ module _ (most : ℕ) where
             few = omega (arith, len, length-append q.before rest, rest_len);
             fails = inr (λ w. stays_refused r (q.before ++ q.byte ∷ []) (q.byte ∷ []) q.fails w.0 w.1 w.2);
           };
+          told = told q (omega (arith, len, length-append q.before rest));
           not_whole = λ w.
               let f : value_at most max_depth held ≡ refused r (rest ++ after) = ap (value_at most max_depth) split ∙ law.stays seen after rest r e in
               let g : value_at most max_depth held ≡ found w.0 w.2 = ap (value_at most max_depth) w.3 ∙ law.again w.1 w.2 w.0 w.4 in
@@ -128,6 +136,19 @@ module _ (most : ℕ) where
             let m = append-nil (b ++ more) in
             let n : value_at most max_depth (b ++ more) ≡ found t [] = ap (value_at most max_depth) (sym m) ∙ l in
             cc
+
+    pub first_refused : (r : Refusal) (rest : List ℕ) → value_at most max_depth seen ≡ refused r rest → length seen ≤ max_text + 1 → (length seen - length rest ≡ max_text → r ≢ TooDeep) → IsFault most held (length seen - length rest) (refusal_number r)
+    first_refused r rest e small h =
+        refused_by r rest (refusal_number r) e small (λ q l. told_by most q.before q.byte r q.fits q.fails q.place (λ m. number_le r (h (sym l ∙ m))))
+
+    pub first_refused_deep : (rest : List ℕ) → value_at most max_depth seen ≡ refused TooDeep rest → length seen ≤ max_text + 1 → length seen - length rest ≡ max_text → IsFault most held (length seen - length rest) 106
+    first_refused_deep rest e small h =
+        refused_by TooDeep rest 106 e small (λ q l. told_deep most q.before q.byte q.fits q.fails (l ∙ h))
+
+    pub first_told : (r w : Refusal) (rest : List ℕ) → value_at most max_depth seen ≡ refused r rest → length seen ≤ max_text + 1 → ((r ≡ TooDeep) × (length seen - length rest ≡ max_text) × (w ≡ TooLong)) ⊎ ((length seen - length rest ≡ max_text → r ≢ TooDeep) × (w ≡ r)) → IsFault most held (length seen - length rest) (refusal_number w)
+    first_told r w rest e small (inl (f, g, h)) =
+        subst (λ (z : Refusal). IsFault most held (length seen - length rest) (refusal_number z)) (sym h) (first_refused_deep rest (e ∙ ap (λ z. refused z rest) f) small g)
+    first_told r w rest e small (inr (f, g)) = subst (λ (z : Refusal). IsFault most held (length seen - length rest) (refusal_number z)) (sym g) (first_refused r rest e small f)
 
   pub first_unfinished : (held : List ℕ) → value_at most max_depth held ≡ unfinished → length held ≤ max_text → IsUnfinished most held
   first_unfinished held e h = record {

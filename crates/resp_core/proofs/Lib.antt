@@ -1,4 +1,5 @@
 pub mod Readers
+pub mod Places
 pub mod Parts
 pub mod Whole
 pub mod Front
@@ -6,5 +7,10 @@ pub mod Streams
 pub mod Firsts
 pub mod TreeLemmas
 pub mod RoundTrip
+pub mod Spelling
 pub mod StreamLaws
 pub mod Words
+pub mod Lowest
+pub mod LowestInValue
+pub mod FitsReading
+pub mod Numbers

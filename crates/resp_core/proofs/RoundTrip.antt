@@ -10,7 +10,7 @@ use Rattle.resp_core.specs.Text.{line, text, texts}
 use Rattle.resp_core.specs.Within.{IsLong, AreWithin}
 use Rattle.resp_core.specs.Laws.{TextIsRead}
 
-own : IsNumeralModel (AllByRecursion IsDigit) (number_after 0)
+pub own : IsNumeralModel (AllByRecursion IsDigit) (number_after 0)
 own = numerals_by_fold (AllByRecursion IsDigit) (search rules) number_after (search rules)
 
 is_line : (s : List ℕ) → list_all is_text_byte s ≡ true → AllByRecursion (λ b. (b ≢ 13) × (b ≢ 10)) s

@@ -1,15 +1,21 @@
 -- The laws of texts and streams.
 use Rattle.std.proofs.Common.{◌≡◌, ◌⊎◌, inl, inr, ⊎_elim, ℕ, zero, suc, ◌+◌, ◌-◌, ◌<◌, ◌≤◌, Bool, true, false, List, [], ◌∷◌, ◌++◌, length, take, drop, refl, sym, ap, ◌∙◌, subst, append_assoc, append-nil, arith}
-use Rattle.std.proofs.lemmas.List.{length-append, length-take, length-take-le, length-drop, take_all, take-append-drop}
+use Rattle.std.proofs.lemmas.Bool.{cases_eq}
+use Rattle.std.proofs.lemmas.List.{append_cancel_left, length-append, length-take, length-take-le, length-drop, take_all, take-append-drop}
 use Rattle.resp_core.specs.Tree.{Tree}
 use Rattle.resp_core.specs.Grammar.{IsText, max_text, max_depth}
 use Rattle.resp_core.specs.Reading.{Outcome, found, unfinished, refused, value_at}
 use Rattle.resp_core.specs.Text.{text}
+use Rattle.resp_core.specs.Offset.{refusal_number}
+use Rattle.resp_core.specs.Refusals.{IsTold}
+use Rattle.resp_core.specs.declared.error.Refusal.{Refusal}
+use Rattle.resp_core.specs.declared.error.Refusal.TheVariants.{BadType, BadLength, BadNumber, BadLineEnd, TooLong, TooDeep}
 use Rattle.resp_core.specs.Front.{IsFirstValue, IsUnfinished, IsFault}
 use Rattle.resp_core.specs.Stream.{HasWhole, Splits, AreValues, IsRefusedAt, HasRefusal, HasNoRefusal, told_offset}
-use Rattle.resp_core.specs.Laws.{NoTextBeginsAnother, Holds, EachStreamHolds, OneHolding, RefusalStays, OneRefusal, ValuesStay, TextIsReadBack}
+use Rattle.resp_core.specs.Laws.{NoTextBeginsAnother, Holds, EachStreamHolds, OneHolding, RefusalStays, OneRefusedByte, OneRefusal, ValuesStay, TextIsReadBack, TextIsReadNext}
 use Rattle.resp_core.proofs.Whole.{value-reads, text_nonempty}
-use Rattle.resp_core.proofs.Firsts.{same_front, first_found, first_too_long, first_unfinished, first_unfinished_long, first_refused}
+use Rattle.resp_core.proofs.Firsts.{same_front, first_found, first_too_long, first_unfinished, first_unfinished_long, first_told}
+use Rattle.resp_core.proofs.Numbers.{cases_deep, one_number}
 use Rattle.resp_core.proofs.Streams.{splits_fed, splits_more, are_values, no_refusal_of, refusal_of_fault, one_reading}
 use Rattle.resp_core.proofs.RoundTrip.{text_is_read}
 
@@ -31,7 +37,7 @@ no_text_begins_another most b more t u g h =
 data Stood (most : ℕ) (held : List ℕ) : Type 0 where
   whole : (t : Tree) (len : ℕ) → IsFirstValue most held t len → Stood most held
   begun : IsUnfinished most held → Stood most held
-  fault : (place : ℕ) → IsFault most held place → Stood most held
+  fault : (place number : ℕ) → IsFault most held place number → Stood most held
 
 module _ (most : ℕ) (held : List ℕ) where
   abbrev seen : List ℕ
@@ -46,23 +52,29 @@ module _ (most : ℕ) (held : List ℕ) where
   stood_by : (o : Outcome Tree) → value_at most max_depth seen ≡ o → Stood most held
   stood_by (found t rest) e =
       ⊎_elim (λ l. whole t (length seen - length rest) (first_found most held seen _ split t rest e l))
-      (λ l. fault max_text (first_too_long most held seen _ split t rest e few_seen l)) (le_or_lt (length seen - length rest) max_text)
+      (λ l. fault max_text 106 (first_too_long most held seen _ split t rest e few_seen l)) (le_or_lt (length seen - length rest) max_text)
   stood_by unfinished e =
       ⊎_elim (λ l. begun (first_unfinished most held (ap (value_at most max_depth) (sym (take_all (max_text + 1) held (omega (arith, l)))) ∙ e) l))
-      (λ l. fault max_text (first_unfinished_long most held seen _ split e (length-take-le (max_text + 1) held (omega (arith, l))))) (le_or_lt (length held) max_text)
-  stood_by (refused r rest) e = fault (length seen - length rest) (first_refused most held seen _ split r rest e few_seen)
+      (λ l. fault max_text 106 (first_unfinished_long most held seen _ split e (length-take-le (max_text + 1) held (omega (arith, l))))) (le_or_lt (length held) max_text)
+  stood_by (refused r rest) e =
+      elim (cases_eq (length seen - length rest) max_text) [
+        | inl l ↦
+            ⊎_elim (λ h. fault (length seen - length rest) (refusal_number TooLong) (first_told most held seen _ split r TooLong rest e few_seen (inl (h, l, refl))))
+            (λ h. fault (length seen - length rest) (refusal_number r) (first_told most held seen _ split r r rest e few_seen (inr ((λ _. h), refl)))) (cases_deep r)
+        | inr l ↦ fault (length seen - length rest) (refusal_number r) (first_told most held seen _ split r r rest e few_seen (inr ((λ m. absurd (l m)), refl)))
+      ]
 
   stood : Stood most held
   stood = stood_by (value_at most max_depth seen) refl
 
 -- the values of a stream, and what stands behind them
 abbrev Held : ℕ → List ℕ → Type 0
-Held most b = (ts : List Tree) × (rest : List ℕ) × Splits most b ts rest × (IsUnfinished most rest ⊎ ((place : ℕ) × IsFault most rest place))
+Held most b = (ts : List Tree) × (rest : List ℕ) × Splits most b ts rest × (IsUnfinished most rest ⊎ ((place number : ℕ) × IsFault most rest place number))
 
 -- a stream of at most n bytes, by what stands at its front
 held_by : (n most : ℕ) (b : List ℕ) → length b ≤ n → Stood most b → Held most b
 held_by n most b l (begun f) = ([], b, refl, inl f)
-held_by n most b l (fault place f) = ([], b, refl, inr (place, f))
+held_by n most b l (fault place number f) = ([], b, refl, inr (place, number, f))
 held_by zero most b l (whole t len f) = absurd (omega (arith, f.inside, text_nonempty most max_depth (take len b) t f.text, length-take len b))
 held_by (suc n) most b l (whole t len f) =
     let q = held_by n most (drop len b) (omega (arith, f.inside, l, text_nonempty most max_depth (take len b) t f.text, length-take len b, length-drop len b)) (stood most (drop len b)) in
@@ -71,7 +83,7 @@ held_by (suc n) most b l (whole t len f) =
 pub each_stream_holds : EachStreamHolds
 each_stream_holds most b =
     let q = held_by (length b) most b (omega arith) (stood most b) in
-    ⊎_elim (λ f. (q.0, false, no_refusal_of most b q.1 q.0 q.2 f)) (λ f. (q.0, true, (_, refusal_of_fault most b q.1 q.0 f.0 q.2 f.1))) q.3
+    ⊎_elim (λ f. (q.0, false, no_refusal_of most b q.1 q.0 q.2 f)) (λ f. (q.0, true, (_, f.1, refusal_of_fault most b q.1 q.0 f.0 f.1 q.2 f.2))) q.3
 
 -- nothing whole stands in front of what is left of a stream
 none_whole : (most : ℕ) (b : List ℕ) (ts : List Tree) (rest : List ℕ) → AreValues most b ts rest → HasWhole most rest → ⊥
@@ -87,7 +99,7 @@ no_text_over most rest place f x y t more e g few l =
     ⊎_elim (λ m. omega (arith, m, f.place_is, few, l)) (λ n. n (q.0, t, subst (λ (z : List ℕ). IsText most max_depth z t) q.1 g)) f.fails
 
 pub refusal_stays : RefusalStays
-refusal_stays most b more ts offset h = record {
+refusal_stays most b more ts offset number h = record {
   rest = h.rest ++ more;
   values = are_values most (b ++ more) (h.rest ++ more) ts (splits_fed most b h.rest more ts h.values.splits) (λ w. ⊎_elim (λ l. short w.0 w.1 w.2 w.3 w.4 w.5 l) (λ l. no_text_over most h.rest h.place h.refused w.1 w.2 w.0 more w.3 w.4 w.5 l) (le_or_lt (length w.1) h.place));
   place = h.place;
@@ -101,6 +113,7 @@ refusal_stays most b more ts offset h = record {
     few = h.refused.few;
     fails = h.refused.fails;
   };
+  told = h.told;
   offset_is = h.offset_is ∙ ap (λ z. told_offset (z + h.place)) (omega (arith, length-append b more, length-append h.rest more));
 }
   where
@@ -120,8 +133,8 @@ none_behind most rest m n f g l =
     ⊎_elim (λ e. omega (arith, e, f.place_is, g.place_is, g.few, l))
     (λ h. h (q.0 ++ more, t, subst (λ (z : List ℕ). IsText most max_depth z t) (ap (λ z. z ++ more) q.1 ∙ append_assoc (f.before ++ f.byte ∷ []) q.0 more) reads)) f.fails
 
-pub one_refusal : OneRefusal
-one_refusal most rest m n f g =
+pub one_refused_byte : OneRefusedByte
+one_refused_byte most rest m n f g =
     ⊎_elim (λ l. ⊎_elim (λ k. omega (arith, l, k)) (λ k. absurd (none_behind most rest m n f g k)) (le_or_lt n m))
     (λ l. absurd (none_behind most rest n m g f l)) (le_or_lt m n)
 
@@ -136,7 +149,7 @@ same_rest most b (t ∷ ts) rest left g h =
 
 -- the values of a stream that is refused, or is not
 values_of : (most : ℕ) (b : List ℕ) (ts : List Tree) (refused : Bool) → Holds most b ts refused → (rest : List ℕ) × AreValues most b ts rest
-values_of most b ts true h = (h.1.rest, h.1.values)
+values_of most b ts true h = (h.2.rest, h.2.values)
 values_of most b ts false h = (h.rest, h.values)
 
 -- each of two lists begins with the other
@@ -151,11 +164,34 @@ same_values : (most : ℕ) (b : List ℕ) (ts us : List Tree) (rest left : List 
 same_values most b ts us rest left g h = same_list ts us (one_reading most b ts us rest left g h.splits) (one_reading most b us ts left rest h g.splits)
 
 -- a stream is not both refused and not refused
-not_both : (most : ℕ) (b : List ℕ) (ts us : List Tree) (offset : ℕ) → HasNoRefusal most b ts → HasRefusal most b us offset → ⊥
-not_both most b ts us offset g h =
+not_both : (most : ℕ) (b : List ℕ) (ts us : List Tree) (offset number : ℕ) → HasNoRefusal most b ts → HasRefusal most b us offset number → ⊥
+not_both most b ts us offset number g h =
     let e = same_values most b ts us g.rest h.rest g.values h.values in
     let r = same_rest most b us h.rest g.rest h.values.splits (subst (λ (z : List Tree). Splits most b z g.rest) e g.values.splits) in
     g.none h.place (subst (λ (z : List ℕ). IsRefusedAt most z h.place) r h.refused)
+
+-- the same place has the same bytes before it
+same_place : (most : ℕ) (rest left : List ℕ) (m n : ℕ) → rest ≡ left → (f : IsRefusedAt most rest m) (g : IsRefusedAt most left n) → (m ≡ n) × (f.before ≡ g.before) × (f.byte ≡ g.byte)
+same_place most rest left m n e f g =
+    let place_is : m ≡ n = one_refused_byte most left m n (subst (λ (z : List ℕ). IsRefusedAt most z m) e f) g in
+    let whole : f.before ++ f.byte ∷ f.after ≡ g.before ++ g.byte ∷ g.after = sym f.split ∙ e ∙ g.split in
+    let q = same_front f.before (f.byte ∷ f.after) g.before (g.byte ∷ g.after) whole (omega (arith, f.place_is, g.place_is, place_is)) in
+    let before_is : f.before ≡ g.before = nil_end q.0 q.1 (omega (arith, ap length q.1, length-append f.before q.0, f.place_is, g.place_is, place_is)) in
+    let tail : f.byte ∷ f.after ≡ g.byte ∷ g.after = append_cancel_left f.before _ _ (whole ∙ ap (λ z. z ++ g.byte ∷ g.after) (sym before_is)) in
+    let byte_is : f.byte ≡ g.byte = cc in
+    (place_is, before_is, byte_is)
+  where
+    nil_end : (z : List ℕ) → g.before ≡ f.before ++ z → length z ≡ 0 → f.before ≡ g.before
+    nil_end [] p l = sym (p ∙ append-nil f.before)
+    nil_end (c ∷ z) p l = absurd (omega (arith, l))
+
+pub one_refusal : OneRefusal
+one_refusal most b ts us offset other number another g h =
+    let e = same_values most b ts us g.rest h.rest g.values h.values in
+    let rest_is : g.rest ≡ h.rest = same_rest most b us g.rest h.rest (subst (λ (z : List Tree). Splits most b z g.rest) e g.values.splits) h.values.splits in
+    let q = same_place most g.rest h.rest g.place h.place rest_is g.refused h.refused in
+    let told : IsTold most h.refused.before h.refused.byte number = subst (λ (z : List ℕ). IsTold most z h.refused.byte number) q.1 (subst (λ (z : ℕ). IsTold most g.refused.before z number) q.2 g.told) in
+    (omega (arith, g.offset_is, h.offset_is, q.0, ap length rest_is), one_number most h.refused.before h.refused.byte number another told h.told)
 
 pub one_holding : OneHolding
 one_holding most b ts us r s g h =
@@ -166,8 +202,8 @@ one_holding most b ts us r s g h =
     by : (r s : Bool) → Holds most b ts r → Holds most b us s → r ≡ s
     by true true g h = refl
     by false false g h = refl
-    by false true g h = absurd (not_both most b ts us h.0 g h.1)
-    by true false g h = absurd (not_both most b us ts g.0 h g.1)
+    by false true g h = absurd (not_both most b ts us h.0 h.1 g h.2)
+    by true false g h = absurd (not_both most b us ts g.0 g.1 h g.2)
 
 pub values_stay : ValuesStay
 values_stay most b more rest ts us r g h =
@@ -178,3 +214,9 @@ pub text_is_read_back : TextIsReadBack
 text_is_read_back most t more ts r small within plain few h =
     let (rest, f) = values_of most (text t ++ more) ts r h in
     one_reading most (text t ++ more) ts (t ∷ []) rest more f (text t, more, refl, text_is_read most max_depth t small within plain, few, refl)
+
+pub text_is_read_next : TextIsReadNext
+text_is_read_next most b more ts us t r small within plain few g h =
+    let (rest, f) = values_of most b us r h in
+    let q = one_reading most b us (ts ++ t ∷ []) rest more f (splits_more most b (text t ++ more) (text t) more ts t g refl (text_is_read most max_depth t small within plain) few) in
+    (q.0, q.1 ∙ append_assoc ts (t ∷ []) q.0)

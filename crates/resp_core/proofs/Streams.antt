@@ -7,7 +7,7 @@ use Rattle.resp_core.specs.Grammar.{IsText, max_text, max_depth}
 use Rattle.resp_core.specs.Reading.{found, value_at}
 use Rattle.resp_core.specs.Stream.{HasWhole, Splits, AreValues, Begins, told_offset, HasRefusal, HasNoRefusal, ReaderState, Stands}
 use Rattle.resp_core.specs.Laws.{OneReading}
-use Rattle.resp_core.specs.Offset.{offset_of}
+use Rattle.resp_core.specs.Offset.{offset_of, number_of}
 use Rattle.resp_core.specs.declared.error.RespError.{RespError}
 use Rattle.resp_core.proofs.Whole.{value-reads, text_nonempty}
 
@@ -82,21 +82,22 @@ pub no_refusal : (r : ReaderState) (b : List ℕ) (ts : List Tree) → Stands r 
 no_refusal r b ts g f = no_refusal_of r.most b r.held ts g.splits f
 
 -- a stream in which a byte is refused
-pub refusal_of_fault : (most : ℕ) (b held : List ℕ) (ts : List Tree) (place : ℕ) → Splits most b ts held → IsFault most held place → HasRefusal most b ts (told_offset (length b - length held + place))
-refusal_of_fault most b held ts place g f = record {
+pub refusal_of_fault : (most : ℕ) (b held : List ℕ) (ts : List Tree) (place number : ℕ) → Splits most b ts held → IsFault most held place number → HasRefusal most b ts (told_offset (length b - length held + place)) number
+refusal_of_fault most b held ts place number g f = record {
   rest = held;
   values = are_values most b held ts g f.not_whole;
   place = place;
   refused = f.refused;
+  told = f.told;
   offset_is = refl;
 }
 
 -- a reader that refuses a byte
-pub has_refusal : (r : ReaderState) (b : List ℕ) (ts : List Tree) (place at : ℕ) → Stands r b ts → IsFault r.most r.held place → at ≡ told_offset (r.consumed + place) → HasRefusal r.most b ts at
-has_refusal r b ts place at g f e =
-    subst (λ (z : ℕ). HasRefusal r.most b ts z) (sym (e ∙ told_later r.consumed (length b - length r.held) place g.consumed_is)) (refusal_of_fault r.most b r.held ts place g.splits f)
+pub has_refusal : (r : ReaderState) (b : List ℕ) (ts : List Tree) (place at number : ℕ) → Stands r b ts → IsFault r.most r.held place number → at ≡ told_offset (r.consumed + place) → HasRefusal r.most b ts at number
+has_refusal r b ts place at number g f e =
+    subst (λ (z : ℕ). HasRefusal r.most b ts z number) (sym (e ∙ told_later r.consumed (length b - length r.held) place g.consumed_is)) (refusal_of_fault r.most b r.held ts place number g.splits f)
 
-pub stands_told : (r : ReaderState) (b : List ℕ) (ts : List Tree) (e : RespError) → Stands r b ts → (s : ReaderState) → s.most ≡ r.most → s.consumed ≡ r.consumed → s.held ≡ r.held → s.refusal ≡ Some e → HasRefusal r.most b ts (offset_of e) → Stands s b ts
+pub stands_told : (r : ReaderState) (b : List ℕ) (ts : List Tree) (e : RespError) → Stands r b ts → (s : ReaderState) → s.most ≡ r.most → s.consumed ≡ r.consumed → s.held ≡ r.held → s.refusal ≡ Some e → HasRefusal r.most b ts (offset_of e) (number_of e) → Stands s b ts
 stands_told r b ts e g s most consumed held refusal h = record {
   splits = rw (most, held) g.splits;
   consumed_is = consumed ∙ g.consumed_is ∙ ap (λ z. told_offset (length b - length z)) (sym held);

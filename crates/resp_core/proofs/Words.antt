@@ -4,11 +4,12 @@ use Rattle.std.specs.List.{list_all}
 use Rattle.std.proofs.lemmas.Bool.{and_parts}
 use Rattle.std.proofs.lemmas.List.{get_or-map, length-map}
 use Rattle.bytes.specs.declared.shared.Bytes.{Bytes}
-use Rattle.resp_core.specs.Tree.{Tree, list, trees_of}
+use Rattle.resp_core.specs.Tree.{Tree, Trees, simple, fault, whole, bulk, null_bulk, list, null_list, no_trees, tree, members, trees_of, is_plain_tree, are_plain_trees}
 use Rattle.resp_core.specs.Value.{tree_of}
 use Rattle.resp_core.specs.declared.value.Value.{Value}
 use Rattle.resp_core.specs.declared.value.Value.TheVariants.{Simple, Fault, Whole, Bulk, NullBulk, NullList}
 use Rattle.resp_core.specs.declared.value.Value.TheVariants as values
+use Rattle.resp_core.specs.Laws.{CommandsArePlain}
 use Rattle.resp_core.proofs.TreeLemmas.{members_trees}
 use Rattle.resp_core.specs.Command.{is_bulk, payload_of, are_words, is_command, words_of, word}
 
@@ -51,3 +52,28 @@ no_bulk (Bulk s) h e = h s refl
 no_bulk NullBulk h e = cc
 no_bulk (values.List ts) h e = cc
 no_bulk NullList h e = cc
+
+-- a command is plain
+bulk_is_plain : (t : Tree) → is_bulk t ≡ true → is_plain_tree t ≡ true
+bulk_is_plain (simple s) h = absurd cc
+bulk_is_plain (fault s) h = absurd cc
+bulk_is_plain (whole n) h = refl
+bulk_is_plain (bulk s) h = refl
+bulk_is_plain null_bulk h = refl
+bulk_is_plain (list ts) h = absurd cc
+bulk_is_plain null_list h = refl
+
+bulks_are_plain : (ts : Trees) → list_all is_bulk (members ts) ≡ true → are_plain_trees ts ≡ true
+bulks_are_plain no_trees h = refl
+bulks_are_plain (tree t ts) h =
+    let parts = and_parts (is_bulk t) (list_all is_bulk (members ts)) h in
+    rw (bulk_is_plain t parts.0, bulks_are_plain ts parts.1) refl
+
+pub commands_are_plain : CommandsArePlain
+commands_are_plain (simple s) h = absurd cc
+commands_are_plain (fault s) h = absurd cc
+commands_are_plain (whole n) h = refl
+commands_are_plain (bulk s) h = refl
+commands_are_plain null_bulk h = refl
+commands_are_plain (list ts) h = bulks_are_plain ts (and_parts _ (list_all is_bulk (members ts)) h).1
+commands_are_plain null_list h = refl

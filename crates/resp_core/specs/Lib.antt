@@ -7,9 +7,9 @@ pub mod Grammar
 pub mod Reading
 pub mod Gives
 pub mod Offset
+pub mod Refusals
 pub mod Stream
 pub mod Front
 pub mod Within
-pub mod Places
-pub mod Laws
 pub mod Command
+pub mod Laws

@@ -3,12 +3,17 @@ use Rattle.std.specs.Prelude.{◌≡◌, ◌⊎◌, ℕ, ◌+◌, ◌-◌, ◌^�
 use Rattle.resp_core.specs.Tree.{Tree}
 use Rattle.resp_core.specs.Grammar.{IsText, max_text, max_depth}
 use Rattle.resp_core.specs.declared.error.RespError.{RespError}
-use Rattle.resp_core.specs.Offset.{offset_of}
+use Rattle.resp_core.specs.Offset.{offset_of, number_of}
+use Rattle.resp_core.specs.Refusals.{IsTold}
 
 -- the bytes are the texts of these values, each of at most so many bytes, and then these bytes
 abbrev pub Splits : ℕ → List ℕ → List Tree → List ℕ → Type 0
 Splits most b [] rest = b ≡ rest
 Splits most b (t ∷ ts) rest = (x y : List ℕ) × (b ≡ x ++ y) × IsText most max_depth x t × (length x ≤ max_text) × Splits most y ts rest
+
+-- the bytes are a text of the value, of at most so many bytes, and then these bytes
+abbrev pub IsFront : ℕ → List ℕ → Tree → List ℕ → Type 0
+IsFront most b t rest = (x : List ℕ) × (b ≡ x ++ rest) × IsText most max_depth x t × (length x ≤ max_text)
 
 -- a whole value, of at most so many bytes, stands at the front
 abbrev pub HasWhole : ℕ → List ℕ → Type 0
@@ -39,12 +44,13 @@ pub record IsRefusedAt (most : ℕ) (rest : List ℕ) (place : ℕ) : Type 0 whe
 abbrev pub told_offset : ℕ → ℕ
 told_offset n = min n (2 ^ 64 - 1)
 
--- the byte of the stream at this offset is refused
-pub record HasRefusal (most : ℕ) (b : List ℕ) (ts : List Tree) (offset : ℕ) : Type 0 where
+-- behind these values of the stream the byte at this offset is refused, by this number
+pub record HasRefusal (most : ℕ) (b : List ℕ) (ts : List Tree) (offset number : ℕ) : Type 0 where
   pub rest : List ℕ
   pub values : AreValues most b ts rest
   pub place : ℕ
   pub refused : IsRefusedAt most rest place
+  pub told : IsTold most refused.before refused.byte number
   pub offset_is : offset ≡ told_offset (length b - length rest + place)
 
 -- these are the values of the stream, and no byte of it is refused
@@ -65,4 +71,4 @@ pub record ReaderState : Type 0 where
 pub record Stands (r : ReaderState) (b : List ℕ) (ts : List Tree) : Type 0 where
   pub splits : Splits r.most b ts r.held
   pub consumed_is : r.consumed ≡ told_offset (length b - length r.held)
-  pub told : IfSome r.refusal (λ e. HasRefusal r.most b ts (offset_of e))
+  pub told : IfSome r.refusal (λ e. HasRefusal r.most b ts (offset_of e) (number_of e))

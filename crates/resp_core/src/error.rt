@@ -17,11 +17,12 @@ pub(crate) enum Refusal {
 }
 
 impl Refusal {
-    ghost use Rattle.resp_core.specs.Offset.{offset_of};
+    ghost use Rattle.resp_core.specs.Offset.{offset_of, number_of, refusal_number};
 
     /// The refusal of the byte at this offset of the stream.
     pub(crate) fn at(self, at: u64) -> RespError
         ensures offset { offset_of result ≡ at }
+        ensures number { number_of result ≡ refusal_number self }
         ensures refusal { result ≢ RespError.NoMemory }
     {
         match self {

@@ -1,5 +1,5 @@
 //! Laws of texts and streams, each the contract of a function that does nothing: whoever stands on them calls it.
-ghost use Rattle.resp_core.specs.Laws.{NoTextBeginsAnother, TextIsRead, OneReading, EachStreamHolds, OneHolding, RefusalStays, OneRefusal, ValuesStay, TextIsReadBack};
+ghost use Rattle.resp_core.specs.Laws.{NoTextBeginsAnother, TextIsRead, SpellingIsShortest, ReadValuesArePlain, CommandsArePlain, OneReading, EachStreamHolds, OneHolding, RefusalStays, OneRefusedByte, OneNumber, OneRefusal, ValuesStay, TextIsReadBack, TextIsReadNext};
 
 /// No text begins another, so a stream can be read from its front with no look ahead.
 pub fn no_text_begins_another()
@@ -11,9 +11,26 @@ pub fn text_is_read()
     ensures { TextIsRead }
 {}
 
-/// What a plain value within the limits was written as is read as that value, whatever follows it.
+/// No text of a value is shorter than its one spelling, so what was read and is written again is no longer than it came.
+pub fn spelling_is_shortest()
+    ensures { SpellingIsShortest }
+{}
+
+/// A value that was read is plain and within the limits.
+pub fn read_values_are_plain()
+    ensures { ReadValuesArePlain }
+{}
+
+/// A command is plain, so it can be written.
+pub fn commands_are_plain()
+    ensures { CommandsArePlain }
+{}
+
+/// What a plain value within the limits was written as is read as that value, whatever follows it: at the front of a
+/// stream, and behind other values.
 pub fn text_is_read_back()
-    ensures { TextIsReadBack }
+    ensures front { TextIsReadBack }
+    ensures next { TextIsReadNext }
 {}
 
 /// A stream has one list of values, and whatever else it is split into is a beginning of that list.
@@ -31,9 +48,11 @@ pub fn one_holding()
     ensures { OneHolding }
 {}
 
-/// One byte at most of an unfinished value is refused.
+/// A stream is refused at one offset at most, and by one number.
 pub fn one_refusal()
-    ensures { OneRefusal }
+    ensures byte { OneRefusedByte }
+    ensures number { OneNumber }
+    ensures refusal { OneRefusal }
 {}
 
 /// What was refused stays refused at the same offset, whatever comes behind it.

@@ -1,10 +1,12 @@
 //! A reader of a stream that comes in pieces.
 ghost use Rattle.std.specs.Prelude.{◌≡◌, ◌≢◌, ◌⊎◌, ◌∷◌, ◌++◌, [], Ok, Err, Some, None, OnOk, OnErr, IfOk, IfErr, IfSome, IfNone, IsErrOf, ◌<◌, ◌^◌, length, List, ℕ};
 ghost use Rattle.resp_core.specs.Tree.{Tree};
-ghost use Rattle.resp_core.specs.Stream.{Stands, HasRefusal, HasNoRefusal};
-ghost use Rattle.resp_core.specs.Offset.{offset_of};
+ghost use Rattle.resp_core.specs.Stream.{Stands, IsFront, HasRefusal, HasNoRefusal};
+ghost use Rattle.resp_core.specs.Offset.{offset_of, number_of};
 ghost use Rattle.resp_core.specs.Value.{tree_of};
 ghost use Rattle.resp_core.specs.Front.{IsFirstValue, IsUnfinished, IsHaltOf};
+ghost use Rattle.resp_core.specs.Grammar.{max_text};
+ghost use Rattle.resp_core.specs.declared.error.Refusal.TheVariants.{TooLong, TooDeep};
 
 use crate::error::{Refusal, RespError};
 use crate::parse::{Stop, take_value};
@@ -121,12 +123,13 @@ impl Reader {
     pub fn next_value(&mut self) -> Result<Option<Value>, RespError>
         ensures value { IfOk result (λ o. IfSome o (λ v. (b : List ℕ) (ts : List Tree) → Stands self.old b ts
             → Stands self.new b (ts ++ tree_of v ∷ []))) }
+        ensures front { IfOk result (λ o. IfSome o (λ v. IsFront self.old.most self.old.held (tree_of v) self.new.held)) }
         ensures shorter { IfOk result (λ o. IfSome o (λ _. length self.new.held < length self.old.held)) }
         ensures none { IfOk result (λ o. IfNone o ((b : List ℕ) (ts : List Tree) → Stands self.old b ts
             → HasNoRefusal self.old.most b ts)) }
         ensures none_same { IfOk result (λ o. IfNone o (self.new ≡ self.old)) }
         ensures refused { IfErr result (λ e. e ≢ RespError.NoMemory → (b : List ℕ) (ts : List Tree) → Stands self.old b ts
-            → Stands self.new b ts × HasRefusal self.old.most b ts (offset_of e)) }
+            → Stands self.new b ts × HasRefusal self.old.most b ts (offset_of e) (number_of e)) }
         ensures told { IfErr result (λ e. e ≢ RespError.NoMemory → self.new.refusal ≡ Some e) }
         ensures untold { OnOk result (self.new.refusal ≡ None) }
         ensures memory { IsErrOf result RespError.NoMemory → self.new ≡ self.old }
@@ -188,11 +191,17 @@ fn first_value(alloc: Global, held: &[u8], most: u64) -> Result<Option<(Value, u
         }
         Err(Stop::Refused(refusal, rest)) => {
             let place = seen.len() - rest.len();
-            if place == MAX_TEXT && refusal == Refusal::TooDeep {
-                Err(Halt::Refused(Refusal::TooLong, place))
-            } else {
-                Err(Halt::Refused(refusal, place))
-            }
+            Err(Halt::Refused(told_at(refusal, place), place))
         }
+    }
+}
+
+// How a refusal at this place of a value is told: at the byte that makes the value too long, by no higher number.
+fn told_at(refusal: Refusal, place: usize) -> Refusal
+    ensures { ((refusal ≡ TooDeep) × (place ≡ max_text) × (result ≡ TooLong)) ⊎ ((place ≡ max_text → refusal ≢ TooDeep) × (result ≡ refusal)) }
+{
+    match refusal {
+        Refusal::TooDeep if place == MAX_TEXT => Refusal::TooLong,
+        other => other,
     }
 }

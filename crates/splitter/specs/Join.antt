@@ -4,8 +4,8 @@ use Rattle.std.specs.Fmt.{decimal}
 use Rattle.std.specs.Str.{bytes_eq}
 use Rattle.resp_core.specs.Tree.{Tree, simple, fault, whole, bulk, null_bulk, list, null_list, trees_of}
 use Rattle.resp_core.specs.Within.{is_long}
-use Rattle.splitter.specs.declared.plan.Join.{Join}
-use Rattle.splitter.specs.declared.plan.Join.TheVariants.{Same, Get, Set, Sum}
+use Rattle.splitter.specs.declared.plans.Join.{Join}
+use Rattle.splitter.specs.declared.plans.Join.TheVariants.{Same, Get, Set, Sum}
 
 abbrev pub upstream_protocol_error : Tree
 upstream_protocol_error = fault (codes "upstream protocol error")

@@ -5,10 +5,10 @@ use Rattle.resp_core.specs.Command.{is_command, words_of, word}
 use Rattle.command_table.specs.Table.{Row, row_named}
 use Rattle.command_table.specs.declared.Kind.{Kind}
 use Rattle.command_table.specs.declared.Kind.TheVariants.{Ping, Echo, Quit, One, SplitGet, SplitSet, SplitSum}
-use Rattle.splitter.specs.declared.plan.Join.{Join}
-use Rattle.splitter.specs.declared.plan.Local.{Local}
-use Rattle.splitter.specs.declared.plan.Local.TheVariants.{Pong, Echoed, Bye, Invalid, Unsupported, WrongNumber, Broken}
-use Rattle.splitter.specs.declared.plan.PartPlan.{PartPlan}
+use Rattle.splitter.specs.declared.plans.Join.{Join}
+use Rattle.splitter.specs.declared.plans.Local.{Local}
+use Rattle.splitter.specs.declared.plans.Local.TheVariants.{Pong, Echoed, Bye, Invalid, Unsupported, WrongNumber, Broken}
+use Rattle.splitter.specs.declared.plans.PartPlan.{PartPlan}
 use Rattle.splitter.specs.Request.{Request, read, broken}
 use Rattle.splitter.specs.Split.{Words, split, join_by, part_at}
 

@@ -1,8 +1,8 @@
 -- What a plan says.
 use Rattle.resp_core.specs.Value.{tree_of}
 use Rattle.splitter.specs.Plan.{Plan, here, leave, parts}
-use Rattle.splitter.specs.declared.plan.Plan.{Plan as Plan'}
-use Rattle.splitter.specs.declared.plan.Plan.TheVariants as plans
+use Rattle.splitter.specs.declared.plans.Plan.{Plan as Plan'}
+use Rattle.splitter.specs.declared.plans.Plan.TheVariants as plans
 
 abbrev pub plan_in : Plan' → Plan
 plan_in (plans.Here name v) = here name (tree_of v)

@@ -7,9 +7,9 @@ use Rattle.resp_core.specs.Command.{word}
 use Rattle.command_table.specs.Table.{Row}
 use Rattle.command_table.specs.declared.Kind.{Kind}
 use Rattle.command_table.specs.declared.Kind.TheVariants.{Ping, Echo, Quit, One, SplitGet, SplitSet, SplitSum}
-use Rattle.splitter.specs.declared.plan.Join.{Join}
-use Rattle.splitter.specs.declared.plan.Join.TheVariants.{Same, Get, Set, Sum}
-use Rattle.splitter.specs.declared.plan.PartPlan.{PartPlan}
+use Rattle.splitter.specs.declared.plans.Join.{Join}
+use Rattle.splitter.specs.declared.plans.Join.TheVariants.{Same, Get, Set, Sum}
+use Rattle.splitter.specs.declared.plans.PartPlan.{PartPlan}
 
 -- a command's words
 abbrev pub Words : Type 0

@@ -4,8 +4,21 @@
 //! and the rules of the joins are this project's own profile.
 #![tactic(auto)]
 
-mod plan;
+mod error;
+mod joining;
+mod laws;
+mod local;
+mod parts;
+mod plans;
+mod planning;
 mod request;
 
-pub use plan::{Join, Local, PartPlan, PartPlans, Plan};
+pub use error::SplitError;
+pub use joining::join;
+pub use laws::{
+    commands_keep_limits, joins_of_plain_values_are_plain, parts_are_commands,
+    parts_are_of_commands, parts_are_read_back, parts_keep_limits, plan_texts_are_plain,
+};
+pub use plans::{Join, Local, PartPlan, PartPlans, Plan};
+pub use planning::plan;
 pub use request::Request;

@@ -1,13 +1,19 @@
-use Rattle.std.proofs.Common.{ap, ◌∙◌}
-use Rattle.command_table.specs.Table.{row_in}
-use Rattle.command_table.proofs.Rows.{contains_rows, no_rows}
+use Rattle.std.proofs.Common.{◌≡◌, rules}
+use Rattle.std.specs.Option.{option_map}
+use Rattle.command_table.specs.Table.{row_named}
+use Rattle.command_table.specs.Entry.{row_of}
+use Rattle.command_table.proofs.Rows.{row_named-or_else, found_in_table, unknown_in_table}
 use Rattle.command_table.proofs.look.Goals as goal
 
-pub returns-clause-found : goal.returns-clause-found
-returns-clause-found c = contains_rows c.entries.result.now c.entries.ensures c.args.name.now c.find_entry.result c.find_entry.ensures.found
-
-pub returns-clause-unknown : goal.returns-clause-unknown
-returns-clause-unknown c = no_rows c.entries.result.now c.entries.ensures c.args.name.now c.find_entry.result c.find_entry.ensures.unknown
+row_is : (c : goal.After-or_else) → option_map row_of c.or_else.result ≡ row_named c.args.name.now
+row_is c =
+    row_named-or_else c.args.name.now c.own_entry.result c.or_else.result (λ p. search rules) c.own_entry.ensures c.or_else.ensures
 
 pub returns-clause-row : goal.returns-clause-row
-returns-clause-row c = c.find_entry.ensures.row ∙ ap (λ z. row_in z c.args.name.now) c.entries.ensures
+returns-clause-row c = row_is c
+
+pub returns-clause-found : goal.returns-clause-found
+returns-clause-found c = found_in_table c.or_else.result c.args.name.now (row_is c)
+
+pub returns-clause-unknown : goal.returns-clause-unknown
+returns-clause-unknown c = unknown_in_table c.or_else.result c.args.name.now (row_is c)

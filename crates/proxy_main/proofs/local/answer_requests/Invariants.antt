@@ -1,4 +1,4 @@
-use Rattle.std.proofs.Common.{◌≡◌, length}
+use Rattle.std.proofs.Common.{◌≡◌, [], length}
 use Rattle.proxy_main.specs.Request.{client_limit}
 use Rattle.proxy_main.proofs.Answering.{Answered}
 use Rattle.proxy_main.proofs.local.answer_requests.Given as goal
@@ -6,6 +6,7 @@ use Rattle.proxy_main.proofs.local.answer_requests.Given as goal
 abbrev pub invariant-loop-request : goal.invariant-loop-request
 invariant-loop-request l = record {
   most : l.reader.most ≡ client_limit;
+  empty : l.queue.commands ≡ [];
   answered : Answered l.initial.reader l.reader l.initial.host l.host l.initial.answers.items l.answers.items;
 }
 

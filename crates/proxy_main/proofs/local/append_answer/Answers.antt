@@ -1,6 +1,6 @@
 use Rattle.std.proofs.Common.{ap, ◌∙◌}
 use Rattle.resp_core.specs.Tree.{is_plain_tree}
-use Rattle.proxy_main.specs.Request.{request_of}
+use Rattle.splitter.specs.Request.{request_of}
 use Rattle.proxy_main.proofs.Plain.{plain_outcome}
 use Rattle.proxy_main.proofs.local.append_answer.Goals as goal
 

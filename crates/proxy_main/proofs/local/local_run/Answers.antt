@@ -1,6 +1,6 @@
 use Rattle.std.proofs.Common.{rules, ◌++◌, ◌<◌, ◌∷◌, ℕ, List, [], map, length, take, refl, sym, ap, ◌∙◌, subst, arith}
 use Rattle.std.specs.Io.KnownBytes.{Consumes, Appends}
-use Rattle.proxy_main.specs.Request.{read}
+use Rattle.splitter.specs.Request.{read}
 use Rattle.proxy_main.specs.Reply.{finishes, reply_texts, map_after_all}
 use Rattle.std.specs.List.{list_any}
 use Rattle.std.proofs.lemmas.List.{map-append}
@@ -11,6 +11,7 @@ use Rattle.proxy_main.proofs.local.local_run.Goals as goal
 pub loop-init : goal.loop-init
 loop-init g c = record {
   most = c.new-reader.ensures.most;
+  empty = c.new-queue.ensures.commands;
   written = c.new-answers.ensures.items;
   size = search rules;
   answered = ([], [], consumes_none (g.R.Read.remaining c.args.input.now), c.new-reader.ensures.stands, nothing_refused, refl, appends_none (g.W.Write.contents c.args.output.now), c.new-host.ensures);
@@ -30,13 +31,17 @@ loop-preserved-in-Err g c =
     let (b, ts, consumed, stands, none, goes_on, appended, hosts) = c.loop.invariant.answered in
     record {
       most = c.loop.invariant.most;
+      empty = c.loop.invariant.empty;
       written = c.loop.invariant.written;
       size = c.read.auto.buf ∙ c.loop.invariant.size;
       answered = (b, ts, consumes_kept _ _ _ b consumed c.in-Err.ensures.bytes, stands, none, goes_on, appended, hosts);
     }
 
-pub answer_requests-answered-requires : goal.answer_requests-answered-requires
-answer_requests-answered-requires g c = c.in_ok-feed.ensures.most ∙ c.loop.invariant.most
+pub answer_requests-answered-requires-clause-most : goal.answer_requests-answered-requires-clause-most
+answer_requests-answered-requires-clause-most g c = c.in_ok-feed.ensures.most ∙ c.loop.invariant.most
+
+pub answer_requests-answered-requires-clause-empty : goal.answer_requests-answered-requires-clause-empty
+answer_requests-answered-requires-clause-empty g c = c.loop.invariant.empty
 
 pub returns-in-Finishes : goal.returns-in-Finishes
 returns-in-Finishes g c =
@@ -54,6 +59,7 @@ loop-preserved g c =
     let out = gave ∙ ap (λ z. z ++ reply_texts c.loop.host (map read us)) c.loop.invariant.written ∙ ap (λ z. reply_texts z (map read us)) hosts in
     record {
       most = c.answer_requests-answered.ensures.most ∙ c.in_ok-feed.ensures.most ∙ c.loop.invariant.most;
+      empty = c.in_ok-answered.ensures.empty;
       written = c.in_ok-write_out.ensures.1;
       size = c.read.auto.buf ∙ c.loop.invariant.size;
       answered = (

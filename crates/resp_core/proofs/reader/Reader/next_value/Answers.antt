@@ -1,8 +1,8 @@
-use Rattle.std.proofs.Common.{◌≡◌, ◌+◌, ◌-◌, ℕ, List, length, take, refl, sym, ap, ◌∙◌, drop, drop-drop, subst, arith}
-use Rattle.std.proofs.lemmas.List.{take_all, length-drop}
+use Rattle.std.proofs.Common.{◌≡◌, ◌+◌, ◌-◌, ◌++◌, ℕ, List, length, take, refl, sym, ap, ◌∙◌, drop, drop-drop, subst, arith}
+use Rattle.std.proofs.lemmas.List.{take_all, length-drop, take-append-drop, length-take-le}
 use Rattle.resp_core.specs.Value.{tree_of}
 use Rattle.resp_core.specs.Front.{IsFirstValue, IsUnfinished, IsFault}
-use Rattle.resp_core.specs.Offset.{offset_of}
+use Rattle.resp_core.specs.Offset.{offset_of, number_of, refusal_number}
 use Rattle.resp_core.specs.Stream.{told_offset}
 use Rattle.resp_core.proofs.Streams.{first_value_some, stands_given, stands_told, no_refusal, has_refusal}
 use Rattle.resp_core.proofs.reader.Reader.next_value.Goals as goal
@@ -33,6 +33,16 @@ returns-in-Ok-Some-clause-shorter c =
     let f = moved (λ m h. IsFirstValue m h (tree_of c.in-Ok-Some.value) c.in-Ok-Some.len) (ap (λ z. z.most) v) e (rw c.in-Ok-Some.field-0-is at c.in-Ok-Some.ensures.found) in
     omega (arith, length-drop (i.start + c.in-Ok-Some.len) i.bytes.items, length-drop i.start i.bytes.items, ap (λ z. length z.held) v, f.inside, first_value_some c.args.self.now.most c.args.self.now.held (tree_of c.in-Ok-Some.value) c.in-Ok-Some.len f)
 
+pub returns-in-Ok-Some-clause-front : goal.returns-in-Ok-Some-clause-front
+returns-in-Ok-Some-clause-front c =
+    let i = c.self.inside in
+    let v = c.self.view_is in
+    let e = tail_is c.deref.result.now i.bytes.items i.start c.deref.ensures.value ∙ ap (λ z. z.held) v in
+    let f = moved (λ m h. IsFirstValue m h (tree_of c.in-Ok-Some.value) c.in-Ok-Some.len) (ap (λ z. z.most) v) e (rw c.in-Ok-Some.field-0-is at c.in-Ok-Some.ensures.found) in
+    let rest : drop c.in-Ok-Some.len c.args.self.now.held ≡ drop (i.start + c.in-Ok-Some.len) i.bytes.items = sym (ap (λ z. drop c.in-Ok-Some.len z.held) v) ∙ drop-drop c.in-Ok-Some.len i.start i.bytes.items in
+    (take c.in-Ok-Some.len c.args.self.now.held, sym (take-append-drop c.in-Ok-Some.len c.args.self.now.held) ∙ ap (λ z. take c.in-Ok-Some.len c.args.self.now.held ++ z) rest,
+     f.text, omega (arith, f.few, length-take-le c.in-Ok-Some.len c.args.self.now.held f.inside))
+
 pub returns-in-Ok-None-clause-none : goal.returns-in-Ok-None-clause-none
 returns-in-Ok-None-clause-none c =
     let i = c.self.inside in
@@ -46,8 +56,8 @@ returns-in-Err-Refused-clause-refused c =
     let i = c.self.inside in
     let v = c.self.view_is in
     let e = tail_is c.deref.result.now i.bytes.items i.start c.deref.ensures.value ∙ ap (λ z. z.held) v in
-    let f = moved (λ m h. IsFault m h c.in-Err-Refused.place) (ap (λ z. z.most) v) e (rw c.in-Err-Refused.field-0-is at c.in-Err-Refused.ensures.refused) in
+    let f = moved (λ m h. IsFault m h c.in-Err-Refused.place (refusal_number c.in-Err-Refused.refusal)) (ap (λ z. z.most) v) e (rw c.in-Err-Refused.field-0-is at c.in-Err-Refused.ensures.refused) in
     let at = c.at-error.ensures.offset ∙ c.saturating_add.ensures ∙ ap (λ z. told_offset (z.consumed + c.in-Err-Refused.place)) v in
     λ ne b ts h.
-    let w = has_refusal c.args.self.now b ts c.in-Err-Refused.place (offset_of c.at-error.result) h f at in
+    let w = has_refusal c.args.self.now b ts c.in-Err-Refused.place (offset_of c.at-error.result) (number_of c.at-error.result) h (subst (λ (z : ℕ). IsFault c.args.self.now.most c.args.self.now.held c.in-Err-Refused.place z) (sym c.at-error.ensures.number) f) at in
     (stands_told c.args.self.now b ts c.at-error.result h _ (ap (λ z. z.most) v) (ap (λ z. z.consumed) v) (ap (λ z. z.held) v) refl w, w)

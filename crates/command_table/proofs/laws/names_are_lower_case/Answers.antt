@@ -1,0 +1,5 @@
+use Rattle.command_table.proofs.Rows.{names_are_lower_case}
+use Rattle.command_table.proofs.laws.names_are_lower_case.Goals as goal
+
+pub returns : goal.returns
+returns c = names_are_lower_case

@@ -1,0 +1,2 @@
+pub mod ValuesCome
+pub mod Changed

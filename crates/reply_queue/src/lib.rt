@@ -1,0 +1,15 @@
+//! The commands of one connection that have no reply yet, in their order.
+//!
+//! Replies leave a connection in the order of its commands, while the values of their parts come from several hosts in any
+//! order. A queue keeps each command's place until every part of it has its value, and of the commands before it too.
+#![tactic(auto)]
+
+mod command;
+mod queue;
+mod refusal;
+
+pub use queue::{MAX_COMMANDS, Queue};
+pub use refusal::QueueRefusal;
+
+#[cfg(test)]
+mod tests;

@@ -1,0 +1,171 @@
+//! The queue of a connection.
+ghost use Rattle.std.specs.Prelude.{◌≡◌, ◌+◌, ◌-◌, ◌^◌, ◌<◌, ◌≤◌, ◌↔◌, [], ◌∷◌, ◌++◌, length, IsTrue, IsSome, OnOk, OnErr, OnSome, IfOk, IfErr, IfNone, IsErrOf};
+ghost use Rattle.std.specs.Option.{option_map};
+ghost use Rattle.resp_core.specs.Value.{tree_of};
+ghost use Rattle.splitter.specs.Join.{MayJoin};
+ghost use Rattle.reply_queue.specs.Command.{awaited};
+ghost use Rattle.reply_queue.specs.Queue.{IsOpen, with_part, front_reply, without_front};
+
+use crate::command::Command;
+use crate::refusal::QueueRefusal;
+use resp_core::Value;
+use splitter::Join;
+use std::alloc::Global;
+use std::collections::VecDeque;
+use std::marker::Model;
+
+/// How many commands may be without a reply.
+pub const MAX_COMMANDS: usize = 1_024;
+
+/// The commands of one connection that have no reply yet, the oldest first.
+///
+/// Contracts see how many were popped, and of each command how the values of its parts become one and which have come.
+#[derive(Drop)]
+pub struct Queue {
+    alloc: Global,
+    popped: u64,
+    commands: VecDeque<Command>,
+}
+
+impl Model for Queue {
+    ghost use Rattle.std.specs.Prelude.{◌+◌, ◌≤◌, ◌<◌, ◌^◌};
+    ghost use Rattle.std.specs.VecDeque.{deque_len};
+    ghost use Rattle.reply_queue.specs.Queue.{QueueState, queue_code};
+
+    ghost Value = { QueueState };
+
+    ghost coded = { queue_code };
+
+    ghost use Rattle.reply_queue.specs.declared.queue.TheConstants.{MAX_COMMANDS};
+
+    ghost view = { λ q. record { popped = q.popped; commands = q.commands.items } };
+
+    ghost invariant = { λ q. (deque_len q.commands ≤ MAX_COMMANDS) × (q.popped + deque_len q.commands < 2 ^ 64) };
+}
+
+impl Queue {
+    /// A queue of no commands. The first that is accepted gets the index 0.
+    pub fn new(alloc: Global) -> Queue
+        ensures popped { result.popped ≡ 0 }
+        ensures commands { result.commands ≡ [] }
+    {
+        Queue {
+            alloc,
+            popped: 0,
+            commands: VecDeque::new(alloc),
+        }
+    }
+
+    /// Accepts a command of so many parts, whose values will be joined in this way, and gives its index: the number of
+    /// commands accepted before it. It makes a place for each value. There have to be from 1 to 4,294,967,295 parts, and
+    /// just one for `Same`.
+    ///
+    /// Refused 802 (crowded) exactly if 1,024 commands have no reply yet, else 803 (spent) exactly if the index would be
+    /// the greatest `u64`, else 801 (no memory).
+    pub fn accept(&mut self, how: Join, parts: usize) -> Result<u64, QueueRefusal>
+        requires join { MayJoin how parts }
+        requires parts { parts < 2 ^ 32 }
+        ensures index { IfOk result (λ index. index ≡ self.old.popped + length self.old.commands) }
+        ensures commands { OnOk result (self.new.commands ≡ self.old.commands ++ awaited how parts ∷ []) }
+        ensures popped { self.new.popped ≡ self.old.popped }
+        ensures crowded { IsErrOf result QueueRefusal.Crowded ↔ (MAX_COMMANDS ≤ length self.old.commands) }
+        ensures spent { IsErrOf result QueueRefusal.Spent
+            ↔ ((length self.old.commands < MAX_COMMANDS) × (self.old.popped + length self.old.commands ≡ 2 ^ 64 - 1)) }
+        ensures accepted { OnOk result ((length self.old.commands < MAX_COMMANDS)
+            × (self.old.popped + length self.old.commands < 2 ^ 64 - 1)) }
+        ensures err { OnErr result (self.new ≡ self.old) }
+    {
+        if self.commands.len() >= MAX_COMMANDS {
+            return Err(QueueRefusal::Crowded);
+        }
+        let index = self.popped + self.commands.len() as u64;
+        if index == u64::MAX {
+            return Err(QueueRefusal::Spent);
+        }
+        self.commands.reserve(1)?;
+        let command = Command::new(self.alloc, how, parts)?;
+        self.commands.push_back_reserved(command);
+        Ok(index)
+    }
+
+    /// Whether the command is accepted and not popped, and has this part, counted from 0, which has no value yet. It
+    /// takes no memory.
+    pub fn is_open(&self, command: u64, part: u32) -> bool
+        ensures { IsTrue result ↔ IsOpen self.now command part }
+    {
+        if command < self.popped {
+            return false;
+        }
+        match self.commands.get((command - self.popped) as usize) {
+            Some(command) => command.is_open(part as usize),
+            None => false,
+        }
+    }
+
+    /// Gives a part that is open its value. It takes no memory.
+    pub fn set_part(&mut self, command: u64, part: u32, value: Value)
+        requires { IsOpen self.old command part }
+        ensures { self.new ≡ with_part command part (tree_of value) self.old }
+    {
+        let place = (command - self.popped) as usize;
+        self.commands[place].set(part as usize, value);
+    }
+
+    /// Whether there is a command, and each part of the oldest has a value. It takes no memory.
+    pub fn ready(&self) -> bool
+        ensures { IsTrue result ↔ IsSome (front_reply self.now.commands) }
+    {
+        match self.commands.front() {
+            Some(command) => command.is_complete(),
+            None => false,
+        }
+    }
+
+    /// How many commands are accepted and not popped, at most 1,024. It takes no memory.
+    pub fn left(&self) -> usize
+        ensures commands { result ≡ length self.now.commands }
+        ensures limit { result ≤ MAX_COMMANDS }
+    {
+        self.commands.len()
+    }
+
+    /// Takes the oldest command out, and gives its reply: the join of the values of its parts. `None` exactly if there is
+    /// no command or a part of the oldest has no value.
+    ///
+    /// Refused 801 (no memory), and only where there is a reply to give.
+    pub fn pop(&mut self) -> Result<Option<Value>, QueueRefusal>
+        ensures reply { IfOk result (λ reply. option_map tree_of reply ≡ front_reply self.old.commands) }
+        ensures popped { IfOk result (λ reply. OnSome reply (self.new ≡ without_front self.old)) }
+        ensures none { IfOk result (λ reply. IfNone reply (self.new ≡ self.old)) }
+        ensures ready { OnErr result (IsSome (front_reply self.old.commands)) }
+        ensures memory { IfErr result (λ e. e ≡ QueueRefusal.NoMemory) }
+        ensures err { OnErr result (self.new ≡ self.old) }
+    {
+        let reply = self.front()?;
+        if reply.is_some() {
+            self.drop_front();
+        }
+        Ok(reply)
+    }
+
+    // What `pop` gives.
+    fn front(&self) -> Result<Option<Value>, QueueRefusal>
+        ensures reply { IfOk result (λ reply. option_map tree_of reply ≡ front_reply self.now.commands) }
+        ensures ready { OnErr result (IsSome (front_reply self.now.commands)) }
+        ensures memory { IfErr result (λ e. e ≡ QueueRefusal.NoMemory) }
+    {
+        match self.commands.front() {
+            Some(command) if command.is_complete() => Ok(Some(command.reply(self.alloc)?)),
+            _ => Ok(None),
+        }
+    }
+
+    // Takes the oldest command out, whose parts all have a value.
+    fn drop_front(&mut self)
+        requires { IsSome (front_reply self.old.commands) }
+        ensures { self.new ≡ without_front self.old }
+    {
+        let _command = self.commands.pop_front();
+        self.popped += 1;
+    }
+}

@@ -1,0 +1,5 @@
+use Rattle.resp_core.proofs.Spelling.{read_values_are_plain}
+use Rattle.resp_core.proofs.laws.read_values_are_plain.Goals as goal
+
+pub returns : goal.returns
+returns c = read_values_are_plain

@@ -1,0 +1,5 @@
+use Rattle.resp_core.proofs.Spelling.{spelling_is_shortest}
+use Rattle.resp_core.proofs.laws.spelling_is_shortest.Goals as goal
+
+pub returns : goal.returns
+returns c = spelling_is_shortest

@@ -1,0 +1,53 @@
+-- The plan of a command of the table, by its kind.
+use Rattle.std.proofs.Common.{◌≡◌, ◌<◌, ◌≤◌, ℕ, Bool, true, Contains, ◌&&◌, ◌==◌, ◌%◌, nat_le, List, [], ◌∷◌, map, length, drop, codes, refl, sym, ap, ◌∙◌, subst, arith}
+use Rattle.std.specs.Str.{str_to_ascii_uppercase}
+use Rattle.std.proofs.lemmas.Bool.{eqb-true, leb-true}
+use Rattle.resp_core.specs.Tree.{Tree}
+use Rattle.resp_core.specs.Command.{payload_of, is_command, words_of, word, IsArrayOf}
+use Rattle.resp_core.proofs.Words.{words_of-list}
+use Rattle.command_table.specs.Table.{Row, rows, row_named}
+use Rattle.command_table.specs.declared.Kind.{Kind}
+use Rattle.command_table.specs.declared.Kind.TheVariants.{Ping, Echo, Quit, One, SplitGet, SplitSet, SplitSum}
+use Rattle.splitter.specs.declared.plans.PartPlan.{PartPlan}
+use Rattle.splitter.specs.declared.plans.Join.TheVariants.{Same, Get, Set, Sum}
+use Rattle.splitter.specs.Request.{read}
+use Rattle.splitter.specs.Plan.{parts, plan_of, plan_by, plan_by_row, takes}
+use Rattle.splitter.specs.Split.{Words, pairs, split, split_by, part_at}
+use Rattle.splitter.proofs.KnownRows.{echo_row, one_row}
+
+-- the plan of a command is that of its words
+pub plan_of-command : (t : Tree) (ts : List Tree) → is_command t ≡ true → IsArrayOf ts t → plan_of (read t) ≡ plan_by_row (row_named (word (map payload_of ts) 0)) (map payload_of ts)
+plan_of-command t ts h e =
+    let words : words_of t ≡ map payload_of ts = ap words_of e ∙ words_of-list ts in
+    rw h (ap (λ z. plan_by_row (row_named (word z 0)) z) words)
+
+-- a command of one part: its key stands among its words
+pub one_inside : (r : Row) (n : ℕ) → takes r.kind r.least n ≡ true → r.kind ≡ One → Contains rows r → r.key_at < n
+one_inside r n h e known =
+    let least = leb-true r.least n (subst (λ (z : Kind). takes z r.least n ≡ true) e h) in
+    omega (arith, least, (one_row r known e).1)
+
+-- ECHO has a second word
+pub echo_inside : (r : Row) (n : ℕ) → takes r.kind r.least n ≡ true → r.kind ≡ Echo → Contains rows r → 1 < n
+echo_inside r n h e known =
+    let same = eqb-true n r.least (subst (λ (z : Kind). takes z r.least n ≡ true) e h) in
+    omega (arith, same, echo_row r known e)
+
+map_twice : {A B C : Type 0} (f : B → C) (g : A → B) (xs : List A) → map f (map g xs) ≡ map (λ x. f (g x)) xs
+map_twice f g [] = refl
+map_twice f g (x ∷ xs) = ap (λ z. f (g x) ∷ z) (map_twice f g xs)
+
+pub one_is : (r : Row) (words : Words) (ps : List PartPlan) → r.kind ≡ One → ps ≡ part_at r.key_at words ∷ [] → parts Same ps ≡ plan_by r.kind r words
+one_is r words ps k e = rw k (ap (parts Same) e)
+
+pub get_is : (r : Row) (words : Words) (ps : List PartPlan) → r.kind ≡ SplitGet → r.key_at ≡ 1 → ps ≡ map (λ key. part_at 1 (codes "GET" ∷ key ∷ [])) (drop 1 words) → parts Get ps ≡ plan_by r.kind r words
+get_is r words ps k at e =
+    rw (k, at) (ap (parts Get) (e ∙ sym (map_twice (part_at 1) (λ key. codes "GET" ∷ key ∷ []) (drop 1 words))))
+
+pub set_is : (r : Row) (words : Words) (ps : List PartPlan) → r.kind ≡ SplitSet → r.key_at ≡ 1 → ps ≡ map (λ p. part_at 1 (codes "SET" ∷ p.0 ∷ p.1 ∷ [])) (pairs (drop 1 words)) → parts Set ps ≡ plan_by r.kind r words
+set_is r words ps k at e =
+    rw (k, at) (ap (parts Set) (e ∙ sym (map_twice (part_at 1) (λ p. codes "SET" ∷ p.0 ∷ p.1 ∷ []) (pairs (drop 1 words)))))
+
+pub sum_is : (r : Row) (words : Words) (ps : List PartPlan) → r.kind ≡ SplitSum → r.key_at ≡ 1 → ps ≡ map (λ key. part_at 1 (str_to_ascii_uppercase r.name ∷ key ∷ [])) (drop 1 words) → parts Sum ps ≡ plan_by r.kind r words
+sum_is r words ps k at e =
+    rw (k, at) (ap (parts Sum) (e ∙ sym (map_twice (part_at 1) (λ key. str_to_ascii_uppercase r.name ∷ key ∷ []) (drop 1 words))))

@@ -1,0 +1,12 @@
+use Rattle.std.proofs.Common.{◌≡◌, IfOk, sym, ap, ◌∙◌, subst}
+use Rattle.resp_core.specs.Value.{tree_of}
+use Rattle.splitter.specs.Planned.{plan_in}
+use Rattle.splitter.specs.Plan.{Plan, plan_of}
+use Rattle.splitter.specs.Request.{request_of}
+use Rattle.splitter.proofs.PlanLemmas.{plan_of-command}
+use Rattle.splitter.proofs.planning.plan.Goals as goal
+
+pub returns-in-Some-clause-plan : goal.returns-in-Some-clause-plan
+returns-in-Some-clause-plan c =
+    let f = rw c.in-Some.is at c.words.ensures.command in
+    subst (λ (z : Plan). IfOk c.plan_command.result (λ a. plan_in a ≡ z)) (sym (plan_of-command (tree_of c.in-Read.value) c.in-Some.words.now f.0 f.2) ∙ ap (λ z. plan_of (request_of z)) (sym c.in-Read.is)) c.plan_command.ensures.plan

@@ -1,0 +1,13 @@
+-- How the text of a part is put together.
+use Rattle.std.specs.Prelude.{ℕ, List, ◌++◌}
+use Rattle.std.specs.Fmt.{decimal}
+use Rattle.resp_core.specs.Tree.{bulk}
+use Rattle.resp_core.specs.Text.{line, text}
+use Rattle.splitter.specs.declared.plans.PartPlan.{PartPlan}
+
+-- the text of a command of so many words, up to and with its name
+abbrev pub head_of : ℕ → List ℕ → List ℕ
+head_of words name = line 42 (decimal words) ++ text (bulk name)
+
+abbrev pub part_of : List ℕ → List ℕ → PartPlan
+part_of key bytes = record { key = key; text = bytes }

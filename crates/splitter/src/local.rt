@@ -1,0 +1,57 @@
+//! The texts of the proxy's own answers to commands that it can't plan.
+ghost use Rattle.std.specs.Prelude.{◌≡◌, ◌++◌, IfOk, IfErr, OnOk};
+ghost use Rattle.command_table.specs.Entry.{row_of};
+ghost use Rattle.splitter.specs.Plan.{shown, shown_byte, unsupported, wrong_number};
+
+use crate::error::SplitError;
+use bytes::Bytes;
+use command_table::Entry;
+use std::alloc::{AllocError, Global};
+
+// The bytes of an unknown name that are shown.
+const SHOWN: usize = 64;
+
+/// The text that tells of an unknown name.
+pub(crate) fn unsupported(alloc: Global, name: &[u8]) -> Result<Bytes, SplitError>
+    ensures text { IfOk result (λ text. text ≡ unsupported name.now) }
+    ensures err { IfErr result (λ e. e ≡ SplitError.NoMemory) }
+{
+    let mut text = Vec::new(alloc);
+    text.extend_from_slice(b"unsupported command '")?;
+    append_shown(&mut text, name)?;
+    text.push(b'\'')?;
+    Ok(Bytes::from_vec(text)?)
+}
+
+// Appends the name as it is shown.
+fn append_shown(text: &mut Vec<u8>, name: &[u8]) -> Result<(), AllocError>
+    ensures { OnOk result (text.new.items ≡ text.old.items ++ shown name.now) }
+{
+    for byte in &name[..name.len().min(SHOWN)] {
+        text.push(shown_byte(*byte))?;
+    }
+    Ok(())
+}
+
+// The byte as it is shown.
+fn shown_byte(byte: u8) -> u8
+    ensures { result ≡ shown_byte byte }
+{
+    if (0x20..=0x7E).contains(&byte) {
+        byte
+    } else {
+        b'?'
+    }
+}
+
+/// The text that tells of a wrong number of words.
+pub(crate) fn wrong_number(alloc: Global, entry: Entry) -> Result<Bytes, SplitError>
+    ensures text { IfOk result (λ text. text ≡ wrong_number (row_of entry)) }
+    ensures err { IfErr result (λ e. e ≡ SplitError.NoMemory) }
+{
+    let mut text = Vec::new(alloc);
+    text.extend_from_slice(b"wrong number of arguments for '")?;
+    text.extend_from_slice(entry.name.as_bytes())?;
+    text.extend_from_slice(b"' command")?;
+    Ok(Bytes::from_vec(text)?)
+}

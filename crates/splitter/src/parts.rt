@@ -1,0 +1,116 @@
+//! The parts of a command, each with its key and the text that its host gets.
+ghost use Rattle.std.specs.Prelude.{◌≡◌, ◌<◌, ◌++◌, ◌∷◌, [], IfOk, IfErr, OnOk, true, codes, drop, length, map};
+ghost use Rattle.resp_core.specs.Tree.{bulk, is_plain_tree};
+ghost use Rattle.resp_core.specs.Value.{tree_of};
+ghost use Rattle.resp_core.specs.Text.{text};
+ghost use Rattle.resp_core.specs.Command.{are_words, payload_of, IsArrayOf};
+ghost use Rattle.splitter.specs.Split.{pairs, part_at};
+ghost use Rattle.splitter.specs.Part.{head_of, part_of};
+
+use crate::error::SplitError;
+use crate::plans::{PartPlan, PartPlans};
+use bytes::Bytes;
+use resp_core::{Value, Values, put_text};
+use std::alloc::Global;
+
+/// The one part of a command that goes whole to the host of its word `key_at`. The value has to be a command, of these
+/// words.
+pub(crate) fn whole_part(
+    alloc: Global,
+    command: &Value,
+    words: &Values,
+    key_at: usize,
+) -> Result<PartPlans, SplitError>
+    requires words { are_words words.now ≡ true }
+    requires array { IsArrayOf words.now (tree_of command.now) }
+    requires inside { key_at < length words.now }
+    ensures parts { IfOk result (λ ps. ps ≡ part_at key_at (map payload_of words.now) ∷ []) }
+    ensures err { IfErr result (λ e. e ≡ SplitError.NoMemory) }
+{
+    let mut text = Vec::new(alloc);
+    put_text(alloc, command, &mut text)?;
+    let part = PartPlan {
+        key: words.word(key_at).clone()?,
+        text: Bytes::from_vec(text)?,
+    };
+    Ok(PartPlans(Vec::from_array(alloc, [part])?))
+}
+
+/// A part for each word behind the first: a command of this name and that word, which is the part's key.
+pub(crate) fn key_parts(alloc: Global, name: Bytes, words: &Values) -> Result<PartPlans, SplitError>
+    requires { are_words words.now ≡ true }
+    ensures parts { IfOk result (λ ps. ps ≡ map (λ key. part_at 1 (name ∷ key ∷ [])) (drop 1 (map payload_of words.now))) }
+    ensures err { IfErr result (λ e. e ≡ SplitError.NoMemory) }
+{
+    let head = head(alloc, 2, name)?;
+    let mut parts = Vec::with_capacity(alloc, words.0.len())?;
+    for at in 1..words.0.len() {
+        parts.push(key_part(alloc, head.as_slice(), words.word(at))?)?;
+    }
+    Ok(PartPlans(parts))
+}
+
+/// A part for each two words behind the first, a key and its value: a SET of them.
+pub(crate) fn pair_parts(alloc: Global, words: &Values) -> Result<PartPlans, SplitError>
+    requires { are_words words.now ≡ true }
+    ensures parts { IfOk result (λ ps. ps ≡ map (λ pair. part_at 1 (codes "SET" ∷ pair.0 ∷ pair.1 ∷ [])) (pairs (drop 1 (map payload_of words.now)))) }
+    ensures err { IfErr result (λ e. e ≡ SplitError.NoMemory) }
+{
+    let head = head(alloc, 3, Bytes::from_static(b"SET"))?;
+    let count = (words.0.len() - 1) / 2;
+    let mut parts = Vec::with_capacity(alloc, count)?;
+    for pair in 0..count {
+        let (key, value) = (words.word(2 * pair + 1), words.word(2 * pair + 2));
+        parts.push(pair_part(alloc, head.as_slice(), key, value)?)?;
+    }
+    Ok(PartPlans(parts))
+}
+
+// The text of a command of so many words, up to and with its name.
+fn head(alloc: Global, words: usize, name: Bytes) -> Result<Vec<u8>, SplitError>
+    ensures text { IfOk result (λ head. head.items ≡ head_of words name) }
+    ensures err { IfErr result (λ e. e ≡ SplitError.NoMemory) }
+{
+    let mut head = Vec::new(alloc);
+    head.push(b'*')?;
+    head.extend_from_slice(words.to_string(alloc)?.as_bytes())?;
+    head.extend_from_slice(b"\r\n")?;
+    put_word(alloc, &name, &mut head)?;
+    Ok(head)
+}
+
+// Appends a word of a command.
+fn put_word(alloc: Global, word: &Bytes, out: &mut Vec<u8>) -> Result<(), SplitError>
+    ensures text { OnOk result (out.new.items ≡ out.old.items ++ text (bulk word.now)) }
+    ensures err { IfErr result (λ e. e ≡ SplitError.NoMemory) }
+{
+    put_text(alloc, &Value::Bulk(word.clone()?), out)?;
+    Ok(())
+}
+
+// The part of a command of a key alone, whose text begins like this.
+fn key_part(alloc: Global, head: &[u8], key: &Bytes) -> Result<PartPlan, SplitError>
+    ensures part { IfOk result (λ p. p ≡ part_of key.now (head.now ++ text (bulk key.now))) }
+    ensures err { IfErr result (λ e. e ≡ SplitError.NoMemory) }
+{
+    let mut text = Vec::from_slice(alloc, head)?;
+    put_word(alloc, key, &mut text)?;
+    Ok(PartPlan {
+        key: key.clone()?,
+        text: Bytes::from_vec(text)?,
+    })
+}
+
+// The part of a command of a key and its value, whose text begins like this.
+fn pair_part(alloc: Global, head: &[u8], key: &Bytes, value: &Bytes) -> Result<PartPlan, SplitError>
+    ensures part { IfOk result (λ p. p ≡ part_of key.now (head.now ++ text (bulk key.now) ++ text (bulk value.now))) }
+    ensures err { IfErr result (λ e. e ≡ SplitError.NoMemory) }
+{
+    let mut text = Vec::from_slice(alloc, head)?;
+    put_word(alloc, key, &mut text)?;
+    put_word(alloc, value, &mut text)?;
+    Ok(PartPlan {
+        key: key.clone()?,
+        text: Bytes::from_vec(text)?,
+    })
+}

@@ -1,0 +1,117 @@
+//! What the proxy does with a request.
+ghost use Rattle.std.specs.Prelude.{◌≡◌, IfOk, IfErr, Contains, true, length, map};
+ghost use Rattle.std.specs.Str.{str_to_ascii_uppercase};
+ghost use Rattle.resp_core.specs.Value.{tree_of};
+ghost use Rattle.resp_core.specs.Command.{are_words, payload_of, word, IsArrayOf};
+ghost use Rattle.command_table.specs.Entry.{row_of};
+ghost use Rattle.command_table.specs.Table.{rows, row_named};
+ghost use Rattle.splitter.specs.Request.{request_of};
+ghost use Rattle.splitter.specs.Plan.{plan_of, plan_by, plan_by_row, takes};
+ghost use Rattle.splitter.specs.Planned.{plan_in};
+
+use crate::error::SplitError;
+use crate::local::{unsupported, wrong_number};
+use crate::parts::{key_parts, pair_parts, whole_part};
+use crate::plans::{Join, Local, Plan};
+use crate::request::Request;
+use bytes::Bytes;
+use command_table::{Entry, Kind, look};
+use resp_core::{Value, Values};
+use std::alloc::Global;
+
+/// The plan of a request, by the table of commands.
+///
+/// It looks at the request alone. Keys, and what ECHO answers, share their bytes with the request. Refused 701 (no
+/// memory).
+pub fn plan(alloc: Global, request: &Request) -> Result<Plan, SplitError>
+    ensures plan { IfOk result (λ p. plan_in p ≡ plan_of (request_of request.now)) }
+    ensures err { IfErr result (λ e. e ≡ SplitError.NoMemory) }
+{
+    match request {
+        Request::Broken => Ok(Plan::Leave(
+            Local::Broken,
+            Value::Fault(Bytes::from_static(b"downstream protocol error")),
+        )),
+        Request::Read(value) => match value.words() {
+            Some(words) => plan_command(alloc, value, words),
+            None => Ok(Plan::Here(
+                Local::Invalid,
+                Value::Fault(Bytes::from_static(b"invalid request")),
+            )),
+        },
+    }
+}
+
+// The plan of a command, which is this value, of these words.
+fn plan_command(alloc: Global, command: &Value, words: &Values) -> Result<Plan, SplitError>
+    requires words { are_words words.now ≡ true }
+    requires array { IsArrayOf words.now (tree_of command.now) }
+    ensures plan { IfOk result (λ p. plan_in p ≡ plan_by_row (row_named (word (map payload_of words.now) 0)) (map payload_of words.now)) }
+    ensures err { IfErr result (λ e. e ≡ SplitError.NoMemory) }
+{
+    let name = words.word(0).as_slice();
+    let Some(entry) = look(name) else {
+        return Ok(Plan::Here(Local::Unsupported, Value::Fault(unsupported(alloc, name)?)));
+    };
+    if !takes(entry, words.0.len()) {
+        return Ok(Plan::Here(
+            Local::WrongNumber,
+            Value::Fault(wrong_number(alloc, entry)?),
+        ));
+    }
+    plan_known(alloc, entry, command, words)
+}
+
+// Whether the command may have so many words.
+fn takes(entry: Entry, words: usize) -> bool
+    ensures { result ≡ takes entry.kind entry.least words }
+{
+    match entry.kind {
+        Kind::Ping | Kind::Echo => words == entry.least,
+        Kind::Quit | Kind::One | Kind::SplitGet | Kind::SplitSum => words >= entry.least,
+        Kind::SplitSet => words >= entry.least && words % 2 == 1,
+    }
+}
+
+// The plan of a command of the table that has a right number of words.
+fn plan_known(
+    alloc: Global,
+    entry: Entry,
+    command: &Value,
+    words: &Values,
+) -> Result<Plan, SplitError>
+    requires words { are_words words.now ≡ true }
+    requires array { IsArrayOf words.now (tree_of command.now) }
+    requires known { Contains rows (row_of entry) }
+    requires takes { takes entry.kind entry.least (length words.now) ≡ true }
+    ensures plan { IfOk result (λ p. plan_in p ≡ plan_by entry.kind (row_of entry) (map payload_of words.now)) }
+    ensures err { IfErr result (λ e. e ≡ SplitError.NoMemory) }
+{
+    let (how, list) = match entry.kind {
+        Kind::Ping => return Ok(Plan::Here(
+            Local::Pong,
+            Value::Simple(Bytes::from_static(b"PONG")),
+        )),
+        Kind::Echo => return Ok(Plan::Here(Local::Echoed, Value::Bulk(words.word(1).clone()?))),
+        Kind::Quit => return Ok(Plan::Leave(Local::Bye, Value::Simple(Bytes::from_static(b"OK")))),
+        Kind::One => (Join::Same, whole_part(alloc, command, words, entry.key_at)?),
+        Kind::SplitGet => (
+            Join::Get,
+            key_parts(alloc, Bytes::from_static(b"GET"), words)?,
+        ),
+        Kind::SplitSet => (Join::Set, pair_parts(alloc, words)?),
+        Kind::SplitSum => (
+            Join::Sum,
+            key_parts(alloc, upper_name(alloc, entry)?, words)?,
+        ),
+    };
+    Ok(Plan::Parts { how, list })
+}
+
+// The command's name in upper case.
+fn upper_name(alloc: Global, entry: Entry) -> Result<Bytes, SplitError>
+    ensures name { IfOk result (λ name. name ≡ str_to_ascii_uppercase entry.name.now) }
+    ensures err { IfErr result (λ e. e ≡ SplitError.NoMemory) }
+{
+    Ok(Bytes::from_vec(entry.name.as_bytes().to_ascii_uppercase(alloc)?)?)
+}
