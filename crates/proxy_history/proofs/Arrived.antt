@@ -6,8 +6,8 @@ use Rattle.std.proofs.lemmas.List.{append-nil, append_assoc, length-append}
 use Rattle.std.proofs.lemmas.List.Elements.{Contains-append_left, Contains-append_right, Contains-append_cases, Contains-push_cases}
 use Rattle.resp_core.specs.Tree.{Tree}
 use Rattle.splitter.specs.Plan.{Plan, here, leave, parts}
-use Rattle.splitter.specs.declared.plan.Join.{Join}
-use Rattle.splitter.specs.declared.plan.PartPlan.{PartPlan}
+use Rattle.splitter.specs.declared.plans.Join.{Join}
+use Rattle.splitter.specs.declared.plans.PartPlan.{PartPlan}
 use Rattle.splitter.specs.declared.request.Request.{Request}
 use Rattle.proxy_history.specs.Setting.{Setting, max_waiting}
 use Rattle.proxy_history.specs.History.{History, Step, plan_for, accepted, epoch}

@@ -4,7 +4,7 @@ use Rattle.std.proofs.lemmas.Bool.{eqb-true}
 use Rattle.std.proofs.lemmas.List.{append-nil}
 use Rattle.proxy_history.specs.Setting.{Setting}
 use Rattle.splitter.specs.Plan.{Plan, here, leave, parts}
-use Rattle.splitter.specs.declared.plan.PartPlan.{PartPlan}
+use Rattle.splitter.specs.declared.plans.PartPlan.{PartPlan}
 use Rattle.proxy_history.specs.History.{plan_for, History, epoch, accepted, is_fault, Step}
 use Rattle.proxy_history.specs.Part.{Past, Part, is_host}
 use Rattle.proxy_history.specs.Past.{past, after}

@@ -7,7 +7,7 @@ use Rattle.std.proofs.lemmas.List.Elements.{filter-append}
 use Rattle.std.proofs.lemmas.List.Folds.{list_any-append}
 use Rattle.proxy_history.specs.Setting.{Setting}
 use Rattle.splitter.specs.Plan.{Plan, here, leave, parts}
-use Rattle.splitter.specs.declared.plan.PartPlan.{PartPlan}
+use Rattle.splitter.specs.declared.plans.PartPlan.{PartPlan}
 use Rattle.proxy_history.specs.History.{plan_for, History, epoch, accepted, is_closed, is_closing, is_arrival, is_fault, Step}
 use Rattle.proxy_history.specs.Part.{Past, Part, is_of, is_host, is_same}
 use Rattle.proxy_history.specs.Past.{past, after}

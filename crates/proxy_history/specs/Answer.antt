@@ -3,7 +3,7 @@ use Rattle.std.specs.Prelude.{ℕ, Bool, false, List, [], ◌∷◌, ◌+◌, no
 use Rattle.std.specs.Option.{unwrap_or}
 use Rattle.resp_core.specs.Tree.{null_bulk}
 use Rattle.resp_core.specs.Text.{text}
-use Rattle.splitter.specs.declared.plan.Local.{Local}
+use Rattle.splitter.specs.declared.plans.Local.{Local}
 use Rattle.splitter.specs.Plan.{Plan, here, leave, parts}
 use Rattle.ejector.specs.declared.mark.Mark.{Mark}
 use Rattle.ejector.specs.declared.mark.Mark.TheVariants.{Sweep}

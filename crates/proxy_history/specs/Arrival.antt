@@ -6,7 +6,7 @@ use Rattle.ejector.specs.State.{hosts_of}
 use Rattle.ejector.specs.Ejection.{state}
 use Rattle.ejector.specs.Usable.{is_usable}
 use Rattle.splitter.specs.Plan.{Plan, here, leave, parts}
-use Rattle.splitter.specs.declared.plan.PartPlan.{PartPlan}
+use Rattle.splitter.specs.declared.plans.PartPlan.{PartPlan}
 use Rattle.proxy_history.specs.Setting.{Setting, point_for, max_waiting}
 use Rattle.proxy_history.specs.History.{epoch, accepted, plan_for}
 use Rattle.proxy_history.specs.Part.{Part, Past, is_of}

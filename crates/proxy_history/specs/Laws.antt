@@ -10,8 +10,8 @@ use Rattle.ejector.specs.State.{out_count}
 use Rattle.ejector.specs.Ejection.{state}
 use Rattle.ejector.specs.Trips.{most_out}
 use Rattle.splitter.specs.Plan.{Plan, parts}
-use Rattle.splitter.specs.declared.plan.Join.{Join}
-use Rattle.splitter.specs.declared.plan.PartPlan.{PartPlan}
+use Rattle.splitter.specs.declared.plans.Join.{Join}
+use Rattle.splitter.specs.declared.plans.PartPlan.{PartPlan}
 use Rattle.splitter.specs.declared.request.Request.{Request}
 use Rattle.proxy_history.specs.Setting.{Setting, point_for, max_waiting}
 use Rattle.proxy_history.specs.History.{History, Step, plan_for, accepted, handed, is_closed, epoch, has, is_fault}
