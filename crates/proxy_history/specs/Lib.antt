@@ -15,3 +15,4 @@ pub mod Answer
 pub mod Legal
 pub mod Output
 pub mod Laws
+pub mod Scan

@@ -8,9 +8,21 @@
 #![tactic(auto)]
 
 mod answer;
+mod answering;
 mod event;
+mod payload;
 mod laws;
+mod arrival;
+mod cause;
+mod part;
+mod pipe;
+mod reference;
+mod reply;
+mod replay;
+mod result;
+mod value;
 mod refusal;
+mod scan;
 
 pub use answer::Answer;
 pub use event::{Event, Kind};

@@ -1,0 +1,56 @@
+-- What the plain program counts, and what it keeps of a history while it looks at it.
+use Rattle.std.specs.Prelude.{◌≡◌, ℕ, Bool, List, map, reverse, Option, Some, None}
+use Rattle.std.specs.Option.{option_map}
+use Rattle.resp_core.specs.Tree.{Tree}
+use Rattle.journal_core.specs.declared.step.Step.{Step as StepOf}
+use Rattle.ejector.specs.Ejection.{state}
+use Rattle.ejector.specs.declared.mark.Mark.{Mark}
+use Rattle.proxy_history.specs.Setting.{Setting}
+use Rattle.proxy_history.specs.History.{History, Step, is_opening, is_any_closing, is_arrival, is_handing, is_fault, is_closing, finishes}
+use Rattle.proxy_history.specs.Part.{Part, Past}
+use Rattle.proxy_history.specs.Arrival.{no_upstream_host, proxy_busy}
+use Rattle.proxy_history.specs.declared.event.Event.{Event}
+use Rattle.proxy_history.specs.declared.scan.Wanted.{Wanted}
+use Rattle.proxy_history.specs.declared.scan.Wanted.TheVariants as wanted
+use Rattle.proxy_history.specs.declared.part.Part.{Part as Part'}
+use Rattle.proxy_history.specs.declared.part.AtOnce.{AtOnce}
+use Rattle.proxy_history.specs.declared.replay.Replay.{Replay}
+use Rattle.proxy_history.specs.Past.{parts_in, sent_in, marks_in}
+use Rattle.proxy_history.specs.declared.part.AtOnce.TheVariants as at_once
+
+abbrev pub is_wanted : Wanted → Event → Bool
+is_wanted wanted.Opening = is_opening
+is_wanted wanted.AnyClosing = is_any_closing
+is_wanted (wanted.Arrival conn) = is_arrival conn
+is_wanted (wanted.Handing conn) = is_handing conn
+is_wanted (wanted.Fault host) = is_fault host
+is_wanted (wanted.Closing conn) = is_closing conn
+is_wanted (wanted.Finishing conn) = finishes conn
+
+-- the history of a list of steps that has the oldest first
+abbrev pub history_of : List Step → History
+history_of steps = reverse steps
+
+-- the value that a part got at once
+abbrev pub value_at_once : AtOnce → Tree
+value_at_once at_once.NoHost = no_upstream_host
+value_at_once at_once.Busy = proxy_busy
+
+abbrev pub part_of : Part' → Part
+part_of p = record {
+  conn = p.conn; command = p.command; number = p.number; text = p.text; host = p.host; epoch = p.epoch; local = option_map value_at_once p.local;
+}
+
+abbrev pub parts_of : List Part' → List Part
+parts_of ps = map part_of ps
+
+-- A history with what the plain program keeps of it. The marks are in the ejector's state, and no list of them is kept.
+abbrev pub seen : List Step → List Mark → Replay → Past
+seen steps marks r = record { steps = history_of steps; parts = parts_of r.parts.items; sent = parts_of r.sent.items; marks = marks }
+
+-- What is kept of a history is what the history determines.
+pub record Shows (S : Setting) (H : History) (r : Replay) : Type 0 where
+  pub parts : parts_of r.parts.items ≡ parts_in S H
+  pub sent : parts_of r.sent.items ≡ sent_in S H
+  pub rules : r.ejector.rules ≡ S.rules
+  pub state : r.ejector.state ≡ state S.rules (marks_in S H)
