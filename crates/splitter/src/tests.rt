@@ -249,9 +249,15 @@ fn commands_of_keys_are_split(rt: HostRuntime) {
     for (line, text) in rows {
         splits(&rt, &request(&rt, line), Join::Sum, &[("k", text)]);
     }
-    let empty = ("", "*2\r\n$3\r\nDEL\r\n$0\r\n\r\n");
+    let a = ("a", "*2\r\n$3\r\nDEL\r\n$1\r\na\r\n");
     let abc = ("abc", "*2\r\n$3\r\nDEL\r\n$3\r\nabc\r\n");
-    splits(&rt, &request(&rt, "del abc "), Join::Sum, &[abc, empty]);
+    let empty = ("", "*2\r\n$3\r\nDEL\r\n$0\r\n\r\n");
+    splits(
+        &rt,
+        &request(&rt, "del a abc "),
+        Join::Sum,
+        &[a, abc, empty],
+    );
 }
 
 #[test]
