@@ -2,3 +2,5 @@ pub mod PartTexts
 pub mod Totals
 pub mod KnownRows
 pub mod PlanLemmas
+pub mod PlainLaws
+pub mod PartLaws

@@ -5,3 +5,4 @@ pub mod Planned
 pub mod Part
 pub mod Join
 pub mod Refusal
+pub mod Laws

@@ -1,0 +1,5 @@
+use Rattle.splitter.proofs.PartLaws.{parts_keep_limits}
+use Rattle.splitter.proofs.laws.parts_keep_limits.Goals as goal
+
+pub returns : goal.returns
+returns c = parts_keep_limits

@@ -1,0 +1,30 @@
+//! Laws of plans and joins, each the contract of a function that does nothing: whoever stands on them calls it.
+ghost use Rattle.splitter.specs.Laws.{PartsAreCommands, PartsKeepLimits, PartsAreReadBack, PlanTextsArePlain, JoinsOfPlainValuesArePlain};
+
+/// The parts of a command are as many as their join asks for, and the text of each is that of a command of words, among
+/// which its key is, behind the name.
+pub fn parts_are_commands()
+    ensures { PartsAreCommands }
+{}
+
+/// The parts of a command that keeps the limits on what a client may send keep them too, and the text of none is longer
+/// than the command's.
+pub fn parts_keep_limits()
+    ensures { PartsKeepLimits }
+{}
+
+/// A host that reads with a client's limits reads the text of a part as the part's command, whatever follows it, where the
+/// command that was split keeps these limits and its text has at most 8,388,608 bytes.
+pub fn parts_are_read_back()
+    ensures { PartsAreReadBack }
+{}
+
+/// What the proxy answers itself has no CR and no LF in a line, so that it can be written.
+pub fn plan_texts_are_plain()
+    ensures { PlanTextsArePlain }
+{}
+
+/// The join of values that can be written can be written.
+pub fn joins_of_plain_values_are_plain()
+    ensures { JoinsOfPlainValuesArePlain }
+{}
