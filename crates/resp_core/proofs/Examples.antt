@@ -1,12 +1,12 @@
 -- The numbers by which some bytes are told.
-use Rattle.std.proofs.Common.{◌≡◌, ℕ, ◌<◌, List, [], ◌∷◌, ◌++◌, length, refl, sym, ap, ◌∙◌, subst, inl, arith, rules}
+use Rattle.std.proofs.Common.{◌≡◌, ℕ, ◌<◌, List, [], ◌∷◌, ◌++◌, length, refl, sym, subst, inl, arith, rules}
 use Rattle.std.proofs.lemmas.List.{append_cancel_right}
 use Rattle.resp_core.specs.declared.error.Refusal.{Refusal}
 use Rattle.resp_core.specs.declared.error.Refusal.TheVariants.{BadType, BadLength, BadNumber, BadLineEnd, TooLong, TooDeep}
 use Rattle.resp_core.specs.Offset.{refusal_number}
 use Rattle.resp_core.specs.Grammar.{max_text, max_depth}
 use Rattle.resp_core.specs.Refusals.{RefusedInLength, RefusedInLeaf, Fits, IsTold}
-use Rattle.resp_core.specs.Reading.{unfinished, refused, byte_at, end_at, digits_at, null_end_at, count_at, bytes_at, payload_at, bulk_at, many_at, text_at, integer_at, members_at, list_at, leaf_at, value_at}
+use Rattle.resp_core.specs.Reading.{unfinished, refused, byte_at, digits_at, null_end_at, count_at, bulk_at, many_at, text_at, integer_at, members_at, list_at, leaf_at, value_at}
 use Rattle.resp_core.proofs.Whole.{value-reads, InValue}
 use Rattle.resp_core.proofs.Numbers.{told_by}
 
