@@ -1,5 +1,5 @@
 -- Laws of the table, for whoever stands on it.
-use Rattle.std.specs.Prelude.{◌≡◌, ◌<◌, ℕ, List, Option, Some, All, Contains, length, slice_index_or}
+use Rattle.std.specs.Prelude.{◌≡◌, ◌<◌, ℕ, List, Some, All, Contains, length, slice_index_or}
 use Rattle.std.specs.Str.{str_to_ascii_lowercase}
 use Rattle.command_table.specs.Table.{Row, rows, row_named}
 

@@ -1,2 +1,3 @@
 pub mod ValuesCome
 pub mod Changed
+pub mod QueueLaws

@@ -1,5 +1,5 @@
 -- The values that have come, each in its part's place.
-use Rattle.std.proofs.Common.{◌≡◌, ◌+◌, ◌<◌, ℕ, zero, suc, Bool, true, false, not, cond, Option, Some, None, List, [], ◌∷◌, length, map, count_by, replicate, slice_get, slice_set, IsTrue, IsSome, is_some, ◌↔◌, refl, sym, ap, ◌∙◌, arith}
+use Rattle.std.proofs.Common.{◌≡◌, ◌+◌, ◌<◌, ℕ, zero, suc, Bool, true, false, not, cond, Some, None, List, [], ◌∷◌, length, map, count_by, replicate, slice_get, slice_set, IsTrue, IsSome, is_some, ◌↔◌, refl, sym, ap, ◌∙◌, arith}
 use Rattle.std.proofs.lemmas.List.Sums.{sum_by-cons}
 use Rattle.std.specs.Option.{option_map}
 use Rattle.resp_core.specs.Value.{tree_of}

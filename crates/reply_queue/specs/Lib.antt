@@ -2,3 +2,4 @@ pub mod Refusal
 pub mod Command
 pub mod Places
 pub mod Queue
+pub mod Laws

@@ -5,9 +5,11 @@
 #![tactic(auto)]
 
 mod command;
+mod laws;
 mod queue;
 mod refusal;
 
+pub use laws::{indices_stay, one_part_changes};
 pub use queue::{MAX_COMMANDS, Queue};
 pub use refusal::QueueRefusal;
 

@@ -1,20 +1,20 @@
 -- The number by which reading refuses a byte of a value fits its place.
-use Rattle.std.proofs.Common.{◌≡◌, ◌≢◌, ◌⊎◌, inl, inr, ⊎_elim, ◌^◌, ℕ, zero, suc, ◌+◌, ◌-◌, ◌<◌, ◌≤◌, List, [], ◌∷◌, ◌++◌, length, Option, Some, None, refl, sym, ap, ◌∙◌, subst, append_assoc, append-nil, true, false, eqb, arith, eqb-true, eq-eqb, ne_eqb}
+use Rattle.std.proofs.Common.{◌≡◌, ◌≢◌, ◌⊎◌, inl, inr, ⊎_elim, ◌^◌, ℕ, zero, suc, ◌+◌, ◌-◌, List, [], ◌∷◌, ◌++◌, length, Option, Some, None, refl, sym, ap, ◌∙◌, subst, append_assoc, append-nil, eqb, arith, eqb-true}
 use Rattle.std.specs.List.{AllByRecursion}
 use Rattle.std.proofs.lemmas.Bool.{cases_Bool, eqb-false}
 use Rattle.std.proofs.lemmas.List.{length-append}
 use Rattle.resp_core.specs.declared.error.Refusal.{Refusal}
-use Rattle.resp_core.specs.declared.error.Refusal.TheVariants.{BadType, BadLength, BadNumber, BadLineEnd, TooLong, TooDeep}
+use Rattle.resp_core.specs.declared.error.Refusal.TheVariants.{BadType, BadLineEnd, TooDeep}
 use Rattle.resp_core.specs.Offset.{refusal_number}
-use Rattle.resp_core.specs.Tree.{Tree, Trees, no_trees, tree, members, trees_of}
+use Rattle.resp_core.specs.Tree.{Tree, Trees, no_trees, tree, members}
 use Rattle.resp_core.specs.Text.{line, line_end}
-use Rattle.resp_core.specs.Grammar.{IsDigit, IsLength, IsText, AreTexts, number_after, max_line, max_bulk}
-use Rattle.resp_core.specs.Refusals.{IsLineByte, IsSign, RefusedInLength, RefusedInInteger, RefusedInLine, RefusedInLeaf, RefusedInValue}
-use Rattle.resp_core.specs.Reading.{of_length, of_integer, type_refusal}
+use Rattle.resp_core.specs.Grammar.{IsDigit, IsLength, IsText, AreTexts, max_line, max_bulk}
+use Rattle.resp_core.specs.Refusals.{IsSign, RefusedInLength, RefusedInInteger, RefusedInLine, RefusedInLeaf, RefusedInValue}
+use Rattle.resp_core.specs.Reading.{of_length, of_integer}
 use Rattle.resp_core.proofs.Readers.{ThenPlace}
-use Rattle.resp_core.proofs.Places.{ByteIs, InDigits, other, empty, both, full, over, InNumber, InText, line_feed, too_long, InLine}
-use Rattle.resp_core.proofs.Parts.{IsByte, AreBytes}
-use Rattle.resp_core.proofs.Whole.{InNullEnd, InCount, IsCountOf, InPayload, InBulk, InInteger, InOther, InLeaf, InMany, InMembers, InValue}
+use Rattle.resp_core.proofs.Places.{ByteIs, InDigits, other, empty, both, full, over, InNumber, line_feed, too_long, InLine}
+use Rattle.resp_core.proofs.Parts.{IsByte}
+use Rattle.resp_core.proofs.Whole.{InCount, IsCountOf, InPayload, InInteger, InLeaf, InMany, InMembers, InValue}
 
 -- in a length
 fits_digits : (limit : ℕ) (came : List ℕ) (c : ℕ) (w : Refusal) → AllByRecursion IsDigit came → (came ≡ [] → c ≢ 45) → InDigits (of_length limit) came c w → RefusedInLength limit came c (refusal_number w)

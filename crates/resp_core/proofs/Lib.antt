@@ -14,3 +14,4 @@ pub mod Lowest
 pub mod LowestInValue
 pub mod FitsReading
 pub mod Numbers
+pub mod Examples

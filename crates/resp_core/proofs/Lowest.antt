@@ -1,16 +1,14 @@
 -- Reading refuses a byte by no number above one that fits its place.
-use Rattle.std.proofs.Common.{◌≡◌, ◌≢◌, ◌⊎◌, inl, inr, ⊎_elim, ◌&&◌, ◌^◌, ℕ, zero, suc, ◌+◌, ◌-◌, ◌*◌, ◌<◌, ◌≤◌, true, false, eqb, leb, ltb, List, [], ◌∷◌, ◌++◌, length, Some, None, refl, sym, ap, ◌∙◌, subst, append_assoc, append-nil, arith, eqb-true, leb-true, ltb-false, ne_eqb, eq-eqb, le-leb, lt-ltb}
+use Rattle.std.proofs.Common.{◌≡◌, ◌≢◌, ◌⊎◌, inl, inr, ◌&&◌, ℕ, ◌+◌, ◌-◌, ◌*◌, ◌<◌, ◌≤◌, true, false, eqb, leb, ltb, List, [], ◌∷◌, ◌++◌, length, refl, sym, ap, ◌∙◌, subst, append_assoc, append-nil, arith, leb-true, ne_eqb, eq-eqb, le-leb, lt-ltb}
 use Rattle.std.specs.List.{AllByRecursion}
-use Rattle.std.proofs.lemmas.Bool.{cases_Bool, eqb-false, and_parts}
-use Rattle.std.proofs.lemmas.List.{length-append}
+use Rattle.std.proofs.lemmas.Bool.{cases_Bool, and_parts}
 use Rattle.resp_core.specs.declared.error.Refusal.{Refusal}
-use Rattle.resp_core.specs.declared.error.Refusal.TheVariants.{BadType, BadLength, BadNumber, BadLineEnd, TooLong, TooDeep}
+use Rattle.resp_core.specs.declared.error.Refusal.TheVariants.{BadLineEnd}
 use Rattle.resp_core.specs.declared.parse.Digits.{Digits}
 use Rattle.resp_core.specs.Offset.{refusal_number}
-use Rattle.resp_core.specs.Grammar.{IsDigit, number_after, max_line}
-use Rattle.resp_core.specs.Refusals.{IsLineByte}
-use Rattle.resp_core.specs.Reading.{Outcome, found, unfinished, refused, and_then, byte_at, digits_at, text_at}
-use Rattle.resp_core.proofs.Parts.{byte_at_other, byte_at_nil, DigitStep, stops, ends, goes, digit_step, digits_at_nil, number_push, feed}
+use Rattle.resp_core.specs.Grammar.{IsDigit, number_after}
+use Rattle.resp_core.specs.Reading.{Outcome, found, unfinished, refused, and_then, byte_at, digits_at}
+use Rattle.resp_core.proofs.Parts.{byte_at_other, byte_at_nil, stops, ends, goes, digit_step, digits_at_nil}
 
 -- what reading gives at bytes behind which another byte is told by this number or a lower one
 abbrev pub Judged : {A : Type 0} → (List ℕ → Outcome A) → List ℕ → ℕ → ℕ → Outcome A → Type 0

@@ -1,21 +1,20 @@
 -- Reading refuses a byte of a value by no number above one that fits its place.
-use Rattle.std.proofs.Common.{◌≡◌, ◌≢◌, ◌⊎◌, inl, inr, ⊎_elim, ◌^◌, ℤ, pos, neg_ℤ, ℕ, zero, suc, ◌+◌, ◌-◌, ◌*◌, ◌<◌, ◌≤◌, true, false, eqb, List, [], ◌∷◌, ◌++◌, length, Option, Some, None, refl, sym, ap, ◌∙◌, subst, append_assoc, append-nil, arith, eqb-true, eq-eqb, ne_eqb}
+use Rattle.std.proofs.Common.{◌≡◌, ◌≢◌, ◌⊎◌, inl, inr, ⊎_elim, ◌^◌, pos, neg_ℤ, ℕ, zero, suc, ◌+◌, ◌-◌, ◌<◌, ◌≤◌, eqb, List, [], ◌∷◌, ◌++◌, length, Option, Some, None, refl, sym, ap, ◌∙◌, subst, append_assoc, append-nil, arith, eq-eqb, ne_eqb}
 use Rattle.std.specs.List.{AllByRecursion}
-use Rattle.std.proofs.lemmas.Bool.{cases_Bool, eqb-false}
+use Rattle.std.proofs.lemmas.Bool.{cases_Bool}
 use Rattle.std.proofs.lemmas.Bool.Decides.{leb_tells}
 use Rattle.std.proofs.lemmas.List.{length-append}
 use Rattle.resp_core.specs.declared.error.Refusal.{Refusal}
 use Rattle.resp_core.specs.declared.error.Refusal.TheVariants.{BadType, BadLength, BadNumber, BadLineEnd, TooLong, TooDeep}
-use Rattle.resp_core.specs.declared.parse.Digits.{Digits}
 use Rattle.resp_core.specs.Offset.{refusal_number}
-use Rattle.resp_core.specs.Tree.{Tree, Trees, simple, fault, whole, bulk, list, no_trees, tree, members, trees_of}
+use Rattle.resp_core.specs.Tree.{Trees, simple, fault, whole, bulk, list, no_trees, tree, members, trees_of}
 use Rattle.resp_core.specs.Text.{line, line_end}
-use Rattle.resp_core.specs.Grammar.{IsDigit, IsLength, AreTexts, number_after, max_line, max_bulk, IsText}
+use Rattle.resp_core.specs.Grammar.{IsDigit, IsLength, AreTexts, number_after, max_line, max_bulk}
 use Rattle.resp_core.specs.Refusals.{IsLineByte, IsSign, RefusedInLength, RefusedInInteger, RefusedInLine, RefusedInLeaf, RefusedInValue}
-use Rattle.resp_core.specs.Reading.{Outcome, found, unfinished, refused, and_then, either_at, byte_at, end_at, of_length, of_integer, digits_at, text_at, integer_at, null_end_at, count_at, payload_at, bulk_at, many_at, members_at, list_at, leaf_at, value_at}
-use Rattle.resp_core.proofs.Parts.{byte_at_other, byte_at_nil, TextStep, stops, ends, goes, text_step, text_at_nil, text_13, line_end_behind, number_push, bytes-reads}
+use Rattle.resp_core.specs.Reading.{Outcome, found, unfinished, refused, and_then, byte_at, end_at, of_length, of_integer, digits_at, text_at, integer_at, null_end_at, count_at, payload_at, bulk_at, many_at, members_at, list_at, leaf_at, value_at}
+use Rattle.resp_core.proofs.Parts.{byte_at_other, byte_at_nil, stops, ends, goes, text_step, text_at_nil, text_13, number_push, bytes-reads}
 use Rattle.resp_core.proofs.Whole.{count-reads, value-reads}
-use Rattle.resp_core.proofs.Lowest.{Judged, IsJudged, refused_judged, begun_judged, other_judged, behind_judged, then_judged, byte_judged, digits_judged, digits_cr_judged, stops_bad, stops_full, stops_over, stops_empty}
+use Rattle.resp_core.proofs.Lowest.{IsJudged, refused_judged, begun_judged, other_judged, behind_judged, then_judged, byte_judged, digits_judged, digits_cr_judged, stops_bad, stops_full, stops_over, stops_empty}
 
 -- what follows the minus of a null
 abbrev behind_cr : Unit {0} → List ℕ → Outcome (Unit {0})

@@ -1,14 +1,14 @@
 -- What a value's texts say of it: none is shorter than the one spelling, and the value is plain and within the limits.
-use Rattle.std.proofs.Common.{◌≡◌, ◌≢◌, ◌<◌, ◌≤◌, ◌^◌, ◌+◌, ◌⊎◌, ⊎_elim, ℕ, zero, suc, ℤ, pos, negsuc, neg_ℤ, List, [], ◌∷◌, ◌++◌, ◌&&◌, length, true, decimal, inl, inr, refl, sym, ap, ◌∙◌, subst, arith, ne_eqb}
+use Rattle.std.proofs.Common.{◌≡◌, ◌≢◌, ◌<◌, ◌≤◌, ◌^◌, ◌+◌, ℕ, zero, suc, ℤ, pos, neg_ℤ, List, [], ◌∷◌, ◌++◌, length, true, decimal, inl, inr, refl, sym, ap, subst, arith, ne_eqb}
 use Rattle.std.specs.Fmt.{signed_decimal}
 use Rattle.std.specs.List.{AllByRecursion, list_all}
 use Rattle.std.proofs.lemmas.Fmt.{length-decimal-le}
 use Rattle.std.proofs.lemmas.List.{length-append}
 use Rattle.std.proofs.lemmas.Str.Parse.{digits_value_short}
-use Rattle.resp_core.specs.Tree.{Tree, Trees, simple, fault, whole, bulk, null_bulk, list, null_list, no_trees, tree, members, is_text_byte, is_plain_tree, are_plain_trees}
-use Rattle.resp_core.specs.Grammar.{IsDigit, IsLength, IsSigned, IsInteger, max_bulk, number_after, IsText, AreTexts}
+use Rattle.resp_core.specs.Tree.{Trees, simple, fault, whole, bulk, null_bulk, list, null_list, no_trees, tree, members, is_text_byte, are_plain_trees}
+use Rattle.resp_core.specs.Grammar.{IsDigit, IsLength, IsSigned, IsInteger, max_bulk, number_after, AreTexts}
 use Rattle.resp_core.specs.Text.{line, line_end, text, texts}
-use Rattle.resp_core.specs.Within.{IsLong, IsWithin, AreWithin}
+use Rattle.resp_core.specs.Within.{IsLong, AreWithin}
 use Rattle.resp_core.specs.Laws.{SpellingIsShortest, ReadValuesArePlain}
 use Rattle.resp_core.proofs.RoundTrip.{own}
 

@@ -8,8 +8,7 @@ use Rattle.resp_core.specs.Reading.{Outcome, found, unfinished, refused, value_a
 use Rattle.resp_core.specs.Text.{text}
 use Rattle.resp_core.specs.Offset.{refusal_number}
 use Rattle.resp_core.specs.Refusals.{IsTold}
-use Rattle.resp_core.specs.declared.error.Refusal.{Refusal}
-use Rattle.resp_core.specs.declared.error.Refusal.TheVariants.{BadType, BadLength, BadNumber, BadLineEnd, TooLong, TooDeep}
+use Rattle.resp_core.specs.declared.error.Refusal.TheVariants.{TooLong}
 use Rattle.resp_core.specs.Front.{IsFirstValue, IsUnfinished, IsFault}
 use Rattle.resp_core.specs.Stream.{HasWhole, Splits, AreValues, IsRefusedAt, HasRefusal, HasNoRefusal, told_offset}
 use Rattle.resp_core.specs.Laws.{NoTextBeginsAnother, Holds, EachStreamHolds, OneHolding, RefusalStays, OneRefusedByte, OneRefusal, ValuesStay, TextIsReadBack, TextIsReadNext}

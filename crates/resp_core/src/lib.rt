@@ -3,7 +3,7 @@
 //! `Reader` reads a stream of bytes that comes in pieces, whatever the pieces are, as the values whose texts it holds.
 //! `put_text` writes a value in its one spelling. Reading is lenient: it takes signs and leading zeros of integers and
 //! leading zeros of lengths. The source is the Redis serialization protocol specification (RESP2); the limits on sizes
-//! and the offsets of refusals are this project's own.
+//! and the offsets and numbers of refusals are this project's own.
 #![tactic(auto)]
 
 mod command;

@@ -90,6 +90,8 @@ impl Reader {
         ensures most { self.new.most ≡ self.old.most }
         ensures err { OnErr result (self.new ≡ self.old) }
         ensures told { IfErr result (λ e. (e ≡ RespError.NoMemory) ⊎ (self.old.refusal ≡ Some e)) }
+        ensures refused { IfErr result (λ e. e ≢ RespError.NoMemory → (b : List ℕ) (ts : List Tree) → Stands self.old b ts
+            → HasRefusal self.old.most b ts (offset_of e) (number_of e)) }
         ensures stays { IfSome self.old.refusal (λ e. result ≡ Err e) }
         ensures refusal { self.new.refusal ≡ self.old.refusal }
     {
@@ -118,8 +120,9 @@ impl Reader {
     /// The next whole value, or `None` where what has come of it is no whole value yet.
     ///
     /// Refused 101 (no memory), and then the reader is as it was; or 102 to 107 at the first byte with which the
-    /// unfinished value is no beginning of any text, or at byte 8,388,609 of it, after all whole values before it. Once
-    /// 102 to 107 was told, `feed` and `next_value` answer the same refusal from then on.
+    /// unfinished value is no beginning of any text, or at byte 8,388,609 of it, after all whole values before it. Where
+    /// two of these numbers fit the place of the byte, the lower is told. Once 102 to 107 was told, `feed` and
+    /// `next_value` answer the same refusal from then on.
     pub fn next_value(&mut self) -> Result<Option<Value>, RespError>
         ensures value { IfOk result (λ o. IfSome o (λ v. (b : List ℕ) (ts : List Tree) → Stands self.old b ts
             → Stands self.new b (ts ++ tree_of v ∷ []))) }

@@ -1,7 +1,7 @@
 -- The parts of a command are commands, no longer than it.
-use Rattle.std.proofs.Common.{◌≡◌, ◌<◌, ◌≤◌, ◌+◌, ◌-◌, ◌++◌, ◌^◌, ℕ, zero, suc, Bool, true, false, ltb, nat_le, List, [], ◌∷◌, Option, Some, None, All, Contains, length, map, get_or, drop, decimal, codes, inl, inr, refl, sym, ap, ◌∙◌, subst, arith}
+use Rattle.std.proofs.Common.{◌≡◌, ◌<◌, ◌≤◌, ◌+◌, ◌++◌, ◌^◌, ℕ, zero, suc, true, ltb, nat_le, List, [], ◌∷◌, Option, Some, None, All, Contains, length, map, get_or, decimal, codes, inl, inr, refl, sym, ap, ◌∙◌, subst, arith}
 use Rattle.std.specs.List.{list_all}
-use Rattle.std.specs.Str.{str_to_ascii_uppercase, str_to_ascii_lowercase}
+use Rattle.std.specs.Str.{str_to_ascii_uppercase}
 use Rattle.std.specs.Fmt.{digits}
 use Rattle.std.specs.Char.{to_ascii_uppercase, to_ascii_lowercase}
 use Rattle.std.proofs.lemmas.Bool.{cases_Bool, and_parts, lt-ltb, ltb-true, leb-true}
@@ -12,8 +12,8 @@ use Rattle.resp_core.specs.Text.{line, line_end, text, texts}
 use Rattle.resp_core.specs.Grammar.{max_bulk, max_text, max_depth}
 use Rattle.resp_core.specs.Within.{IsWithin, AreWithin}
 use Rattle.resp_core.specs.Laws.{Holds}
-use Rattle.resp_core.specs.Command.{is_bulk, are_words, is_command, payload_of, words_of, word}
-use Rattle.resp_core.proofs.TreeLemmas.{length_members, members_trees}
+use Rattle.resp_core.specs.Command.{is_bulk, is_command, payload_of, words_of, word}
+use Rattle.resp_core.proofs.TreeLemmas.{length_members}
 use Rattle.resp_core.proofs.StreamLaws.{text_is_read_back}
 use Rattle.resp_core.proofs.Words.{is_command-list}
 use Rattle.command_table.specs.Table.{Row, rows, row_named}
@@ -24,13 +24,12 @@ use Rattle.splitter.specs.declared.plans.Join.{Join}
 use Rattle.splitter.specs.declared.plans.Join.TheVariants.{Same, Get, Set, Sum}
 use Rattle.splitter.specs.declared.plans.PartPlan.{PartPlan}
 use Rattle.splitter.specs.Request.{read}
-use Rattle.splitter.specs.Plan.{Plan, here, leave, parts, takes, plan_by, plan_by_row, plan_of}
-use Rattle.splitter.specs.Split.{Words, pairs, split, split_by, join_by, command_of, part_at}
+use Rattle.splitter.specs.Plan.{parts, takes, plan_by, plan_by_row, plan_of}
+use Rattle.splitter.specs.Split.{Words, pairs, command_of, part_at}
 use Rattle.splitter.specs.Join.{MayJoin}
 use Rattle.splitter.specs.Laws.{IsPart, client_members, PartsAreCommands, PartsKeepLimits, IsReadFirst, PartsAreReadBack}
 use Rattle.splitter.proofs.KnownRows.{one_row, get_row, set_row, sum_row}
-use Rattle.splitter.proofs.PartTexts.{command_of-payloads, plain_words}
-use Rattle.splitter.proofs.PlanLemmas.{one_inside}
+use Rattle.splitter.proofs.PartTexts.{command_of-payloads}
 
 -- what holds of each element, by recursion
 pub all_none : {X : Type 0} (P : X → Type 0) → All P []

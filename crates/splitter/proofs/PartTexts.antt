@@ -1,9 +1,9 @@
 -- The parts of a command, from one of its words to the next.
-use Rattle.std.proofs.Common.{◌≡◌, ◌<◌, ◌≤◌, ◌+◌, ◌-◌, ◌*◌, ◌/◌, ◌++◌, ℕ, add-one, true, List, [], ◌∷◌, length, map, get_or, drop, decimal, refl, sym, ap, ◌∙◌, append_assoc, append-nil, arith, codes}
+use Rattle.std.proofs.Common.{◌≡◌, ◌<◌, ◌≤◌, ◌+◌, ◌-◌, ◌*◌, ◌/◌, ◌++◌, ℕ, true, List, [], ◌∷◌, length, map, drop, decimal, refl, sym, ap, ◌∙◌, append_assoc, append-nil, arith}
 use Rattle.std.specs.List.{list_all}
 use Rattle.std.proofs.lemmas.Bool.{and_parts}
 use Rattle.std.proofs.lemmas.List.{drop_more, drop_all, length-drop, length-map}
-use Rattle.resp_core.specs.Tree.{Tree, Trees, simple, fault, whole, bulk, null_bulk, list, null_list, no_trees, tree, trees_of, is_plain_tree, are_plain_trees}
+use Rattle.resp_core.specs.Tree.{Tree, simple, fault, whole, bulk, null_bulk, list, null_list, trees_of, is_plain_tree, are_plain_trees}
 use Rattle.resp_core.specs.Value.{tree_of}
 use Rattle.resp_core.specs.declared.value.Value.{Value}
 use Rattle.resp_core.specs.Text.{line, text}

@@ -14,8 +14,8 @@ use Rattle.command_table.specs.declared.Kind.{Kind}
 use Rattle.command_table.specs.declared.Kind.TheVariants.{Ping, Echo, Quit, One, SplitGet, SplitSet, SplitSum}
 use Rattle.splitter.specs.declared.plans.Join.TheVariants.{Same, Get, Set, Sum}
 use Rattle.splitter.specs.Request.{read, broken}
-use Rattle.splitter.specs.Plan.{shown_byte, shown, takes, plan_by, plan_by_row, plan_of}
-use Rattle.splitter.specs.Join.{in_place, is_done, is_whole, total, told_sum, unless_failed, finished_with, first_of, join_of}
+use Rattle.splitter.specs.Plan.{shown_byte, shown, takes, plan_by, plan_by_row}
+use Rattle.splitter.specs.Join.{in_place, is_done, is_whole, total, told_sum, unless_failed, finished_with, first_of}
 use Rattle.splitter.specs.Split.{Words}
 use Rattle.splitter.specs.Laws.{has_plain_value, PlanTextsArePlain, JoinsOfPlainValuesArePlain}
 

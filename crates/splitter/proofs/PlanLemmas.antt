@@ -1,5 +1,5 @@
 -- The plan of a command of the table, by its kind.
-use Rattle.std.proofs.Common.{◌≡◌, ◌<◌, ◌≤◌, ℕ, Bool, true, Contains, ◌&&◌, ◌==◌, ◌%◌, nat_le, List, [], ◌∷◌, map, length, drop, codes, refl, sym, ap, ◌∙◌, subst, arith}
+use Rattle.std.proofs.Common.{◌≡◌, ◌<◌, ℕ, true, Contains, List, [], ◌∷◌, map, drop, codes, refl, sym, ap, ◌∙◌, subst, arith}
 use Rattle.std.specs.Str.{str_to_ascii_uppercase}
 use Rattle.std.proofs.lemmas.Bool.{eqb-true, leb-true}
 use Rattle.resp_core.specs.Tree.{Tree}
@@ -7,12 +7,12 @@ use Rattle.resp_core.specs.Command.{payload_of, is_command, words_of, word, IsAr
 use Rattle.resp_core.proofs.Words.{words_of-list}
 use Rattle.command_table.specs.Table.{Row, rows, row_named}
 use Rattle.command_table.specs.declared.Kind.{Kind}
-use Rattle.command_table.specs.declared.Kind.TheVariants.{Ping, Echo, Quit, One, SplitGet, SplitSet, SplitSum}
+use Rattle.command_table.specs.declared.Kind.TheVariants.{Echo, One, SplitGet, SplitSet, SplitSum}
 use Rattle.splitter.specs.declared.plans.PartPlan.{PartPlan}
 use Rattle.splitter.specs.declared.plans.Join.TheVariants.{Same, Get, Set, Sum}
 use Rattle.splitter.specs.Request.{read}
 use Rattle.splitter.specs.Plan.{parts, plan_of, plan_by, plan_by_row, takes}
-use Rattle.splitter.specs.Split.{Words, pairs, split, split_by, part_at}
+use Rattle.splitter.specs.Split.{Words, pairs, part_at}
 use Rattle.splitter.proofs.KnownRows.{echo_row, one_row}
 
 -- the plan of a command is that of its words

@@ -1,5 +1,5 @@
 -- What the proxy does with a request.
-use Rattle.std.specs.Prelude.{ℕ, Bool, true, false, not, ◌&&◌, ◌==◌, ◌%◌, nat_le, if◌then◌else◌, Option, Some, None, List, ◌++◌, length, map, take, codes}
+use Rattle.std.specs.Prelude.{ℕ, Bool, true, false, ◌&&◌, ◌==◌, ◌%◌, nat_le, if◌then◌else◌, Option, Some, None, List, ◌++◌, length, map, take, codes}
 use Rattle.resp_core.specs.Tree.{Tree, simple, fault, bulk}
 use Rattle.resp_core.specs.Command.{is_command, words_of, word}
 use Rattle.command_table.specs.Table.{Row, row_named}

@@ -9,8 +9,8 @@ mod joining;
 mod laws;
 mod local;
 mod parts;
-mod plans;
 mod planning;
+mod plans;
 mod request;
 
 pub use error::SplitError;
@@ -19,6 +19,9 @@ pub use laws::{
     commands_keep_limits, joins_of_plain_values_are_plain, parts_are_commands,
     parts_are_of_commands, parts_are_read_back, parts_keep_limits, plan_texts_are_plain,
 };
-pub use plans::{Join, Local, PartPlan, PartPlans, Plan};
 pub use planning::plan;
+pub use plans::{Join, Local, PartPlan, PartPlans, Plan};
 pub use request::Request;
+
+#[cfg(test)]
+mod tests;

@@ -43,7 +43,7 @@ pub(crate) fn key_parts(alloc: Global, name: Bytes, words: &Values) -> Result<Pa
     ensures err { IfErr result (λ e. e ≡ SplitError.NoMemory) }
 {
     let head = head(alloc, 2, name)?;
-    let mut parts = Vec::with_capacity(alloc, words.0.len())?;
+    let mut parts = Vec::with_capacity(alloc, words.0.len() - 1)?;
     for at in 1..words.0.len() {
         parts.push(key_part(alloc, head.as_slice(), words.word(at))?)?;
     }

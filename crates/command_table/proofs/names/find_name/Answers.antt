@@ -1,4 +1,4 @@
-use Rattle.std.proofs.Common.{◌≡◌, List, [], sym, ◌∙◌, get_or}
+use Rattle.std.proofs.Common.{[], sym, ◌∙◌}
 use Rattle.command_table.specs.Table.{is_name}
 use Rattle.command_table.proofs.Searched.{find-here, find-further, is_name-compared}
 use Rattle.command_table.proofs.names.find_name.Goals as goal

@@ -1,4 +1,4 @@
-use Rattle.std.proofs.Common.{◌≡◌, ◌==◌, ℕ, List, Option, Some, None, length, filter, find, sym, ap, ◌∙◌}
+use Rattle.std.proofs.Common.{Some, None, find, sym, ap, ◌∙◌}
 use Rattle.std.specs.Option.{option_map}
 use Rattle.command_table.specs.Names.{one_key_names}
 use Rattle.command_table.specs.Table.{is_name}

@@ -1,4 +1,4 @@
-use Rattle.std.proofs.Common.{◌≡◌, ◌+ℤ◌, ◌-ℤ◌, ◌≤ℤ◌, pos, ◌*◌, ◌^◌, drop, map}
+use Rattle.std.proofs.Common.{◌≡◌, ◌+ℤ◌, ◌≤ℤ◌, pos, ◌*◌, ◌^◌, drop, map}
 use Rattle.resp_core.specs.Value.{tree_of}
 use Rattle.splitter.specs.Join.{total}
 use Rattle.splitter.proofs.joining.total.Given as goal

@@ -1,7 +1,7 @@
-use Rattle.std.proofs.Common.{◌≡◌, ◌+◌, ◌++◌, ℕ, List, [], ◌∷◌, length, map, drop, ap, sym, ◌∙◌, arith}
+use Rattle.std.proofs.Common.{◌+◌, ◌++◌, ℕ, List, [], ◌∷◌, map, drop, ap, ◌∙◌, arith}
 use Rattle.resp_core.specs.Tree.{bulk}
 use Rattle.resp_core.specs.Text.{text}
-use Rattle.resp_core.specs.Command.{payload_of, word}
+use Rattle.resp_core.specs.Command.{payload_of}
 use Rattle.splitter.specs.declared.plans.PartPlan.{PartPlan}
 use Rattle.splitter.specs.Split.{part_at}
 use Rattle.splitter.specs.Part.{part_of}

@@ -1,4 +1,4 @@
-use Rattle.std.proofs.Common.{◌≡◌, ◌+◌, ◌*◌, ◌++◌, ℕ, List, [], ◌∷◌, length, map, drop, ap, sym, ◌∙◌, arith, codes}
+use Rattle.std.proofs.Common.{◌+◌, ◌*◌, ◌++◌, ℕ, List, [], ◌∷◌, map, drop, ap, ◌∙◌, arith, codes}
 use Rattle.resp_core.specs.Tree.{bulk}
 use Rattle.resp_core.specs.Text.{text}
 use Rattle.resp_core.specs.Command.{payload_of, word}

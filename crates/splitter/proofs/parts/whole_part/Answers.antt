@@ -1,10 +1,7 @@
-use Rattle.std.proofs.Common.{◌≡◌, [], ◌∷◌, ◌++◌, map, ap, sym, ◌∙◌, true, subst}
-use Rattle.resp_core.specs.Tree.{Tree, is_plain_tree, list, trees_of}
+use Rattle.std.proofs.Common.{◌≡◌, [], ◌∷◌, ◌++◌, ap, sym, ◌∙◌, true, subst}
+use Rattle.resp_core.specs.Tree.{Tree, is_plain_tree}
 use Rattle.resp_core.specs.Value.{tree_of}
 use Rattle.resp_core.specs.Text.{text}
-use Rattle.resp_core.specs.Command.{payload_of, word}
-use Rattle.splitter.specs.Part.{part_of}
-use Rattle.splitter.specs.Split.{part_at, command_of}
 use Rattle.splitter.proofs.PartTexts.{plain_words, whole_part-is}
 use Rattle.splitter.proofs.parts.whole_part.Goals as goal
 

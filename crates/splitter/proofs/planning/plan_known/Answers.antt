@@ -1,4 +1,4 @@
-use Rattle.std.proofs.Common.{◌≡◌, ◌∷◌, [], map, drop, codes, length, ap, sym, ◌∙◌, arith}
+use Rattle.std.proofs.Common.{◌∷◌, [], map, drop, length, ap, ◌∙◌}
 use Rattle.resp_core.specs.Command.{payload_of}
 use Rattle.command_table.specs.Entry.{row_of}
 use Rattle.splitter.specs.Plan.{parts}
@@ -21,8 +21,8 @@ returns-clause-plan c =
     elim c.match-entry.branch [
       | in-One+in_ok-whole_part-in-One w ↦ ap (λ z. parts z.0 z.1) w.how-is ∙ one_is r words _ w.in-One.is w.in_ok-whole_part-in-One.ensures.parts
       | in-SplitGet+in_ok-key_parts-in-SplitGet w ↦ ap (λ z. parts z.0 z.1) w.how-is ∙ get_is r words _ w.in-SplitGet.is (get_row r c.requires.known w.in-SplitGet.is).1
-        (w.in_ok-key_parts-in-SplitGet.ensures.parts ∙ ap (λ z. map (λ key. part_at 1 (z ∷ key ∷ [])) (drop 1 words)) w.from_static-in-SplitGet.ensures)
+          (w.in_ok-key_parts-in-SplitGet.ensures.parts ∙ ap (λ z. map (λ key. part_at 1 (z ∷ key ∷ [])) (drop 1 words)) w.from_static-in-SplitGet.ensures)
       | in-SplitSet+in_ok-pair_parts-in-SplitSet w ↦ ap (λ z. parts z.0 z.1) w.how-is ∙ set_is r words _ w.in-SplitSet.is (set_row r c.requires.known w.in-SplitSet.is).1 w.in_ok-pair_parts-in-SplitSet.ensures.parts
       | in-SplitSum+in_ok-upper_name-in-SplitSum+in_ok-key_parts-in-SplitSum w ↦ ap (λ z. parts z.0 z.1) w.how-is ∙ sum_is r words _ w.in-SplitSum.is (sum_row r c.requires.known w.in-SplitSum.is).1
-        (w.in_ok-key_parts-in-SplitSum.ensures.parts ∙ ap (λ z. map (λ key. part_at 1 (z ∷ key ∷ [])) (drop 1 words)) w.in_ok-upper_name-in-SplitSum.ensures.name)
+          (w.in_ok-key_parts-in-SplitSum.ensures.parts ∙ ap (λ z. map (λ key. part_at 1 (z ∷ key ∷ [])) (drop 1 words)) w.in_ok-upper_name-in-SplitSum.ensures.name)
     ]

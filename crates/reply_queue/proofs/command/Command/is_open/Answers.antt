@@ -1,4 +1,4 @@
-use Rattle.std.proofs.Common.{◌≡◌, ◌<◌, ◌≤◌, Some, None, slice_get, length, refl, sym, ltb-true, ltb-false, rules}
+use Rattle.std.proofs.Common.{◌≡◌, Some, None, slice_get, rules}
 use Rattle.std.proofs.lemmas.Option.{slice_get_read, slice_get_past}
 use Rattle.reply_queue.proofs.ValuesCome.{is_open_where, is_open_past}
 use Rattle.reply_queue.proofs.command.Command.is_open.Goals as goal

@@ -1,4 +1,4 @@
-use Rattle.std.proofs.Common.{◌≡◌, replicate, length, false, ap, ◌∙◌, sym, rules}
+use Rattle.std.proofs.Common.{◌≡◌, replicate, length, false, ap, ◌∙◌, rules}
 use Rattle.reply_queue.specs.Command.{AwaitedCommand}
 use Rattle.reply_queue.specs.Places.{values_come}
 use Rattle.reply_queue.proofs.ValuesCome.{values_come-replicate}
