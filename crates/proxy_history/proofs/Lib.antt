@@ -15,3 +15,5 @@ pub mod OfPast
 pub mod Faults
 pub mod Asked
 pub mod Arrived
+pub mod Reversed
+pub mod Leaving

@@ -1,13 +1,18 @@
 -- What the plain program counts, and what it keeps of a history while it looks at it.
-use Rattle.std.specs.Prelude.{◌≡◌, ℕ, Bool, List, map, reverse, Option, Some, None}
+use Rattle.std.specs.Prelude.{◌≡◌, ℕ, ◌+◌, Bool, true, false, if◌then◌else◌, List, [], ◌∷◌, map, reverse, Option, Some, None}
 use Rattle.std.specs.Option.{option_map}
 use Rattle.resp_core.specs.Tree.{Tree}
+use Rattle.command_table.specs.Table.{Row}
+use Rattle.command_table.specs.declared.Kind.{Kind}
+use Rattle.command_table.specs.declared.Kind.TheVariants.{Ping, Echo, Quit, One, SplitGet, SplitSet, SplitSum}
 use Rattle.journal_core.specs.declared.step.Step.{Step as StepOf}
 use Rattle.ejector.specs.Ejection.{state}
 use Rattle.ejector.specs.declared.mark.Mark.{Mark}
+use Rattle.ejector.specs.declared.mark.Mark.{Mark}
 use Rattle.proxy_history.specs.Setting.{Setting}
 use Rattle.proxy_history.specs.History.{History, Step, is_opening, is_any_closing, is_arrival, is_handing, is_fault, is_closing, finishes}
-use Rattle.proxy_history.specs.Part.{Part, Past}
+use Rattle.proxy_history.specs.Past.{parts_in, sent_in, marks_in}
+use Rattle.proxy_history.specs.Part.{Part, Past, is_same}
 use Rattle.proxy_history.specs.Arrival.{no_upstream_host, proxy_busy}
 use Rattle.proxy_history.specs.declared.event.Event.{Event}
 use Rattle.proxy_history.specs.declared.scan.Wanted.{Wanted}
@@ -27,6 +32,20 @@ is_wanted (wanted.Fault host) = is_fault host
 is_wanted (wanted.Closing conn) = is_closing conn
 is_wanted (wanted.Finishing conn) = finishes conn
 
+-- whether the row is that of QUIT
+abbrev pub is_quit_kind : Kind → Bool
+is_quit_kind Quit = true
+is_quit_kind Ping = false
+is_quit_kind Echo = false
+is_quit_kind One = false
+is_quit_kind SplitGet = false
+is_quit_kind SplitSet = false
+is_quit_kind SplitSum = false
+
+abbrev pub is_quit_row : Option Row → Bool
+is_quit_row None = false
+is_quit_row (Some r) = is_quit_kind r.kind
+
 -- the history of a list of steps that has the oldest first
 abbrev pub history_of : List Step → History
 history_of steps = reverse steps
@@ -43,7 +62,6 @@ part_of p = record {
 
 abbrev pub parts_of : List Part' → List Part
 parts_of ps = map part_of ps
-
 -- A history with what the plain program keeps of it. The marks are in the ejector's state, and no list of them is kept.
 abbrev pub seen : List Step → List Mark → Replay → Past
 seen steps marks r = record { steps = history_of steps; parts = parts_of r.parts.items; sent = parts_of r.sent.items; marks = marks }
@@ -54,3 +72,12 @@ pub record Shows (S : Setting) (H : History) (r : Replay) : Type 0 where
   pub sent : parts_of r.sent.items ≡ sent_in S H
   pub rules : r.ejector.rules ≡ S.rules
   pub state : r.ejector.state ≡ state S.rules (marks_in S H)
+
+abbrev pub first_of : List Part → Option Part
+first_of [] = None
+first_of (p ∷ ps) = Some p
+
+-- the place of the first of these parts that is the same as this one
+abbrev pub place_in : Part → List Part → Option ℕ
+place_in p [] = None
+place_in p (q ∷ qs) = if is_same p q then Some 0 else option_map (λ k. k + 1) (place_in p qs)

@@ -8,19 +8,11 @@
 #![tactic(auto)]
 
 mod answer;
-mod answering;
 mod event;
-mod payload;
 mod laws;
-mod arrival;
-mod cause;
 mod part;
 mod pipe;
-mod reference;
-mod reply;
 mod replay;
-mod result;
-mod value;
 mod refusal;
 mod scan;
 

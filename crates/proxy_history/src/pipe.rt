@@ -1,9 +1,11 @@
 //! What waits for a host, what was sent to it, and how much of that flies.
-ghost use Rattle.std.specs.Prelude.{◌≡◌, [], length};
+ghost use Rattle.std.specs.Prelude.{◌≡◌, [], List, Some, None, length};
+ghost use Rattle.std.specs.List.{list_any};
 ghost use Rattle.std.specs.Option.{option_map, option_copied};
+ghost use Rattle.proxy_history.specs.History.{Step};
 ghost use Rattle.proxy_history.specs.Part.{is_of, is_same};
-ghost use Rattle.proxy_history.specs.Waiting.{waits, waiting, sent_to, flying, first};
-ghost use Rattle.proxy_history.specs.Scan.{part_of, parts_of, seen};
+ghost use Rattle.proxy_history.specs.Waiting.{waits, waiting, sent_to, flying};
+ghost use Rattle.proxy_history.specs.Scan.{part_of, parts_of, first_of, place_in, seen};
 
 use crate::part::Part;
 use crate::replay::Replay;
@@ -59,7 +61,7 @@ pub(crate) fn waiting(steps: &[Turn], replay: &Replay, host: usize) -> u64
 
 /// The oldest part that waits for the host.
 pub(crate) fn first_waiting<'a>(steps: &[Turn], replay: &'a Replay, host: usize) -> Option<&'a Part>
-    ensures { first_of (option_map part_of (option_copied result)) ≡ first (waiting host (seen steps.now [] replay.now)) }
+    ensures { option_map part_of (option_copied result) ≡ first_of (waiting host (seen steps.now [] replay.now)) }
 {
     for part in &replay.parts {
         if waits(steps, replay, host, part) {
@@ -91,7 +93,9 @@ pub(crate) fn flying(steps: &[Turn], replay: &Replay, host: usize) -> u64
 }
 
 /// In which place of what was sent to the host in the part's epoch the part stands.
-pub(crate) fn place(replay: &Replay, host: usize, part: &Part) -> Option<u64> {
+pub(crate) fn place(replay: &Replay, host: usize, part: &Part) -> Option<u64>
+    ensures { (steps : List Step) → result ≡ place_in (part_of part.now) (sent_to host part.now.epoch (seen steps [] replay.now)) }
+{
     let mut before = 0;
     for other in &replay.sent {
         if is_of(other, host, part.epoch) {

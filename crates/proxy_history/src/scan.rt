@@ -7,7 +7,8 @@ ghost use Rattle.splitter.specs.Plan.{is_last, plan_of};
 ghost use Rattle.splitter.specs.Request.{request_of};
 ghost use Rattle.proxy_history.specs.History.{times, has, requests, plan_for};
 ghost use Rattle.proxy_history.specs.Replies.{came};
-ghost use Rattle.proxy_history.specs.Scan.{is_wanted, history_of};
+ghost use Rattle.proxy_history.specs.Scan.{is_wanted, is_quit_row, history_of};
+ghost use Rattle.command_table.specs.Table.{row_named};
 
 use crate::answer::Answer;
 use crate::event::Event;
@@ -87,7 +88,10 @@ fn is_leaving(request: &Request) -> bool
     }
 }
 
-fn is_quit(name: &[u8]) -> bool {
+// Whether the name is that of QUIT.
+fn is_quit(name: &[u8]) -> bool
+    ensures { result ≡ is_quit_row (row_named name.now) }
+{
     match look(name) {
         Some(entry) => entry.kind == Kind::Quit,
         None => false,
