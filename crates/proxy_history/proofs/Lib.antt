@@ -17,3 +17,4 @@ pub mod Asked
 pub mod Arrived
 pub mod Reversed
 pub mod Leaving
+pub mod Collected
