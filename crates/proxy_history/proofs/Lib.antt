@@ -18,3 +18,4 @@ pub mod Arrived
 pub mod Reversed
 pub mod Leaving
 pub mod Collected
+pub mod Searching
