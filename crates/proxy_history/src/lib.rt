@@ -8,6 +8,7 @@
 #![tactic(auto)]
 
 mod answer;
+mod cause;
 mod event;
 mod laws;
 mod part;
