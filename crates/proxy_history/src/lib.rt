@@ -8,6 +8,7 @@
 #![tactic(auto)]
 
 mod answer;
+mod arrival;
 mod event;
 mod laws;
 mod part;
