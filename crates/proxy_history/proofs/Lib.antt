@@ -19,3 +19,4 @@ pub mod Reversed
 pub mod Leaving
 pub mod Collected
 pub mod Searching
+pub mod Placing
