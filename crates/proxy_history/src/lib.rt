@@ -9,6 +9,7 @@
 
 mod answer;
 mod cause;
+mod arrival;
 mod event;
 mod laws;
 mod part;
