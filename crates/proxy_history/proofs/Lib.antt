@@ -17,3 +17,5 @@ pub mod Asked
 pub mod Arrived
 pub mod Reversed
 pub mod Leaving
+pub mod Replied
+pub mod CommandParts
