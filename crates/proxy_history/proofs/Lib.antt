@@ -19,3 +19,5 @@ pub mod Reversed
 pub mod Leaving
 pub mod Replied
 pub mod CommandParts
+pub mod Collected
+pub mod Searching

@@ -5,9 +5,9 @@ ghost use Rattle.resp_core.specs.Value.{tree_of};
 ghost use Rattle.std.specs.Prelude.{slice_get, min, ◌^◌, ◌-◌};
 ghost use Rattle.splitter.specs.Plan.{is_last, plan_of};
 ghost use Rattle.splitter.specs.Request.{request_of};
-ghost use Rattle.proxy_history.specs.History.{times, has, requests, plan_for};
-ghost use Rattle.proxy_history.specs.Replies.{came};
-ghost use Rattle.proxy_history.specs.Scan.{is_wanted, is_quit_row, history_of};
+ghost use Rattle.proxy_history.specs.History.{times, has, requests, request_by, plan_for};
+ghost use Rattle.proxy_history.specs.Replies.{came, reply_by};
+ghost use Rattle.proxy_history.specs.Scan.{is_wanted, is_quit_row, history_of, list_of};
 ghost use Rattle.command_table.specs.Table.{row_named};
 
 use crate::answer::Answer;
@@ -49,12 +49,7 @@ pub(crate) fn times(steps: &[Turn], wanted: Wanted) -> u64
 pub(crate) fn has(steps: &[Turn], wanted: Wanted) -> bool
     ensures { result ≡ has (is_wanted wanted) (history_of steps.now) }
 {
-    for step in steps {
-        if is_wanted(wanted, &step.event) {
-            return true;
-        }
-    }
-    false
+    times(steps, wanted) > 0
 }
 
 fn is_wanted(wanted: Wanted, event: &Event) -> bool
@@ -114,7 +109,10 @@ pub(crate) fn request_at(steps: &[Turn], conn: u64, index: u64) -> Option<&Reque
     None
 }
 
-fn request_of(event: &Event, conn: u64) -> Option<&Request> {
+// The request that arrives, if it is of the connection.
+fn request_of(event: &Event, conn: u64) -> Option<&Request>
+    ensures { list_of (option_copied result) ≡ request_by conn event.now }
+{
     match event {
         Event::Arrived {
             conn: arrived,
@@ -153,7 +151,10 @@ pub(crate) fn reply_at(steps: &[Turn], host: usize, epoch: u64, place: u64) -> O
     None
 }
 
-fn reply_of(event: &Event, host: usize, epoch: u64) -> Option<&Value> {
+// The reply that comes, if it is of the host and the epoch.
+fn reply_of(event: &Event, host: usize, epoch: u64) -> Option<&Value>
+    ensures { list_of (option_map tree_of (option_copied result)) ≡ reply_by host epoch event.now }
+{
     match event {
         Event::Answered {
             host: answered,

@@ -1,4 +1,4 @@
--- The commands of a connection that have no reply yet.
+-- The commands of a connection that are accepted and not popped.
 use Rattle.std.specs.Prelude.{◌≡◌, ◌-◌, ◌+◌, ℕ, zero, suc, nat_lt, if◌then◌else◌, Option, Some, None, List, [], ◌∷◌, slice_get, drop, refl}
 use Rattle.std.specs.Option.{option_and_then}
 use Rattle.std.specs.Coded.{Coded, code_by, coded×, coded_ℕ, coded_list}

@@ -14,10 +14,10 @@ use std::alloc::Global;
 use std::collections::VecDeque;
 use std::marker::Model;
 
-/// How many commands may be without a reply.
+/// How many commands may be accepted and not popped.
 pub const MAX_COMMANDS: usize = 1_024;
 
-/// The commands of one connection that have no reply yet, the oldest first.
+/// The commands of one connection that are accepted and not popped, the oldest first.
 ///
 /// Contracts see how many were popped, and of each command how the values of its parts become one and which have come.
 #[derive(Drop)]
@@ -70,8 +70,8 @@ impl Queue {
     /// commands accepted before it. It makes a place for each value. There have to be from 1 to 4,294,967,295 parts, and
     /// just one for `Same`.
     ///
-    /// Refused 802 (crowded) exactly if 1,024 commands have no reply yet, else 803 (spent) exactly if the index would be
-    /// the greatest `u64`, else 801 (no memory).
+    /// Refused 802 (crowded) exactly if 1,024 commands are accepted and not popped, else 803 (spent) exactly if the index
+    /// would be the greatest `u64`, else 801 (no memory).
     pub fn accept(&mut self, how: Join, parts: usize) -> Result<u64, QueueRefusal>
         requires join { MayJoin how parts }
         requires parts { parts < 2 ^ 32 }

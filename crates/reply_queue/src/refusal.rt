@@ -12,8 +12,8 @@ pub enum QueueRefusal {
     /// 801: memory was refused.
     #[error("out of memory")]
     NoMemory,
-    /// 802: 1,024 commands have no reply yet.
-    #[error("1024 commands have no reply yet")]
+    /// 802: 1,024 commands are accepted and not popped.
+    #[error("1024 commands wait already")]
     Crowded,
     /// 803: the command's index would be the greatest `u64`.
     #[error("no further index is left")]

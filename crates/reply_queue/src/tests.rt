@@ -146,7 +146,7 @@ fn a_part_is_open_until_its_value_comes(rt: HostRuntime) {
 }
 
 #[test]
-fn no_more_than_1024_commands_are_without_a_reply(rt: HostRuntime) {
+fn no_more_than_1024_commands_wait(rt: HostRuntime) {
     let mut queue = Queue::new(rt.alloc());
     for index in 0..1_024 {
         assert_eq!(rt; accept(&mut queue, Join::Same, 1), Ok(index));
@@ -263,11 +263,7 @@ fn a_command_may_have_many_parts(rt: HostRuntime) {
 fn refusals_have_numbers_and_texts(rt: HostRuntime) -> Result<(), Fail> {
     let rows = [
         (QueueRefusal::NoMemory, 801, "out of memory"),
-        (
-            QueueRefusal::Crowded,
-            802,
-            "1024 commands have no reply yet",
-        ),
+        (QueueRefusal::Crowded, 802, "1024 commands wait already"),
         (QueueRefusal::Spent, 803, "no further index is left"),
     ];
     for (refusal, number, text) in rows {

@@ -1,5 +1,5 @@
 -- The commands that hosts are asked for a request.
-use Rattle.std.proofs.Common.{◌≡◌, ◌<◌, ◌≤◌, ℕ, Bool, true, List, [], ◌∷◌, Option, Some, None, All, Contains, length, map, get_or, codes, inl, inr, refl, sym, ap, ◌∙◌, subst, arith}
+use Rattle.std.proofs.Common.{◌≡◌, ◌<◌, ◌≤◌, ℕ, List, [], ◌∷◌, Option, Some, None, All, Contains, length, map, get_or, codes, inl, inr, refl, sym, ap, ◌∙◌, subst, arith}
 use Rattle.std.specs.Str.{str_to_ascii_uppercase}
 use Rattle.std.specs.Char.{to_ascii_uppercase, to_ascii_lowercase}
 use Rattle.std.proofs.lemmas.Bool.{cases_Bool}
@@ -15,10 +15,10 @@ use Rattle.command_table.specs.declared.Kind.TheVariants.{Ping, Echo, Quit, One,
 use Rattle.command_table.proofs.Rows.{found_stands_in_table}
 use Rattle.splitter.specs.declared.plans.Join.{Join}
 use Rattle.splitter.specs.declared.plans.PartPlan.{PartPlan}
-use Rattle.splitter.specs.Request.{Request, read, broken}
-use Rattle.splitter.specs.Plan.{Plan, parts, takes, plan_by, plan_by_row, plan_of}
+use Rattle.splitter.specs.Request.{read, broken}
+use Rattle.splitter.specs.Plan.{parts, takes, plan_by, plan_by_row}
 use Rattle.splitter.specs.Split.{Words, pairs, split, split_by, command_of, part_at}
-use Rattle.splitter.specs.Commands.{commands_by_row, commands_of}
+use Rattle.splitter.specs.Commands.{commands_by_row}
 use Rattle.splitter.specs.Laws.{client_members, PartsAreOfCommands, CommandsKeepLimits}
 use Rattle.splitter.proofs.KnownRows.{get_row, set_row}
 use Rattle.splitter.proofs.PartLaws.{all_none, all_more, all_made, Keeps, key_keeps, pair_keeps, pairs_in, three_names, same_names, command_words, some_words}
@@ -40,16 +40,16 @@ of_kind SplitSum r words how ps e = same_parts _ how _ ps e
 of_row : (o : Option Row) (words : Words) (how : Join) (ps : List PartPlan) → plan_by_row o words ≡ parts how ps → (key_at : ℕ) × (ps ≡ map (part_at key_at) (commands_by_row o words))
 of_row None words how ps e = absurd cc
 of_row (Some r) words how ps e = elim (cases_Bool (takes r.kind r.least (length words))) [
-    inl h ↦ (r.key_at, rw h (of_kind r.kind r words how ps (rw h at e)))
+  | inl h ↦ (r.key_at, rw h (of_kind r.kind r words how ps (rw h at e)))
   | inr h ↦ let g = rw h at e in absurd (cc g)
-  ]
+]
 
 pub parts_are_of_commands : PartsAreOfCommands
 parts_are_of_commands broken how ps e = absurd cc
 parts_are_of_commands (read t) how ps e = elim (cases_Bool (is_command t)) [
-    inl h ↦ let a = of_row (row_named (word (words_of t) 0)) (words_of t) how ps (rw h at e) in (a.0, rw h (a.1))
+  | inl h ↦ let a = of_row (row_named (word (words_of t) 0)) (words_of t) how ps (rw h at e) in (a.0, rw h (a.1))
   | inr h ↦ let g = rw h at e in absurd (cc g)
-  ]
+]
 
 -- WHAT THEY KEEP
 
@@ -76,22 +76,22 @@ kept_row (Some r) w0 rest e =
     let (known, name) = found_stands_in_table r w0 e in
     let same : length w0 ≡ length r.name = sym (length-map w0 to_ascii_lowercase) ∙ ap length name in
     elim (cases_Bool (takes r.kind r.least (length (w0 ∷ rest)))) [
-        inl h ↦ rw h (kept_by r.kind r w0 rest refl known same)
+      | inl h ↦ rw h (kept_by r.kind r w0 rest refl known same)
       | inr h ↦ rw h (all_none (Keeps (w0 ∷ rest)))
-      ]
+    ]
 
 kept_words : (ws : Words) → 0 < length ws → All (Keeps ws) (commands_by_row (row_named (word ws 0)) ws)
 kept_words [] l = absurd (omega (arith, l))
 kept_words (w0 ∷ rest) l = kept_row (row_named w0) w0 rest refl
 
 of_tree : (t : Tree) (ws : Words) (commands : List Words) → t ≡ command_of ws → All (Keeps ws) commands → IsWithin client_members max_depth t
-  → All (λ words. IsWithin client_members max_depth (command_of words) × (length (text (command_of words)) ≤ length (text t))) commands
+    → All (λ words. IsWithin client_members max_depth (command_of words) × (length (text (command_of words)) ≤ length (text t))) commands
 of_tree t ws commands is all within k d l =
     let (keeps, short) = all k d l (subst (λ (z : Tree). IsWithin client_members max_depth z) is within) in
     (keeps, subst (λ (z : Tree). length (text (command_of (get_or commands k d))) ≤ length (text z)) (sym is) short)
 
 pub commands_keep_limits : CommandsKeepLimits
 commands_keep_limits t within = elim (cases_Bool (is_command t)) [
-    inl h ↦ rw h (of_tree t (words_of t) (commands_by_row (row_named (word (words_of t) 0)) (words_of t)) (command_words t h) (kept_words (words_of t) (some_words t h)) within)
+  | inl h ↦ rw h (of_tree t (words_of t) (commands_by_row (row_named (word (words_of t) 0)) (words_of t)) (command_words t h) (kept_words (words_of t) (some_words t h)) within)
   | inr h ↦ rw h (all_none (λ words. IsWithin client_members max_depth (command_of words) × (length (text (command_of words)) ≤ length (text t))))
-  ]
+]

@@ -136,9 +136,9 @@ pub record Names (name w0 : List ℕ) : Type 0 where
 -- a key alone
 pub key_keeps : (w0 : List ℕ) (rest : Words) (name : List ℕ) → Names name w0 → (k : ℕ) (d : List ℕ) → k < length rest → Keeps (w0 ∷ rest) (name ∷ get_or rest k d ∷ [])
 key_keeps w0 rest name n k d l = λ h. (
-    (omega arith, (omega (arith, n.small, h.1.0), (word_within client_members 7 rest k d h.1.1 l, tt))),
-    key_text_short w0 rest name (get_or rest k d) (n.short h.1.0) (word_short rest k d l) (counted (w0 ∷ rest) h),
-  )
+  (omega arith, (omega (arith, n.small, h.1.0), (word_within client_members 7 rest k d h.1.1 l, tt))),
+  key_text_short w0 rest name (get_or rest k d) (n.short h.1.0) (word_short rest k d l) (counted (w0 ∷ rest) h),
+)
 
 key_part : (w0 : List ℕ) (rest : Words) (name : List ℕ) → Names name w0 → (k : ℕ) (d : List ℕ) → k < length rest → IsPartOf (w0 ∷ rest) (part_at 1 (name ∷ get_or rest k d ∷ []))
 key_part w0 rest name n k d l = (
@@ -164,9 +164,9 @@ pairs_in (a ∷ b ∷ ws) =
 -- a key and its value
 pub pair_keeps : (w0 : List ℕ) (rest : Words) (name : List ℕ) (p : List ℕ × List ℕ) → Names name w0 → IsPairIn rest p → Keeps (w0 ∷ rest) (name ∷ p.0 ∷ p.1 ∷ [])
 pair_keeps w0 rest name p n g = λ h. (
-    (omega arith, (omega (arith, n.small, h.1.0), ((g.0 h.1.1).0, ((g.0 h.1.1).1, tt)))),
-    pair_text_short w0 rest name p.0 p.1 (n.short h.1.0) g.1 (counted (w0 ∷ rest) h),
-  )
+  (omega arith, (omega (arith, n.small, h.1.0), ((g.0 h.1.1).0, ((g.0 h.1.1).1, tt)))),
+  pair_text_short w0 rest name p.0 p.1 (n.short h.1.0) g.1 (counted (w0 ∷ rest) h),
+)
 
 pair_part : (w0 : List ℕ) (rest : Words) (name : List ℕ) (p : List ℕ × List ℕ) → Names name w0 → IsPairIn rest p → IsPartOf (w0 ∷ rest) (part_at 1 (name ∷ p.0 ∷ p.1 ∷ []))
 pair_part w0 rest name p n g = (
