@@ -17,6 +17,7 @@ mod pipe;
 mod replay;
 mod refusal;
 mod scan;
+mod value;
 
 pub use answer::Answer;
 pub use event::{Event, Kind};
