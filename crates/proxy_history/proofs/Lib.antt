@@ -23,3 +23,4 @@ pub mod Collected
 pub mod Searching
 pub mod PlainOutcomes
 pub mod Placing
+pub mod Taking

@@ -8,6 +8,7 @@
 #![tactic(auto)]
 
 mod answer;
+mod answering;
 mod cause;
 mod arrival;
 mod event;
