@@ -20,3 +20,4 @@ pub mod Leaving
 pub mod Collected
 pub mod Searching
 pub mod Placing
+pub mod Replayed

@@ -79,7 +79,8 @@ fn grow(
     let mut sent = sent_by(alloc, steps, replay, event)?;
     take_mark(ring.hosts(), steps, replay, event)?;
     replay.parts.append(&mut parts)?;
-    replay.sent.append(&mut sent)
+    replay.sent.append(&mut sent)?;
+    Ok(())
 }
 
 // The parts that the event brings.
