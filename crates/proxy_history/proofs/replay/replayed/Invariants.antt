@@ -8,6 +8,6 @@ use Rattle.proxy_history.proofs.replay.replayed.Given as goal
 abbrev pub invariant-loop-at : goal.invariant-loop-at
 invariant-loop-at l = record {
   shows : (S : Setting) → S.ring ≡ l.ring → S.rules ≡ record { hosts = l.ring.hosts; settings = l.settings } → HaveHosts l.ring.hosts l.steps
-    → Shows S (history_of (take l.at l.steps)) l.replay;
+      → Shows S (history_of (take l.at l.steps)) l.replay;
   rules : l.replay.ejector.rules ≡ record { hosts = l.ring.hosts; settings = l.settings };
 }
