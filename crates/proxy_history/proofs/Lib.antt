@@ -24,3 +24,4 @@ pub mod Searching
 pub mod PlainOutcomes
 pub mod Placing
 pub mod Taking
+pub mod Replayed

@@ -47,7 +47,14 @@ pub(crate) fn replayed(
         ejector: ejector(alloc, ring, settings)?,
     };
     for at in 0..steps.len() {
-        grow(alloc, ring, settings.tags, &steps[..at], &steps[at].event, &mut replay)?;
+        grow(
+            alloc,
+            ring,
+            settings.tags,
+            &steps[..at],
+            &steps[at].event,
+            &mut replay,
+        )?;
     }
     Ok(replay)
 }
@@ -79,7 +86,8 @@ fn grow(
     let mut sent = sent_by(alloc, steps, replay, event)?;
     take_mark(ring.hosts(), steps, replay, event)?;
     replay.parts.append(&mut parts)?;
-    replay.sent.append(&mut sent)
+    replay.sent.append(&mut sent)?;
+    Ok(())
 }
 
 // The parts that the event brings.
@@ -101,14 +109,21 @@ fn parts_by(
         return Ok(Vec::new(alloc));
     };
     match plan(alloc, request) {
-        Ok(Plan::Parts { list, .. }) => placed_parts(alloc, ring, tags, steps, replay, *conn, &list),
+        Ok(Plan::Parts { list, .. }) => placed_parts(
+            alloc, ring, tags, steps, replay, *conn, &list,
+        ),
         Ok(_) => Ok(Vec::new(alloc)),
         Err(_) => Err(AllocError),
     }
 }
 
 // The part that the event sends, if it sends one.
-fn sent_by(alloc: Global, steps: &[Turn], replay: &Replay, event: &Event) -> Result<Vec<Part>, AllocError>
+fn sent_by(
+    alloc: Global,
+    steps: &[Turn],
+    replay: &Replay,
+    event: &Event,
+) -> Result<Vec<Part>, AllocError>
     ensures { IfOk result (λ parts. parts_of parts.items ≡ sent_by (seen steps.now [] replay.now) event.now) }
 {
     let mut sent = Vec::new(alloc);
@@ -136,7 +151,12 @@ fn copied(part: &Part) -> Result<Part, AllocError>
 }
 
 // Tells outlier detection of the event, if it is one of its marks.
-fn take_mark(hosts: usize, steps: &[Turn], replay: &mut Replay, event: &Event) -> Result<(), AllocError>
+fn take_mark(
+    hosts: usize,
+    steps: &[Turn],
+    replay: &mut Replay,
+    event: &Event,
+) -> Result<(), AllocError>
     requires { hosts ≡ replay.old.ejector.rules.hosts }
     ensures state { OnOk result (HasHost hosts event.now
         → (marks : List Mark) → state replay.old.ejector.rules marks ≡ replay.old.ejector.state
@@ -172,7 +192,13 @@ pub(crate) fn is_excused(steps: &[Turn], replay: &Replay, host: usize, kind: Kin
 }
 
 // Tells outlier detection of a result of the host, if there is such a host.
-fn take_result(ejector: &mut Ejector, hosts: usize, host: usize, ok: bool, t: u64) -> Result<(), AllocError>
+fn take_result(
+    ejector: &mut Ejector,
+    hosts: usize,
+    host: usize,
+    ok: bool,
+    t: u64,
+) -> Result<(), AllocError>
     requires { hosts ≡ ejector.old.rules.hosts }
     ensures state { OnOk result (host < hosts → (marks : List Mark) → state ejector.old.rules marks ≡ ejector.old.state
         → ejector.new.state ≡ state ejector.old.rules (result_mark ok host t ∷ marks)) }

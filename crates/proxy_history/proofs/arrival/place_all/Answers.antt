@@ -23,10 +23,10 @@ loop-plan-preserved c = λ S marks ring tags us.
     let here : p ≡ get_or list c.loop-plan.plan-index p = c.plan-item.is ∙ ap (λ z. get_or z c.loop-plan.plan-index p) same in
     let inside : c.loop-plan.plan-index < length list = rw (← same) c.loop-plan-test.true in
     let made : part_of part ≡ with_host past (parts_of placed) host (hostless c.args.conn n (length placed) p) =
-        subst (λ z. part_of part ≡ with_host past (parts_of z) host (hostless c.args.conn n (length z) p)) c.deref.ensures.value
-        (subst (λ z. part_of part ≡ with_host past (parts_of c.deref.result.now) host (hostless c.args.conn z (length c.deref.result.now) p)) c.times-command.ensures c.in_ok-part.ensures) in
+    subst (λ z. part_of part ≡ with_host past (parts_of z) host (hostless c.args.conn n (length z) p)) c.deref.ensures.value
+    (subst (λ z. part_of part ≡ with_host past (parts_of c.deref.result.now) host (hostless c.args.conn z (length c.deref.result.now) p)) c.times-command.ensures c.in_ok-part.ensures) in
     let is_placed : part_of part ≡ placed_part S past c.args.conn n (parts_of placed) p =
-        part_of-placed S past c.args.conn n placed p c.args.ring.now.pairs c.args.tags c.args.usable.now host part (ap (λ z. z.pairs) ring) tags us owner made in
+    part_of-placed S past c.args.conn n placed p c.args.ring.now.pairs c.args.tags c.args.usable.now host part (ap (λ z. z.pairs) ring) tags us owner made in
     ap (λ z. placing S past c.args.conn n (parts_of z) (drop (c.loop-plan.plan-index + 1) list)) c.in_ok-push.ensures.items
     ∙ placing-more S past c.args.conn n placed part list c.loop-plan.plan-index p inside (is_placed ∙ ap (placed_part S past c.args.conn n (parts_of placed)) here)
     ∙ c.loop-plan.invariant S marks ring tags us

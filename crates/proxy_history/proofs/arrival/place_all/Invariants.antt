@@ -11,4 +11,4 @@ abbrev pub invariant-loop-plan : goal.invariant-loop-plan
 invariant-loop-plan l = (S : Setting) (marks : List Mark) → S.ring ≡ l.ring → S.rules.settings.tags ≡ l.tags
     → usable S (seen l.steps marks l.replay) ≡ l.usable
     → placing S (seen l.steps marks l.replay) l.conn (accepted l.conn (history_of l.steps)) (parts_of l.placed.items) (drop l.plan-index l.list)
-      ≡ placing S (seen l.steps marks l.replay) l.conn (accepted l.conn (history_of l.steps)) [] l.list
+    ≡ placing S (seen l.steps marks l.replay) l.conn (accepted l.conn (history_of l.steps)) [] l.list
