@@ -21,4 +21,4 @@ pub mod Replied
 pub mod CommandParts
 pub mod Collected
 pub mod Searching
-pub mod PlainOutcomes
+pub mod PlainReplies

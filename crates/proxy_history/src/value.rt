@@ -99,11 +99,7 @@ pub(crate) fn outcome(
 }
 
 // The values joined, where there are any.
-fn joined(
-    alloc: Global,
-    how: Join,
-    values: Option<Vec<Value>>,
-) -> Result<Option<Value>, SplitError>
+fn joined(alloc: Global, how: Join, values: Option<Vec<Value>>) -> Result<Option<Value>, SplitError>
     requires { IfSome values (λ values. MayJoin how (length values.items)) }
     ensures value { IfOk result (λ v. option_map tree_of v ≡ option_map (λ values. join_of how (map tree_of values.items)) values) }
     ensures err { IfErr result (λ e. e ≡ SplitError.NoMemory) }
@@ -161,7 +157,13 @@ pub(crate) fn ready_text(
         → IfOk result (λ bytes. bytes ≡ option_map text (outcome conn (handed conn (history_of steps.now)) (seen steps.now [] replay.now))) }
     ensures err { IfErr result (λ e. e ≡ SplitError.NoMemory) }
 {
-    match outcome(alloc, steps, replay, conn, times(steps, Wanted::Handing(conn)))? {
+    match outcome(
+        alloc,
+        steps,
+        replay,
+        conn,
+        times(steps, Wanted::Handing(conn)),
+    )? {
         Some(value) => plain_text(alloc, &value),
         None => Ok(None),
     }

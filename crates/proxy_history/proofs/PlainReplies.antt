@@ -41,7 +41,7 @@ abbrev ArePlain : List Tree → Type 0
 ArePlain ts = list_all is_plain_tree ts ≡ true
 
 -- the value can be written, if there is one
-abbrev IsPlain : Option Tree → Type 0
+abbrev pub IsPlain : Option Tree → Type 0
 IsPlain None = Unit {0}
 IsPlain (Some t) = is_plain_tree t ≡ true
 
@@ -80,8 +80,8 @@ found_is_plain p (q ∷ ps) [] f = tt
 found_is_plain p (q ∷ ps) (t ∷ ts) f =
     let (first, rest) = and_parts (is_plain_tree t) (list_all is_plain_tree ts) f in
     elim (cases_Bool (is_same p q)) [
-      inl e ↦ rw e first
-    | inr e ↦ rw e (found_is_plain p ps ts rest)
+      | inl e ↦ rw e first
+      | inr e ↦ rw e (found_is_plain p ps ts rest)
     ]
 
 or_lost_is_plain : (is_lost : Bool) (o : Option Tree) → IsPlain o → IsPlain (or_lost is_lost o)
@@ -115,9 +115,9 @@ with_is_plain (Some v) (Some vs) e f = rw (e, f) refl
 
 one_by_one : (x : Past) (c i : ℕ) (p : Part') (rest : List Part) → RepliesArePlain x.steps → AllPlain (values_of x rest) → AllPlain (values_of x (if is_part_of c i (part_of p) then part_of p ∷ rest else rest))
 one_by_one x c i p rest f g = elim (cases_Bool (is_part_of c i (part_of p))) [
-    inl e ↦ rw e (with_is_plain (value_of x (part_of p)) (values_of x rest) (value_is_plain x p f) g)
+  | inl e ↦ rw e (with_is_plain (value_of x (part_of p)) (values_of x rest) (value_is_plain x p f) g)
   | inr e ↦ rw e g
-  ]
+]
 
 values_are_plain : (x : Past) (c i : ℕ) (ps : List Part') → RepliesArePlain x.steps → AllPlain (values_of x (filter (is_part_of c i) (parts_of ps)))
 values_are_plain x c i [] f = refl
@@ -136,7 +136,7 @@ by_request : (x : Past) (c i : ℕ) (o : Option Request) → AllPlain (values_of
 by_request x c i None f = tt
 by_request x c i (Some request) f = by_plan x c i (plan_for request) (plan_texts_are_plain (request_of request)) f
 
-outcome_is_plain : (steps : List Step) (replay : Replay) (c i : ℕ) → RepliesArePlain (history_of steps) → IsPlain (outcome c i (seen steps [] replay))
+pub outcome_is_plain : (steps : List Step) (replay : Replay) (c i : ℕ) → RepliesArePlain (history_of steps) → IsPlain (outcome c i (seen steps [] replay))
 outcome_is_plain steps replay c i f =
     by_request (seen steps [] replay) c i (slice_get (requests c (history_of steps)) i) (values_are_plain (seen steps [] replay) c i replay.parts.items f)
 
@@ -147,7 +147,7 @@ text_if_plain None e = refl
 text_if_plain (Some t) e = rw e refl
 
 pub outcome_text : (steps : List Step) (replay : Replay) (c i : ℕ) → RepliesArePlain (history_of steps)
-  → option_and_then plain_text (outcome c i (seen steps [] replay)) ≡ option_map text (outcome c i (seen steps [] replay))
+    → option_and_then plain_text (outcome c i (seen steps [] replay)) ≡ option_map text (outcome c i (seen steps [] replay))
 outcome_text steps replay c i f = text_if_plain (outcome c i (seen steps [] replay)) (outcome_is_plain steps replay c i f)
 
 -- LEGAL HISTORIES
