@@ -22,3 +22,5 @@ pub mod CommandParts
 pub mod Collected
 pub mod Searching
 pub mod PlainReplies
+pub mod PlainOutcomes
+pub mod Placing

@@ -17,3 +17,4 @@ pub mod Output
 pub mod Laws
 pub mod Scan
 pub mod Plain
+pub mod Hosts

@@ -8,6 +8,8 @@
 #![tactic(auto)]
 
 mod answer;
+mod cause;
+mod arrival;
 mod event;
 mod laws;
 mod part;
