@@ -98,7 +98,7 @@ own_parts S x c plan how list e =
 
 -- the one request that an arrival brings is that of the next command
 parts_of_arrival : (S : Setting) (x : Past) (c conn : ℕ) (asked request : Request) (how : Join) (list : List PartPlan) (k : ℕ) → conn ≡ c
-  → slice_get (asked ∷ []) k ≡ Some request → plan_for request ≡ parts how list → length (filter (is_part_of c (accepted c x.steps + k)) (placed_by S x conn (plan_for asked))) ≡ length list
+    → slice_get (asked ∷ []) k ≡ Some request → plan_for request ≡ parts how list → length (filter (is_part_of c (accepted c x.steps + k)) (placed_by S x conn (plan_for asked))) ≡ length list
 parts_of_arrival S x c conn asked request how list zero e f g =
     let same : asked ≡ request = cc in
     let none : accepted c x.steps + 0 ≡ accepted c x.steps = omega arith in
@@ -106,11 +106,11 @@ parts_of_arrival S x c conn asked request how list zero e f g =
 parts_of_arrival S x c conn asked request how list (suc k) e f g = absurd (cc f)
 
 new_parts : (S : Setting) (x : Past) (c : ℕ) (event : Event) (request : Request) (how : Join) (list : List PartPlan) (k : ℕ)
-  → slice_get (request_by c event) k ≡ Some request → plan_for request ≡ parts how list → length (filter (is_part_of c (accepted c x.steps + k)) (parts_by S x event)) ≡ length list
+    → slice_get (request_by c event) k ≡ Some request → plan_for request ≡ parts how list → length (filter (is_part_of c (accepted c x.steps + k)) (parts_by S x event)) ≡ length list
 new_parts S x c (Arrived conn asked) request how list k e f = elim (cases_Bool (conn == c)) [
-    inl t ↦ parts_of_arrival S x c conn asked request how list k (eqb-true conn c t) (rw t at e) f
+  | inl t ↦ parts_of_arrival S x c conn asked request how list k (eqb-true conn c t) (rw t at e) f
   | inr t ↦ let g = rw t at e in absurd (cc g)
-  ]
+]
 new_parts S x c Opened request how list k e f = absurd (cc e)
 new_parts S x c (Finished conn) request how list k e f = absurd (cc e)
 new_parts S x c (Taken host) request how list k e f = absurd (cc e)
@@ -135,7 +135,7 @@ slice_get-right (x ∷ xs) ys k =
 pub length-parts_of : (S : Setting) (H : History) (c i : ℕ) (request : Request) (how : Join) (list : List PartPlan) → slice_get (requests c H) i ≡ Some request → plan_for request ≡ parts how list → length (parts_of c i (past S H)) ≡ length list
 length-parts_of S [] c i request how list e f = absurd (cc e)
 length-parts_of S (s ∷ H) c i request how list e f = elim (cases_Bool (nat_lt i (accepted c H))) [
-    inl t ↦
+  | inl t ↦
       let l : i < accepted c H = ltb-true i (accepted c H) t in
       ap length (parts_stay S (past S H) c i s l)
       ∙ length-parts_of S H c i request how list (sym (slice_get-left (requests c H) (request_by c s.event) i (omega (arith, l, length-requests c H))) ∙ e) f
@@ -147,7 +147,7 @@ length-parts_of S (s ∷ H) c i request how list e f = elim (cases_Bool (nat_lt 
       let brought : slice_get (request_by c s.event) k ≡ Some request = sym (slice_get-right (requests c H) (request_by c s.event) k) ∙ ap (λ z. slice_get (requests c H ++ request_by c s.event) z) place ∙ e in
       ap length (filter-append (is_part_of c i) (parts_in S H) (parts_by S (past S H) s.event))
       ∙ rw (not_yet S H c i l) (subst (λ (z : ℕ). length (filter (is_part_of c z) (parts_by S (past S H) s.event)) ≡ length list) at (new_parts S (past S H) c s.event request how list k brought f))
-  ]
+]
 
 -- WHAT A JOIN IS ASKED
 
@@ -166,12 +166,12 @@ length-values_of x (p ∷ ps) ts e = by_value (value_of x p) (values_of x ps) (l
 
 -- as many values as a join is asked come of the parts of a command
 pub values_may_join : (S : Setting) (H : History) (c i : ℕ) (request : Request) (how : Join) (list : List PartPlan) (ps : List Part) (x : Past) (ts : List Tree) → ps ≡ parts_in S H
-  → slice_get (requests c H) i ≡ Some request → plan_for request ≡ parts how list → values_of x (filter (is_part_of c i) ps) ≡ Some ts → MayJoin how (length ts)
+    → slice_get (requests c H) i ≡ Some request → plan_for request ≡ parts how list → values_of x (filter (is_part_of c i) ps) ≡ Some ts → MayJoin how (length ts)
 values_may_join S H c i request how list ps x ts e f g h =
     let count : length ts ≡ length list = length-values_of x (filter (is_part_of c i) ps) ts h ∙ ap (λ z. length (filter (is_part_of c i) z)) e ∙ length-parts_of S H c i request how list f g in
     rw count (plan_may_join request how list g)
 
 pub if_some_may_join : {V : Type 0} (items : V → List Value) (how : Join) (vs : Option (List Tree)) (o : Option V) → option_map (λ v. map tree_of (items v)) o ≡ vs
-  → ((ts : List Tree) → vs ≡ Some ts → MayJoin how (length ts)) → IfSome o (λ v. MayJoin how (length (items v)))
+    → ((ts : List Tree) → vs ≡ Some ts → MayJoin how (length ts)) → IfSome o (λ v. MayJoin how (length (items v)))
 if_some_may_join items how vs None e f = tt
 if_some_may_join items how vs (Some v) e f = subst (λ (n : ℕ). MayJoin how n) (length-map (items v) tree_of) (f (map tree_of (items v)) (sym e))

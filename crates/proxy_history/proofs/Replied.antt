@@ -23,9 +23,9 @@ pub reply_in_place : (p : Part) (ps : List Part) (vs : List Tree) → option_and
 reply_in_place p [] vs = refl
 reply_in_place p (q ∷ ps) [] = nowhere (place_in p (q ∷ ps))
 reply_in_place p (q ∷ ps) (v ∷ vs) = elim (cases_Bool (is_same p q)) [
-    inl e ↦ rw e refl
+  | inl e ↦ rw e refl
   | inr e ↦ rw e (one_further v vs (place_in p ps) ∙ reply_in_place p ps vs)
-  ]
+]
 
 pub reply_to-is : (p : Part) (host : ℕ) (x : Past) (o : Option ℕ) → o ≡ place_in p (sent_to host p.epoch x) → option_and_then (λ k. slice_get (came host p.epoch x.steps) k) o ≡ reply_to p host x
 reply_to-is p host x o e =

@@ -19,4 +19,4 @@ joined-requires c =
     let asked : slice_get (requests c.args.conn H) c.args.index ≡ Some c.in-Some.request.now = sym c.request_at.ensures ∙ ap option_copied c.in-Some.is in
     let planned : plan_for c.in-Some.request.now ≡ parts c.in-Parts.how c.in-Parts.list = sym c.in_ok-value.ensures.plan ∙ ap plan_in c.in-Parts.is in
     if_some_may_join (λ v. v.items) c.in-Parts.how (values_of x (filter (is_part_of c.args.conn c.args.index) ps)) c.in_ok-values-in-Parts.values c.in_ok-values-in-Parts.ensures.values
-      (λ ts e. values_may_join S H c.args.conn c.args.index c.in-Some.request.now c.in-Parts.how c.in-Parts.list ps x ts shows.parts asked planned e)
+    (λ ts e. values_may_join S H c.args.conn c.args.index c.in-Some.request.now c.in-Parts.how c.in-Parts.list ps x ts shows.parts asked planned e)
