@@ -124,7 +124,9 @@ fn members_len(values: &Values) -> u64
 fn bulk_len(payload: u64) -> u64
     ensures { result ≡ told_offset (length (decimal payload) + 3 + payload + 2) }
 {
-    line_len(digits(payload)).saturating_add(payload).saturating_add(2)
+    line_len(digits(payload))
+        .saturating_add(payload)
+        .saturating_add(2)
 }
 
 // The length of a line with its type and its end, of so many bytes between them.

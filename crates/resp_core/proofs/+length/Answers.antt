@@ -14,8 +14,15 @@ text::list_len-returns t c =
     ap (λ z. length (members (trees_of z))) (sym c.values.view_is) ∙ length_members tree_of c.values.inside.0.items ∙ sym (c.len.ensures ∙ c.values.inside.0.ok.0) in
     let shown = decimal (length (members (trees_of c.args.values.now))) in
     let rest = texts (trees_of c.args.values.now) in
-    omega (arith, c.saturating_add.ensures, c.members_len.ensures, c.line_len.ensures, c.digits.ensures ∙ ap (λ n. length (decimal n)) (sym count),
-      length-append (line 42 shown) rest, length_line 42 shown)
+    omega (
+      arith,
+      c.saturating_add.ensures,
+      c.members_len.ensures,
+      c.line_len.ensures,
+      c.digits.ensures ∙ ap (λ n. length (decimal n)) (sym count),
+      length-append (line 42 shown) rest,
+      length_line 42 shown,
+    )
 
 pub text::members_len-returns : goal.text::members_len-returns
 text::members_len-returns t c =
