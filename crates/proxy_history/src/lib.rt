@@ -11,6 +11,7 @@ mod answer;
 mod event;
 mod laws;
 mod part;
+mod payload;
 mod pipe;
 mod replay;
 mod refusal;
