@@ -17,5 +17,9 @@ pub mod Asked
 pub mod Arrived
 pub mod Reversed
 pub mod Leaving
+pub mod Replied
+pub mod CommandParts
 pub mod Collected
 pub mod Searching
+pub mod PlainOutcomes
+pub mod Placing

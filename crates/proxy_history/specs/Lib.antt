@@ -16,3 +16,4 @@ pub mod Legal
 pub mod Output
 pub mod Laws
 pub mod Scan
+pub mod Hosts

@@ -8,6 +8,8 @@
 #![tactic(auto)]
 
 mod answer;
+mod cause;
+mod arrival;
 mod event;
 mod laws;
 mod part;
@@ -16,6 +18,7 @@ mod pipe;
 mod replay;
 mod refusal;
 mod scan;
+mod value;
 
 pub use answer::Answer;
 pub use event::{Event, Kind};
