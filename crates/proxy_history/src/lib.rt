@@ -14,6 +14,7 @@ mod arrival;
 mod event;
 mod laws;
 mod part;
+mod payload;
 mod pipe;
 mod replay;
 mod refusal;
