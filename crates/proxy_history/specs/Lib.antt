@@ -16,5 +16,6 @@ pub mod Legal
 pub mod Output
 pub mod Laws
 pub mod Scan
+pub mod Reference
 pub mod Plain
 pub mod Hosts

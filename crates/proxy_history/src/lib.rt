@@ -17,6 +17,7 @@ mod part;
 mod payload;
 mod pipe;
 mod replay;
+mod reference;
 mod refusal;
 mod scan;
 mod value;
@@ -28,6 +29,7 @@ pub use laws::{
     few_are_out, none_is_sent_twice, outcomes_stay, owners_stay, parts_have_arrived,
     replies_are_in_order, replies_were_asked, sent_parts_arrived, values_are_own,
 };
+pub use reference::Reference;
 pub use refusal::Refusal;
 
 pub use ejector::{Field, Settings, Trip};

@@ -1,7 +1,9 @@
 //! Why an event is refused.
 ghost use Rattle.std.specs.Prelude.{◌≡◌};
+ghost use Rattle.proxy_history.specs.declared.refusal.Refusal.TheVariants.{NoMemory};
 
 use ejector::Field;
+use std::alloc::AllocError;
 use thiserror::Error;
 
 /// Why an event is refused. A refused event changes nothing.
@@ -79,5 +81,13 @@ impl Refusal {
             Refusal::NoSuchHost => 1012,
             Refusal::NotPlain => 1013,
         }
+    }
+}
+
+impl From<AllocError> for Refusal {
+    ghost from_gives = { λ _ e. e ≡ NoMemory };
+
+    fn from(_error: AllocError) -> Refusal {
+        Refusal::NoMemory
     }
 }
