@@ -26,3 +26,4 @@ pub mod PlainOutcomes
 pub mod Placing
 pub mod Taking
 pub mod Replayed
+pub mod Telling

@@ -20,8 +20,8 @@ use resp_core::Value;
 const MAX_CONNECTIONS: u64 = 4_096;
 const MAX_UNWRITTEN: u64 = 1_024;
 
-// Whether the connection is open.
-fn is_open(steps: &[Turn], conn: u64) -> bool
+/// Whether the connection is open.
+pub(crate) fn is_open(steps: &[Turn], conn: u64) -> bool
     ensures { result ≡ is_open conn (history_of steps.now) }
 {
     conn < times(steps, Wanted::Opening) && !has(steps, Wanted::Closing(conn))
