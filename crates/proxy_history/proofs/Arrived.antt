@@ -159,7 +159,7 @@ parts_have_arrived S (s ∷ before) p h = elim (Contains-append_cases (past S be
 
 -- WHAT WAS SENT
 
-in_filter : (f : Part → Bool) (ps : List Part) (p : Part) → Contains (filter f ps) p → Contains ps p
+pub in_filter : (f : Part → Bool) (ps : List Part) (p : Part) → Contains (filter f ps) p → Contains ps p
 in_filter f [] p h = h
 in_filter f (q ∷ ps) p h = elim (cases_Bool (f q)) [
     inl t ↦ elim (Contains-append_cases (q ∷ []) (filter f ps) p (rw t at h)) [

@@ -17,7 +17,12 @@ pub mod Asked
 pub mod Arrived
 pub mod Reversed
 pub mod Leaving
+pub mod Replied
+pub mod CommandParts
 pub mod Collected
 pub mod Searching
+pub mod PlainReplies
+pub mod PlainOutcomes
 pub mod Placing
+pub mod Taking
 pub mod Replayed

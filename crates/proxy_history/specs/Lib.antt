@@ -16,4 +16,5 @@ pub mod Legal
 pub mod Output
 pub mod Laws
 pub mod Scan
+pub mod Plain
 pub mod Hosts

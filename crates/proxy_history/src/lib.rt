@@ -8,14 +8,18 @@
 #![tactic(auto)]
 
 mod answer;
+mod answering;
+mod cause;
 mod arrival;
 mod event;
 mod laws;
 mod part;
+mod payload;
 mod pipe;
 mod replay;
 mod refusal;
 mod scan;
+mod value;
 
 pub use answer::Answer;
 pub use event::{Event, Kind};

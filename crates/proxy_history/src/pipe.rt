@@ -1,5 +1,5 @@
 //! What waits for a host, what was sent to it, and how much of that flies.
-ghost use Rattle.std.specs.Prelude.{◌≡◌, [], List, Some, None, length};
+ghost use Rattle.std.specs.Prelude.{◌≡◌, ◌<◌, ◌^◌, [], List, Some, None, length};
 ghost use Rattle.std.specs.List.{list_any};
 ghost use Rattle.std.specs.Option.{option_map, option_copied};
 ghost use Rattle.proxy_history.specs.History.{Step};
@@ -48,7 +48,8 @@ pub(crate) fn waits(steps: &[Turn], replay: &Replay, host: usize, part: &Part) -
 
 /// How many parts wait for the host.
 pub(crate) fn waiting(steps: &[Turn], replay: &Replay, host: usize) -> u64
-    ensures { result ≡ length (waiting host (seen steps.now [] replay.now)) }
+    ensures value { result ≡ length (waiting host (seen steps.now [] replay.now)) }
+    ensures few { result < 2 ^ 63 }
 {
     let mut count = 0;
     for part in &replay.parts {
@@ -73,7 +74,8 @@ pub(crate) fn first_waiting<'a>(steps: &[Turn], replay: &'a Replay, host: usize)
 
 /// How many parts were sent to the host in the epoch.
 pub(crate) fn sent(replay: &Replay, host: usize, epoch: u64) -> u64
-    ensures { (steps : List Step) → result ≡ length (sent_to host epoch (seen steps [] replay.now)) }
+    ensures value { (steps : List Step) → result ≡ length (sent_to host epoch (seen steps [] replay.now)) }
+    ensures few { result < 2 ^ 63 }
 {
     let mut count = 0;
     for part in &replay.sent {
@@ -86,7 +88,8 @@ pub(crate) fn sent(replay: &Replay, host: usize, epoch: u64) -> u64
 
 /// How many parts that were sent to the host in its present epoch have no reply.
 pub(crate) fn flying(steps: &[Turn], replay: &Replay, host: usize) -> u64
-    ensures { result ≡ flying host (seen steps.now [] replay.now) }
+    ensures value { result ≡ flying host (seen steps.now [] replay.now) }
+    ensures few { result < 2 ^ 63 }
 {
     let epoch = times(steps, Wanted::Fault(host));
     sent(replay, host, epoch).saturating_sub(replies(steps, host, epoch))

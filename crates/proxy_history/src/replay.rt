@@ -182,7 +182,7 @@ fn take_mark(
 }
 
 // Whether such a fault is none of the host's: its link ended while nothing waited for it and nothing flew to it.
-fn is_excused(steps: &[Turn], replay: &Replay, host: usize, kind: Kind) -> bool
+pub(crate) fn is_excused(steps: &[Turn], replay: &Replay, host: usize, kind: Kind) -> bool
     ensures { result ≡ is_excused (seen steps.now [] replay.now) host kind }
 {
     match kind {

@@ -15,3 +15,4 @@ pub mod LowestInValue
 pub mod FitsReading
 pub mod Numbers
 pub mod Examples
+pub mod Lengths

@@ -1,6 +1,8 @@
 //! The one spelling of a value.
-ghost use Rattle.std.specs.Prelude.{◌≡◌, ◌++◌, ◌∷◌, [], length, OnOk, OnErr, IsTrue, IsErrOf};
+ghost use Rattle.std.specs.Prelude.{◌≡◌, ◌+◌, ◌++◌, ◌∷◌, [], length, OnOk, OnErr, IsTrue, IsErrOf};
+ghost use Rattle.std.specs.Fmt.{decimal, signed_decimal};
 ghost use Rattle.resp_core.specs.Tree.{bulk, list, is_plain_tree, trees_of};
+ghost use Rattle.resp_core.specs.Stream.{told_offset};
 ghost use Rattle.resp_core.specs.Text.{text, texts, line, line_end, Extends};
 ghost use Rattle.resp_core.specs.Value.{tree_of};
 
@@ -80,4 +82,74 @@ fn append_line(kind: u8, bytes: &[u8], out: &mut Vec<u8>) -> Result<(), AllocErr
     out.push(kind)?;
     out.extend_from_slice(bytes)?;
     out.extend_from_slice(b"\r\n")
+}
+
+impl Value {
+    /// How many bytes the value's one spelling has, where the greatest number of 64 bits stands for any more.
+    ///
+    /// The value needn't be plain: the bytes of its strings count, whatever they are.
+    #[cycle(length)]
+    pub fn text_len(&self) -> u64
+        ensures { result ≡ told_offset (length (text (tree_of self.now))) }
+    {
+        match self {
+            Value::Simple(text) | Value::Fault(text) => line_len(text.len() as u64),
+            Value::Whole(n) => line_len(signed_digits(*n)),
+            Value::Bulk(payload) => bulk_len(payload.len() as u64),
+            Value::List(values) => list_len(values),
+            Value::NullBulk | Value::NullList => line_len(2),
+        }
+    }
+}
+
+#[cycle(length)]
+fn list_len(values: &Values) -> u64
+    ensures { result ≡ told_offset (length (text (list (trees_of values.now)))) }
+{
+    line_len(digits(values.0.len() as u64)).saturating_add(members_len(values))
+}
+
+#[cycle(length)]
+fn members_len(values: &Values) -> u64
+    ensures { result ≡ told_offset (length (texts (trees_of values.now))) }
+{
+    let mut total: u64 = 0;
+    for value in &values.0 {
+        total = total.saturating_add(value.text_len());
+    }
+    total
+}
+
+// The length of a bulk string's text, of so many bytes of payload.
+fn bulk_len(payload: u64) -> u64
+    ensures { result ≡ told_offset (length (decimal payload) + 3 + payload + 2) }
+{
+    line_len(digits(payload))
+        .saturating_add(payload)
+        .saturating_add(2)
+}
+
+// The length of a line with its type and its end, of so many bytes between them.
+fn line_len(bytes: u64) -> u64
+    ensures { result ≡ told_offset (bytes + 3) }
+{
+    bytes.saturating_add(3)
+}
+
+// How many digits the number has, and a minus sign where it is negative.
+fn signed_digits(n: i64) -> u64
+    ensures { result ≡ length (signed_decimal n) }
+{
+    let count = digits(n.unsigned_abs());
+    if n < 0 { count + 1 } else { count }
+}
+
+// How many digits the number has.
+fn digits(n: u64) -> u64
+    ensures { result ≡ length (decimal n) }
+{
+    match n.checked_ilog10() {
+        Some(exponent) => u64::from(exponent) + 1,
+        None => 1,
+    }
 }

@@ -1,0 +1,177 @@
+-- The parts of a command are as many as its plan has, and so are their values.
+use Rattle.std.proofs.Common.{◌≡◌, ℕ, zero, suc, ◌+◌, ◌<◌, ◌≤◌, ◌==◌, ◌&&◌, ◌-◌, nat_lt, Bool, true, false, List, [], ◌∷◌, ◌++◌, length, map, filter, drop, get_or, Option, Some, None, refl, sym, ap, ◌∙◌, subst, inl, inr, arith, add-one, if◌then◌else◌, append_assoc}
+use Rattle.std.specs.Prelude.{option_map, slice_get, IfSome}
+use Rattle.std.proofs.lemmas.Bool.{cases_Bool, eqb-true, eq-eqb, ltb-true, ltb-false}
+use Rattle.std.proofs.lemmas.List.{length-append, length-map}
+use Rattle.std.proofs.lemmas.List.Elements.{filter-append}
+use Rattle.resp_core.specs.Tree.{Tree}
+use Rattle.resp_core.specs.Value.{tree_of}
+use Rattle.resp_core.specs.declared.value.Value.{Value}
+use Rattle.splitter.specs.Plan.{Plan, here, leave, parts}
+use Rattle.splitter.specs.Join.{MayJoin}
+use Rattle.splitter.specs.declared.plans.Join.{Join}
+use Rattle.splitter.specs.declared.plans.PartPlan.{PartPlan}
+use Rattle.splitter.specs.declared.request.Request.{Request}
+use Rattle.splitter.specs.declared.request.Request.TheVariants as requests'
+use Rattle.splitter.proofs.PartLaws.{parts_are_commands}
+use Rattle.proxy_history.specs.Setting.{Setting}
+use Rattle.proxy_history.specs.History.{History, Step, plan_for, accepted, requests, request_by, is_arrival}
+use Rattle.proxy_history.specs.Part.{Past, Part}
+use Rattle.proxy_history.specs.Past.{past, parts_in}
+use Rattle.proxy_history.specs.Value.{value_of}
+use Rattle.proxy_history.specs.Arrival.{placing, placed_part, placed_by, parts_by}
+use Rattle.proxy_history.specs.Outcome.{parts_of, is_part_of, values_of, with_value}
+use Rattle.proxy_history.specs.declared.event.Event.{Event}
+use Rattle.proxy_history.specs.declared.event.Event.TheVariants.{Opened, Arrived, Finished, Taken, Answered, Failed, Swept, Handed, Closed}
+use Rattle.proxy_history.proofs.Fresh.{length-requests, AreOf, placing_are_of, parts_stay}
+use Rattle.proxy_history.proofs.Growing.{slice_get_stays}
+
+-- AS MANY AS THE PLAN HAS
+
+pub length-placing : (S : Setting) (x : Past) (conn command : ℕ) (placed : List Part) (ps : List PartPlan) → length (placing S x conn command placed ps) ≡ length placed + length ps
+length-placing S x conn command placed [] = omega arith
+length-placing S x conn command placed (p ∷ ps) =
+    omega (arith, length-placing S x conn command (placed ++ placed_part S x conn command placed p ∷ []) ps, length-append placed (placed_part S x conn command placed p ∷ []))
+
+all_of : (conn command : ℕ) (ps : List Part) → AreOf conn command ps → filter (is_part_of conn command) ps ≡ ps
+all_of conn command [] a = refl
+all_of conn command (p ∷ ps) a =
+    let f : (p.conn == conn) ≡ true = eq-eqb p.conn conn a.0 in
+    let g : (p.command == command) ≡ true = eq-eqb p.command command a.1 in
+    rw (f, g) (ap (λ z. p ∷ z) (all_of conn command ps a.2))
+
+none_of : (c i conn command : ℕ) (ps : List Part) → ((conn == c) && (command == i)) ≡ false → AreOf conn command ps → filter (is_part_of c i) ps ≡ []
+none_of c i conn command [] e a = refl
+none_of c i conn command (p ∷ ps) e a =
+    let f : is_part_of c i p ≡ false = rw (a.0, a.1) e in
+    rw f (none_of c i conn command ps e a.2)
+
+are_placed : (S : Setting) (x : Past) (conn : ℕ) (list : List PartPlan) → AreOf conn (accepted conn x.steps) (placing S x conn (accepted conn x.steps) [] list)
+are_placed S x conn list = placing_are_of S x conn (accepted conn x.steps) [] list tt
+
+-- A COMMAND THAT HASN'T ARRIVED HAS NO PARTS
+
+one_arrival : (c : ℕ) (request : Request) (s : Step) (before : History) → s.event ≡ Arrived c request → accepted c (s ∷ before) ≡ accepted c before + 1
+one_arrival c request s before e = rw (e, eq-eqb c c refl) refl
+
+not_yet_placed : (S : Setting) (x : Past) (c i conn : ℕ) (p : Plan) → (conn ≡ c → accepted c x.steps ≡ i → ⊥) → filter (is_part_of c i) (placed_by S x conn p) ≡ []
+not_yet_placed S x c i conn (parts how list) f =
+    none_of c i conn (accepted conn x.steps) _ (is_other (conn == c) (accepted conn x.steps == i) (λ a b. let e = eqb-true conn c a in f e (sym (ap (λ z. accepted z x.steps) e) ∙ eqb-true _ i b))) (are_placed S x conn list)
+  where
+    is_other : (a b : Bool) → (a ≡ true → b ≡ true → ⊥) → (a && b) ≡ false
+    is_other true true g = absurd (g refl refl)
+    is_other true false g = refl
+    is_other false b g = refl
+not_yet_placed S x c i conn (here name value) f = refl
+not_yet_placed S x c i conn (leave name value) f = refl
+
+not_yet_by : (S : Setting) (x : Past) (c i : ℕ) (event : Event) → (is_arrival c event ≡ true → accepted c x.steps ≡ i → ⊥) → filter (is_part_of c i) (parts_by S x event) ≡ []
+not_yet_by S x c i (Arrived conn request) f = not_yet_placed S x c i conn (plan_for request) (λ e. f (eq-eqb conn c e))
+not_yet_by S x c i Opened f = refl
+not_yet_by S x c i (Finished conn) f = refl
+not_yet_by S x c i (Taken host) f = refl
+not_yet_by S x c i (Answered host e value t) f = refl
+not_yet_by S x c i (Failed host e kind t) f = refl
+not_yet_by S x c i (Swept t) f = refl
+not_yet_by S x c i (Handed conn) f = refl
+not_yet_by S x c i (Closed conn) f = refl
+
+counted_once : (b : Bool) (n i : ℕ) → (if b then n + 1 else n) ≤ i → b ≡ true → n ≡ i → ⊥
+counted_once true n i l e f = omega arith
+counted_once false n i l e f = absurd cc
+
+fewer : (b : Bool) (n i : ℕ) → (if b then n + 1 else n) ≤ i → n ≤ i
+fewer true n i l = omega arith
+fewer false n i l = l
+
+not_yet : (S : Setting) (H : History) (c i : ℕ) → accepted c H ≤ i → parts_of c i (past S H) ≡ []
+not_yet S [] c i l = refl
+not_yet S (s ∷ H) c i l =
+    filter-append (is_part_of c i) (parts_in S H) (parts_by S (past S H) s.event)
+    ∙ rw (not_yet S H c i (fewer (is_arrival c s.event) (accepted c H) i l), not_yet_by S (past S H) c i s.event (counted_once (is_arrival c s.event) (accepted c H) i l)) refl
+
+-- A COMMAND HAS AS MANY PARTS AS ITS PLAN
+
+own_parts : (S : Setting) (x : Past) (c : ℕ) (plan : Plan) (how : Join) (list : List PartPlan) → plan ≡ parts how list → length (filter (is_part_of c (accepted c x.steps)) (placed_by S x c plan)) ≡ length list
+own_parts S x c plan how list e =
+    rw e (ap length (all_of c (accepted c x.steps) _ (are_placed S x c list)) ∙ length-placing S x c (accepted c x.steps) [] list ∙ omega arith)
+
+-- the one request that an arrival brings is that of the next command
+parts_of_arrival : (S : Setting) (x : Past) (c conn : ℕ) (asked request : Request) (how : Join) (list : List PartPlan) (k : ℕ) → conn ≡ c
+    → slice_get (asked ∷ []) k ≡ Some request → plan_for request ≡ parts how list → length (filter (is_part_of c (accepted c x.steps + k)) (placed_by S x conn (plan_for asked))) ≡ length list
+parts_of_arrival S x c conn asked request how list zero e f g =
+    let same : asked ≡ request = cc in
+    let none : accepted c x.steps + 0 ≡ accepted c x.steps = omega arith in
+    rw (none, e) (own_parts S x c (plan_for asked) how list (ap plan_for same ∙ g))
+parts_of_arrival S x c conn asked request how list (suc k) e f g = absurd (cc f)
+
+new_parts : (S : Setting) (x : Past) (c : ℕ) (event : Event) (request : Request) (how : Join) (list : List PartPlan) (k : ℕ)
+    → slice_get (request_by c event) k ≡ Some request → plan_for request ≡ parts how list → length (filter (is_part_of c (accepted c x.steps + k)) (parts_by S x event)) ≡ length list
+new_parts S x c (Arrived conn asked) request how list k e f = elim (cases_Bool (conn == c)) [
+  | inl t ↦ parts_of_arrival S x c conn asked request how list k (eqb-true conn c t) (rw t at e) f
+  | inr t ↦ let g = rw t at e in absurd (cc g)
+]
+new_parts S x c Opened request how list k e f = absurd (cc e)
+new_parts S x c (Finished conn) request how list k e f = absurd (cc e)
+new_parts S x c (Taken host) request how list k e f = absurd (cc e)
+new_parts S x c (Answered host ep value t) request how list k e f = absurd (cc e)
+new_parts S x c (Failed host ep kind t) request how list k e f = absurd (cc e)
+new_parts S x c (Swept t) request how list k e f = absurd (cc e)
+new_parts S x c (Handed conn) request how list k e f = absurd (cc e)
+new_parts S x c (Closed conn) request how list k e f = absurd (cc e)
+
+slice_get-left : {X : Type 0} (xs ys : List X) (i : ℕ) → i < length xs → slice_get (xs ++ ys) i ≡ slice_get xs i
+slice_get-left [] ys i l = absurd (omega (arith, l))
+slice_get-left (x ∷ xs) ys zero l = refl
+slice_get-left (x ∷ xs) ys (suc i) l = slice_get-left xs ys i (omega (arith, l))
+
+slice_get-right : {X : Type 0} (xs ys : List X) (k : ℕ) → slice_get (xs ++ ys) (length xs + k) ≡ slice_get ys k
+slice_get-right [] ys k = let e : 0 + k ≡ k = omega arith in ap (λ z. slice_get ys z) e
+slice_get-right (x ∷ xs) ys k =
+    let e : length (x ∷ xs) + k ≡ suc (length xs + k) = omega arith in
+    ap (λ z. slice_get (x ∷ (xs ++ ys)) z) e ∙ slice_get-right xs ys k
+
+-- a command has as many parts as its plan
+pub length-parts_of : (S : Setting) (H : History) (c i : ℕ) (request : Request) (how : Join) (list : List PartPlan) → slice_get (requests c H) i ≡ Some request → plan_for request ≡ parts how list → length (parts_of c i (past S H)) ≡ length list
+length-parts_of S [] c i request how list e f = absurd (cc e)
+length-parts_of S (s ∷ H) c i request how list e f = elim (cases_Bool (nat_lt i (accepted c H))) [
+  | inl t ↦
+      let l : i < accepted c H = ltb-true i (accepted c H) t in
+      ap length (parts_stay S (past S H) c i s l)
+      ∙ length-parts_of S H c i request how list (sym (slice_get-left (requests c H) (request_by c s.event) i (omega (arith, l, length-requests c H))) ∙ e) f
+  | inr t ↦
+      let l : accepted c H ≤ i = ltb-false i (accepted c H) t in
+      let k : ℕ = i - accepted c H in
+      let at : accepted c H + k ≡ i = omega (arith, l) in
+      let place : length (requests c H) + k ≡ i = omega (arith, l, length-requests c H) in
+      let brought : slice_get (request_by c s.event) k ≡ Some request = sym (slice_get-right (requests c H) (request_by c s.event) k) ∙ ap (λ z. slice_get (requests c H ++ request_by c s.event) z) place ∙ e in
+      ap length (filter-append (is_part_of c i) (parts_in S H) (parts_by S (past S H) s.event))
+      ∙ rw (not_yet S H c i l) (subst (λ (z : ℕ). length (filter (is_part_of c z) (parts_by S (past S H) s.event)) ≡ length list) at (new_parts S (past S H) c s.event request how list k brought f))
+]
+
+-- WHAT A JOIN IS ASKED
+
+plan_may_join : (r : Request) (how : Join) (list : List PartPlan) → plan_for r ≡ parts how list → MayJoin how (length list)
+plan_may_join (requests'.Read v) how list e = (parts_are_commands (tree_of v) how list e).0
+plan_may_join requests'.Broken how list e = absurd (cc e)
+
+length-values_of : (x : Past) (ps : List Part) (ts : List Tree) → values_of x ps ≡ Some ts → length ts ≡ length ps
+length-values_of x [] ts e = let f : ts ≡ [] = cc in ap length f
+length-values_of x (p ∷ ps) ts e = by_value (value_of x p) (values_of x ps) (length-values_of x ps) e
+  where
+    by_value : (o : Option Tree) (vs : Option (List Tree)) → ((us : List Tree) → vs ≡ Some us → length us ≡ length ps) → with_value o vs ≡ Some ts → length ts ≡ length (p ∷ ps)
+    by_value None vs f g = absurd (cc g)
+    by_value (Some v) None f g = absurd (cc g)
+    by_value (Some v) (Some us) f g = let e : ts ≡ v ∷ us = cc in omega (arith, ap length e, f us refl)
+
+-- as many values as a join is asked come of the parts of a command
+pub values_may_join : (S : Setting) (H : History) (c i : ℕ) (request : Request) (how : Join) (list : List PartPlan) (ps : List Part) (x : Past) (ts : List Tree) → ps ≡ parts_in S H
+    → slice_get (requests c H) i ≡ Some request → plan_for request ≡ parts how list → values_of x (filter (is_part_of c i) ps) ≡ Some ts → MayJoin how (length ts)
+values_may_join S H c i request how list ps x ts e f g h =
+    let count : length ts ≡ length list = length-values_of x (filter (is_part_of c i) ps) ts h ∙ ap (λ z. length (filter (is_part_of c i) z)) e ∙ length-parts_of S H c i request how list f g in
+    rw count (plan_may_join request how list g)
+
+pub if_some_may_join : {V : Type 0} (items : V → List Value) (how : Join) (vs : Option (List Tree)) (o : Option V) → option_map (λ v. map tree_of (items v)) o ≡ vs
+    → ((ts : List Tree) → vs ≡ Some ts → MayJoin how (length ts)) → IfSome o (λ v. MayJoin how (length (items v)))
+if_some_may_join items how vs None e f = tt
+if_some_may_join items how vs (Some v) e f = subst (λ (n : ℕ). MayJoin how n) (length-map (items v) tree_of) (f (map tree_of (items v)) (sym e))

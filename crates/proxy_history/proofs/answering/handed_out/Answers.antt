@@ -1,0 +1,14 @@
+use Rattle.std.proofs.Common.{◌≡◌, [], sym, ap, ◌∙◌, subst, Option, Some}
+use Rattle.std.specs.Prelude.{option_map}
+use Rattle.resp_core.specs.Tree.{Tree}
+use Rattle.resp_core.specs.Value.{tree_of}
+use Rattle.proxy_history.specs.Outcome.{outcome}
+use Rattle.proxy_history.specs.Scan.{seen}
+use Rattle.proxy_history.proofs.PlainOutcomes.{IsPlainIfAny, seen_is_plain}
+use Rattle.proxy_history.proofs.answering.handed_out.Goals as goal
+
+pub put_text-requires : goal.put_text-requires
+put_text-requires c =
+    let (S, legal, shows) = c.requires in
+    let is = rw c.in-Ok-Some.field-0-is at c.in-Ok-Some.ensures.value in
+    subst IsPlainIfAny (sym is) (seen_is_plain S c.args.steps.now c.args.replay.now c.args.conn c.times-index.result legal shows)

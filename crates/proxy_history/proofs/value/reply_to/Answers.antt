@@ -1,0 +1,15 @@
+use Rattle.std.proofs.Common.{◌≡◌, [], Some, None, sym, ap, ◌∙◌}
+use Rattle.std.specs.Option.{option_and_then}
+use Rattle.std.specs.Prelude.{slice_get}
+use Rattle.proxy_history.specs.Replies.{came}
+use Rattle.proxy_history.specs.Scan.{history_of, part_of, seen}
+use Rattle.proxy_history.proofs.Replied.{reply_to-is}
+use Rattle.proxy_history.proofs.value.reply_to.Goals as goal
+
+pub returns-in-Some : goal.returns-in-Some
+returns-in-Some c =
+    c.reply_at.ensures ∙ reply_to-is (part_of c.args.part.now) c.args.host (seen c.args.steps.now [] c.args.replay.now) (Some c.in-Some.place) (sym c.in-Some.is ∙ c.place.ensures c.args.steps.now)
+
+pub returns-in-None : goal.returns-in-None
+returns-in-None c =
+    reply_to-is (part_of c.args.part.now) c.args.host (seen c.args.steps.now [] c.args.replay.now) None (sym c.in-None.is ∙ c.place.ensures c.args.steps.now)
