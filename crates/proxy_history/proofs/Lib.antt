@@ -27,3 +27,5 @@ pub mod Placing
 pub mod Taking
 pub mod Replayed
 pub mod Telling
+pub mod Following
+pub mod Adding
