@@ -43,16 +43,16 @@ only_one t s (suc k) l e = absurd (omega (arith, l))
 in_history : (S : Setting) (H : History) → IsLegal S H → (s : Step) → Contains H s → HasHost (hosts S) s.event
 in_history S [] legal s h = absurd (omega (arith, h.1))
 in_history S (t ∷ before) legal s h = elim (Contains-append_cases (t ∷ []) before s h) [
-    inl one ↦ subst (λ (z : Step). HasHost (hosts S) z.event) (only_one t s one.0 one.1 one.2) (has_host S (past S before) t.event legal.1.has_no_cause)
+  | inl one ↦ subst (λ (z : Step). HasHost (hosts S) z.event) (only_one t s one.0 one.1 one.2) (has_host S (past S before) t.event legal.1.has_no_cause)
   | inr earlier ↦ in_history S before legal.0 s earlier
-  ]
+]
 
 reversed : (steps : List Step) (s : Step) → Contains steps s → Contains (history_of steps) s
 reversed [] s h = h
 reversed (t ∷ steps) s h = subst (λ (z : History). Contains z s) (sym (reverse-append (t ∷ []) steps)) (elim (Contains-append_cases (t ∷ []) steps s h) [
-    inl one ↦ Contains-append_right (history_of steps) (t ∷ []) s one
+  | inl one ↦ Contains-append_right (history_of steps) (t ∷ []) s one
   | inr later ↦ Contains-append_left (history_of steps) (t ∷ []) s (reversed steps s later)
-  ])
+])
 
 pub legal_have_hosts : (S : Setting) (steps : List Step) → IsLegal S (history_of steps) → HaveHosts (hosts S) steps
 legal_have_hosts S steps legal k d l = in_history S (history_of steps) legal (get_or steps k d) (reversed steps (get_or steps k d) (Contains-get_or steps k d l))
@@ -100,9 +100,9 @@ cause_is S H event refusal.NotPlain e = inr e
 
 -- the answer to an event, where there is room
 pub follows : (S : Setting) (H : History) (event : Event) (a : Answer) → own_cause S (past S H) event ≡ None → a ≡ answer_to S (past S H) event → has_room H event a ≡ true
-  → (pass : ℕ) → MayFollow S (past S H) (record { pass = pass; event = event; answer = a })
+    → (pass : ℕ) → MayFollow S (past S H) (record { pass = pass; event = event; answer = a })
 follows S H event a none is room pass = record { has_no_cause = none; is_answered = is; has_room = room }
 
 pub full_is : (S : Setting) (H : History) (event : Event) (a : Answer) → own_cause S (past S H) event ≡ None → a ≡ answer_to S (past S H) event → has_room H event a ≡ false
-  → (refusal.JournalFull ≡ refusal.NoMemory) ⊎ IsCause S H event refusal.JournalFull
+    → (refusal.JournalFull ≡ refusal.NoMemory) ⊎ IsCause S H event refusal.JournalFull
 full_is S H event a none is room = inr (none, ap (has_room H event) (sym is) ∙ room)

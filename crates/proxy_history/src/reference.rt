@@ -64,7 +64,7 @@ impl Model for Reference {
     } };
 
     ghost invariant = { λ r. (first_fault (record { hosts = r.ring.hosts; settings = r.settings }) ≡ None)
-      × IsLegal (record { ring = r.ring; rules = record { hosts = r.ring.hosts; settings = r.settings } }) (reverse r.steps.items) };
+        × IsLegal (record { ring = r.ring; rules = record { hosts = r.ring.hosts; settings = r.settings } }) (reverse r.steps.items) };
 }
 
 impl Reference {
@@ -100,7 +100,11 @@ impl Reference {
         ensures err { OnErr result (self.new ≡ self.old) }
     {
         match next_answer(self.alloc, &self.ring, self.settings, &self.steps, &event) {
-            Ok(answer) => self.add(Step { pass, event, answer }),
+            Ok(answer) => self.add(Step {
+                pass,
+                event,
+                answer,
+            }),
             Err(cause) => Err((cause, event)),
         }
     }
@@ -170,7 +174,10 @@ fn own_cause(
         Event::Finished { conn } => finish_cause(steps, *conn),
         Event::Taken { host } => take_cause(hosts, steps, replay, *host),
         Event::Answered {
-            host, epoch, value, ..
+            host,
+            epoch,
+            value,
+            ..
         } => answer_cause(hosts, steps, replay, *host, *epoch, value),
         Event::Failed { host, epoch, .. } => fault_cause(hosts, steps, *host, *epoch),
         Event::Swept { .. } => None,
@@ -196,7 +203,13 @@ fn hand_cause(
     if left == 0 {
         return Ok(Some(Refusal::NotReady { left }));
     }
-    if has_outcome(alloc, steps, replay, conn, times(steps, Wanted::Handing(conn)))? {
+    if has_outcome(
+        alloc,
+        steps,
+        replay,
+        conn,
+        times(steps, Wanted::Handing(conn)),
+    )? {
         Ok(None)
     } else {
         Ok(Some(Refusal::NotReady { left }))
@@ -241,7 +254,9 @@ fn answer_to(
         Event::Opened => Ok(Answer::Opened {
             conn: times(steps, Wanted::Opening),
         }),
-        Event::Arrived { conn, request } => accepted(alloc, ring, tags, steps, replay, *conn, request),
+        Event::Arrived { conn, request } => accepted(
+            alloc, ring, tags, steps, replay, *conn, request,
+        ),
         Event::Finished { .. } => Ok(Answer::Finishing),
         Event::Taken { host } => taken(alloc, steps, replay, *host),
         Event::Answered { host, t, .. } => matched(&mut replay.ejector, *host, *t),

@@ -50,8 +50,8 @@ returns-then-has_room-clause-answer c =
     let shows = c.in_ok-replay.ensures S refl refl (legal_have_hosts S c.args.steps.now c.requires.legal) in
     let none = sym (cause_here S H c.args.steps.now c.in_ok-replay.replay c.args.event.now refl shows) ∙ sym (c.in_ok-cause.ensures S (sym c.hosts.ensures.value)) ∙ c.in_default.is in
     follows S H c.args.event.now c.in_ok-answer.answer none
-      (told_here S H c.args.steps.now c.in_ok-replay.replay c.in_ok-answer.answer c.args.event.now refl shows (λ T marks f g k. c.in_ok-answer.ensures T marks f (g ∙ sym shows.rules) k))
-      (sym c.has_room.ensures ∙ c.if-has_room.true)
+    (told_here S H c.args.steps.now c.in_ok-replay.replay c.in_ok-answer.answer c.args.event.now refl shows (λ T marks f g k. c.in_ok-answer.ensures T marks f (g ∙ sym shows.rules) k))
+    (sym c.has_room.ensures ∙ c.if-has_room.true)
 
 pub returns-clause-cause : goal.returns-clause-cause
 returns-clause-cause c =
@@ -60,5 +60,5 @@ returns-clause-cause c =
     let shows = c.in_ok-replay.ensures S refl refl (legal_have_hosts S c.args.steps.now c.requires.legal) in
     let none = sym (cause_here S H c.args.steps.now c.in_ok-replay.replay c.args.event.now refl shows) ∙ sym (c.in_ok-cause.ensures S (sym c.hosts.ensures.value)) ∙ c.in_default.is in
     full_is S H c.args.event.now c.in_ok-answer.answer none
-      (told_here S H c.args.steps.now c.in_ok-replay.replay c.in_ok-answer.answer c.args.event.now refl shows (λ T marks f g k. c.in_ok-answer.ensures T marks f (g ∙ sym shows.rules) k))
-      (sym c.has_room.ensures ∙ c.if-has_room.false)
+    (told_here S H c.args.steps.now c.in_ok-replay.replay c.in_ok-answer.answer c.args.event.now refl shows (λ T marks f g k. c.in_ok-answer.ensures T marks f (g ∙ sym shows.rules) k))
+    (sym c.has_room.ensures ∙ c.if-has_room.false)
