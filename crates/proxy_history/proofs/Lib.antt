@@ -21,7 +21,6 @@ pub mod Replied
 pub mod CommandParts
 pub mod Collected
 pub mod Searching
-pub mod PlainReplies
 pub mod PlainOutcomes
 pub mod Placing
 pub mod Taking

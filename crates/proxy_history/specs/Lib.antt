@@ -17,5 +17,4 @@ pub mod Output
 pub mod Laws
 pub mod Scan
 pub mod Reference
-pub mod Plain
 pub mod Hosts

@@ -6,7 +6,6 @@ ghost use Rattle.resp_core.specs.Value.{tree_of};
 ghost use Rattle.splitter.specs.Join.{MayJoin, join_of};
 ghost use Rattle.proxy_history.specs.Setting.{Setting};
 ghost use Rattle.proxy_history.specs.History.{handed};
-ghost use Rattle.proxy_history.specs.Plain.{RepliesArePlain, plain_text};
 ghost use Rattle.proxy_history.specs.Value.{reply_to, upstream_failure, value_of};
 ghost use Rattle.proxy_history.specs.Outcome.{is_part_of, outcome, parts_of as command_parts, values_of};
 ghost use Rattle.proxy_history.specs.Scan.{Shows, history_of, part_of, seen, value_at_once};
@@ -139,45 +138,4 @@ fn is_part_of(part: &Part, conn: u64, index: u64) -> bool
     ensures { result ≡ is_part_of conn index (part_of part.now) }
 {
     part.conn == conn && part.command == index
-}
-
-/// The text of the reply that is handed out next to the connection, once there is one. Refused 701 (no memory).
-///
-/// None where a line of the reply has a CR or an LF, which no reply has that came of replies without. The replay has to be
-/// that of the steps.
-pub(crate) fn ready_text(
-    alloc: Global,
-    steps: &[Turn],
-    replay: &Replay,
-    conn: u64,
-) -> Result<Option<Bytes>, SplitError>
-    requires { (S : Setting) × Shows S (history_of steps.now) replay.now }
-    ensures text { IfOk result (λ text. text ≡ option_and_then plain_text (outcome conn (handed conn (history_of steps.now)) (seen steps.now [] replay.now))) }
-    ensures plain { RepliesArePlain (history_of steps.now)
-        → IfOk result (λ bytes. bytes ≡ option_map text (outcome conn (handed conn (history_of steps.now)) (seen steps.now [] replay.now))) }
-    ensures err { IfErr result (λ e. e ≡ SplitError.NoMemory) }
-{
-    match outcome(
-        alloc,
-        steps,
-        replay,
-        conn,
-        times(steps, Wanted::Handing(conn)),
-    )? {
-        Some(value) => plain_text(alloc, &value),
-        None => Ok(None),
-    }
-}
-
-// The text of the value, if it can be written.
-fn plain_text(alloc: Global, value: &Value) -> Result<Option<Bytes>, SplitError>
-    ensures text { IfOk result (λ text. text ≡ plain_text (tree_of value.now)) }
-    ensures err { IfErr result (λ e. e ≡ SplitError.NoMemory) }
-{
-    if !value.is_plain() {
-        return Ok(None);
-    }
-    let mut text = Vec::new(alloc);
-    put_text(alloc, value, &mut text)?;
-    Ok(Some(Bytes::from_vec(text)?))
 }
