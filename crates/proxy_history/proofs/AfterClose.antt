@@ -1,9 +1,9 @@
 -- A closed connection gets nothing more.
-use Rattle.std.proofs.Common.{◌≡◌, ℕ, Bool, true, false, not, ◌==◌, ◌&&◌, ◌||◌, nat_lt, List, [], ◌∷◌, ◌++◌, Option, None, refl, sym, ap, ◌∙◌, inl, inr, if◌then◌else◌}
+use Rattle.std.proofs.Common.{◌≡◌, ℕ, true, not, ◌==◌, nat_lt, [], ◌∷◌, ◌++◌, None, refl, ◌∙◌, inl, inr}
 use Rattle.std.proofs.lemmas.Bool.{and_parts, cases_Bool, eqb-true, not-true, not-false, both_ways, or_right}
 use Rattle.std.proofs.lemmas.List.{append-nil}
 use Rattle.proxy_history.specs.Setting.{Setting}
-use Rattle.proxy_history.specs.History.{History, opened, is_closed, is_open, is_closing, Step}
+use Rattle.proxy_history.specs.History.{History, opened, is_closed, is_open, is_closing}
 use Rattle.proxy_history.specs.Part.{Past}
 use Rattle.proxy_history.specs.Past.{past}
 use Rattle.proxy_history.specs.Cause.{own_cause, causes}

@@ -1,14 +1,14 @@
 -- No two parts are the same, and none is of an epoch to come.
-use Rattle.std.proofs.Common.{◌≡◌, ℕ, zero, suc, ◌+◌, ◌<◌, ◌≤◌, Bool, true, false, not, ◌==◌, ◌&&◌, ◌||◌, List, [], ◌∷◌, ◌++◌, length, filter, Option, Some, None, refl, sym, ap, ◌∙◌, inl, inr, arith, rules, if◌then◌else◌}
+use Rattle.std.proofs.Common.{◌≡◌, ℕ, ◌+◌, ◌<◌, true, false, ◌==◌, ◌&&◌, List, [], ◌∷◌, ◌++◌, length, Option, Some, None, refl, ap, ◌∙◌, arith}
 use Rattle.std.specs.List.{list_any}
-use Rattle.std.proofs.lemmas.Bool.{and_parts, or_from, cases_Bool, eqb-true, eq-eqb, ne_eqb, and_left, and_right, false_from_ne_true, cond-true}
+use Rattle.std.proofs.lemmas.Bool.{and_parts, or_from, eqb-true, eq-eqb, ne_eqb, and_left, and_right, false_from_ne_true, cond-true}
 use Rattle.std.proofs.lemmas.List.{append-nil, length-append}
 use Rattle.std.proofs.lemmas.List.Folds.{list_any-append}
 use Rattle.proxy_history.specs.Setting.{Setting}
 use Rattle.splitter.specs.Plan.{Plan, here, leave, parts}
 use Rattle.splitter.specs.declared.plans.PartPlan.{PartPlan}
-use Rattle.proxy_history.specs.History.{plan_for, History, epoch, accepted, is_arrival, is_fault, Step}
-use Rattle.proxy_history.specs.Part.{Past, Part, is_of, is_host, is_same}
+use Rattle.proxy_history.specs.History.{plan_for, History, epoch, accepted, is_arrival, Step}
+use Rattle.proxy_history.specs.Part.{Past, Part, is_host, is_same}
 use Rattle.proxy_history.specs.Past.{past, after}
 use Rattle.proxy_history.specs.Waiting.{waiting, waits}
 use Rattle.proxy_history.specs.Arrival.{parts_by, placed_by, placing, placed_part, with_host, host_for, hostless}
@@ -17,7 +17,7 @@ use Rattle.proxy_history.specs.declared.answer.Answer.{Answer}
 use Rattle.proxy_history.specs.declared.event.Kind.{Kind}
 use Rattle.proxy_history.specs.declared.event.Event.{Event}
 use Rattle.proxy_history.specs.declared.event.Event.TheVariants.{Opened, Arrived, Finished, Taken, Answered, Failed, Swept, Handed, Closed}
-use Rattle.proxy_history.proofs.SentOnce.{is_other_sym, apart_with}
+use Rattle.proxy_history.proofs.SentOnce.{apart_with}
 use Rattle.proxy_history.proofs.Growing.{times_grows}
 use Rattle.proxy_history.proofs.Fresh.{AreOf, placing_are_of}
 use Rattle.proxy_history.proofs.Good.{waits_parts}

@@ -1,5 +1,5 @@
 -- A beginning of a legal history is legal.
-use Rattle.std.proofs.Common.{List, [], ◌∷◌, ◌++◌}
+use Rattle.std.proofs.Common.{[], ◌∷◌, ◌++◌}
 use Rattle.proxy_history.specs.Setting.{Setting}
 use Rattle.proxy_history.specs.History.{History}
 use Rattle.proxy_history.specs.Legal.{IsLegal}

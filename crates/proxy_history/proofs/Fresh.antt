@@ -1,6 +1,6 @@
 -- A command's parts are placed at its arrival and never later.
-use Rattle.std.proofs.Common.{◌≡◌, ℕ, zero, suc, ◌+◌, ◌<◌, Bool, true, false, ◌==◌, ◌&&◌, cond, List, [], ◌∷◌, ◌++◌, length, filter, Option, Some, None, refl, sym, ap, ◌∙◌, inl, inr, arith, rules, if◌then◌else◌}
-use Rattle.std.proofs.lemmas.Bool.{and_parts, cases_Bool, eqb-true, eq-eqb, ne_eqb, both_ways, and_left, and_right}
+use Rattle.std.proofs.Common.{◌≡◌, ℕ, ◌+◌, ◌<◌, Bool, true, false, ◌==◌, ◌&&◌, List, [], ◌∷◌, ◌++◌, length, filter, Option, Some, None, refl, ap, ◌∙◌, inl, inr, arith, if◌then◌else◌}
+use Rattle.std.proofs.lemmas.Bool.{cases_Bool, eqb-true, ne_eqb, and_left, and_right}
 use Rattle.std.proofs.lemmas.List.{length-append, append-nil}
 use Rattle.std.proofs.lemmas.List.Elements.{filter-append}
 use Rattle.proxy_history.specs.Setting.{Setting}
@@ -8,7 +8,7 @@ use Rattle.splitter.specs.Plan.{Plan, here, leave, parts}
 use Rattle.splitter.specs.declared.plans.PartPlan.{PartPlan}
 use Rattle.proxy_history.specs.History.{plan_for, History, accepted, requests, request_by, is_arrival, Step}
 use Rattle.proxy_history.specs.Part.{Past, Part}
-use Rattle.proxy_history.specs.Past.{past, after}
+use Rattle.proxy_history.specs.Past.{after}
 use Rattle.proxy_history.specs.Arrival.{placing, placed_part, placed_by, parts_by, with_host, host_for, hostless}
 use Rattle.proxy_history.specs.Outcome.{parts_of, is_part_of}
 use Rattle.proxy_history.specs.declared.event.Event.{Event}

@@ -1,5 +1,5 @@
 -- Which requests end a connection.
-use Rattle.std.proofs.Common.{◌≡◌, ◌≤◌, ◌<◌, ◌==◌, ◌&&◌, ℕ, zero, suc, Bool, true, false, List, [], ◌∷◌, Option, Some, None, Contains, length, map, get_or, nat_le, nat_lt, refl, sym, ap, ◌∙◌, subst, inl, inr, arith}
+use Rattle.std.proofs.Common.{◌≡◌, ◌<◌, ◌==◌, ℕ, zero, suc, Bool, true, false, List, [], ◌∷◌, Option, Some, None, Contains, length, map, get_or, nat_lt, refl, sym, ap, ◌∙◌, subst, inl, inr, arith}
 use Rattle.std.specs.List.{list_all}
 use Rattle.std.proofs.lemmas.Bool.{cases_Bool, and_parts, eqb-true, leb-false, ltb-true}
 use Rattle.std.proofs.lemmas.List.{length-map}
@@ -11,7 +11,7 @@ use Rattle.command_table.proofs.Rows.{found_stands_in_table}
 use Rattle.command_table.specs.declared.Kind.{Kind}
 use Rattle.command_table.specs.declared.Kind.TheVariants.{Ping, Echo, Quit, One, SplitGet, SplitSet, SplitSum}
 use Rattle.splitter.specs.Request.{read}
-use Rattle.splitter.specs.Plan.{Plan, takes, plan_by, plan_by_row, plan_of, is_last}
+use Rattle.splitter.specs.Plan.{takes, plan_by, plan_by_row, plan_of, is_last}
 use Rattle.splitter.specs.Split.{Words}
 use Rattle.proxy_history.specs.Scan.{is_quit_kind, is_quit_row}
 use Rattle.splitter.proofs.PlanLemmas.{plan_of-command}

@@ -7,7 +7,6 @@ use Rattle.proxy_history.specs.History.{epoch}
 use Rattle.proxy_history.specs.Part.{Past}
 use Rattle.proxy_history.specs.Cause.{own_cause, causes, first_true}
 use Rattle.proxy_history.specs.declared.refusal.Refusal.{Refusal}
-use Rattle.proxy_history.specs.declared.event.Event.{Event}
 use Rattle.proxy_history.specs.declared.event.Event.TheVariants.{Answered}
 
 abbrev pub AreFalse : List (Bool × Refusal) → Type 0

@@ -1,13 +1,12 @@
 -- No part is of an epoch to come.
-use Rattle.std.proofs.Common.{◌≡◌, ℕ, ◌+◌, ◌<◌, ◌≤◌, Bool, true, false, ◌==◌, List, [], ◌∷◌, ◌++◌, length, Option, Some, None, refl, ap, arith}
+use Rattle.std.proofs.Common.{◌≡◌, ℕ, ◌≤◌, true, List, [], ◌∷◌, ◌++◌, length, Option, Some, None, refl, ap, arith}
 use Rattle.std.proofs.lemmas.Bool.{eqb-true}
-use Rattle.std.proofs.lemmas.List.{append-nil}
 use Rattle.proxy_history.specs.Setting.{Setting}
 use Rattle.splitter.specs.Plan.{Plan, here, leave, parts}
 use Rattle.splitter.specs.declared.plans.PartPlan.{PartPlan}
 use Rattle.proxy_history.specs.History.{plan_for, History, epoch, accepted, is_fault, Step}
 use Rattle.proxy_history.specs.Part.{Past, Part, is_host}
-use Rattle.proxy_history.specs.Past.{past, after}
+use Rattle.proxy_history.specs.Past.{past}
 use Rattle.proxy_history.specs.Waiting.{waiting}
 use Rattle.proxy_history.specs.Arrival.{parts_by, placed_by, placing, placed_part, with_host, host_for, hostless}
 use Rattle.proxy_history.specs.declared.answer.Answer.{Answer}

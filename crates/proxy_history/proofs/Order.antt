@@ -1,5 +1,5 @@
 -- What is handed out is the outcomes, in order.
-use Rattle.std.proofs.Common.{◌≡◌, ℕ, zero, suc, ◌+◌, ◌<◌, ◌≤◌, Bool, true, false, not, ◌==◌, ◌&&◌, nat_lt, List, [], ◌∷◌, ◌++◌, Option, Some, None, is_some, refl, sym, ap, ◌∙◌, inl, inr, arith, rules, if◌then◌else◌}
+use Rattle.std.proofs.Common.{◌≡◌, ℕ, zero, suc, ◌+◌, ◌<◌, ◌≤◌, true, ◌==◌, nat_lt, List, [], ◌∷◌, ◌++◌, Option, Some, None, is_some, refl, sym, ap, ◌∙◌, inl, inr, arith, if◌then◌else◌}
 use Rattle.std.specs.Option.{unwrap_or}
 use Rattle.std.proofs.lemmas.Bool.{and_parts, cases_Bool, eqb-true, not-false, cases_lt}
 use Rattle.std.proofs.lemmas.List.{append-nil}
@@ -11,7 +11,7 @@ use Rattle.proxy_history.specs.Part.{Past}
 use Rattle.proxy_history.specs.Past.{past, after}
 use Rattle.proxy_history.specs.Outcome.{outcome}
 use Rattle.proxy_history.specs.Cause.{own_cause, causes, is_ready, left}
-use Rattle.proxy_history.specs.Legal.{IsLegal, MayFollow}
+use Rattle.proxy_history.specs.Legal.{IsLegal}
 use Rattle.proxy_history.specs.Answer.{answer_to}
 use Rattle.proxy_history.specs.Output.{handed_text, transcript}
 use Rattle.proxy_history.specs.Laws.{first_outcomes, HaveCome}

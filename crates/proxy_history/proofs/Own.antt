@@ -1,5 +1,5 @@
 -- Whose value a part gets.
-use Rattle.std.proofs.Common.{◌≡◌, ◌⊎◌, ℕ, zero, suc, ◌<◌, Bool, true, false, cond, nat_lt, List, [], ◌∷◌, Option, Some, None, refl, sym, ap, ◌∙◌, inl, inr}
+use Rattle.std.proofs.Common.{◌≡◌, ◌⊎◌, ℕ, zero, suc, Bool, true, false, nat_lt, List, [], ◌∷◌, Option, Some, None, refl, sym, ap, ◌∙◌, inl, inr}
 use Rattle.std.specs.List.{find, zip, slice_get}
 use Rattle.std.specs.Prelude.{option_map}
 use Rattle.std.proofs.lemmas.Bool.{cases_Bool, ltb-true}
@@ -10,7 +10,7 @@ use Rattle.proxy_history.specs.Replies.{came}
 use Rattle.proxy_history.specs.Part.{Past, Part, is_same}
 use Rattle.proxy_history.specs.Past.{past}
 use Rattle.proxy_history.specs.Waiting.{sent_to}
-use Rattle.proxy_history.specs.Value.{replies, reply_to, or_lost, value_at, value_or, value_of, upstream_failure}
+use Rattle.proxy_history.specs.Value.{replies, reply_to, or_lost, value_at, value_of, upstream_failure}
 use Rattle.proxy_history.specs.Legal.{IsLegal}
 use Rattle.proxy_history.specs.Laws.{IsReply, IsLost}
 use Rattle.proxy_history.proofs.Faults.{epochs_end_by_faults}

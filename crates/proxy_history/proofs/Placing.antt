@@ -9,7 +9,7 @@ use Rattle.ejector.specs.Ejection.{state}
 use Rattle.ejector.specs.Usable.{is_usable}
 use Rattle.splitter.specs.declared.plans.PartPlan.{PartPlan}
 use Rattle.proxy_history.specs.Setting.{Setting}
-use Rattle.proxy_history.specs.Part.{Part, Past}
+use Rattle.proxy_history.specs.Part.{Past}
 use Rattle.proxy_history.specs.Arrival.{usable, placing, placed_part, with_host, hostless}
 use Rattle.proxy_history.specs.Scan.{part_of, parts_of}
 use Rattle.proxy_history.specs.declared.part.Part.{Part as Part'}

@@ -1,10 +1,9 @@
 -- In a legal history each outcome can be written: it has no CR and no LF in a line.
-use Rattle.std.proofs.Common.{◌≡◌, ◌⊎◌, ◌<◌, ◌≤◌, ◌&&◌, not, ℕ, zero, suc, Bool, true, false, cond, nat_lt, ◌==◌, List, [], ◌∷◌, ◌++◌, length, map, filter, Contains, Option, Some, None, refl, sym, ap, ◌∙◌, subst, inl, inr, arith, if◌then◌else◌}
+use Rattle.std.proofs.Common.{◌≡◌, ◌&&◌, ℕ, Bool, true, false, nat_lt, ◌==◌, List, [], ◌∷◌, Contains, Option, Some, None, refl, sym, ◌∙◌, subst, inl, inr, arith, if◌then◌else◌}
 use Rattle.std.specs.List.{list_all, find, zip, slice_get}
 use Rattle.std.specs.Prelude.{option_map}
 use Rattle.std.specs.Option.{option_and_then}
 use Rattle.std.proofs.lemmas.Bool.{cases_Bool, and_parts, not-false}
-use Rattle.std.proofs.lemmas.List.{append-nil}
 use Rattle.std.proofs.lemmas.List.Folds.{list_all-append}
 use Rattle.std.proofs.lemmas.List.Elements.{Contains-append_left, Contains-append_right}
 use Rattle.resp_core.specs.Tree.{Tree, is_plain_tree}
@@ -13,7 +12,7 @@ use Rattle.resp_core.specs.declared.value.Value.{Value}
 use Rattle.splitter.specs.declared.request.Request.{Request}
 use Rattle.splitter.specs.declared.plans.Join.{Join}
 use Rattle.splitter.specs.Request.{request_of}
-use Rattle.splitter.specs.Plan.{Plan, here, leave, parts, plan_of}
+use Rattle.splitter.specs.Plan.{Plan, here, leave, parts}
 use Rattle.splitter.specs.Join.{join_of}
 use Rattle.splitter.specs.Laws.{has_plain_value}
 use Rattle.splitter.proofs.PlainLaws.{plan_texts_are_plain, joins_of_plain_values_are_plain}
@@ -26,8 +25,7 @@ use Rattle.proxy_history.specs.Scan.{history_of, seen, Shows}
 use Rattle.proxy_history.specs.Scan.{parts_of as parts_of'}
 use Rattle.proxy_history.specs.declared.replay.Replay.{Replay}
 use Rattle.proxy_history.specs.Waiting.{sent_to}
-use Rattle.proxy_history.specs.Arrival.{no_upstream_host, proxy_busy}
-use Rattle.proxy_history.specs.Value.{replies, reply_to, or_lost, value_at, value_or, value_of, upstream_failure}
+use Rattle.proxy_history.specs.Value.{reply_to, or_lost, value_at, value_or, value_of}
 use Rattle.proxy_history.specs.Outcome.{with_value, values_of, is_part_of, parts_of, outcome_by, outcome}
 use Rattle.proxy_history.specs.Cause.{own_cause, causes}
 use Rattle.proxy_history.specs.Legal.{IsLegal}

@@ -1,11 +1,10 @@
 -- What the plain program keeps of a history, one step on.
-use Rattle.std.proofs.Common.{◌≡◌, ℕ, List, [], ◌∷◌, ◌++◌, map, refl, sym, ap, ◌∙◌, subst}
+use Rattle.std.proofs.Common.{◌≡◌, ℕ, List, [], ◌∷◌, ◌++◌, refl, sym, ap, ◌∙◌}
 use Rattle.std.proofs.lemmas.List.{map-append}
 use Rattle.ejector.specs.declared.mark.Mark.{Mark}
 use Rattle.ejector.specs.Ejection.{state}
 use Rattle.proxy_history.specs.Setting.{Setting}
 use Rattle.proxy_history.specs.History.{Step}
-use Rattle.proxy_history.specs.Part.{Past}
 use Rattle.proxy_history.specs.Past.{parts_in, sent_in, marks_in, past}
 use Rattle.proxy_history.specs.Waiting.{sent_by}
 use Rattle.proxy_history.specs.Arrival.{parts_by}

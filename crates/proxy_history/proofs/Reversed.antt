@@ -1,9 +1,9 @@
 -- A list of steps, the oldest first, and its history.
-use Rattle.std.proofs.Common.{◌≡◌, ◌+◌, ◌<◌, ◌≤◌, ℕ, zero, suc, Bool, true, false, ◌||◌, List, [], ◌∷◌, ◌++◌, length, take, get_or, Option, Some, None, refl, sym, ap, ◌∙◌, inl, inr, arith}
-use Rattle.std.specs.Prelude.{reverse, slice_get}
+use Rattle.std.proofs.Common.{◌≡◌, ◌+◌, ◌<◌, ◌≤◌, ℕ, Bool, true, false, List, [], ◌∷◌, length, take, get_or, refl, ap, ◌∙◌, inl, inr, arith}
+use Rattle.std.specs.Prelude.{reverse}
 use Rattle.std.proofs.lemmas.Bool.{cases_Bool}
 use Rattle.std.proofs.lemmas.List.{take_more, take_all, reverse-append, length-reverse, length-take-le}
-use Rattle.proxy_history.specs.History.{History, Step, times, has}
+use Rattle.proxy_history.specs.History.{History, Step, times}
 use Rattle.proxy_history.specs.Scan.{history_of}
 use Rattle.proxy_history.specs.declared.event.Event.{Event}
 

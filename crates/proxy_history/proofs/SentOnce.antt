@@ -1,13 +1,13 @@
 -- No part is sent twice: who is sent waits, and who waits was not sent.
-use Rattle.std.proofs.Common.{◌≡◌, ℕ, Bool, true, false, ◌==◌, ◌&&◌, ◌||◌, not, List, [], ◌∷◌, ◌++◌, filter, refl, sym, ap, ◌∙◌, inl, inr, arith, subst, rules}
+use Rattle.std.proofs.Common.{◌≡◌, ℕ, true, false, ◌==◌, ◌&&◌, List, [], ◌∷◌, ◌++◌, refl, sym, ◌∙◌, inl, inr}
 use Rattle.std.specs.List.{list_any}
-use Rattle.std.proofs.lemmas.Bool.{and_parts, or_parts, or_from, not-true, cases_Bool, eqb-true, eq-eqb, cond-true, cond-false, both_ways}
+use Rattle.std.proofs.lemmas.Bool.{and_parts, or_parts, or_from, cases_Bool, eqb-true, eq-eqb, both_ways}
 use Rattle.std.proofs.lemmas.List.{append-nil}
 use Rattle.std.proofs.lemmas.List.Folds.{list_any-append}
 use Rattle.proxy_history.specs.Setting.{Setting}
-use Rattle.proxy_history.specs.History.{History, epoch, is_closed, Step}
-use Rattle.proxy_history.specs.Part.{Past, Part, is_of, is_same}
-use Rattle.proxy_history.specs.Past.{past, after}
+use Rattle.proxy_history.specs.History.{History}
+use Rattle.proxy_history.specs.Part.{Past, Part, is_same}
+use Rattle.proxy_history.specs.Past.{past}
 use Rattle.proxy_history.specs.Waiting.{waiting, waits, first, sent_by}
 use Rattle.proxy_history.specs.Laws.{AreApart}
 use Rattle.proxy_history.proofs.Good.{AreGood, filter_is_good, waits_parts}

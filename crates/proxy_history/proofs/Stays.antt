@@ -1,7 +1,6 @@
 -- The outcome of a command stays as it is.
-use Rattle.std.proofs.Common.{◌≡◌, ℕ, ◌<◌, List, [], ◌∷◌, ◌++◌, length, Option, Some, None, refl, sym, ap, ◌∙◌, arith}
+use Rattle.std.proofs.Common.{◌≡◌, ℕ, ◌<◌, List, [], ◌∷◌, ◌++◌, Option, Some, None, refl, arith}
 use Rattle.std.specs.List.{slice_get}
-use Rattle.std.specs.Prelude.{option_map}
 use Rattle.std.specs.Option.{option_and_then}
 use Rattle.std.proofs.lemmas.Option.{slice_get_within}
 use Rattle.resp_core.specs.Tree.{Tree}
@@ -14,7 +13,7 @@ use Rattle.proxy_history.specs.Past.{past, after}
 use Rattle.proxy_history.specs.Value.{value_of}
 use Rattle.proxy_history.specs.Outcome.{with_value, values_of, parts_of, outcome_by, outcome}
 use Rattle.proxy_history.specs.Cause.{own_cause}
-use Rattle.proxy_history.specs.Legal.{IsLegal, MayFollow}
+use Rattle.proxy_history.specs.Legal.{IsLegal}
 use Rattle.splitter.specs.declared.request.Request.{Request}
 use Rattle.proxy_history.proofs.Growing.{slice_get_stays}
 use Rattle.proxy_history.proofs.Fresh.{length-requests, parts_stay}

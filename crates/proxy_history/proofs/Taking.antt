@@ -1,9 +1,8 @@
 -- The text of the oldest part that waits.
-use Rattle.std.proofs.Common.{◌≡◌, List, [], ◌∷◌, Option, Some, None, sym, ap, ◌∙◌, ℕ, refl}
+use Rattle.std.proofs.Common.{◌≡◌, List, [], ◌∷◌, Some, None, sym, ap, ◌∙◌, ℕ, refl}
 use Rattle.proxy_history.specs.Part.{Part}
 use Rattle.proxy_history.specs.Answer.{text_of_first}
 use Rattle.proxy_history.specs.Scan.{first_of}
-use Rattle.proxy_history.specs.declared.answer.Answer.{Answer}
 use Rattle.proxy_history.specs.declared.answer.Answer.TheVariants as answers
 
 pub text_of_some : (ps : List Part) (p : Part) → first_of ps ≡ Some p → p.text ≡ text_of_first ps

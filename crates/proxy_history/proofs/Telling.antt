@@ -1,5 +1,5 @@
 -- What is told where an event is known.
-use Rattle.std.proofs.Common.{◌≡◌, List, [], Result, Ok, Err, IfOk, Option, Some, None, ℕ, refl, subst, sym, ap, ◌∙◌}
+use Rattle.std.proofs.Common.{◌≡◌, List, [], Result, Ok, Err, IfOk, ℕ, refl, sym, ap, ◌∙◌}
 use Rattle.ketama.specs.Continuum.{Continuum}
 use Rattle.ejector.specs.declared.mark.Mark.{Mark}
 use Rattle.ejector.specs.declared.settings.Rules.{Rules}

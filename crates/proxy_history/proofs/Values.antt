@@ -1,21 +1,19 @@
 -- The value of a part stays as it is.
-use Rattle.std.proofs.Common.{◌≡◌, ℕ, zero, suc, ◌+◌, ◌<◌, ◌≤◌, Bool, true, false, not, ◌==◌, ◌&&◌, ◌||◌, nat_lt, is_none, cond, List, [], ◌∷◌, ◌++◌, length, filter, Option, Some, None, refl, sym, ap, ◌∙◌, inl, inr, arith, rules, if◌then◌else◌}
-use Rattle.std.specs.List.{find, zip, list_any}
+use Rattle.std.proofs.Common.{◌≡◌, ℕ, ◌<◌, Bool, true, false, ◌==◌, ◌&&◌, nat_lt, is_none, List, [], ◌∷◌, ◌++◌, filter, Option, Some, None, refl, sym, ap, ◌∙◌, inl, inr, arith, if◌then◌else◌}
+use Rattle.std.specs.List.{find}
 use Rattle.std.specs.Prelude.{option_map}
-use Rattle.std.proofs.lemmas.Bool.{and_parts, cases_Bool, eqb-true, eq-eqb, ne_eqb, both_ways, and_left, and_right, ltb-true, lt-ltb, not-false, false_from_ne_true}
+use Rattle.std.proofs.lemmas.Bool.{and_parts, cases_Bool, eqb-true, ltb-true, lt-ltb, false_from_ne_true}
 use Rattle.std.proofs.lemmas.List.{append-nil}
 use Rattle.std.proofs.lemmas.List.Elements.{filter-append}
 use Rattle.resp_core.specs.Tree.{Tree}
-use Rattle.resp_core.specs.Value.{tree_of}
 use Rattle.proxy_history.specs.Setting.{Setting}
-use Rattle.proxy_history.specs.History.{History, epoch, is_closed, is_fault, Step}
+use Rattle.proxy_history.specs.History.{epoch, is_fault, Step}
 use Rattle.proxy_history.specs.Replies.{came, reply_by}
 use Rattle.proxy_history.specs.Part.{Past, Part, is_of, is_host, is_same}
-use Rattle.proxy_history.specs.Past.{past, after}
+use Rattle.proxy_history.specs.Past.{after}
 use Rattle.proxy_history.specs.Waiting.{waiting, waits, first, sent_by, sent_to}
 use Rattle.proxy_history.specs.Value.{replies, reply_to, or_lost, value_at, value_or, value_of}
-use Rattle.proxy_history.specs.Cause.{own_cause, causes, first_true}
-use Rattle.proxy_history.specs.declared.refusal.Refusal.{Refusal}
+use Rattle.proxy_history.specs.Cause.{own_cause}
 use Rattle.proxy_history.specs.declared.event.Event.{Event}
 use Rattle.proxy_history.specs.declared.event.Event.TheVariants.{Opened, Arrived, Finished, Taken, Answered, Failed, Swept, Handed, Closed}
 use Rattle.proxy_history.proofs.Growing.{find_zip_stays, times_grows}

@@ -1,25 +1,18 @@
 -- How the waiting parts of a host change with a step: what a queue of the program has to do.
-use Rattle.std.proofs.Common.{◌≡◌, ℕ, zero, suc, ◌+◌, ◌<◌, ◌≤◌, Bool, true, false, not, ◌==◌, ◌&&◌, ◌||◌, is_none, List, [], ◌∷◌, ◌++◌, length, filter, Option, Some, None, refl, sym, ap, ◌∙◌, inl, inr, arith, rules, if◌then◌else◌}
+use Rattle.std.proofs.Common.{◌≡◌, ℕ, ◌<◌, ◌≤◌, Bool, true, false, not, ◌==◌, ◌&&◌, ◌||◌, List, [], ◌∷◌, ◌++◌, filter, refl, ap, ◌∙◌, inl, inr, arith}
 use Rattle.std.specs.List.{list_any}
-use Rattle.std.proofs.lemmas.Bool.{and_parts, or_parts, or_from, or_left, cases_Bool, eqb-true, eq-eqb, ne_eqb, both_ways, and_left, and_right, not_from_true, not_from_false, false_from_ne_true}
-use Rattle.std.proofs.lemmas.List.{append-nil, length-append}
-use Rattle.std.proofs.lemmas.List.Elements.{filter-append}
+use Rattle.std.proofs.lemmas.Bool.{or_parts, or_from, cases_Bool, eq-eqb, false_from_ne_true}
+use Rattle.std.proofs.lemmas.List.{append-nil}
 use Rattle.std.proofs.lemmas.List.Folds.{list_any-append}
 use Rattle.proxy_history.specs.Setting.{Setting}
-use Rattle.splitter.specs.Plan.{Plan, here, leave, parts}
-use Rattle.splitter.specs.declared.plans.PartPlan.{PartPlan}
-use Rattle.proxy_history.specs.History.{plan_for, History, epoch, accepted, is_closed, is_closing, is_arrival, is_fault, Step}
+use Rattle.proxy_history.specs.History.{History, epoch, is_closed}
 use Rattle.proxy_history.specs.Part.{Past, Part, is_of, is_host, is_same}
-use Rattle.proxy_history.specs.Past.{past, after}
-use Rattle.proxy_history.specs.Waiting.{waiting, waits, first, sent_by}
-use Rattle.proxy_history.specs.Arrival.{parts_by, placed_by, placing, placed_part, with_host, host_for, hostless}
+use Rattle.proxy_history.specs.Past.{after}
+use Rattle.proxy_history.specs.Waiting.{waiting, waits}
 use Rattle.proxy_history.specs.Laws.{AreApart}
 use Rattle.proxy_history.specs.declared.answer.Answer.{Answer}
-use Rattle.proxy_history.specs.declared.event.Kind.{Kind}
-use Rattle.proxy_history.specs.declared.event.Event.{Event}
-use Rattle.proxy_history.specs.declared.event.Event.TheVariants.{Opened, Arrived, Finished, Taken, Answered, Failed, Swept, Handed, Closed}
-use Rattle.proxy_history.proofs.SentOnce.{is_same_sym, is_other_sym, apart_with}
-use Rattle.proxy_history.proofs.Good.{waits_parts}
+use Rattle.proxy_history.specs.declared.event.Event.TheVariants.{Taken, Closed}
+use Rattle.proxy_history.proofs.SentOnce.{is_other_sym}
 
 -- FILTERS
 

@@ -6,7 +6,7 @@ use Rattle.splitter.specs.Request.{request_of}
 use Rattle.splitter.specs.Plan.{Plan, plan_of, is_last}
 use Rattle.proxy_history.specs.declared.answer.Answer.{Answer}
 use Rattle.proxy_history.specs.declared.event.Event.{Event}
-use Rattle.proxy_history.specs.declared.event.Event.TheVariants.{Opened, Arrived, Finished, Taken, Answered, Failed, Swept, Handed, Closed}
+use Rattle.proxy_history.specs.declared.event.Event.TheVariants.{Opened, Arrived, Finished, Failed, Handed, Closed}
 
 -- who made a turn, of which event, and what was answered
 abbrev pub Step : Type 0

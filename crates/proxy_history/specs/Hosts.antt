@@ -1,6 +1,5 @@
 -- The hosts that events name.
 use Rattle.std.specs.Prelude.{ℕ, ◌<◌, List, All}
-use Rattle.proxy_history.specs.Setting.{Setting, hosts}
 use Rattle.proxy_history.specs.History.{Step}
 use Rattle.proxy_history.specs.declared.event.Event.{Event}
 use Rattle.proxy_history.specs.declared.event.Event.TheVariants.{Opened, Arrived, Finished, Taken, Answered, Failed, Swept, Handed, Closed}

@@ -1,5 +1,5 @@
 -- What holds of every legal history.
-use Rattle.std.specs.Prelude.{◌≡◌, ◌↔◌, ◌<◌, ◌≤◌, ◌==◌, ◌&&◌, ℕ, zero, suc, Bool, true, false, List, [], ◌∷◌, ◌++◌, Some, is_some, None, Option, ◌⊎◌, length, nat_lt, Contains}
+use Rattle.std.specs.Prelude.{◌≡◌, ◌↔◌, ◌<◌, ◌≤◌, ◌==◌, ◌&&◌, ℕ, zero, suc, Bool, true, false, List, [], ◌∷◌, ◌++◌, Some, is_some, None, Option, ◌⊎◌, length, Contains}
 use Rattle.std.specs.List.{list_any, slice_get}
 use Rattle.std.specs.Option.{unwrap_or}
 use Rattle.resp_core.specs.Tree.{Tree, null_bulk}
@@ -9,7 +9,7 @@ use Rattle.ketama.specs.OwnerLaws.{all_usable}
 use Rattle.ejector.specs.State.{out_count}
 use Rattle.ejector.specs.Ejection.{state}
 use Rattle.ejector.specs.Trips.{most_out}
-use Rattle.splitter.specs.Plan.{Plan, parts}
+use Rattle.splitter.specs.Plan.{parts}
 use Rattle.splitter.specs.declared.plans.Join.{Join}
 use Rattle.splitter.specs.declared.plans.PartPlan.{PartPlan}
 use Rattle.splitter.specs.declared.request.Request.{Request}

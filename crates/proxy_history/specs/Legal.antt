@@ -1,5 +1,5 @@
 -- Which histories are legal: each step has no cause of refusal before it, and its answer is the one that the past gives.
-use Rattle.std.specs.Prelude.{◌≡◌, Bool, false, List, [], ◌∷◌, Some, None, IsTrue}
+use Rattle.std.specs.Prelude.{◌≡◌, false, [], ◌∷◌, Some, None, IsTrue}
 use Rattle.proxy_history.specs.Setting.{Setting}
 use Rattle.proxy_history.specs.History.{History, Step}
 use Rattle.proxy_history.specs.Part.{Past}

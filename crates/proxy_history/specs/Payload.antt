@@ -1,5 +1,5 @@
 -- The payload that a history keeps, in bytes.
-use Rattle.std.specs.Prelude.{ℕ, Bool, List, [], ◌∷◌, ◌+◌, ◌&&◌, nat_lt, nat_le, length}
+use Rattle.std.specs.Prelude.{ℕ, Bool, [], ◌∷◌, ◌+◌, ◌&&◌, nat_lt, nat_le, length}
 use Rattle.resp_core.specs.Text.{text}
 use Rattle.resp_core.specs.Value.{tree_of}
 use Rattle.splitter.specs.declared.request.Request.{Request}

@@ -5,7 +5,6 @@ use Rattle.resp_core.specs.Tree.{Tree}
 use Rattle.command_table.specs.Table.{Row}
 use Rattle.command_table.specs.declared.Kind.{Kind}
 use Rattle.command_table.specs.declared.Kind.TheVariants.{Ping, Echo, Quit, One, SplitGet, SplitSet, SplitSum}
-use Rattle.journal_core.specs.declared.step.Step.{Step as StepOf}
 use Rattle.ejector.specs.Ejection.{state}
 use Rattle.ejector.specs.declared.mark.Mark.{Mark}
 use Rattle.ejector.specs.declared.mark.Mark.{Mark}

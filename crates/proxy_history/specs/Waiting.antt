@@ -1,5 +1,5 @@
 -- Which parts wait, which were sent, and how many of these fly.
-use Rattle.std.specs.Prelude.{ℕ, Bool, ◌==◌, ◌-◌, ◌&&◌, not, List, [], ◌∷◌, length, filter}
+use Rattle.std.specs.Prelude.{ℕ, Bool, ◌-◌, ◌&&◌, not, List, [], ◌∷◌, length, filter}
 use Rattle.std.specs.List.{list_any}
 use Rattle.proxy_history.specs.History.{epoch, is_closed}
 use Rattle.proxy_history.specs.Replies.{came}

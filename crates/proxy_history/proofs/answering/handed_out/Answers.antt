@@ -1,9 +1,4 @@
-use Rattle.std.proofs.Common.{◌≡◌, [], sym, ap, ◌∙◌, subst, Option, Some}
-use Rattle.std.specs.Prelude.{option_map}
-use Rattle.resp_core.specs.Tree.{Tree}
-use Rattle.resp_core.specs.Value.{tree_of}
-use Rattle.proxy_history.specs.Outcome.{outcome}
-use Rattle.proxy_history.specs.Scan.{seen}
+use Rattle.std.proofs.Common.{sym, subst}
 use Rattle.proxy_history.proofs.PlainOutcomes.{IsPlainIfAny, seen_is_plain}
 use Rattle.proxy_history.proofs.answering.handed_out.Goals as goal
 

@@ -1,12 +1,9 @@
-use Rattle.std.proofs.Common.{◌≡◌, [], Option, Some, None, sym, ap, ◌∙◌, length, refl}
+use Rattle.std.proofs.Common.{◌≡◌, [], sym, ap, ◌∙◌, length}
 use Rattle.std.specs.Option.{option_map, option_copied}
-use Rattle.std.proofs.Common.{List, ℕ}
-use Rattle.proxy_history.specs.Part.{Part}
 use Rattle.proxy_history.specs.Waiting.{waiting, sent_to}
 use Rattle.proxy_history.specs.Answer.{text_of_first}
-use Rattle.proxy_history.specs.Scan.{part_of, first_of, history_of, seen}
+use Rattle.proxy_history.specs.Scan.{part_of, history_of, seen}
 use Rattle.proxy_history.specs.History.{epoch}
-use Rattle.proxy_history.specs.declared.answer.Answer.TheVariants as answers
 use Rattle.proxy_history.proofs.Taking.{text_of_some, text_of_none, sent_same}
 use Rattle.proxy_history.proofs.answering.taken.Goals as goal
 use Rattle.proxy_history.proofs.answering.taken.Goals.{in-Some+in_ok-text-in-Some, in-None}

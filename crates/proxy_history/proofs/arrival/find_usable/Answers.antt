@@ -1,4 +1,4 @@
-use Rattle.std.proofs.Common.{◌<◌, false, arith}
+use Rattle.std.proofs.Common.{false, arith}
 use Rattle.std.proofs.lemmas.List.FromFn.{fill_by_all}
 use Rattle.ejector.specs.Usable.{is_usable}
 use Rattle.proxy_history.proofs.arrival.find_usable.Goals as goal

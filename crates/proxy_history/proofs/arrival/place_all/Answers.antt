@@ -1,6 +1,5 @@
-use Rattle.std.proofs.Common.{◌≡◌, ◌∙◌, subst, ◌<◌, ◌≤◌, ◌+◌, ℕ, ap, sym, arith, get_or, length, drop, [], List}
+use Rattle.std.proofs.Common.{◌≡◌, ◌∙◌, subst, ◌<◌, ◌≤◌, ◌+◌, ap, sym, get_or, length, drop}
 use Rattle.std.proofs.lemmas.List.{drop_all}
-use Rattle.splitter.specs.declared.plans.PartPlan.{PartPlan}
 use Rattle.ketama.specs.Owner.{owner_of}
 use Rattle.ketama.specs.Key.{point_of}
 use Rattle.proxy_history.specs.History.{accepted}

@@ -1,4 +1,4 @@
-use Rattle.std.proofs.Common.{◌≡◌, ◌<◌, ◌^◌, take}
+use Rattle.std.proofs.Common.{◌≡◌, take}
 use Rattle.resp_core.specs.Stream.{told_offset}
 use Rattle.proxy_history.specs.Payload.{payload}
 use Rattle.proxy_history.specs.Scan.{history_of}

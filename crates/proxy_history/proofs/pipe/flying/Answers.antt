@@ -1,4 +1,4 @@
-use Rattle.std.proofs.Common.{◌-◌, length, sym, ap, ◌∙◌, arith}
+use Rattle.std.proofs.Common.{length, ap, ◌∙◌, arith}
 use Rattle.proxy_history.specs.Replies.{came}
 use Rattle.proxy_history.specs.Scan.{history_of, seen}
 use Rattle.proxy_history.specs.Waiting.{sent_to}

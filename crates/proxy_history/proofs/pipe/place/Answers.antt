@@ -1,4 +1,4 @@
-use Rattle.std.proofs.Common.{◌≡◌, ◌<◌, ◌+◌, [], true, false, None, length, filter, drop, get_or, sym, ap, ◌∙◌, arith}
+use Rattle.std.proofs.Common.{◌≡◌, ◌<◌, ◌+◌, true, false, length, filter, drop, get_or, sym, ap, ◌∙◌, arith}
 use Rattle.proxy_history.specs.Part.{is_of, is_same}
 use Rattle.proxy_history.specs.Scan.{part_of, parts_of, place_in}
 use Rattle.proxy_history.proofs.Searching.{place-here, place-later, place-other, none_left, moved, moved-zero, moved-here, moved-more, moved-none}

@@ -1,4 +1,4 @@
-use Rattle.std.proofs.Common.{◌≡◌, ◌<◌, ◌+◌, [], true, false, length, get_or, sym, ap, ◌∙◌, arith}
+use Rattle.std.proofs.Common.{◌≡◌, ◌<◌, ◌+◌, [], length, get_or, sym, ap, ◌∙◌, arith}
 use Rattle.proxy_history.specs.Waiting.{waits}
 use Rattle.proxy_history.specs.Scan.{part_of, seen}
 use Rattle.proxy_history.proofs.Searching.{count-one, count-none}

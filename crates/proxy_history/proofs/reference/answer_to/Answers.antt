@@ -1,13 +1,6 @@
-use Rattle.std.proofs.Common.{◌≡◌, [], List, IfOk, Ok, Err, Result, ℕ, sym, ap, ◌∙◌}
+use Rattle.std.proofs.Common.{List}
 use Rattle.ejector.specs.declared.mark.Mark.{Mark}
-use Rattle.ejector.specs.declared.settings.Rules.{Rules}
-use Rattle.ejector.specs.Ejection.{state}
-use Rattle.proxy_history.specs.Setting.{Setting}
-use Rattle.proxy_history.specs.Part.{Past}
-use Rattle.proxy_history.specs.Answer.{answer_to}
 use Rattle.proxy_history.specs.Scan.{seen}
-use Rattle.proxy_history.specs.declared.answer.Answer.{Answer}
-use Rattle.proxy_history.specs.declared.event.Event.{Event}
 use Rattle.proxy_history.specs.declared.event.Event.TheVariants.{Taken, Answered, Failed, Swept, Handed}
 use Rattle.proxy_history.proofs.Telling.{told_of, by_host, by_reply, by_fault, by_sweep}
 use Rattle.proxy_history.proofs.reference.answer_to.Goals as goal

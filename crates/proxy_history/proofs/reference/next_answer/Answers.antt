@@ -1,6 +1,5 @@
-use Rattle.std.proofs.Common.{◌≡◌, None, Some, refl, sym, ap, ◌∙◌}
-use Rattle.ketama.specs.Continuum.{Continuum}
-use Rattle.proxy_history.specs.Scan.{Shows, history_of}
+use Rattle.std.proofs.Common.{refl, sym, ap, ◌∙◌}
+use Rattle.proxy_history.specs.Scan.{history_of}
 use Rattle.proxy_history.specs.Reference.{setting_of}
 use Rattle.proxy_history.specs.Past.{past}
 use Rattle.proxy_history.proofs.Following.{has_host, legal_have_hosts, cause_is, follows, full_is}

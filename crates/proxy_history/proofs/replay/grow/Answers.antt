@@ -1,4 +1,4 @@
-use Rattle.std.proofs.Common.{◌≡◌, ◌∙◌, ◌++◌, ap, sym, subst}
+use Rattle.std.proofs.Common.{◌∙◌, ◌++◌, ap, sym, subst}
 use Rattle.proxy_history.specs.Past.{marks_in}
 use Rattle.proxy_history.specs.Hosts.{HasHost}
 use Rattle.proxy_history.specs.Scan.{history_of}

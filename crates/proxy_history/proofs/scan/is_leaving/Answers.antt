@@ -1,4 +1,4 @@
-use Rattle.std.proofs.Common.{◌≡◌, sym, ap, ◌∙◌}
+use Rattle.std.proofs.Common.{sym, ap, ◌∙◌}
 use Rattle.resp_core.specs.Value.{tree_of}
 use Rattle.splitter.specs.Plan.{is_last}
 use Rattle.proxy_history.specs.History.{plan_for}

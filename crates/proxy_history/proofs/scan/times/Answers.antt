@@ -1,4 +1,4 @@
-use Rattle.std.proofs.Common.{◌+◌, ◌≤◌, ◌<◌, take, length, arith, Fits, w64}
+use Rattle.std.proofs.Common.{take, arith}
 use Rattle.proxy_history.specs.Scan.{is_wanted, history_of}
 use Rattle.proxy_history.proofs.Reversed.{times-few, length-history_of}
 use Rattle.proxy_history.proofs.scan.times.Goals as goal

@@ -1,9 +1,8 @@
-use Rattle.std.proofs.Common.{◌≡◌, [], List, Option, Some, filter, sym, ap, ◌∙◌}
+use Rattle.std.proofs.Common.{◌≡◌, [], Some, filter, sym, ap, ◌∙◌}
 use Rattle.std.specs.Option.{option_copied}
 use Rattle.std.specs.Prelude.{slice_get}
-use Rattle.splitter.specs.Plan.{Plan, parts}
+use Rattle.splitter.specs.Plan.{parts}
 use Rattle.splitter.specs.Planned.{plan_in}
-use Rattle.splitter.specs.declared.request.Request.{Request}
 use Rattle.proxy_history.specs.History.{plan_for, requests}
 use Rattle.proxy_history.specs.Outcome.{is_part_of, values_of}
 use Rattle.proxy_history.specs.Scan.{history_of, parts_of, seen}

@@ -1,8 +1,5 @@
-use Rattle.std.proofs.Common.{◌≡◌, [], Some, None, sym, ap, ◌∙◌}
-use Rattle.std.specs.Option.{option_and_then}
-use Rattle.std.specs.Prelude.{slice_get}
-use Rattle.proxy_history.specs.Replies.{came}
-use Rattle.proxy_history.specs.Scan.{history_of, part_of, seen}
+use Rattle.std.proofs.Common.{[], Some, None, sym, ◌∙◌}
+use Rattle.proxy_history.specs.Scan.{part_of, seen}
 use Rattle.proxy_history.proofs.Replied.{reply_to-is}
 use Rattle.proxy_history.proofs.value.reply_to.Goals as goal
 

@@ -1,9 +1,9 @@
-use Rattle.std.proofs.Common.{◌≡◌, ◌∷◌, List, Result, Ok, Err, OnOk, refl, sym, ap, ◌∙◌, subst, ℕ}
+use Rattle.std.proofs.Common.{List, refl, subst}
 use Rattle.proxy_history.specs.History.{Step}
 use Rattle.proxy_history.specs.Past.{past}
 use Rattle.proxy_history.specs.Legal.{MayFollow}
 use Rattle.proxy_history.specs.Scan.{history_of}
-use Rattle.proxy_history.specs.Reference.{Kept, setting_of, history_in, IsStep}
+use Rattle.proxy_history.specs.Reference.{Kept, setting_of, history_in}
 use Rattle.proxy_history.proofs.Adding.{added}
 use Rattle.proxy_history.proofs.reference.Reference.turn.Goals as goal
 
