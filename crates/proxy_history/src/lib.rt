@@ -22,6 +22,9 @@ mod refusal;
 mod scan;
 mod value;
 
+#[cfg(test)]
+mod tests;
+
 pub use answer::Answer;
 pub use event::{Event, Kind};
 pub use laws::{
