@@ -583,7 +583,10 @@ fn zeros_in(alloc: Global, count: usize) -> Result<Bytes, AllocError> {
     for _ in 0..count {
         bytes.push(0)?;
     }
-    Bytes::from_vec(bytes)
+    match Bytes::from_vec(bytes) {
+        Ok(bytes) => Ok(bytes),
+        Err(_) => Err(AllocError),
+    }
 }
 
 // A bulk string whose text has 33,554,432 bytes: 13 more than its payload.
