@@ -566,18 +566,6 @@ fn connections_that_are_not_open(rt: HostRuntime) -> Result<(), Fail> {
     Ok(())
 }
 
-#[test]
-fn four_thousand_and_ninety_six_connections(rt: HostRuntime) -> Result<(), Fail> {
-    let mut proxy = proxy(&rt, false);
-    for conn in 2..4_096 {
-        opened(&rt, &mut proxy, conn);
-    }
-    refused(&rt, &mut proxy, Event::Opened, Refusal::TooManyConnections);
-    closed(&rt, &mut proxy, 9);
-    opened(&rt, &mut proxy, 4_096);
-    Ok(())
-}
-
 fn zeros_in(alloc: Global, count: usize) -> Result<Bytes, AllocError> {
     let mut bytes = Vec::new(alloc);
     for _ in 0..count {
@@ -589,27 +577,47 @@ fn zeros_in(alloc: Global, count: usize) -> Result<Bytes, AllocError> {
     }
 }
 
-// A bulk string whose text has 33,554,432 bytes: 13 more than its payload.
-fn big(rt: &(impl Abort + AllocGlobal), conn: u64) -> Event {
-    let bytes = match zeros_in(rt.alloc(), 33_554_419) {
-        Ok(bytes) => bytes,
-        Err(_) => zeros_in(rt.alloc(), 33_554_419).expect(rt, "no memory twice"),
-    };
-    Event::Arrived {
-        conn,
-        request: Request::Read(Value::Bulk(bytes)),
+// An array of 1,024 bulk strings, whose text has 67,108,864 bytes: 7 for its count, 65,529 for its first member, and
+// 65,536 for each of the others.
+fn big_in(alloc: Global) -> Result<Request, AllocError> {
+    let mut members = Vec::new(alloc);
+    members.push(Value::Bulk(zeros_in(alloc, 65_519)?))?;
+    let rest = zeros_in(alloc, 65_526)?;
+    for _ in 0..1_023 {
+        members.push(Value::Bulk(rest.clone()?))?;
     }
+    Ok(Request::Read(Value::List(Values(members))))
+}
+
+fn big(rt: &(impl Abort + AllocGlobal), conn: u64) -> Event {
+    let request = match big_in(rt.alloc()) {
+        Ok(request) => request,
+        Err(_) => big_in(rt.alloc()).expect(rt, "no memory twice"),
+    };
+    Event::Arrived { conn, request }
 }
 
 #[test]
 fn payload_of_67108864_bytes_fits(rt: HostRuntime) -> Result<(), Fail> {
     let mut proxy = proxy(&rt, false);
-    local(&rt, &mut proxy, big(&rt, 0), (0, Local::Invalid));
-    local(&rt, &mut proxy, big(&rt, 0), (1, Local::Invalid));
-    let event = arrival(&rt, 0, "PING");
+    local(&rt, &mut proxy, big(&rt, 0), (0, Local::Unsupported));
+    let event = arrival(&rt, 1, "PING");
     refused(&rt, &mut proxy, event, Refusal::JournalFull);
     refused(&rt, &mut proxy, Event::Handed { conn: 0 }, Refusal::JournalFull);
     opened(&rt, &mut proxy, 2);
+    Ok(())
+}
+
+#[test]
+fn payload_of_more_bytes_does_not_fit(rt: HostRuntime) -> Result<(), Fail> {
+    let mut proxy = proxy(&rt, false);
+    let broken = Event::Arrived {
+        conn: 0,
+        request: Request::Broken,
+    };
+    local(&rt, &mut proxy, broken, (0, Local::Broken));
+    handed(&rt, &mut proxy, 0, b"-downstream protocol error\r\n");
+    refused(&rt, &mut proxy, big(&rt, 1), Refusal::JournalFull);
     Ok(())
 }
 
