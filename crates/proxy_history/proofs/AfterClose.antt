@@ -20,12 +20,12 @@ still_closed c (s ∷ later) before e = or_right (is_closing c s.event) _ (still
 
 no_text : (S : Setting) (x : Past) (c : ℕ) (event : Event) → is_closed c x.steps ≡ true → own_cause S x event ≡ None → handed_text c event (answer_to S x event) ≡ []
 no_text S x c (Handed conn) k n = elim (cases_Bool (conn == c)) [
-    inl t ↦
+  | inl t ↦
       let a = are_false (causes S x (Handed conn)) n in
       let b = and_parts (nat_lt conn (opened x.steps)) (not (is_closed conn x.steps)) (not-false (is_open conn x.steps) a.0) in
       absurd (both_ways (is_closed conn x.steps) (not-true _ b.1) (rw (eqb-true conn c t) k))
   | inr f ↦ rw (f) refl
-  ]
+]
 no_text S x c Opened k n = refl
 no_text S x c (Arrived conn request) k n = refl
 no_text S x c (Finished conn) k n = refl

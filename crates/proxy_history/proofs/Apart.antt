@@ -49,8 +49,8 @@ placing_apart S x conn command placed (p ∷ ps) a b =
     let n : q.number ≡ length placed = host_keeps_number x placed (host_for S x p.key) (hostless conn command (length placed) p) in
     let more : length (placed ++ q ∷ []) ≡ length placed + 1 = length-append placed (q ∷ []) in
     placing_apart S x conn command (placed ++ q ∷ []) ps
-      (apart_with placed q a (none_below q placed (rw (n) b)))
-      (rw (more) (below_with (length placed) placed q b n))
+    (apart_with placed q a (none_below q placed (rw (n) b)))
+    (rw (more) (below_with (length placed) placed q b n))
 
 -- PARTS OF ALL COMMANDS
 
@@ -85,9 +85,10 @@ not_new H conn p l = false_from_ne_true _ (λ t.
 
 apart_both : (H : History) (conn : ℕ) (ps qs : List Part) → AreApart ps → AreEarlier H ps → AreApart qs → AreOf conn (accepted conn H) qs → AreApart (ps ++ qs)
 apart_both H conn [] qs a e b o = b
-apart_both H conn (p ∷ ps) qs a e b o =
-    (list_any-append (is_same p) ps qs ∙ or_from _ _ a.0 (none_same_of p conn (accepted conn H) qs (not_new H conn p e.0) o),
-     apart_both H conn ps qs a.1 e.1 b o)
+apart_both H conn (p ∷ ps) qs a e b o = (
+  list_any-append (is_same p) ps qs ∙ or_from _ _ a.0 (none_same_of p conn (accepted conn H) qs (not_new H conn p e.0) o),
+  apart_both H conn ps qs a.1 e.1 b o,
+)
 
 pub record AreInOrder (H : History) (ps : List Part) : Type 0 where
   pub apart : AreApart ps
@@ -107,7 +108,7 @@ as_before : (x : Past) (s : Step) → AreInOrder x.steps x.parts → AreInOrder 
 as_before x s a = rw (append-nil x.parts) (record { apart = a.apart; earlier = earlier_grows s x.steps x.parts a.earlier })
 
 in_order_after : (S : Setting) (x : Past) (pass : ℕ) (answer : Answer) (event : Event) → AreInOrder x.steps x.parts
-  → AreInOrder (record { pass = pass; event = event; answer = answer } ∷ x.steps) (x.parts ++ parts_by S x event)
+    → AreInOrder (record { pass = pass; event = event; answer = answer } ∷ x.steps) (x.parts ++ parts_by S x event)
 in_order_after S x pass answer (Arrived conn request) a = placed_in_order S x conn _ (plan_for request) (eq-eqb conn conn refl) a
 in_order_after S x pass answer Opened a = as_before x _ a
 in_order_after S x pass answer (Finished conn) a = as_before x _ a
@@ -124,13 +125,14 @@ parts_are_in_order S (s ∷ before) = in_order_after S (past S before) s.pass s.
 
 -- after a fault nothing waits
 pub after_failed : (S : Setting) (h pass e t : ℕ) (kind : Kind) (answer : Answer) (x : Past) → AreOfPast x.steps x.parts
-  → waiting h (after S (record { pass = pass; event = Failed h e kind t; answer = answer }) x) ≡ []
+    → waiting h (after S (record { pass = pass; event = Failed h e kind t; answer = answer }) x) ≡ []
 after_failed S h pass e t kind answer x a =
     rw (append-nil x.parts) (none_of_next h x x.parts _ waits_next a)
   where
     next : epoch h (record { pass = pass; event = Failed h e kind t; answer = answer } ∷ x.steps) ≡ epoch h x.steps + 1
     next = cond-true (h == h) _ _ (eq-eqb h h refl)
+
     waits_next : (q : Part) → waits h (after S (record { pass = pass; event = Failed h e kind t; answer = answer }) x) q ≡ true → (is_host h q.host ≡ true) × (epoch h x.steps < q.epoch)
     waits_next q w =
-      let a = is_of_parts h _ q (waits_parts h (after S (record { pass = pass; event = Failed h e kind t; answer = answer }) x) q w).0 in
-      (a.0, omega (arith, a.1, next))
+        let a = is_of_parts h _ q (waits_parts h (after S (record { pass = pass; event = Failed h e kind t; answer = answer }) x) q w).0 in
+        (a.0, omega (arith, a.1, next))

@@ -46,25 +46,36 @@ placing_grows S x conn command placed (q ∷ plans) =
     (p ∷ a.0, a.1 ∙ append_assoc placed (p ∷ []) a.0)
 
 placed_is_by : (S : Setting) (x : Past) (conn command : ℕ) (placed : List Part) (plans : List PartPlan) (p : Part)
-  → Contains (placing S x conn command placed plans) p → Contains placed p ⊎ IsPlacedBy S x conn command placed plans p
+    → Contains (placing S x conn command placed plans) p → Contains placed p ⊎ IsPlacedBy S x conn command placed plans p
 placed_is_by S x conn command placed [] p h = inl h
 placed_is_by S x conn command placed (q ∷ plans) p h =
     elim (placed_is_by S x conn command (placed ++ placed_part S x conn command placed q ∷ []) plans p h) [
-        inl earlier ↦ elim (Contains-push_cases placed (placed_part S x conn command placed q) p earlier) [
-            inl before ↦ inl before
-          | inr is ↦
-              let a = placing_grows S x conn command (placed ++ placed_part S x conn command placed q ∷ []) plans in
-              inr (record {
-                place = 0; plan = q; plan_is = refl; front = placed; length_is = omega arith; is = sym is; rest = a.0;
-                split = a.1 ∙ append_assoc placed (placed_part S x conn command placed q ∷ []) a.0 ∙ ap (λ z. placed ++ z ∷ a.0) is;
-              })
-          ]
-      | inr a ↦ inr (record {
-            place = suc a.place; plan = a.plan; plan_is = a.plan_is; front = a.front;
-            length_is = omega (arith, a.length_is, length-append placed (placed_part S x conn command placed q ∷ []));
-            is = a.is; rest = a.rest; split = a.split;
-          })
+      | inl earlier ↦ elim (Contains-push_cases placed (placed_part S x conn command placed q) p earlier) [
+        | inl before ↦ inl before
+        | inr is ↦
+            let a = placing_grows S x conn command (placed ++ placed_part S x conn command placed q ∷ []) plans in
+            inr (record {
+              place = 0;
+              plan = q;
+              plan_is = refl;
+              front = placed;
+              length_is = omega arith;
+              is = sym is;
+              rest = a.0;
+              split = a.1 ∙ append_assoc placed (placed_part S x conn command placed q ∷ []) a.0 ∙ ap (λ z. placed ++ z ∷ a.0) is;
+            })
       ]
+      | inr a ↦ inr (record {
+        place = suc a.place;
+        plan = a.plan;
+        plan_is = a.plan_is;
+        front = a.front;
+        length_is = omega (arith, a.length_is, length-append placed (placed_part S x conn command placed q ∷ []));
+        is = a.is;
+        rest = a.rest;
+        split = a.split;
+      })
+    ]
 
 -- WHAT A PART GETS
 
@@ -77,12 +88,12 @@ text_is x placed None p = refl
 text_is x placed (Some h) p = refl
 
 room_or_busy : (n : ℕ) (b : Bool) → nat_lt n max_waiting ≡ b
-  → ((n < max_waiting) × ((if b then None else Some proxy_busy) ≡ None)) ⊎ ((max_waiting ≤ n) × ((if b then None else Some proxy_busy) ≡ Some proxy_busy))
+    → ((n < max_waiting) × ((if b then None else Some proxy_busy) ≡ None)) ⊎ ((max_waiting ≤ n) × ((if b then None else Some proxy_busy) ≡ Some proxy_busy))
 room_or_busy n true e = inl (ltb-true n max_waiting e, refl)
 room_or_busy n false e = inr (ltb-false n max_waiting e, refl)
 
 got_is : (x : Past) (placed : List Part) (o : Option ℕ) (p : Part) → p.host ≡ None → p.local ≡ Some no_upstream_host
-  → IsPlaced x placed (with_host x placed o p).host (with_host x placed o p).epoch (with_host x placed o p).local
+    → IsPlaced x placed (with_host x placed o p).host (with_host x placed o p).epoch (with_host x placed o p).local
 got_is x placed None p n l = rw n l
 got_is x placed (Some h) p n l = (refl, room_or_busy (before_it h x placed) (nat_lt (before_it h x placed) max_waiting) refl)
 
@@ -99,9 +110,9 @@ record IsNew (S : Setting) (x : Past) (event : Event) (p : Part) : Type 0 where
 
 new_by_plan : (S : Setting) (x : Past) (conn : ℕ) (request : Request) (p : Part) (plan : Plan) → plan_for request ≡ plan → Contains (placed_by S x conn plan) p → IsNew S x (Arrived conn request) p
 new_by_plan S x conn request p (parts how list) e h = elim (placed_is_by S x conn (accepted conn x.steps) [] list p h) [
-    inl earlier ↦ absurd (none_in_nothing p earlier)
+  | inl earlier ↦ absurd (none_in_nothing p earlier)
   | inr by ↦ record { conn = conn; request = request; arrives = refl; how = how; list = list; is_split = e; by = by }
-  ]
+]
 new_by_plan S x conn request p (here name value) e h = absurd (none_in_nothing p h)
 new_by_plan S x conn request p (leave name value) e h = absurd (none_in_nothing p h)
 
@@ -130,14 +141,22 @@ arrived_now S H s p a =
     let conn_is : p.conn ≡ a.conn = ap (λ (q : Part). q.conn) b.is ∙ host_keeps_conn x b.front o bare in
     let number : p.number ≡ length b.front = ap (λ (q : Part). q.number) b.is ∙ host_keeps_number x b.front o bare in
     record {
-      later = []; step = s; before = H; split = refl; request = a.request;
+      later = [];
+      step = s;
+      before = H;
+      split = refl;
+      request = a.request;
       arrives = a.arrives ∙ ap (λ c. Arrived c a.request) (sym conn_is);
       command_is = ap (λ (q : Part). q.command) b.is ∙ host_keeps_command x b.front o bare ∙ ap (λ c. accepted c H) (sym conn_is);
-      how = a.how; list = a.list; is_split = a.is_split; plan = b.plan;
+      how = a.how;
+      list = a.list;
+      is_split = a.is_split;
+      plan = b.plan;
       plan_is = ap (slice_get a.list) (omega (arith, number, b.length_is)) ∙ b.plan_is;
       text_is = ap (λ (q : Part). q.text) b.is ∙ text_is x b.front o bare;
       host_is = ap (λ (q : Part). q.host) b.is ∙ host_is x b.front o bare refl;
-      placed = b.front; rest = b.rest;
+      placed = b.front;
+      rest = b.rest;
       placed_is = parts_are S x s.event p a ∙ b.split;
       number_is = number;
       got = subst (λ (q : Part). IsPlaced x b.front q.host q.epoch q.local) (sym b.is) (got_is x b.front o bare refl refl);
@@ -145,29 +164,45 @@ arrived_now S H s p a =
 
 earlier_still : (S : Setting) (s : Step) (H : History) (p : Part) → HasArrived S H p → HasArrived S (s ∷ H) p
 earlier_still S s H p a = record {
-    later = s ∷ a.later; step = a.step; before = a.before; split = ap (λ z. s ∷ z) a.split; request = a.request; arrives = a.arrives;
-    command_is = a.command_is; how = a.how; list = a.list; is_split = a.is_split; plan = a.plan; plan_is = a.plan_is; text_is = a.text_is;
-    host_is = a.host_is; placed = a.placed; rest = a.rest; placed_is = a.placed_is; number_is = a.number_is; got = a.got;
-  }
+  later = s ∷ a.later;
+  step = a.step;
+  before = a.before;
+  split = ap (λ z. s ∷ z) a.split;
+  request = a.request;
+  arrives = a.arrives;
+  command_is = a.command_is;
+  how = a.how;
+  list = a.list;
+  is_split = a.is_split;
+  plan = a.plan;
+  plan_is = a.plan_is;
+  text_is = a.text_is;
+  host_is = a.host_is;
+  placed = a.placed;
+  rest = a.rest;
+  placed_is = a.placed_is;
+  number_is = a.number_is;
+  got = a.got;
+}
 
 pub parts_have_arrived : (S : Setting) (H : History) (p : Part) → Contains (past S H).parts p → HasArrived S H p
 parts_have_arrived S [] p h = absurd (none_in_nothing p h)
 parts_have_arrived S (s ∷ before) p h = elim (Contains-append_cases (past S before).parts (parts_by S (past S before) s.event) p h) [
-    inl earlier ↦ earlier_still S s before p (parts_have_arrived S before p earlier)
+  | inl earlier ↦ earlier_still S s before p (parts_have_arrived S before p earlier)
   | inr now ↦ arrived_now S before s p (new_is S (past S before) s.event p now)
-  ]
+]
 
 -- WHAT WAS SENT
 
 pub in_filter : (f : Part → Bool) (ps : List Part) (p : Part) → Contains (filter f ps) p → Contains ps p
 in_filter f [] p h = h
 in_filter f (q ∷ ps) p h = elim (cases_Bool (f q)) [
-    inl t ↦ elim (Contains-append_cases (q ∷ []) (filter f ps) p (rw t at h)) [
-        inl one ↦ Contains-append_left (q ∷ []) ps p one
-      | inr more ↦ Contains-append_right (q ∷ []) ps p (in_filter f ps p more)
-      ]
-  | inr g ↦ Contains-append_right (q ∷ []) ps p (in_filter f ps p (rw g at h))
+  | inl t ↦ elim (Contains-append_cases (q ∷ []) (filter f ps) p (rw t at h)) [
+    | inl one ↦ Contains-append_left (q ∷ []) ps p one
+    | inr more ↦ Contains-append_right (q ∷ []) ps p (in_filter f ps p more)
   ]
+  | inr g ↦ Contains-append_right (q ∷ []) ps p (in_filter f ps p (rw g at h))
+]
 
 in_first : (ps : List Part) (p : Part) → Contains (first ps) p → Contains ps p
 in_first [] p h = h
@@ -189,6 +224,6 @@ sent_parts_arrived S [] p h = h
 sent_parts_arrived S (s ∷ before) p h =
     let x = past S before in
     elim (Contains-append_cases x.sent (sent_by x s.event) p h) [
-        inl earlier ↦ Contains-append_left x.parts (parts_by S x s.event) p (sent_parts_arrived S before p earlier)
+      | inl earlier ↦ Contains-append_left x.parts (parts_by S x s.event) p (sent_parts_arrived S before p earlier)
       | inr now ↦ Contains-append_left x.parts (parts_by S x s.event) p (sent_now x s.event p now)
-      ]
+    ]

@@ -31,14 +31,14 @@ sent_grows S x s h e =
 
 came_by : (S : Setting) (x : Past) (event : Event) (h e : ℕ) → own_cause S x event ≡ None → length (came h e x.steps) ≤ length (sent_to h e x) → length (came h e x.steps ++ reply_by h e event) ≤ length (sent_to h e x)
 came_by S x (Answered host ep value t) h e n l = elim (cases_Bool ((host == h) && (ep == e))) [
-    inl i ↦
+  | inl i ↦
       let a = and_parts (host == h) (ep == e) i in
       let same_host : host ≡ h = eqb-true host h a.0 in
       let same_epoch : epoch h x.steps ≡ e = ap (λ k. epoch k x.steps) (sym same_host) ∙ sym (is_current S x host ep t value n) ∙ eqb-true ep e a.1 in
       let fly : 0 < length (sent_to h e x) - length (came h e x.steps) = rw (same_host, same_epoch) at (some_fly S x host ep t value n) in
       rw i (omega (arith, fly, length-append (came h e x.steps) (tree_of value ∷ [])))
   | inr i ↦ rw (i, append-nil (came h e x.steps)) l
-  ]
+]
 came_by S x Opened h e n l = rw (append-nil (came h e x.steps)) l
 came_by S x (Arrived conn request) h e n l = rw (append-nil (came h e x.steps)) l
 came_by S x (Finished conn) h e n l = rw (append-nil (came h e x.steps)) l

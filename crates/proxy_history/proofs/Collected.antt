@@ -61,7 +61,6 @@ module _ {X : Type 0} (by : Event → List X) where
   none_at : (steps : List Step) (i n : ℕ) → length steps ≤ i → length (flat (take i steps)) ≤ n → slice_get (flat steps) n ≡ None
   none_at steps i n l m = slice_get_past (flat steps) n (omega (arith, m, ap (λ z. length (flat z)) (take_all i steps l)))
 
-
 -- THE REPLIES OF A HOST
 
 came-collected : (h e : ℕ) (H : History) → came h e H ≡ collected (reply_by h e) H

@@ -64,20 +64,20 @@ true_right false b e = e
 fault_ends : (S : Setting) (H : History) (h e : ℕ) → IsLegal S H → has (is_fault_in h e) H ≡ true → e < epoch h H
 fault_ends S [] h e legal i = absurd cc
 fault_ends S (s ∷ before) h e legal i = elim (or_cases (is_fault_in h e s.event) (has (is_fault_in h e) before) i) [
-    inl now ↦ let a = fault_now S (past S before) s.event h e legal.1.has_no_cause now in omega (arith, a.1, one_more h s before a.0)
+  | inl now ↦ let a = fault_now S (past S before) s.event h e legal.1.has_no_cause now in omega (arith, a.1, one_more h s before a.0)
   | inr earlier ↦ omega (arith, fault_ends S before h e legal.0 earlier, times_grows (is_fault h) s before)
-  ]
+]
 
 ended_by_fault : (S : Setting) (H : History) (h e : ℕ) → IsLegal S H → e < epoch h H → has (is_fault_in h e) H ≡ true
 ended_by_fault S [] h e legal l = absurd (omega (arith, l))
 ended_by_fault S (s ∷ before) h e legal l = elim (cases_lt e (epoch h before)) [
-    inl earlier ↦ true_right (is_fault_in h e s.event) (has (is_fault_in h e) before) (ended_by_fault S before h e legal.0 earlier)
+  | inl earlier ↦ true_right (is_fault_in h e s.event) (has (is_fault_in h e) before) (ended_by_fault S before h e legal.0 earlier)
   | inr late ↦ elim (cases_Bool (is_fault h s.event)) [
-        inl i ↦ true_left (is_fault_in h e s.event) (has (is_fault_in h e) before)
-            (now_fault S (past S before) s.event h e legal.1.has_no_cause i (omega (arith, l, late, one_more h s before i)))
-      | inr i ↦ absurd (omega (arith, l, late, same_epoch h s before i))
-      ]
+    | inl i ↦ true_left (is_fault_in h e s.event) (has (is_fault_in h e) before)
+        (now_fault S (past S before) s.event h e legal.1.has_no_cause i (omega (arith, l, late, one_more h s before i)))
+    | inr i ↦ absurd (omega (arith, l, late, same_epoch h s before i))
   ]
+]
 
 pub epochs_end_by_faults : (S : Setting) (H : History) (h e : ℕ) → IsLegal S H → (has (is_fault_in h e) H ≡ true) ↔ (e < epoch h H)
 epochs_end_by_faults S H h e legal = (fault_ends S H h e legal, ended_by_fault S H h e legal)
@@ -97,9 +97,9 @@ none_keeps (s ∷ later) before h e =
 keeps_none : (later before : History) (h : ℕ) → epoch h (later ++ before) ≡ epoch h before → has (is_fault h) later ≡ false
 keeps_none [] before h e = refl
 keeps_none (s ∷ later) before h e = elim (cases_Bool (is_fault h s.event)) [
-    inl i ↦ absurd (omega (arith, e, one_more h s (later ++ before) i, grown later before h))
+  | inl i ↦ absurd (omega (arith, e, one_more h s (later ++ before) i, grown later before h))
   | inr i ↦ or_from _ _ i (keeps_none later before h (sym (same_epoch h s (later ++ before) i) ∙ e))
-  ]
+]
 
 pub faults_raise_epochs : (later before : History) (h : ℕ) → (has (is_fault h) later ≡ false) ↔ (epoch h (later ++ before) ≡ epoch h before)
 faults_raise_epochs later before h = (none_keeps later before h, keeps_none later before h)

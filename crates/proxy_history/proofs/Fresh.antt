@@ -58,9 +58,9 @@ pub placing_are_of : (S : Setting) (x : Past) (conn command : ℕ) (placed : Lis
 placing_are_of S x conn command placed [] a = a
 placing_are_of S x conn command placed (p ∷ ps) a =
     placing_are_of S x conn command (placed ++ placed_part S x conn command placed p ∷ []) ps
-      (are_of_with conn command placed (placed_part S x conn command placed p) a
-        (host_keeps_conn x placed (host_for S x p.key) (hostless conn command (length placed) p))
-        (host_keeps_command x placed (host_for S x p.key) (hostless conn command (length placed) p)))
+    (are_of_with conn command placed (placed_part S x conn command placed p) a
+    (host_keeps_conn x placed (host_for S x p.key) (hostless conn command (length placed) p))
+    (host_keeps_command x placed (host_for S x p.key) (hostless conn command (length placed) p)))
 
 none_of : (c i conn command : ℕ) (ps : List Part) → ((conn == c) && (command == i)) ≡ false → AreOf conn command ps → filter (is_part_of c i) ps ≡ []
 none_of c i conn command [] e a = refl
@@ -70,9 +70,9 @@ none_of c i conn command (p ∷ ps) e a =
 
 is_other : (x : Past) (c i conn : ℕ) → i < accepted c x.steps → ((conn == c) && (accepted conn x.steps == i)) ≡ false
 is_other x c i conn l = elim (cases_Bool (conn == c)) [
-    inl t ↦ and_right _ _ (ne_eqb (accepted conn x.steps) i (λ e. omega (arith, ap (λ k. accepted k x.steps) (eqb-true conn c t), e, l)))
+  | inl t ↦ and_right _ _ (ne_eqb (accepted conn x.steps) i (λ e. omega (arith, ap (λ k. accepted k x.steps) (eqb-true conn c t), e, l)))
   | inr f ↦ and_left _ _ f
-  ]
+]
 
 placed_other : (S : Setting) (x : Past) (c i conn : ℕ) (p : Plan) → i < accepted c x.steps → filter (is_part_of c i) (placed_by S x conn p) ≡ []
 placed_other S x c i conn (parts how list) l =

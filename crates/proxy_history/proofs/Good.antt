@@ -13,13 +13,13 @@ AreGood good (p ∷ ps) = (good p ≡ true) × AreGood good ps
 pub filter_is_good : (good : Part → Bool) (ps : List Part) → AreGood good (filter good ps)
 filter_is_good good [] = tt
 filter_is_good good (p ∷ ps) = elim (cases_Bool (good p)) [
-    inl t ↦ rw (t) (t, filter_is_good good ps)
+  | inl t ↦ rw (t) (t, filter_is_good good ps)
   | inr f ↦ rw (f) (filter_is_good good ps)
-  ]
+]
 
 -- who waits is of the present epoch, was not sent, and its connection is open
 pub waits_parts : (h : ℕ) (x : Past) (p : Part) → waits h x p ≡ true
-  → (is_of h (epoch h x.steps) p ≡ true) × (list_any (is_same p) x.sent ≡ false) × (is_closed p.conn x.steps ≡ false)
+    → (is_of h (epoch h x.steps) p ≡ true) × (list_any (is_same p) x.sent ≡ false) × (is_closed p.conn x.steps ≡ false)
 waits_parts h x p e =
     let here = is_of h (epoch h x.steps) p in
     let was_sent = list_any (is_same p) x.sent in

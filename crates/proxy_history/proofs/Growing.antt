@@ -12,13 +12,13 @@ slice_get_stays (a ∷ xs) ys zero x e = e
 slice_get_stays (a ∷ xs) ys (suc i) x e = slice_get_stays xs ys i x e
 
 cond_goes : {X : Type 0} (b : Bool) (x r : X) (more grown : Option X) → (more ≡ Some r → grown ≡ Some r)
-  → cond b (Some x) more ≡ Some r → cond b (Some x) grown ≡ Some r
+    → cond b (Some x) more ≡ Some r → cond b (Some x) grown ≡ Some r
 cond_goes true x r more grown f e = e
 cond_goes false x r more grown f e = f e
 
 -- a pair that is found in two lists side by side is found when both have grown
 pub find_zip_stays : {A B : Type 0} (t : A × B → Bool) (xs xs' : List A) (ys ys' : List B) (r : A × B)
-  → find t (zip xs ys) ≡ Some r → find t (zip (xs ++ xs') (ys ++ ys')) ≡ Some r
+    → find t (zip xs ys) ≡ Some r → find t (zip (xs ++ xs') (ys ++ ys')) ≡ Some r
 find_zip_stays t [] xs' ys ys' r e = absurd cc
 find_zip_stays t (x ∷ xs) xs' [] ys' r e = absurd cc
 find_zip_stays t (x ∷ xs) xs' (y ∷ ys) ys' r e = cond_goes (t (x, y)) (x, y) r _ _ (find_zip_stays t xs xs' ys ys' r) e

@@ -65,9 +65,9 @@ wrong_is_no_quit SplitSum r words e known l t = refl
 last_by_row : (o : Option Row) (words : Words) → row_named (word words 0) ≡ o → 0 < length words → is_quit_row o ≡ is_last (plan_by_row o words)
 last_by_row None words e l = refl
 last_by_row (Some r) words e l = elim (cases_Bool (takes r.kind r.least (length words))) [
-    inl t ↦ rw t (sym (last_by r.kind r words))
+  | inl t ↦ rw t (sym (last_by r.kind r words))
   | inr t ↦ rw t (sym (wrong_is_no_quit r.kind r words refl (found_stands_in_table r (word words 0) e).0 l t))
-  ]
+]
 
 -- a command ends its connection exactly if it is QUIT
 pub command_leaves : (t : Tree) (ts : List Tree) → is_command t ≡ true → are_words ts ≡ true → IsArrayOf ts t → is_quit_row (row_named (word (map payload_of ts) 0)) ≡ is_last (plan_of (read t))

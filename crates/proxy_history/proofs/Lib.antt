@@ -26,3 +26,6 @@ pub mod PlainOutcomes
 pub mod Placing
 pub mod Taking
 pub mod Replayed
+pub mod Telling
+pub mod Following
+pub mod Adding

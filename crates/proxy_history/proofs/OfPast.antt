@@ -34,8 +34,8 @@ placing_of_past : (S : Setting) (x : Past) (conn command : ℕ) (placed : List P
 placing_of_past S x conn command placed [] a = a
 placing_of_past S x conn command placed (p ∷ ps) a =
     placing_of_past S x conn command (placed ++ placed_part S x conn command placed p ∷ []) ps
-      (of_past_both x.steps placed (placed_part S x conn command placed p ∷ []) a
-        (part_of_past x placed (host_for S x p.key) (hostless conn command (length placed) p) refl, tt))
+    (of_past_both x.steps placed (placed_part S x conn command placed p ∷ []) a
+    (part_of_past x placed (host_for S x p.key) (hostless conn command (length placed) p) refl, tt))
 
 placed_of_past : (S : Setting) (x : Past) (conn : ℕ) (p : Plan) → AreOfPast x.steps (placed_by S x conn p)
 placed_of_past S x conn (parts how list) = placing_of_past S x conn (accepted conn x.steps) [] list tt
@@ -57,10 +57,10 @@ pub are_of_past : (S : Setting) (H : History) → AreOfPast H (past S H).parts
 are_of_past S [] = tt
 are_of_past S (s ∷ before) =
     of_past_both (s ∷ before) (past S before).parts (parts_by S (past S before) s.event)
-      (of_past_grows s before (past S before).parts (are_of_past S before))
-      (of_past_grows s before (parts_by S (past S before) s.event) (new_of_past S (past S before) s.event))
+    (of_past_grows s before (past S before).parts (are_of_past S before))
+    (of_past_grows s before (parts_by S (past S before) s.event) (new_of_past S (past S before) s.event))
 
 -- after a fault nothing of its host waits
 pub fault_empties : (S : Setting) (H : History) (h pass e t : ℕ) (kind : Kind) (answer : Answer)
-  → waiting h (past S (record { pass = pass; event = Failed h e kind t; answer = answer } ∷ H)) ≡ []
+    → waiting h (past S (record { pass = pass; event = Failed h e kind t; answer = answer } ∷ H)) ≡ []
 fault_empties S H h pass e t kind answer = after_failed S h pass e t kind answer (past S H) (are_of_past S H)

@@ -56,22 +56,22 @@ suc_is n = omega arith
 
 -- the next outcome is handed out
 handed_now : (S : Setting) (x : Past) (s : Step) (c : ℕ) → own_cause S x s.event ≡ None → own_cause S x (Handed c) ≡ None → HaveCome x c (handed c x.steps)
-  → (first_outcomes x c (handed c x.steps) ++ text (unwrap_or (outcome c (handed c x.steps) x) null_bulk) ≡ first_outcomes (after S s x) c (handed c x.steps + 1)) × HaveCome (after S s x) c (handed c x.steps + 1)
+    → (first_outcomes x c (handed c x.steps) ++ text (unwrap_or (outcome c (handed c x.steps) x) null_bulk) ≡ first_outcomes (after S s x) c (handed c x.steps + 1)) × HaveCome (after S s x) c (handed c x.steps + 1)
 handed_now S x s c n m h =
     let more = one_more x c (handed c x.steps) h (has_outcome S x c m) in
     (sym (first_stay S x s c (handed c x.steps + 1) n more ∙ rw (suc_is (handed c x.steps)) refl), have_come_stays S x s c (handed c x.steps + 1) n more)
 
 nothing_now : (S : Setting) (x : Past) (s : Step) (c : ℕ) → own_cause S x s.event ≡ None → HaveCome x c (handed c x.steps)
-  → (first_outcomes x c (handed c x.steps) ++ [] ≡ first_outcomes (after S s x) c (handed c x.steps)) × HaveCome (after S s x) c (handed c x.steps)
+    → (first_outcomes x c (handed c x.steps) ++ [] ≡ first_outcomes (after S s x) c (handed c x.steps)) × HaveCome (after S s x) c (handed c x.steps)
 nothing_now S x s c n h = (append-nil _ ∙ sym (first_stay S x s c (handed c x.steps) n h), have_come_stays S x s c (handed c x.steps) n h)
 
 by_event : (S : Setting) (x : Past) (s : Step) (c : ℕ) (event : Event) → own_cause S x s.event ≡ None → own_cause S x event ≡ None → HaveCome x c (handed c x.steps)
-  → (first_outcomes x c (handed c x.steps) ++ handed_text c event (answer_to S x event) ≡ first_outcomes (after S s x) c (if is_handing c event then handed c x.steps + 1 else handed c x.steps))
+    → (first_outcomes x c (handed c x.steps) ++ handed_text c event (answer_to S x event) ≡ first_outcomes (after S s x) c (if is_handing c event then handed c x.steps + 1 else handed c x.steps))
     × HaveCome (after S s x) c (if is_handing c event then handed c x.steps + 1 else handed c x.steps)
 by_event S x s c (Handed conn) n m h = elim (cases_Bool (conn == c)) [
-    inl t ↦ rw (t, eqb-true conn c t) (handed_now S x s c n (rw (eqb-true conn c t) at m) h)
+  | inl t ↦ rw (t, eqb-true conn c t) (handed_now S x s c n (rw (eqb-true conn c t) at m) h)
   | inr f ↦ rw (f) (nothing_now S x s c n h)
-  ]
+]
 by_event S x s c Opened n m h = nothing_now S x s c n h
 by_event S x s c (Arrived conn request) n m h = nothing_now S x s c n h
 by_event S x s c (Finished conn) n m h = nothing_now S x s c n h
@@ -85,6 +85,8 @@ pub in_order : (S : Setting) (H : History) (c : ℕ) → IsLegal S H → (transc
 in_order S [] c p = (refl, record { each = λ i l. absurd (omega (arith, l)) })
 in_order S (s ∷ before) c p =
     let a = in_order S before c p.0 in
-    let b = by_event S (past S before) s c s.event p.1.has_no_cause p.1.has_no_cause a.1 in
-    (ap (λ t. transcript c before ++ handed_text c s.event t) p.1.is_answered
-      ∙ ap (λ t. t ++ handed_text c s.event (answer_to S (past S before) s.event)) a.0 ∙ b.0, b.1)
+    let b = by_event S (past S before) s c s.event p.1.has_no_cause p.1.has_no_cause a.1 in (
+      ap (λ t. transcript c before ++ handed_text c s.event t) p.1.is_answered
+          ∙ ap (λ t. t ++ handed_text c s.event (answer_to S (past S before) s.event)) a.0 ∙ b.0,
+      b.1,
+    )

@@ -26,12 +26,12 @@ found_at : {A B : Type 0} (t : A × B → Bool) (xs : List A) (ys : List B) (r :
 found_at t [] ys r e = absurd cc
 found_at t (x ∷ xs) [] r e = absurd cc
 found_at t (x ∷ xs) (y ∷ ys) r e = elim (cases_Bool (t (x, y))) [
-    inl b ↦
+  | inl b ↦
       let same : Some (x, y) ≡ Some r = rw b at e in
       let is : (x, y) ≡ r = cc in
       record { place = 0; left = ap (λ q. Some q.0) is; right = ap (λ q. Some q.1) is; passes = rw (← is) b }
   | inr b ↦ let a = found_at t xs ys r (rw b at e) in record { place = suc a.place; left = a.left; right = a.right; passes = a.passes }
-  ]
+]
 
 has_reply : (x : Past) (h : ℕ) (p : Part) (v : Tree) (o : Option (Part × Tree)) → find (λ r. is_same p r.0) (replies h p.epoch x) ≡ o → option_map (λ r. r.1) o ≡ Some v → IsReply x h p v
 has_reply x h p v None q e = absurd cc
@@ -41,7 +41,7 @@ has_reply x h p v (Some r) q e =
 
 -- where no pair is found none stands in one place of both lists
 none_at : {A B : Type 0} (t : A × B → Bool) (xs : List A) (ys : List B) (place : ℕ) (a : A) (b : B) → find t (zip xs ys) ≡ None
-  → slice_get xs place ≡ Some a → slice_get ys place ≡ Some b → t (a, b) ≡ true → ⊥
+    → slice_get xs place ≡ Some a → slice_get ys place ≡ Some b → t (a, b) ≡ true → ⊥
 none_at t [] ys place a b e l r p = absurd cc
 none_at t (x ∷ xs) [] place a b e l r p = absurd cc
 none_at t (x ∷ xs) (y ∷ ys) zero a b e l r p =
@@ -51,28 +51,31 @@ none_at t (x ∷ xs) (y ∷ ys) zero a b e l r p =
     let f : Some (x, y) ≡ None = rw q at e in
     absurd cc
 none_at t (x ∷ xs) (y ∷ ys) (suc place) a b e l r p = elim (cases_Bool (t (x, y))) [
-    inl q ↦ let f : Some (x, y) ≡ None = rw q at e in absurd cc
+  | inl q ↦ let f : Some (x, y) ≡ None = rw q at e in absurd cc
   | inr q ↦ none_at t xs ys place a b (rw q at e) l r p
-  ]
+]
 
 no_reply_at : (x : Past) (h : ℕ) (p : Part) (o : Option (Part × Tree)) → find (λ r. is_same p r.0) (replies h p.epoch x) ≡ o → option_map (λ r. r.1) o ≡ None → (v : Tree) → IsReply x h p v → ⊥
 no_reply_at x h p None q e v a = none_at (λ r. is_same p r.0) (sent_to h p.epoch x) (came h p.epoch x.steps) a.place a.sent v q a.is_sent a.came a.is_same
 no_reply_at x h p (Some r) q e v a = absurd cc
 
 by_reply : (x : Past) (h : ℕ) (p : Part) (v : Tree) (b : Bool) (o : Option Tree) → reply_to p h x ≡ o → or_lost b o ≡ Some v
-  → IsReply x h p v ⊎ ((v ≡ upstream_failure) × (b ≡ true) × (reply_to p h x ≡ None))
+    → IsReply x h p v ⊎ ((v ≡ upstream_failure) × (b ≡ true) × (reply_to p h x ≡ None))
 by_reply x h p v b (Some w) q e = inl (has_reply x h p v (find (λ r. is_same p r.0) (replies h p.epoch x)) refl (q ∙ e))
 by_reply x h p v true None q e = let is : upstream_failure ≡ v = cc in inr (sym is, refl, q)
 by_reply x h p v false None q e = absurd cc
 
 pub values_are_own : (S : Setting) (H : History) (p : Part) (h : ℕ) (v : Tree) → IsLegal S H → p.local ≡ None → p.host ≡ Some h → value_of (past S H) p ≡ Some v
-  → IsReply (past S H) h p v ⊎ ((v ≡ upstream_failure) × IsLost S H h p)
+    → IsReply (past S H) h p v ⊎ ((v ≡ upstream_failure) × IsLost S H h p)
 values_are_own S H p h v legal l o e =
     let here : value_at (past S H) p (Some h) ≡ Some v = rw (l, o) at e in
     elim (by_reply (past S H) h p v (nat_lt p.epoch (epoch h H)) (reply_to p h (past S H)) refl here) [
-        inl reply ↦ inl reply
-      | inr lost ↦ inr (lost.0, record {
-            fault = (epochs_end_by_faults S H h p.epoch legal).1 (ltb-true p.epoch (epoch h H) lost.1);
-            unanswered = no_reply_at (past S H) h p (find (λ r. is_same p r.0) (replies h p.epoch (past S H))) refl lost.2;
-          })
-      ]
+      | inl reply ↦ inl reply
+      | inr lost ↦ inr (
+        lost.0,
+        record {
+          fault = (epochs_end_by_faults S H h p.epoch legal).1 (ltb-true p.epoch (epoch h H) lost.1);
+          unanswered = no_reply_at (past S H) h p (find (λ r. is_same p r.0) (replies h p.epoch (past S H))) refl lost.2;
+        },
+      )
+    ]

@@ -117,7 +117,7 @@ module _ (S : Setting) (H : History) (legal : IsLegal S H) where
   values_are_plain [] h = refl
   values_are_plain (p ∷ ps) h =
       with_plain (value_of (past S H) p) (values_of (past S H) ps) (value_is_plain p (h p (Contains-append_left (p ∷ []) ps p (0, omega arith, refl))))
-        (values_are_plain ps (λ q g. h q (Contains-append_right (p ∷ []) ps q g)))
+      (values_are_plain ps (λ q g. h q (Contains-append_right (p ∷ []) ps q g)))
 
   joined_is_plain : (how : Join) (os : Option (List Tree)) → ArePlainIfAll os → IsPlainIfAny (option_map (join_of how) os)
   joined_is_plain how None h = tt
@@ -139,5 +139,5 @@ module _ (S : Setting) (H : History) (legal : IsLegal S H) where
 pub seen_is_plain : (S : Setting) (steps : List Step) (r : Replay) (c i : ℕ) → IsLegal S (history_of steps) → Shows S (history_of steps) r → IsPlainIfAny (outcome c i (seen steps [] r))
 seen_is_plain S steps r c i legal shows =
     subst (λ (ss : List Part). IsPlainIfAny (outcome c i (record { steps = history_of steps; parts = parts_of' r.parts.items; sent = ss; marks = [] }))) (sym shows.sent)
-      (subst (λ (ps : List Part). IsPlainIfAny (outcome c i (record { steps = history_of steps; parts = ps; sent = sent_in S (history_of steps); marks = [] }))) (sym shows.parts)
-        (outcome_is_plain S (history_of steps) legal c i))
+    (subst (λ (ps : List Part). IsPlainIfAny (outcome c i (record { steps = history_of steps; parts = ps; sent = sent_in S (history_of steps); marks = [] }))) (sym shows.parts)
+    (outcome_is_plain S (history_of steps) legal c i))

@@ -51,7 +51,7 @@ module _ (ps : List Part') (i : ℕ) (d : Part') (inside : i < length ps) where
   place-here test q e s = rw (rest_is, e, s) refl
 
   pub place-later : (test : Part → Bool) (q : Part) → test (part_of (get_or ps i d)) ≡ true → is_same q (part_of (get_or ps i d)) ≡ false
-    → place_in q (filter test (parts_of (drop i ps))) ≡ option_map (λ k. k + 1) (place_in q (filter test (parts_of (drop (i + 1) ps))))
+      → place_in q (filter test (parts_of (drop i ps))) ≡ option_map (λ k. k + 1) (place_in q (filter test (parts_of (drop (i + 1) ps))))
   place-later test q e s = rw (rest_is, e, s) refl
 
   pub place-other : (test : Part → Bool) (q : Part) → test (part_of (get_or ps i d)) ≡ false → place_in q (filter test (parts_of (drop i ps))) ≡ place_in q (filter test (parts_of (drop (i + 1) ps)))

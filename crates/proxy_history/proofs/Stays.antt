@@ -21,7 +21,7 @@ use Rattle.proxy_history.proofs.Fresh.{length-requests, parts_stay}
 use Rattle.proxy_history.proofs.Values.{value_stays, option_map_stays}
 
 with_value_stays : (a a' : Option Tree) (b b' : Option (List Tree)) (vs : List Tree)
-  → ((v : Tree) → a ≡ Some v → a' ≡ Some v) → ((ws : List Tree) → b ≡ Some ws → b' ≡ Some ws) → with_value a b ≡ Some vs → with_value a' b' ≡ Some vs
+    → ((v : Tree) → a ≡ Some v → a' ≡ Some v) → ((ws : List Tree) → b ≡ Some ws → b' ≡ Some ws) → with_value a b ≡ Some vs → with_value a' b' ≡ Some vs
 with_value_stays None a' b b' vs f g e = absurd cc
 with_value_stays (Some v) a' None b' vs f g e = absurd cc
 with_value_stays (Some v) a' (Some ws) b' vs f g e = rw (f v refl, g ws refl) e
@@ -32,15 +32,15 @@ values_stay S x s n (p ∷ ps) vs e =
     with_value_stays (value_of x p) (value_of (after S s x) p) (values_of x ps) (values_of (after S s x) ps) vs (value_stays S x s n p) (values_stay S x s n ps) e
 
 outcome_by_stays : (S : Setting) (x : Past) (s : Step) (c i : ℕ) (v : Tree) → own_cause S x s.event ≡ None → i < accepted c x.steps
-  → (p : Plan) → outcome_by x c i p ≡ Some v → outcome_by (after S s x) c i p ≡ Some v
+    → (p : Plan) → outcome_by x c i p ≡ Some v → outcome_by (after S s x) c i p ≡ Some v
 outcome_by_stays S x s c i v n l (here name value) e = e
 outcome_by_stays S x s c i v n l (leave name value) e = e
 outcome_by_stays S x s c i v n l (parts how list) e =
     rw (parts_stay S x c i s l)
-      (option_map_stays (join_of how) (values_of x (parts_of c i x)) (values_of (after S s x) (parts_of c i x)) v (values_stay S x s n (parts_of c i x)) e)
+    (option_map_stays (join_of how) (values_of x (parts_of c i x)) (values_of (after S s x) (parts_of c i x)) v (values_stay S x s n (parts_of c i x)) e)
 
 by_request : (S : Setting) (x : Past) (s : Step) (c i : ℕ) (v : Tree) → own_cause S x s.event ≡ None → (o : Option Request) → slice_get (requests c x.steps) i ≡ o
-  → option_and_then (λ request. outcome_by x c i (plan_for request)) o ≡ Some v → outcome c i (after S s x) ≡ Some v
+    → option_and_then (λ request. outcome_by x c i (plan_for request)) o ≡ Some v → outcome c i (after S s x) ≡ Some v
 by_request S x s c i v n None q e = absurd cc
 by_request S x s c i v n (Some request) q e =
     let l : i < accepted c x.steps = omega (arith, slice_get_within (requests c x.steps) i request q, length-requests c x.steps) in

@@ -37,9 +37,9 @@ sent_to_after S x s h e = filter-append (is_of h e) x.sent (sent_by x s.event)
 reply_stays : (S : Setting) (x : Past) (s : Step) (h : ℕ) (p : Part) (v : Tree) → reply_to p h x ≡ Some v → reply_to p h (after S s x) ≡ Some v
 reply_stays S x s h p v e =
     rw (sent_to_after S x s h p.epoch)
-      (option_map_stays (λ r. r.1) (find (λ r. is_same p r.0) (replies h p.epoch x)) _ v
-        (find_zip_stays (λ r. is_same p r.0) (sent_to h p.epoch x) (filter (is_of h p.epoch) (sent_by x s.event)) (came h p.epoch x.steps) (reply_by h p.epoch s.event))
-        e)
+    (option_map_stays (λ r. r.1) (find (λ r. is_same p r.0) (replies h p.epoch x)) _ v
+    (find_zip_stays (λ r. is_same p r.0) (sent_to h p.epoch x) (filter (is_of h p.epoch) (sent_by x s.event)) (came h p.epoch x.steps) (reply_by h p.epoch s.event))
+    e)
 
 -- NOTHING COMES TO AN EARLIER EPOCH
 
@@ -102,23 +102,23 @@ same_reply S x s h p n l =
 -- THE VALUE
 
 lost_stays : (S : Setting) (x : Past) (s : Step) (h : ℕ) (p : Part) (v : Tree) → own_cause S x s.event ≡ None
-  → value_at x p (Some h) ≡ Some v → value_at (after S s x) p (Some h) ≡ Some v
+    → value_at x p (Some h) ≡ Some v → value_at (after S s x) p (Some h) ≡ Some v
 lost_stays S x s h p v n e = elim (cases_Bool (nat_lt p.epoch (epoch h x.steps))) [
-    inl t ↦
+  | inl t ↦
       let l = ltb-true _ _ t in
       let still : nat_lt p.epoch (epoch h (s ∷ x.steps)) ≡ true = lt-ltb _ _ (omega (arith, l, times_grows (is_fault h) s x.steps)) in
       rw (still, same_reply S x s h p n l) (rw t at e)
   | inr f ↦
       let here : reply_to p h x ≡ Some v = of_false (reply_to p h x) (rw f at e) in
       rw (reply_stays S x s h p v here) refl
-  ]
+]
   where
     of_false : (o : Option Tree) → or_lost false o ≡ Some v → o ≡ Some v
     of_false None g = g
     of_false (Some w) g = g
 
 value_at_stays : (S : Setting) (x : Past) (s : Step) (p : Part) (v : Tree) (o : Option ℕ) → own_cause S x s.event ≡ None
-  → value_at x p o ≡ Some v → value_at (after S s x) p o ≡ Some v
+    → value_at x p o ≡ Some v → value_at (after S s x) p o ≡ Some v
 value_at_stays S x s p v None n e = absurd cc
 value_at_stays S x s p v (Some h) n e = lost_stays S x s h p v n e
 

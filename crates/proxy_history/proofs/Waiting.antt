@@ -30,9 +30,9 @@ same_filter f g e (x ∷ xs) = rw (e x, same_filter f g e xs) refl
 pub filter_both : {X : Type 0} (f g : X → Bool) (xs : List X) → filter (λ x. f x && g x) xs ≡ filter g (filter f xs)
 filter_both f g [] = refl
 filter_both f g (x ∷ xs) = elim (cases_Bool (f x)) [
-    inl t ↦ rw (t) (rw (filter_both f g xs) refl)
+  | inl t ↦ rw (t) (rw (filter_both f g xs) refl)
   | inr e ↦ rw (e) (filter_both f g xs)
-  ]
+]
 
 any_less : {X : Type 0} (t f : X → Bool) (xs : List X) → list_any t xs ≡ false → list_any t (filter f xs) ≡ false
 any_less t f [] e = refl
@@ -43,9 +43,9 @@ any_less t f (x ∷ xs) e =
 pub apart_filter : (f : Part → Bool) (ps : List Part) → AreApart ps → AreApart (filter f ps)
 apart_filter f [] a = tt
 apart_filter f (p ∷ ps) a = elim (cases_Bool (f p)) [
-    inl t ↦ rw (t) (any_less (is_same p) f ps a.0, apart_filter f ps a.1)
+  | inl t ↦ rw (t) (any_less (is_same p) f ps a.0, apart_filter f ps a.1)
   | inr e ↦ rw (e) (apart_filter f ps a.1)
-  ]
+]
 
 -- who is none of these stays
 all_stay : (p : Part) (ps : List Part) → list_any (is_same p) ps ≡ false → filter (λ q. not (is_same q p)) ps ≡ ps
@@ -82,7 +82,7 @@ taken h x p ps a e =
     ∙ ap (filter (λ q. not (is_same q p))) e ∙ without_first p ps apart
 
 pub after_taken : (S : Setting) (h pass : ℕ) (answer : Answer) (x : Past) (p : Part) (ps : List Part) → AreApart x.parts → waiting h x ≡ p ∷ ps
-  → waiting h (after S (record { pass = pass; event = Taken h; answer = answer }) x) ≡ ps
+    → waiting h (after S (record { pass = pass; event = Taken h; answer = answer }) x) ≡ ps
 after_taken S h pass answer x p ps a e = rw (append-nil x.parts, e) (taken h x p ps a e)
 
 -- EVENTS THAT END
@@ -97,12 +97,12 @@ bools3 false b c d = refl
 
 -- those of a closed connection leave
 pub after_closed : (S : Setting) (h pass c : ℕ) (answer : Answer) (x : Past)
-  → waiting h (after S (record { pass = pass; event = Closed c; answer = answer }) x) ≡ filter (λ q. not (c == q.conn)) (waiting h x)
+    → waiting h (after S (record { pass = pass; event = Closed c; answer = answer }) x) ≡ filter (λ q. not (c == q.conn)) (waiting h x)
 after_closed S h pass c answer x =
     rw (append-nil x.parts, append-nil x.sent)
-      (same_filter _ (λ q. waits h x q && not (c == q.conn))
-        (λ q. bools3 (is_of h (epoch h x.steps) q) (not (list_any (is_same q) x.sent)) (c == q.conn) (is_closed q.conn x.steps)) x.parts
-      ∙ filter_both (waits h x) (λ q. not (c == q.conn)) x.parts)
+    (same_filter _ (λ q. waits h x q && not (c == q.conn))
+    (λ q. bools3 (is_of h (epoch h x.steps) q) (not (list_any (is_same q) x.sent)) (c == q.conn) (is_closed q.conn x.steps)) x.parts
+    ∙ filter_both (waits h x) (λ q. not (c == q.conn)) x.parts)
 
 -- no part is of an epoch to come
 abbrev pub AreOfPast : History → List Part → Type 0

@@ -31,8 +31,8 @@ past S H = record { steps = H; parts = parts_in S H; sent = sent_in S H; marks =
 -- the past one step later
 abbrev pub after : Setting → Step → Past → Past
 after S s past = record {
-    steps = s ∷ past.steps;
-    parts = past.parts ++ parts_by S past s.event;
-    sent = past.sent ++ sent_by past s.event;
-    marks = mark_by past s.event ++ past.marks;
-  }
+  steps = s ∷ past.steps;
+  parts = past.parts ++ parts_by S past s.event;
+  sent = past.sent ++ sent_by past s.event;
+  marks = mark_by past s.event ++ past.marks;
+}

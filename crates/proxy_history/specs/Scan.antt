@@ -57,11 +57,18 @@ value_at_once at_once.Busy = proxy_busy
 
 abbrev pub part_of : Part' → Part
 part_of p = record {
-  conn = p.conn; command = p.command; number = p.number; text = p.text; host = p.host; epoch = p.epoch; local = option_map value_at_once p.local;
+  conn = p.conn;
+  command = p.command;
+  number = p.number;
+  text = p.text;
+  host = p.host;
+  epoch = p.epoch;
+  local = option_map value_at_once p.local;
 }
 
 abbrev pub parts_of : List Part' → List Part
 parts_of ps = map part_of ps
+
 -- A history with what the plain program keeps of it. The marks are in the ejector's state, and no list of them is kept.
 abbrev pub seen : List Step → List Mark → Replay → Past
 seen steps marks r = record { steps = history_of steps; parts = parts_of r.parts.items; sent = parts_of r.sent.items; marks = marks }

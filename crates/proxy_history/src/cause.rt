@@ -18,10 +18,11 @@ use resp_core::Value;
 
 // The most that may stand at one time.
 const MAX_CONNECTIONS: u64 = 4_096;
+
 const MAX_UNWRITTEN: u64 = 1_024;
 
-// Whether the connection is open.
-fn is_open(steps: &[Turn], conn: u64) -> bool
+/// Whether the connection is open.
+pub(crate) fn is_open(steps: &[Turn], conn: u64) -> bool
     ensures { result ≡ is_open conn (history_of steps.now) }
 {
     conn < times(steps, Wanted::Opening) && !has(steps, Wanted::Closing(conn))
@@ -74,7 +75,12 @@ pub(crate) fn finish_cause(steps: &[Turn], conn: u64) -> Option<Refusal>
 }
 
 /// Why no part is taken, if none is.
-pub(crate) fn take_cause(host_count: usize, steps: &[Turn], replay: &Replay, host: usize) -> Option<Refusal>
+pub(crate) fn take_cause(
+    host_count: usize,
+    steps: &[Turn],
+    replay: &Replay,
+    host: usize,
+) -> Option<Refusal>
     ensures { (S : Setting) → hosts S ≡ host_count → result ≡ own_cause S (seen steps.now [] replay.now) (Taken host) }
 {
     if host >= host_count {
@@ -112,7 +118,12 @@ pub(crate) fn answer_cause(
 }
 
 /// Why a fault isn't taken, if it isn't.
-pub(crate) fn fault_cause(host_count: usize, steps: &[Turn], host: usize, epoch: u64) -> Option<Refusal>
+pub(crate) fn fault_cause(
+    host_count: usize,
+    steps: &[Turn],
+    host: usize,
+    epoch: u64,
+) -> Option<Refusal>
     ensures { (S : Setting) (replay : Replay) (kind : Kind) (t : ℕ) → hosts S ≡ host_count → result ≡ own_cause S (seen steps.now [] replay) (Failed host epoch kind t) }
 {
     let current = times(steps, Wanted::Fault(host));

@@ -9,16 +9,16 @@
 
 mod answer;
 mod answering;
-mod cause;
 mod arrival;
+mod cause;
 mod event;
 mod laws;
 mod part;
 mod payload;
 mod pipe;
-mod replay;
 mod reference;
 mod refusal;
+mod replay;
 mod scan;
 mod value;
 
@@ -26,7 +26,9 @@ mod value;
 mod tests;
 
 pub use answer::Answer;
+pub use ejector::{Field, Settings, Trip};
 pub use event::{Event, Kind};
+pub use journal_core::Step;
 pub use laws::{
     beginnings_are_legal, closed_gets_nothing, epochs_end_by_faults, faults_raise_epochs,
     few_are_out, none_is_sent_twice, outcomes_stay, owners_stay, parts_have_arrived,
@@ -34,7 +36,4 @@ pub use laws::{
 };
 pub use reference::Reference;
 pub use refusal::Refusal;
-
-pub use ejector::{Field, Settings, Trip};
-pub use journal_core::Step;
 pub use splitter::{Local, Request};

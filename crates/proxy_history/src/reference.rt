@@ -1,12 +1,13 @@
 //! A plain program that answers events as a legal history does. It is for tests: it goes through all its steps again for
 //! each event, and keeps nothing else.
-ghost use Rattle.std.specs.Prelude.{◌≡◌, ◌⊎◌, ◌∷◌, ℕ, List, None, [], IfOk, OnOk, OnErr, IfErr, IsErrOf, MatchOption};
+ghost use Rattle.std.specs.Prelude.{◌≡◌, ◌⊎◌, ◌∷◌, ℕ, List, None, is_some, [], IfOk, OnOk, OnErr, IfErr, IsErrOf, MatchOption};
 ghost use Rattle.ejector.specs.Settings.{first_fault};
 ghost use Rattle.ejector.specs.declared.mark.Mark.{Mark};
 ghost use Rattle.ejector.specs.Ejection.{state};
 ghost use Rattle.proxy_history.specs.Setting.{Setting};
 ghost use Rattle.proxy_history.specs.History.{Step as TurnStep};
 ghost use Rattle.proxy_history.specs.Past.{past};
+ghost use Rattle.proxy_history.specs.Outcome.{outcome};
 ghost use Rattle.proxy_history.specs.Cause.{own_cause};
 ghost use Rattle.proxy_history.specs.Answer.{answer_to};
 ghost use Rattle.proxy_history.specs.Hosts.{HasHost};
@@ -18,8 +19,8 @@ ghost use Rattle.proxy_history.specs.declared.event.Event.TheVariants.{Handed};
 use crate::answer::Answer;
 use crate::answering::{accepted, handed_out, lost, matched, swept, taken};
 use crate::cause::{
-    answer_cause, arrival_cause, close_cause, fault_cause, finish_cause, left, opening_cause,
-    take_cause,
+    answer_cause, arrival_cause, close_cause, fault_cause, finish_cause, is_open, left,
+    opening_cause, take_cause,
 };
 use crate::event::Event;
 use crate::payload::has_room;
@@ -63,7 +64,7 @@ impl Model for Reference {
     } };
 
     ghost invariant = { λ r. (first_fault (record { hosts = r.ring.hosts; settings = r.settings }) ≡ None)
-      × IsLegal (record { ring = r.ring; rules = record { hosts = r.ring.hosts; settings = r.settings } }) (reverse r.steps.items) };
+        × IsLegal (record { ring = r.ring; rules = record { hosts = r.ring.hosts; settings = r.settings } }) (reverse r.steps.items) };
 }
 
 impl Reference {
@@ -99,7 +100,11 @@ impl Reference {
         ensures err { OnErr result (self.new ≡ self.old) }
     {
         match next_answer(self.alloc, &self.ring, self.settings, &self.steps, &event) {
-            Ok(answer) => self.add(Step { pass, event, answer }),
+            Ok(answer) => self.add(Step {
+                pass,
+                event,
+                answer,
+            }),
             Err(cause) => Err((cause, event)),
         }
     }
@@ -169,7 +174,10 @@ fn own_cause(
         Event::Finished { conn } => finish_cause(steps, *conn),
         Event::Taken { host } => take_cause(hosts, steps, replay, *host),
         Event::Answered {
-            host, epoch, value, ..
+            host,
+            epoch,
+            value,
+            ..
         } => answer_cause(hosts, steps, replay, *host, *epoch, value),
         Event::Failed { host, epoch, .. } => fault_cause(hosts, steps, *host, *epoch),
         Event::Swept { .. } => None,
@@ -188,17 +196,41 @@ fn hand_cause(
     requires { (S : Setting) × Shows S (history_of steps.now) replay.now }
     ensures { IfOk result (λ cause. (S : Setting) → cause ≡ own_cause S (seen steps.now [] replay.now) (Handed conn)) }
 {
-    if let Some(cause) = close_cause(steps, conn) {
-        return Ok(Some(cause));
+    if !is_open(steps, conn) {
+        return Ok(Some(Refusal::NoSuchConnection));
     }
     let left = left(steps, conn);
-    let Ok(reply) = outcome(alloc, steps, replay, conn, times(steps, Wanted::Handing(conn))) else {
-        return Err(AllocError);
-    };
-    if left > 0 && reply.is_some() {
+    if left == 0 {
+        return Ok(Some(Refusal::NotReady { left }));
+    }
+    if has_outcome(
+        alloc,
+        steps,
+        replay,
+        conn,
+        times(steps, Wanted::Handing(conn)),
+    )? {
         Ok(None)
     } else {
         Ok(Some(Refusal::NotReady { left }))
+    }
+}
+
+// Whether the command has an outcome.
+fn has_outcome(
+    alloc: Global,
+    steps: &[Turn],
+    replay: &Replay,
+    conn: u64,
+    index: u64,
+) -> Result<bool, AllocError>
+    requires { (S : Setting) × Shows S (history_of steps.now) replay.now }
+    ensures { IfOk result (λ has. has ≡ is_some (outcome conn index (seen steps.now [] replay.now))) }
+{
+    match outcome(alloc, steps, replay, conn, index) {
+        Ok(Some(_)) => Ok(true),
+        Ok(None) => Ok(false),
+        Err(_) => Err(AllocError),
     }
 }
 
@@ -222,7 +254,9 @@ fn answer_to(
         Event::Opened => Ok(Answer::Opened {
             conn: times(steps, Wanted::Opening),
         }),
-        Event::Arrived { conn, request } => accepted(alloc, ring, tags, steps, replay, *conn, request),
+        Event::Arrived { conn, request } => accepted(
+            alloc, ring, tags, steps, replay, *conn, request,
+        ),
         Event::Finished { .. } => Ok(Answer::Finishing),
         Event::Taken { host } => taken(alloc, steps, replay, *host),
         Event::Answered { host, t, .. } => matched(&mut replay.ejector, *host, *t),

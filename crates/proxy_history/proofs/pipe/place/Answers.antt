@@ -32,19 +32,19 @@ loop-other-preserved c =
     let told : test (part_of (get_or c.args.replay.now.sent.items c.loop-other.other-index c.other-item.result)) ≡ c.is_of.result = ap (λ z. test (part_of z)) (sym is) ∙ sym c.is_of.ensures in
     let rest = place_in q (filter test (parts_of (drop (c.loop-other.other-index + 1) c.args.replay.now.sent.items))) in
     elim c.if-is_of.branch [
-        then-is_of+else-is_same w ↦
+      | then-is_of+else-is_same w ↦
           let other : is_same q (part_of (get_or c.args.replay.now.sent.items c.loop-other.other-index c.other-item.result)) ≡ false = ap (λ z. is_same q (part_of z)) (sym is) ∙ sym w.is_same.ensures ∙ w.if-is_same.false in
           record {
             place = c.loop-other.invariant.place ∙ ap (moved c.loop-other.before) (place-later c.args.replay.now.sent.items c.loop-other.other-index c.other-item.result inside test q (told ∙ w.if-is_of.true) other)
-              ∙ moved-more c.loop-other.before rest ∙ ap (λ z. moved z rest) (sym w.before-is);
+                ∙ moved-more c.loop-other.before rest ∙ ap (λ z. moved z rest) (sym w.before-is);
             few = omega (arith, w.before-is, c.loop-other.invariant.few);
           }
       | else-is_of w ↦ record {
-          place = c.loop-other.invariant.place ∙ ap (moved c.loop-other.before) (place-other c.args.replay.now.sent.items c.loop-other.other-index c.other-item.result inside test q (told ∙ w.if-is_of.false))
+        place = c.loop-other.invariant.place ∙ ap (moved c.loop-other.before) (place-other c.args.replay.now.sent.items c.loop-other.other-index c.other-item.result inside test q (told ∙ w.if-is_of.false))
             ∙ ap (λ z. moved z rest) (sym w.before-is);
-          few = omega (arith, w.before-is, c.loop-other.invariant.few);
-        }
-      ]
+        few = omega (arith, w.before-is, c.loop-other.invariant.few);
+      }
+    ]
 
 pub returns : goal.returns
 returns c = λ steps.

@@ -13,12 +13,12 @@ loop-part-preserved c =
     let inside : c.loop-part.part-index < length c.args.replay.now.parts.items = omega (arith, c.loop-part-test.true, ap length items) in
     let told : test (part_of (get_or c.args.replay.now.parts.items c.loop-part.part-index c.part-item.result)) ≡ c.waits.result = ap (λ z. test (part_of z)) (sym is) ∙ sym c.waits.ensures in
     elim c.if-waits.branch [
-        then-waits w ↦ record {
-          count = w.count-is ∙ ap (λ z. z + 1) c.loop-part.invariant.count ∙ sym (count-one c.args.replay.now.parts.items c.loop-part.part-index c.part-item.result inside test (told ∙ w.if-waits.true));
-          few = omega (arith, w.count-is, c.loop-part.invariant.few);
-        }
+      | then-waits w ↦ record {
+        count = w.count-is ∙ ap (λ z. z + 1) c.loop-part.invariant.count ∙ sym (count-one c.args.replay.now.parts.items c.loop-part.part-index c.part-item.result inside test (told ∙ w.if-waits.true));
+        few = omega (arith, w.count-is, c.loop-part.invariant.few);
+      }
       | else-waits w ↦ record {
-          count = w.count-is ∙ c.loop-part.invariant.count ∙ sym (count-none c.args.replay.now.parts.items c.loop-part.part-index c.part-item.result inside test (told ∙ w.if-waits.false));
-          few = omega (arith, w.count-is, c.loop-part.invariant.few);
-        }
-      ]
+        count = w.count-is ∙ c.loop-part.invariant.count ∙ sym (count-none c.args.replay.now.parts.items c.loop-part.part-index c.part-item.result inside test (told ∙ w.if-waits.false));
+        few = omega (arith, w.count-is, c.loop-part.invariant.few);
+      }
+    ]

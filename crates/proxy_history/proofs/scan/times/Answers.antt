@@ -5,5 +5,11 @@ use Rattle.proxy_history.proofs.scan.times.Goals as goal
 
 pub overflow_add-count : goal.overflow_add-count
 overflow_add-count c =
-    omega (arith, times-few (is_wanted c.args.wanted) (history_of (take c.loop-step.step-index c.args.steps.now)), c.loop-step.invariant,
-      length-history_of c.args.steps.now c.loop-step.step-index c.loop-step.auto.step-index-end, c.loop-step-test.true, c.loop-step.auto.count-fits)
+    omega (
+      arith,
+      times-few (is_wanted c.args.wanted) (history_of (take c.loop-step.step-index c.args.steps.now)),
+      c.loop-step.invariant,
+      length-history_of c.args.steps.now c.loop-step.step-index c.loop-step.auto.step-index-end,
+      c.loop-step-test.true,
+      c.loop-step.auto.count-fits,
+    )

@@ -39,9 +39,12 @@ returns-in-Ok-Some-clause-front c =
     let v = c.self.view_is in
     let e = tail_is c.deref.result.now i.bytes.items i.start c.deref.ensures.value ∙ ap (λ z. z.held) v in
     let f = moved (λ m h. IsFirstValue m h (tree_of c.in-Ok-Some.value) c.in-Ok-Some.len) (ap (λ z. z.most) v) e (rw c.in-Ok-Some.field-0-is at c.in-Ok-Some.ensures.found) in
-    let rest : drop c.in-Ok-Some.len c.args.self.now.held ≡ drop (i.start + c.in-Ok-Some.len) i.bytes.items = sym (ap (λ z. drop c.in-Ok-Some.len z.held) v) ∙ drop-drop c.in-Ok-Some.len i.start i.bytes.items in
-    (take c.in-Ok-Some.len c.args.self.now.held, sym (take-append-drop c.in-Ok-Some.len c.args.self.now.held) ∙ ap (λ z. take c.in-Ok-Some.len c.args.self.now.held ++ z) rest,
-     f.text, omega (arith, f.few, length-take-le c.in-Ok-Some.len c.args.self.now.held f.inside))
+    let rest : drop c.in-Ok-Some.len c.args.self.now.held ≡ drop (i.start + c.in-Ok-Some.len) i.bytes.items = sym (ap (λ z. drop c.in-Ok-Some.len z.held) v) ∙ drop-drop c.in-Ok-Some.len i.start i.bytes.items in (
+      take c.in-Ok-Some.len c.args.self.now.held,
+      sym (take-append-drop c.in-Ok-Some.len c.args.self.now.held) ∙ ap (λ z. take c.in-Ok-Some.len c.args.self.now.held ++ z) rest,
+      f.text,
+      omega (arith, f.few, length-take-le c.in-Ok-Some.len c.args.self.now.held f.inside),
+    )
 
 pub returns-in-Ok-None-clause-none : goal.returns-in-Ok-None-clause-none
 returns-in-Ok-None-clause-none c =
