@@ -22,6 +22,9 @@ mod replay;
 mod scan;
 mod value;
 
+#[cfg(test)]
+mod tests;
+
 pub use answer::Answer;
 pub use ejector::{Field, Settings, Trip};
 pub use event::{Event, Kind};
