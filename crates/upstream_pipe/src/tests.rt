@@ -120,6 +120,14 @@ fn no_more_than_1024_parts_wait(rt: HostRuntime) {
     }
 }
 
+// The text of a refusal. Where it finds no memory it is made again, once.
+fn told(alloc: Global, refusal: PipeRefusal) -> Result<String, Fail> {
+    match refusal.to_string(alloc) {
+        Ok(text) => Ok(text),
+        Err(_) => Ok(refusal.to_string(alloc)?),
+    }
+}
+
 #[test]
 fn refusals_have_numbers_and_texts(rt: HostRuntime) -> Result<(), Fail> {
     let rows = [
@@ -135,7 +143,7 @@ fn refusals_have_numbers_and_texts(rt: HostRuntime) -> Result<(), Fail> {
     ];
     for (refusal, number, text) in rows {
         assert_eq!(rt; refusal.number(), number);
-        assert_eq!(rt; refusal.to_string(rt.alloc())?.as_str(), text);
+        assert_eq!(rt; told(rt.alloc(), refusal)?.as_str(), text);
     }
     Ok(())
 }
