@@ -20,10 +20,9 @@ mod reference;
 mod refusal;
 mod replay;
 mod scan;
-mod value;
-
 #[cfg(test)]
 mod tests;
+mod value;
 
 pub use answer::Answer;
 pub use ejector::{Field, Settings, Trip};

@@ -11,7 +11,9 @@ use std::process::Abort;
 use std::test::Fail;
 
 const FAILURE: &[u8] = b"-upstream failure\r\n";
+
 const GET_A: &[u8] = b"*2\r\n$3\r\nGET\r\n$1\r\na\r\n";
+
 const GET_ABC: &[u8] = b"*2\r\n$3\r\nGET\r\n$3\r\nabc\r\n";
 
 // The key `abc` belongs to host 0, `a` to host 1 and the empty key to host 2.
@@ -107,7 +109,11 @@ fn refused(rt: &(impl Abort + AllocGlobal), proxy: &mut Reference, event: Event,
 }
 
 // The answer to the event.
-fn answer<'a>(rt: &(impl Abort + AllocGlobal), proxy: &'a mut Reference, event: Event) -> &'a Answer {
+fn answer<'a>(
+    rt: &(impl Abort + AllocGlobal),
+    proxy: &'a mut Reference,
+    event: Event,
+) -> &'a Answer {
     let before = proxy.steps().len();
     assert_eq!(rt; cause(proxy, event), None);
     assert_eq!(rt; proxy.steps().len(), before.saturating_add(1));
@@ -146,18 +152,19 @@ fn counted(
 }
 
 // The command is accepted as number `index`, and all of its parts wait.
-fn asks(rt: &(impl Abort + AllocGlobal), proxy: &mut Reference, conn: u64, line: &str, want: (u64, u64)) {
+fn asks(
+    rt: &(impl Abort + AllocGlobal),
+    proxy: &mut Reference,
+    conn: u64,
+    line: &str,
+    want: (u64, u64),
+) {
     let event = arrival(rt, conn, line);
     counted(rt, proxy, event, (want.0, want.1, 0, 0));
 }
 
 // The command is accepted as number `index`, and the proxy answers it itself.
-fn local(
-    rt: &(impl Abort + AllocGlobal),
-    proxy: &mut Reference,
-    event: Event,
-    want: (u64, Local),
-) {
+fn local(rt: &(impl Abort + AllocGlobal), proxy: &mut Reference, event: Event, want: (u64, Local)) {
     match answer(rt, proxy, event) {
         Answer::Accepted {
             index,
@@ -190,7 +197,13 @@ fn taken(
     }
 }
 
-fn matched(rt: &(impl Abort + AllocGlobal), proxy: &mut Reference, host: usize, epoch: u64, value: Value) {
+fn matched(
+    rt: &(impl Abort + AllocGlobal),
+    proxy: &mut Reference,
+    host: usize,
+    epoch: u64,
+    value: Value,
+) {
     match answer(rt, proxy, reply(host, epoch, value)) {
         Answer::Matched { trip } => assert_eq!(rt; *trip, Trip::None),
         _ => assert!(rt; false, "not matched"),
@@ -235,11 +248,21 @@ fn replies_leave_in_command_order(rt: HostRuntime) -> Result<(), Fail> {
     taken(&rt, &mut proxy, 0, (0, 0), GET_ABC);
     taken(&rt, &mut proxy, 1, (0, 0), GET_A);
     matched(&rt, &mut proxy, 1, 0, bulk(b"y"));
-    refused(&rt, &mut proxy, Event::Handed { conn: 0 }, Refusal::NotReady { left: 2 });
+    refused(
+        &rt,
+        &mut proxy,
+        Event::Handed { conn: 0 },
+        Refusal::NotReady { left: 2 },
+    );
     matched(&rt, &mut proxy, 0, 0, bulk(b"x"));
     handed(&rt, &mut proxy, 0, b"$1\r\nx\r\n");
     handed(&rt, &mut proxy, 0, b"$1\r\ny\r\n");
-    refused(&rt, &mut proxy, Event::Handed { conn: 0 }, Refusal::NotReady { left: 0 });
+    refused(
+        &rt,
+        &mut proxy,
+        Event::Handed { conn: 0 },
+        Refusal::NotReady { left: 0 },
+    );
     Ok(())
 }
 
@@ -248,8 +271,20 @@ fn replies_of_a_host_come_in_the_order_of_its_requests(rt: HostRuntime) -> Resul
     let mut proxy = proxy(&rt, true);
     asks(&rt, &mut proxy, 0, "GET {a}1", (0, 1));
     asks(&rt, &mut proxy, 0, "GET {a}2", (1, 1));
-    taken(&rt, &mut proxy, 1, (0, 0), b"*2\r\n$3\r\nGET\r\n$4\r\n{a}1\r\n");
-    taken(&rt, &mut proxy, 1, (0, 1), b"*2\r\n$3\r\nGET\r\n$4\r\n{a}2\r\n");
+    taken(
+        &rt,
+        &mut proxy,
+        1,
+        (0, 0),
+        b"*2\r\n$3\r\nGET\r\n$4\r\n{a}1\r\n",
+    );
+    taken(
+        &rt,
+        &mut proxy,
+        1,
+        (0, 1),
+        b"*2\r\n$3\r\nGET\r\n$4\r\n{a}2\r\n",
+    );
     matched(&rt, &mut proxy, 1, 0, bulk(b"p"));
     matched(&rt, &mut proxy, 1, 0, bulk(b"q"));
     handed(&rt, &mut proxy, 0, b"$1\r\np\r\n");
@@ -261,15 +296,37 @@ fn replies_of_a_host_come_in_the_order_of_its_requests(rt: HostRuntime) -> Resul
 fn closed_connection_keeps_its_place(rt: HostRuntime) -> Result<(), Fail> {
     let mut proxy = proxy(&rt, true);
     asks(&rt, &mut proxy, 0, "GET {a}1", (0, 1));
-    taken(&rt, &mut proxy, 1, (0, 0), b"*2\r\n$3\r\nGET\r\n$4\r\n{a}1\r\n");
+    taken(
+        &rt,
+        &mut proxy,
+        1,
+        (0, 0),
+        b"*2\r\n$3\r\nGET\r\n$4\r\n{a}1\r\n",
+    );
     closed(&rt, &mut proxy, 0);
     asks(&rt, &mut proxy, 1, "GET {a}2", (0, 1));
-    taken(&rt, &mut proxy, 1, (0, 1), b"*2\r\n$3\r\nGET\r\n$4\r\n{a}2\r\n");
+    taken(
+        &rt,
+        &mut proxy,
+        1,
+        (0, 1),
+        b"*2\r\n$3\r\nGET\r\n$4\r\n{a}2\r\n",
+    );
     matched(&rt, &mut proxy, 1, 0, bulk(b"old"));
-    refused(&rt, &mut proxy, Event::Handed { conn: 1 }, Refusal::NotReady { left: 1 });
+    refused(
+        &rt,
+        &mut proxy,
+        Event::Handed { conn: 1 },
+        Refusal::NotReady { left: 1 },
+    );
     matched(&rt, &mut proxy, 1, 0, bulk(b"new"));
     handed(&rt, &mut proxy, 1, b"$3\r\nnew\r\n");
-    refused(&rt, &mut proxy, Event::Handed { conn: 0 }, Refusal::NoSuchConnection);
+    refused(
+        &rt,
+        &mut proxy,
+        Event::Handed { conn: 0 },
+        Refusal::NoSuchConnection,
+    );
     Ok(())
 }
 
@@ -291,10 +348,20 @@ fn a_fault_fails_what_waits_and_what_flies(rt: HostRuntime) -> Result<(), Fail> 
     for _ in 0..3 {
         handed(&rt, &mut proxy, 0, FAILURE);
     }
-    refused(&rt, &mut proxy, reply(1, 0, bulk(b"x")), Refusal::Stale { current: 1 });
+    refused(
+        &rt,
+        &mut proxy,
+        reply(1, 0, bulk(b"x")),
+        Refusal::Stale { current: 1 },
+    );
     refused(&rt, &mut proxy, reply(1, 1, bulk(b"x")), Refusal::Unasked);
     bad_results(&rt, &mut proxy, 1, 3);
-    lost(&rt, &mut proxy, fault(1, 4, Kind::Refused), (0, Trip::Ejected));
+    lost(
+        &rt,
+        &mut proxy,
+        fault(1, 4, Kind::Refused),
+        (0, Trip::Ejected),
+    );
     Ok(())
 }
 
@@ -308,20 +375,42 @@ fn lost_part_fails_alone_in_its_array(rt: HostRuntime) -> Result<(), Fail> {
     matched(&rt, &mut proxy, 1, 0, bulk(b"1"));
     matched(&rt, &mut proxy, 1, 0, bulk(b"1"));
     lost(&rt, &mut proxy, fault(0, 0, Kind::Dropped), (1, Trip::None));
-    handed(&rt, &mut proxy, 0, b"*3\r\n$1\r\n1\r\n-upstream failure\r\n$1\r\n1\r\n");
+    handed(
+        &rt,
+        &mut proxy,
+        0,
+        b"*3\r\n$1\r\n1\r\n-upstream failure\r\n$1\r\n1\r\n",
+    );
     Ok(())
 }
 
 // Keys on each of the three hosts are deleted, and the hosts 1, 0 and 2 answer so.
-fn deleted(rt: &(impl Abort + AllocGlobal), first: Value, second: Value, third: Value, want: &[u8]) {
+fn deleted(
+    rt: &(impl Abort + AllocGlobal),
+    first: Value,
+    second: Value,
+    third: Value,
+    want: &[u8],
+) {
     let mut proxy = proxy(rt, false);
     asks(rt, &mut proxy, 0, "DEL a abc ", (0, 3));
-    taken(rt, &mut proxy, 0, (0, 0), b"*2\r\n$3\r\nDEL\r\n$3\r\nabc\r\n");
+    taken(
+        rt,
+        &mut proxy,
+        0,
+        (0, 0),
+        b"*2\r\n$3\r\nDEL\r\n$3\r\nabc\r\n",
+    );
     taken(rt, &mut proxy, 1, (0, 0), b"*2\r\n$3\r\nDEL\r\n$1\r\na\r\n");
     taken(rt, &mut proxy, 2, (0, 0), b"*2\r\n$3\r\nDEL\r\n$0\r\n\r\n");
     matched(rt, &mut proxy, 1, 0, first);
     matched(rt, &mut proxy, 0, 0, second);
-    refused(rt, &mut proxy, Event::Handed { conn: 0 }, Refusal::NotReady { left: 1 });
+    refused(
+        rt,
+        &mut proxy,
+        Event::Handed { conn: 0 },
+        Refusal::NotReady { left: 1 },
+    );
     matched(rt, &mut proxy, 2, 0, third);
     handed(rt, &mut proxy, 0, want);
 }
@@ -329,8 +418,20 @@ fn deleted(rt: &(impl Abort + AllocGlobal), first: Value, second: Value, third: 
 #[test]
 fn sums_come_from_all_hosts(rt: HostRuntime) -> Result<(), Fail> {
     let error = Value::Fault(Bytes::from_static(b"ERR no"));
-    deleted(&rt, Value::Whole(1), error, Value::Whole(1), b"-finished with 1 error(s)\r\n");
-    deleted(&rt, Value::Whole(1), Value::Whole(0), Value::Whole(1), b":2\r\n");
+    deleted(
+        &rt,
+        Value::Whole(1),
+        error,
+        Value::Whole(1),
+        b"-finished with 1 error(s)\r\n",
+    );
+    deleted(
+        &rt,
+        Value::Whole(1),
+        Value::Whole(0),
+        Value::Whole(1),
+        b":2\r\n",
+    );
     Ok(())
 }
 
@@ -338,10 +439,20 @@ fn sums_come_from_all_hosts(rt: HostRuntime) -> Result<(), Fail> {
 fn ejected_host_gets_no_further_parts(rt: HostRuntime) -> Result<(), Fail> {
     let mut proxy = proxy(&rt, false);
     bad_results(&rt, &mut proxy, 0, 4);
-    lost(&rt, &mut proxy, fault(1, 4, Kind::Refused), (0, Trip::Ejected));
+    lost(
+        &rt,
+        &mut proxy,
+        fault(1, 4, Kind::Refused),
+        (0, Trip::Ejected),
+    );
     asks(&rt, &mut proxy, 0, "GET a", (0, 1));
     asks(&rt, &mut proxy, 0, "GET abc", (1, 1));
-    refused(&rt, &mut proxy, Event::Taken { host: 1 }, Refusal::NothingWaiting);
+    refused(
+        &rt,
+        &mut proxy,
+        Event::Taken { host: 1 },
+        Refusal::NothingWaiting,
+    );
     taken(&rt, &mut proxy, 2, (0, 0), GET_A);
     taken(&rt, &mut proxy, 0, (0, 0), GET_ABC);
     Ok(())
@@ -385,7 +496,12 @@ fn many(rt: &(impl Abort + AllocGlobal), conn: u64, name: &'static [u8], keys: u
 #[test]
 fn a_host_has_1024_waiting_parts(rt: HostRuntime) -> Result<(), Fail> {
     let mut proxy = proxy(&rt, false);
-    counted(&rt, &mut proxy, many(&rt, 0, b"DEL", 1_024), (0, 1_024, 0, 0));
+    counted(
+        &rt,
+        &mut proxy,
+        many(&rt, 0, b"DEL", 1_024),
+        (0, 1_024, 0, 0),
+    );
     let event = arrival(&rt, 1, "GET a");
     counted(&rt, &mut proxy, event, (0, 1, 0, 1));
     handed(&rt, &mut proxy, 1, b"-proxy busy\r\n");
@@ -396,8 +512,18 @@ fn a_host_has_1024_waiting_parts(rt: HostRuntime) -> Result<(), Fail> {
 #[test]
 fn parts_past_1024_of_one_command_are_busy(rt: HostRuntime) -> Result<(), Fail> {
     let mut proxy = proxy(&rt, false);
-    counted(&rt, &mut proxy, many(&rt, 0, b"DEL", 1_027), (0, 1_027, 0, 3));
-    lost(&rt, &mut proxy, fault(1, 0, Kind::Late), (1_024, Trip::None));
+    counted(
+        &rt,
+        &mut proxy,
+        many(&rt, 0, b"DEL", 1_027),
+        (0, 1_027, 0, 3),
+    );
+    lost(
+        &rt,
+        &mut proxy,
+        fault(1, 0, Kind::Late),
+        (1_024, Trip::None),
+    );
     handed(&rt, &mut proxy, 0, b"-finished with 1027 error(s)\r\n");
     Ok(())
 }
@@ -408,7 +534,12 @@ fn parts_without_host_fail_at_once(rt: HostRuntime) -> Result<(), Fail> {
     opened(&rt, &mut proxy, 0);
     let event = arrival(&rt, 0, "MGET a abc");
     counted(&rt, &mut proxy, event, (0, 2, 2, 0));
-    handed(&rt, &mut proxy, 0, b"*2\r\n-no upstream host\r\n-no upstream host\r\n");
+    handed(
+        &rt,
+        &mut proxy,
+        0,
+        b"*2\r\n-no upstream host\r\n-no upstream host\r\n",
+    );
     Ok(())
 }
 
@@ -465,14 +596,24 @@ fn swept(rt: &(impl Abort + AllocGlobal), proxy: &mut Reference, t: u64, want: (
 fn fault_of_an_idle_link_is_no_bad_result(rt: HostRuntime) -> Result<(), Fail> {
     let mut proxy = proxy(&rt, false);
     for epoch in 0..6 {
-        lost(&rt, &mut proxy, fault(1, epoch, Kind::Dropped), (0, Trip::None));
+        lost(
+            &rt,
+            &mut proxy,
+            fault(1, epoch, Kind::Dropped),
+            (0, Trip::None),
+        );
     }
     bad_results(&rt, &mut proxy, 6, 3);
     asks(&rt, &mut proxy, 0, "GET a", (0, 1));
     taken(&rt, &mut proxy, 1, (9, 0), GET_A);
     closed(&rt, &mut proxy, 0);
     lost(&rt, &mut proxy, fault(1, 9, Kind::Dropped), (1, Trip::None));
-    lost(&rt, &mut proxy, fault(1, 10, Kind::Refused), (0, Trip::Ejected));
+    lost(
+        &rt,
+        &mut proxy,
+        fault(1, 10, Kind::Refused),
+        (0, Trip::Ejected),
+    );
     Ok(())
 }
 
@@ -482,11 +623,33 @@ fn waiting_parts_of_a_closed_connection_are_dropped(rt: HostRuntime) -> Result<(
     asks(&rt, &mut proxy, 0, "GET a", (0, 1));
     asks(&rt, &mut proxy, 1, "SET a 1", (0, 1));
     closed(&rt, &mut proxy, 0);
-    taken(&rt, &mut proxy, 1, (0, 0), b"*3\r\n$3\r\nSET\r\n$1\r\na\r\n$1\r\n1\r\n");
-    refused(&rt, &mut proxy, Event::Taken { host: 1 }, Refusal::NothingWaiting);
-    matched(&rt, &mut proxy, 1, 0, Value::Simple(Bytes::from_static(b"OK")));
+    taken(
+        &rt,
+        &mut proxy,
+        1,
+        (0, 0),
+        b"*3\r\n$3\r\nSET\r\n$1\r\na\r\n$1\r\n1\r\n",
+    );
+    refused(
+        &rt,
+        &mut proxy,
+        Event::Taken { host: 1 },
+        Refusal::NothingWaiting,
+    );
+    matched(
+        &rt,
+        &mut proxy,
+        1,
+        0,
+        Value::Simple(Bytes::from_static(b"OK")),
+    );
     handed(&rt, &mut proxy, 1, b"+OK\r\n");
-    refused(&rt, &mut proxy, Event::Closed { conn: 0 }, Refusal::NoSuchConnection);
+    refused(
+        &rt,
+        &mut proxy,
+        Event::Closed { conn: 0 },
+        Refusal::NoSuchConnection,
+    );
     opened(&rt, &mut proxy, 2);
     Ok(())
 }
@@ -495,7 +658,12 @@ fn waiting_parts_of_a_closed_connection_are_dropped(rt: HostRuntime) -> Result<(
 fn requests_that_are_no_command_are_answered_here(rt: HostRuntime) -> Result<(), Fail> {
     let mut proxy = proxy(&rt, false);
     let request = Request::Read(Value::Simple(Bytes::from_static(b"a\rb")));
-    local(&rt, &mut proxy, Event::Arrived { conn: 0, request }, (0, Local::Invalid));
+    local(
+        &rt,
+        &mut proxy,
+        Event::Arrived { conn: 0, request },
+        (0, Local::Invalid),
+    );
     let event = arrival(&rt, 0, "blpop k 0");
     local(&rt, &mut proxy, event, (1, Local::Unsupported));
     let event = arrival(&rt, 0, "mset a 1 b");
@@ -504,7 +672,12 @@ fn requests_that_are_no_command_are_answered_here(rt: HostRuntime) -> Result<(),
     local(&rt, &mut proxy, event, (3, Local::Echoed));
     handed(&rt, &mut proxy, 0, b"-invalid request\r\n");
     handed(&rt, &mut proxy, 0, b"-unsupported command 'blpop'\r\n");
-    handed(&rt, &mut proxy, 0, b"-wrong number of arguments for 'mset' command\r\n");
+    handed(
+        &rt,
+        &mut proxy,
+        0,
+        b"-wrong number of arguments for 'mset' command\r\n",
+    );
     handed(&rt, &mut proxy, 0, b"$3\r\nhey\r\n");
     Ok(())
 }
@@ -516,7 +689,12 @@ fn finishing_connections_take_no_command(rt: HostRuntime) -> Result<(), Fail> {
     local(&rt, &mut proxy, event, (0, Local::Bye));
     let event = arrival(&rt, 0, "PING");
     refused(&rt, &mut proxy, event, Refusal::Finishing);
-    refused(&rt, &mut proxy, Event::Finished { conn: 0 }, Refusal::Finishing);
+    refused(
+        &rt,
+        &mut proxy,
+        Event::Finished { conn: 0 },
+        Refusal::Finishing,
+    );
     handed(&rt, &mut proxy, 0, b"+OK\r\n");
     match answer(&rt, &mut proxy, Event::Finished { conn: 1 }) {
         Answer::Finishing => {}
@@ -540,16 +718,51 @@ fn finishing_connections_take_no_command(rt: HostRuntime) -> Result<(), Fail> {
 fn replies_that_belong_nowhere_are_refused(rt: HostRuntime) -> Result<(), Fail> {
     let mut proxy = proxy(&rt, false);
     asks(&rt, &mut proxy, 0, "GET a", (0, 1));
-    refused(&rt, &mut proxy, reply(1, 0, Value::NullBulk), Refusal::Unasked);
+    refused(
+        &rt,
+        &mut proxy,
+        reply(1, 0, Value::NullBulk),
+        Refusal::Unasked,
+    );
     taken(&rt, &mut proxy, 1, (0, 0), GET_A);
-    refused(&rt, &mut proxy, reply(0, 0, Value::NullBulk), Refusal::Unasked);
-    refused(&rt, &mut proxy, reply(3, 0, Value::NullBulk), Refusal::NoSuchHost);
-    refused(&rt, &mut proxy, reply(1, 1, Value::NullBulk), Refusal::Stale { current: 0 });
+    refused(
+        &rt,
+        &mut proxy,
+        reply(0, 0, Value::NullBulk),
+        Refusal::Unasked,
+    );
+    refused(
+        &rt,
+        &mut proxy,
+        reply(3, 0, Value::NullBulk),
+        Refusal::NoSuchHost,
+    );
+    refused(
+        &rt,
+        &mut proxy,
+        reply(1, 1, Value::NullBulk),
+        Refusal::Stale { current: 0 },
+    );
     let broken = Value::Simple(Bytes::from_static(b"a\rb"));
     refused(&rt, &mut proxy, reply(1, 1, broken), Refusal::NotPlain);
-    refused(&rt, &mut proxy, fault(1, 1, Kind::Garbled), Refusal::Stale { current: 0 });
-    refused(&rt, &mut proxy, fault(3, 0, Kind::Garbled), Refusal::NoSuchHost);
-    refused(&rt, &mut proxy, Event::Taken { host: 3 }, Refusal::NoSuchHost);
+    refused(
+        &rt,
+        &mut proxy,
+        fault(1, 1, Kind::Garbled),
+        Refusal::Stale { current: 0 },
+    );
+    refused(
+        &rt,
+        &mut proxy,
+        fault(3, 0, Kind::Garbled),
+        Refusal::NoSuchHost,
+    );
+    refused(
+        &rt,
+        &mut proxy,
+        Event::Taken { host: 3 },
+        Refusal::NoSuchHost,
+    );
     matched(&rt, &mut proxy, 1, 0, Value::NullBulk);
     handed(&rt, &mut proxy, 0, b"$-1\r\n");
     Ok(())
@@ -560,9 +773,24 @@ fn connections_that_are_not_open(rt: HostRuntime) -> Result<(), Fail> {
     let mut proxy = proxy(&rt, false);
     let event = arrival(&rt, 2, "PING");
     refused(&rt, &mut proxy, event, Refusal::NoSuchConnection);
-    refused(&rt, &mut proxy, Event::Finished { conn: 2 }, Refusal::NoSuchConnection);
-    refused(&rt, &mut proxy, Event::Handed { conn: 2 }, Refusal::NoSuchConnection);
-    refused(&rt, &mut proxy, Event::Closed { conn: 2 }, Refusal::NoSuchConnection);
+    refused(
+        &rt,
+        &mut proxy,
+        Event::Finished { conn: 2 },
+        Refusal::NoSuchConnection,
+    );
+    refused(
+        &rt,
+        &mut proxy,
+        Event::Handed { conn: 2 },
+        Refusal::NoSuchConnection,
+    );
+    refused(
+        &rt,
+        &mut proxy,
+        Event::Closed { conn: 2 },
+        Refusal::NoSuchConnection,
+    );
     Ok(())
 }
 
@@ -603,7 +831,12 @@ fn payload_of_67108864_bytes_fits(rt: HostRuntime) -> Result<(), Fail> {
     local(&rt, &mut proxy, big(&rt, 0), (0, Local::Unsupported));
     let event = arrival(&rt, 1, "PING");
     refused(&rt, &mut proxy, event, Refusal::JournalFull);
-    refused(&rt, &mut proxy, Event::Handed { conn: 0 }, Refusal::JournalFull);
+    refused(
+        &rt,
+        &mut proxy,
+        Event::Handed { conn: 0 },
+        Refusal::JournalFull,
+    );
     opened(&rt, &mut proxy, 2);
     Ok(())
 }
