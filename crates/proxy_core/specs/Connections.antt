@@ -1,0 +1,92 @@
+-- What a history determines of its connections, and how an event changes it.
+use Rattle.std.specs.Prelude.{◌≡◌, ℕ, ◌+◌, Bool, true, false, ◌||◌, if◌then◌else◌, Option, Some, None, List, [], ◌∷◌, ◌++◌, map, drop, length, slice_get}
+use Rattle.std.specs.Option.{option_map}
+use Rattle.std.specs.List.{range_with_len}
+use Rattle.resp_core.specs.Tree.{Tree}
+use Rattle.splitter.specs.Plan.{Plan, here, leave, parts}
+use Rattle.splitter.specs.declared.plans.Join.TheVariants.{Same}
+use Rattle.splitter.specs.declared.request.Request.{Request}
+use Rattle.upstream_pipe.specs.declared.part.Owner.{Owner}
+use Rattle.reply_queue.specs.Command.{AwaitedCommand}
+use Rattle.reply_queue.specs.Queue.{QueueState, IsOpen, changed_at, with_part, without_front}
+use Rattle.proxy_history.specs.History.{opened, handed, requests, is_closed, is_finishing, plan_for}
+use Rattle.proxy_history.specs.Part.{Part, Past}
+use Rattle.proxy_history.specs.Value.{value_of}
+use Rattle.proxy_history.specs.Outcome.{parts_of}
+use Rattle.proxy_core.specs.declared.connection.Connection.{Connection}
+
+-- OF A HISTORY
+
+-- a command, with the values that its parts have; what the proxy answers itself is one value that is there
+abbrev pub awaited_by : Past → ℕ → ℕ → Plan → AwaitedCommand
+awaited_by x c i (here name value) = record { how = Same; values = Some value ∷ [] }
+awaited_by x c i (leave name value) = record { how = Same; values = Some value ∷ [] }
+awaited_by x c i (parts how list) = record { how = how; values = map (value_of x) (parts_of c i x) }
+
+-- the commands of these requests, the first of which has this index
+abbrev pub awaited_from : Past → ℕ → ℕ → List Request → List AwaitedCommand
+awaited_from x c i [] = []
+awaited_from x c i (r ∷ rs) = awaited_by x c i (plan_for r) ∷ awaited_from x c (i + 1) rs
+
+-- the commands of a connection that are not handed out
+abbrev pub queue_of : Past → ℕ → QueueState
+queue_of x c =
+    let n = handed c x.steps in record { popped = n; commands = drop n (awaited_from x c 0 (requests c x.steps)) }
+
+abbrev pub connection_of : Past → ℕ → Option Connection
+connection_of x c = if is_closed c x.steps then None else Some (record { queue = queue_of x c; is_finishing = is_finishing c x.steps })
+
+-- the connections by their numbers, none in the place of one that is closed
+abbrev pub connections_of : Past → List (Option Connection)
+connections_of x = map (connection_of x) (range_with_len 0 (opened x.steps))
+
+-- CHANGES
+
+abbrev pub fresh_connection : Connection
+fresh_connection = record { queue = record { popped = 0; commands = [] }; is_finishing = false }
+
+-- the connection of this number changed, if it is open
+abbrev pub with_connection : (Connection → Connection) → ℕ → List (Option Connection) → List (Option Connection)
+with_connection change c connections = changed_at (option_map change) c connections
+
+abbrev pub finished : Connection → Connection
+finished k = record k { is_finishing = true }
+
+-- a command more, behind the others
+abbrev pub accepting : AwaitedCommand → Bool → Connection → Connection
+accepting command is_last k = record {
+  queue = record { popped = k.queue.popped; commands = k.queue.commands ++ command ∷ [] };
+  is_finishing = k.is_finishing || is_last;
+}
+
+-- the command of a plan as it arrives: its parts have the values that they got at once
+abbrev pub arrived_command : Plan → List Part → AwaitedCommand
+arrived_command (here name value) placed = record { how = Same; values = Some value ∷ [] }
+arrived_command (leave name value) placed = record { how = Same; values = Some value ∷ [] }
+arrived_command (parts how list) placed = record { how = how; values = map (λ (p : Part). p.local) placed }
+
+abbrev pub handing : Connection → Connection
+handing k = record k { queue = without_front k.queue }
+
+abbrev pub closing : ℕ → List (Option Connection) → List (Option Connection)
+closing c connections = changed_at (λ k. None) c connections
+
+-- the part of this owner got a value
+abbrev pub answered_part : Owner → Tree → List (Option Connection) → List (Option Connection)
+answered_part o v connections = with_connection (λ (k : Connection). record k { queue = with_part o.command o.part v k.queue }) o.conn connections
+
+-- each of these owners' parts got the value
+abbrev pub answered_parts : List Owner → Tree → List (Option Connection) → List (Option Connection)
+answered_parts [] v connections = connections
+answered_parts (o ∷ os) v connections = answered_parts os v (answered_part o v connections)
+
+-- the owner's connection is open, and its part has no value yet
+pub record IsAwaited (o : Owner) (connections : List (Option Connection)) : Type 0 where
+  pub connection : Connection
+  pub is_open : slice_get connections o.conn ≡ Some (Some connection)
+  pub is_awaited : IsOpen connection.queue o.command o.part
+
+-- each of these owners' parts has no value yet when its turn comes
+abbrev pub AreAwaited : List Owner → Tree → List (Option Connection) → Type 0
+AreAwaited [] v connections = Unit {0}
+AreAwaited (o ∷ os) v connections = IsAwaited o connections × AreAwaited os v (answered_part o v connections)

@@ -1,0 +1,4 @@
+pub mod Connections
+pub mod Pipelines
+pub mod Kept
+pub mod Machine

@@ -1,0 +1,14 @@
+//! The core of the proxy: one turn after another.
+//!
+//! Each event is one turn. It is answered, and its step joins the journal, or it is refused with a cause and nothing has
+//! changed. The journal is a legal history (`proxy_history`) whatever events come, in whatever order. The core answers from
+//! what it keeps: a queue for each open connection, a pipe to each host, the state of outlier detection and counts; and what
+//! it keeps is what the history determines (`specs/Kept`). It never looks at its journal to answer.
+#![tactic(auto)]
+
+mod connection;
+mod machine;
+mod pipeline;
+mod refused;
+
+pub use refused::Refused;
