@@ -1,5 +1,6 @@
 //! The pipe to one host.
-ghost use Rattle.std.specs.Prelude.{◌≡◌, ◌≢◌, ◌⊎◌, ◌<◌, ◌≤◌, ◌+◌, ◌^◌, ◌-◌, ◌↔◌, ◌∷◌, ◌++◌, [], List, ℕ, Option, Some, None, length, map, filter, slice_get, OnOk, OnErr, IfOk, IfErr, IfSome, IfNone, IsErrOf, IsErrAnd, IsSome};
+ghost use Rattle.std.specs.Prelude.{◌≡◌, ◌≢◌, ◌⊎◌, ◌<◌, ◌≤◌, ◌+◌, ◌^◌, ◌-◌, ◌↔◌, ◌∷◌, ◌++◌, [], List, ℕ, Option, Some, None, length, map, filter, slice_get, IsOk, OnOk, OnErr, IfOk, IfErr, IfSome, IfNone, IsErrOf, IsErrAnd, IsSome};
+ghost use Rattle.std.specs.Option.{option_copied};
 ghost use Rattle.std.specs.VecDeque.{deque_len, deque_capacity};
 ghost use Rattle.upstream_pipe.specs.declared.part.Owner.{Owner};
 ghost use Rattle.upstream_pipe.specs.Pipe.{HasSent, IsAsBefore, owner_in, is_kept, forgotten};
@@ -16,6 +17,8 @@ pub const MAX_WAITING: usize = 1_024;
 
 /// The pipe to one host: the parts that wait to be sent, and the owners of those that fly, which were sent in this epoch
 /// and not answered yet.
+///
+/// Contracts see these, the epoch, and for how many more parts there is memory.
 #[derive(Drop)]
 pub struct Pipe {
     alloc: Global,
@@ -26,15 +29,21 @@ pub struct Pipe {
 }
 
 impl Model for Pipe {
-    ghost use Rattle.std.specs.Prelude.{◌+◌, ◌≤◌};
+    ghost use Rattle.std.specs.Prelude.{◌+◌, ◌-◌, ◌≤◌, min};
     ghost use Rattle.std.specs.VecDeque.{deque_len, deque_capacity};
     ghost use Rattle.upstream_pipe.specs.Pipe.{PipeState};
+    ghost use Rattle.upstream_pipe.specs.declared.pipe.TheConstants.{MAX_WAITING};
 
     ghost Value = { PipeState };
 
-    ghost view = { λ p. record { waiting = p.waiting.items; flying = p.flying.items; epoch = p.epoch } };
+    ghost view = { λ p. record {
+      waiting = p.waiting.items;
+      flying = p.flying.items;
+      epoch = p.epoch;
+      room = min (deque_capacity p.waiting - deque_len p.waiting) (deque_capacity p.flying - (deque_len p.flying + deque_len p.waiting));
+    } };
 
-    ghost invariant = { λ p. deque_len p.flying + deque_len p.waiting ≤ deque_capacity p.flying };
+    ghost invariant = { λ p. (deque_len p.waiting ≤ MAX_WAITING) × (deque_len p.flying + deque_len p.waiting ≤ deque_capacity p.flying) };
 }
 
 impl Pipe {
@@ -59,9 +68,50 @@ impl Pipe {
         self.epoch
     }
 
+    /// How many parts wait, at most 1,024. It takes no memory.
+    pub fn waiting(&self) -> usize
+        ensures parts { result ≡ length self.now.waiting }
+        ensures limit { result ≤ MAX_WAITING }
+    {
+        self.waiting.len()
+    }
+
+    /// How many parts fly, those that were forgotten too. It takes no memory.
+    pub fn flying(&self) -> usize
+        ensures { result ≡ length self.now.flying }
+    {
+        self.flying.len()
+    }
+
+    /// The part that `take` would give. It takes no memory.
+    pub fn oldest(&self) -> Option<&Part>
+        ensures { option_copied result ≡ slice_get self.now.waiting 0 }
+    {
+        self.waiting.front()
+    }
+
+    /// Makes room for this many parts more, so that the next so many calls of `push` ask for no memory. Where there is
+    /// as much room already, it asks for none and is Ok.
+    ///
+    /// Refused 601 (no memory). The parts are as they were then, and there is no less room.
+    pub fn room(&mut self, more: usize) -> Result<(), PipeRefusal>
+        ensures room { OnOk result (more ≤ self.new.room) }
+        ensures reserved { more ≤ self.old.room → IsOk result }
+        ensures memory { IfErr result (λ e. e ≡ PipeRefusal.NoMemory) }
+        ensures kept { self.old.room ≤ self.new.room }
+        ensures waiting { self.new.waiting ≡ self.old.waiting }
+        ensures flying { self.new.flying ≡ self.old.flying }
+        ensures epoch { self.new.epoch ≡ self.old.epoch }
+    {
+        self.waiting.reserve(more)?;
+        self.flying.reserve(self.waiting.len() + more)?;
+        Ok(())
+    }
+
     /// Lets a part wait behind those that wait, and makes room for it to fly.
     ///
-    /// Refused 602 (full) where 1,024 parts wait, or 601 (no memory). The part comes back then.
+    /// Refused 602 (full) where 1,024 parts wait, or 601 (no memory), which can't come where there is room. The part
+    /// comes back then.
     pub fn push(&mut self, part: Part) -> Result<(), (PipeRefusal, Part)>
         ensures waiting { OnOk result (self.new.waiting ≡ self.old.waiting ++ part ∷ []) }
         ensures flying { self.new.flying ≡ self.old.flying }
@@ -69,8 +119,11 @@ impl Pipe {
         ensures full { IfErr result (λ e. (e.0 ≡ PipeRefusal.Full) ↔ (MAX_WAITING ≤ length self.old.waiting)) }
         ensures accepted { OnOk result (length self.old.waiting < MAX_WAITING) }
         ensures memory { IfErr result (λ e. e.0 ≢ PipeRefusal.Full → e.0 ≡ PipeRefusal.NoMemory) }
+        ensures reserved { 0 < self.old.room → IfErr result (λ e. e.0 ≡ PipeRefusal.Full) }
+        ensures room { OnOk result (self.old.room ≤ self.new.room + 1) }
         ensures part { IfErr result (λ e. e.1 ≡ part) }
         ensures err { OnErr result (self.new.waiting ≡ self.old.waiting) }
+        ensures kept { OnErr result (self.old.room ≤ self.new.room) }
     {
         if self.waiting.len() >= MAX_WAITING {
             return Err((PipeRefusal::Full, part));
@@ -92,6 +145,7 @@ impl Pipe {
         ensures sent { IfSome result (λ part. (sent : List (Option Owner)) (count : ℕ) → HasSent self.old sent count
             → HasSent self.new (sent ++ Some part.owner ∷ []) count) }
         ensures epoch { self.new.epoch ≡ self.old.epoch }
+        ensures room { self.old.room ≤ self.new.room }
     {
         let part = self.waiting.pop_front()?;
         self.flying.push_back_reserved(Some(part.owner));
@@ -111,6 +165,7 @@ impl Pipe {
         ensures refused { IfErr result (λ e. (epoch ≢ self.old.epoch) ⊎ (self.old.flying ≡ [])) }
         ensures waiting { self.new.waiting ≡ self.old.waiting }
         ensures epoch { self.new.epoch ≡ self.old.epoch }
+        ensures room { self.old.room ≤ self.new.room }
         ensures err { OnErr result (self.new.flying ≡ self.old.flying) }
     {
         if epoch != self.epoch {
@@ -134,6 +189,7 @@ impl Pipe {
         ensures waiting { IfOk result (λ lost. lost.waiting.items ≡ map owner_in self.old.waiting) }
         ensures empty { OnOk result ((self.new.flying ≡ []) × (self.new.waiting ≡ [])) }
         ensures epoch { OnOk result (self.new.epoch ≡ self.old.epoch + 1) }
+        ensures room { self.old.room ≤ self.new.room }
         ensures stale { IsErrOf result (PipeRefusal.Stale self.old.epoch) ↔ (epoch ≢ self.old.epoch) }
         ensures spent { IsErrOf result PipeRefusal.EpochsSpent ↔ ((epoch ≡ self.old.epoch) × (epoch ≡ 2 ^ 64 - 1)) }
         ensures memory { epoch ≡ self.old.epoch → epoch < 2 ^ 64 - 1 → IfErr result (λ e. e ≡ PipeRefusal.NoMemory) }
@@ -163,6 +219,7 @@ impl Pipe {
         ensures places { (sent : List (Option Owner)) (count : ℕ) → HasSent self.old sent count
             → HasSent self.new (map (forgotten conn) sent) count }
         ensures epoch { self.new.epoch ≡ self.old.epoch }
+        ensures room { self.old.room ≤ self.new.room }
     {
         forget_waiting(&mut self.waiting, conn);
         forget_flying(&mut self.flying, conn);
@@ -173,6 +230,7 @@ impl Pipe {
 fn forget_waiting(waiting: &mut VecDeque<Part>, conn: u64)
     ensures items { waiting.new.items ≡ filter (is_kept conn) waiting.old.items }
     ensures len { deque_len waiting.new ≤ deque_len waiting.old }
+    ensures capacity { deque_capacity waiting.new ≡ deque_capacity waiting.old }
 {
     waiting.retain(|part| part.owner.conn != conn);
 }

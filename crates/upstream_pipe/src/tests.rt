@@ -120,6 +120,83 @@ fn no_more_than_1024_parts_wait(rt: HostRuntime) {
     }
 }
 
+// What can be counted of a pipe: how many parts wait and fly, and the connection of the oldest that waits.
+fn counted(pipe: &Pipe) -> (usize, usize, Option<u64>) {
+    let oldest = pipe.oldest().map(|part| part.owner.conn);
+    (pipe.waiting(), pipe.flying(), oldest)
+}
+
+#[test]
+fn parts_are_counted_and_the_oldest_is_shown(rt: HostRuntime) {
+    let mut pipe = Pipe::new(rt.alloc());
+    assert_eq!(rt; counted(&pipe), (0, 0, None));
+    for conn in 1..4 {
+        pushed(&rt, &mut pipe, conn);
+    }
+    assert_eq!(rt; counted(&pipe), (3, 0, Some(1)));
+    taken(&rt, &mut pipe, 1);
+    assert_eq!(rt; counted(&pipe), (2, 1, Some(2)));
+    match pipe.oldest() {
+        Some(part) => {
+            assert_eq!(rt; part.owner, owner(2));
+            assert_eq!(rt;
+                part.text.as_slice(),
+                b"*2\r\n$3\r\nGET\r\n$1\r\na\r\n".as_slice()
+            );
+        }
+        None => assert!(rt; false, "the oldest part isn't shown"),
+    }
+    taken(&rt, &mut pipe, 2);
+    assert_eq!(rt; counted(&pipe), (1, 2, Some(3)));
+    pipe.forget(1);
+    assert_eq!(rt; counted(&pipe), (1, 2, Some(3)));
+    pipe.forget(3);
+    assert_eq!(rt; counted(&pipe), (0, 2, None));
+    assert_eq!(rt; pipe.answered(0), Ok(None));
+    assert_eq!(rt; counted(&pipe), (0, 1, None));
+}
+
+// Makes room for this many parts. A call that finds no memory is made again, once.
+fn room(pipe: &mut Pipe, more: usize) -> Result<(), PipeRefusal> {
+    match pipe.room(more) {
+        Err(_) => pipe.room(more),
+        Ok(()) => Ok(()),
+    }
+}
+
+// Where there is room neither `room` nor `push` asks for memory, so none of these calls is made again.
+#[test]
+fn parts_with_room_are_accepted(rt: HostRuntime) {
+    let mut pipe = three_owners(&rt);
+    assert_eq!(rt; room(&mut pipe, 3), Ok(()));
+    assert_eq!(rt; counted(&pipe), (1, 2, Some(3)));
+    assert_eq!(rt; pipe.room(3), Ok(()));
+    for (conn, left) in [(4, 2), (5, 1), (6, 0)] {
+        let part = Part {
+            owner: owner(conn),
+            text: Bytes::from_static(b"*2\r\n$3\r\nGET\r\n$1\r\na\r\n"),
+        };
+        assert!(rt; pipe.push(part).is_ok());
+        assert_eq!(rt; pipe.room(left), Ok(()));
+    }
+    assert_eq!(rt; counted(&pipe), (4, 2, Some(3)));
+    for conn in 3..7 {
+        taken(&rt, &mut pipe, conn);
+    }
+    assert_eq!(rt; counted(&pipe), (0, 6, None));
+}
+
+#[test]
+fn no_room_for_all_parts_that_there_could_be(rt: HostRuntime) {
+    let mut pipe = three_owners(&rt);
+    assert_eq!(rt; pipe.room(usize::MAX), Err(PipeRefusal::NoMemory));
+    assert_eq!(rt; counted(&pipe), (1, 2, Some(3)));
+    assert_eq!(rt; pipe.epoch(), 0);
+    assert_eq!(rt; pipe.answered(0), Ok(Some(owner(1))));
+    taken(&rt, &mut pipe, 3);
+    assert_eq!(rt; pipe.room(0), Ok(()));
+}
+
 // The text of a refusal. Where it finds no memory it is made again, once.
 fn told(alloc: Global, refusal: PipeRefusal) -> Result<String, Fail> {
     match refusal.to_string(alloc) {
