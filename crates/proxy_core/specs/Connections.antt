@@ -71,9 +71,12 @@ handing k = record k { queue = without_front k.queue }
 abbrev pub closing : ℕ → List (Option Connection) → List (Option Connection)
 closing c connections = changed_at (λ k. None) c connections
 
+abbrev pub with_answer : Owner → Tree → Connection → Connection
+with_answer o v k = record k { queue = with_part o.command o.part v k.queue }
+
 -- the part of this owner got a value
 abbrev pub answered_part : Owner → Tree → List (Option Connection) → List (Option Connection)
-answered_part o v connections = with_connection (λ (k : Connection). record k { queue = with_part o.command o.part v k.queue }) o.conn connections
+answered_part o v connections = with_connection (with_answer o v) o.conn connections
 
 -- each of these owners' parts got the value
 abbrev pub answered_parts : List Owner → Tree → List (Option Connection) → List (Option Connection)
@@ -85,6 +88,11 @@ pub record IsAwaited (o : Owner) (connections : List (Option Connection)) : Type
   pub connection : Connection
   pub is_open : slice_get connections o.conn ≡ Some (Some connection)
   pub is_awaited : IsOpen connection.queue o.command o.part
+
+-- so it is where the connection is open
+abbrev pub IsAwaitedIn : Option Connection → Owner → Type 0
+IsAwaitedIn None o = Unit {0}
+IsAwaitedIn (Some k) o = IsOpen k.queue o.command o.part
 
 -- each of these owners' parts has no value yet when its turn comes
 abbrev pub AreAwaited : List Owner → Tree → List (Option Connection) → Type 0

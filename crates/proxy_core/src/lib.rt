@@ -6,9 +6,14 @@
 //! it keeps is what the history determines (`specs/Kept`). It never looks at its journal to answer.
 #![tactic(auto)]
 
+mod answering;
 mod connection;
+//mod handing;
 mod machine;
+mod opening;
 mod pipeline;
 mod refused;
+mod sending;
+mod sweeping;
 
 pub use refused::Refused;

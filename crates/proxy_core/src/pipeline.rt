@@ -1,5 +1,9 @@
 //! The pipelines to the hosts.
+ghost use Rattle.std.specs.Prelude.{◌≡◌, ◌+◌, ◌<◌, ◌^◌, map};
+ghost use Rattle.proxy_core.specs.Pipelines.{state_of, taken_from, without_connection};
+ghost use Rattle.proxy_core.specs.Machine.{text_of_oldest};
 
+use bytes::Bytes;
 use upstream_pipe::Pipe;
 
 /// The pipe to a host, and how many parts were taken from it in its epoch.
@@ -7,4 +11,28 @@ use upstream_pipe::Pipe;
 pub(crate) struct Pipeline {
     pub pipe: Pipe,
     pub taken: u64,
+}
+
+impl Pipeline {
+    /// Takes the oldest part that waits, and gives its text, which is empty where none waits.
+    pub(crate) fn take(&mut self) -> Bytes
+        requires { self.old.taken + 1 < 2 ^ 64 }
+        ensures text { result ≡ text_of_oldest self.old.pipe.waiting }
+        ensures taken { state_of self.new ≡ taken_from (state_of self.old) }
+    {
+        self.taken += 1;
+        match self.pipe.take() {
+            Some(part) => part.text,
+            None => Bytes::new(),
+        }
+    }
+}
+
+/// A connection is closed: its parts that wait are dropped, and the replies to those that fly go to nobody.
+pub(crate) fn forget(pipelines: &mut [Pipeline], conn: u64)
+    ensures { map state_of pipelines.new ≡ map (without_connection conn) (map state_of pipelines.old) }
+{
+    for pipeline in pipelines.iter_mut() {
+        pipeline.pipe.forget(conn);
+    }
 }

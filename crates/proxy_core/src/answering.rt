@@ -1,0 +1,115 @@
+//! Hosts answer, and hosts fail.
+ghost use Rattle.std.specs.Prelude.{◌≡◌, ◌<◌, ◌+◌, ◌^◌, length, map, vec_len, IfOk, IfErr, OnOk, List, ℕ, ◌-◌};
+ghost use Rattle.resp_core.specs.Text.{text};
+ghost use Rattle.resp_core.specs.Value.{tree_of};
+ghost use Rattle.ejector.specs.declared.mark.Mark.{Mark};
+ghost use Rattle.ejector.specs.declared.mark.Mark.TheVariants as marks';
+ghost use Rattle.ejector.specs.Ejection.{state, trip};
+ghost use Rattle.proxy_history.specs.Setting.{hosts};
+ghost use Rattle.proxy_history.specs.declared.answer.Answer.TheVariants as answers;
+ghost use Rattle.proxy_history.specs.declared.event.Event.TheVariants as events;
+ghost use Rattle.proxy_core.specs.Connections.{AreAwaited, answered_parts};
+ghost use Rattle.proxy_core.specs.Pipelines.{answered_by, next_owner, with_pipeline};
+ghost use Rattle.proxy_core.specs.Machine.{own_cause_in, setting_in, memory_in, pipeline_at, IsTurned, IsSame, IsReady, HasCauseIn};
+
+use crate::connection::answer_part;
+use crate::machine::{Machine, make_room};
+use crate::refused::Refused;
+use ejector::Trip;
+use journal_core::Step;
+use proxy_history::{Answer, Event, Refusal};
+use resp_core::Value;
+
+impl Machine {
+    /// A host answered: the reply belongs to the oldest part that flies.
+    pub(crate) fn answer(&mut self, pass: u64, host: usize, epoch: u64, value: Value, t: u64) -> Result<Answer, Refused>
+        requires hosts { vec_len self.old.pipelines ≡ hosts (setting_in self.old) }
+        requires awaited { AreAwaited (next_owner (pipeline_at host (memory_in self.old).pipelines).flying) (tree_of value) self.old.connections.items }
+        ensures answered { IfOk result (λ a. (marks : List Mark) → state self.old.ejector.rules marks ≡ self.old.ejector.state
+            → (a ≡ answers.Matched (trip self.old.ejector.rules (marks'.Good host t) marks))
+            × IsTurned self.old self.new pass (events.Answered host epoch value t) a
+            (record (memory_in self.old) {
+              connections = answered_parts (next_owner (pipeline_at host (memory_in self.old).pipelines).flying) (tree_of value) self.old.connections.items;
+              pipelines = with_pipeline answered_by host (memory_in self.old).pipelines;
+              hosts = state self.old.ejector.rules (marks'.Good host t ∷ marks);
+            })) }
+        ensures refused { IfErr result (λ r. (r.event ≡ events.Answered host epoch value t) × IsSame self.old self.new
+            × HasCauseIn self.old (events.Answered host epoch value t) r.cause) }
+    {
+        let shared = match self.ready_to_answer(host, epoch, &value) {
+            Ok(shared) => shared,
+            Err(cause) => {
+                let event = Event::Answered {
+                    host,
+                    epoch,
+                    value,
+                    t,
+                };
+                return Err(Refused { cause, event });
+            }
+        };
+        if let Ok(Some(owner)) = self.pipelines[host].pipe.answered(epoch) {
+            answer_part(&mut self.connections, owner, shared);
+        }
+        let trip = self.ejector.result(host, true, t).unwrap_or(Trip::None);
+        let bytes = value.text_len();
+        let event = Event::Answered {
+            host,
+            epoch,
+            value,
+            t,
+        };
+        self.journal.add(
+            Step {
+                pass,
+                event,
+                answer: Answer::Matched { trip },
+            },
+            bytes,
+        );
+        Ok(Answer::Matched { trip })
+    }
+
+    // Looks for a cause, shares the reply, and makes room.
+    fn ready_to_answer(&mut self, host: usize, epoch: u64, value: &Value) -> Result<Value, Refusal>
+        requires hosts { vec_len self.old.pipelines ≡ hosts (setting_in self.old) }
+        ensures ready { IfOk result (λ shared. (tree_of shared ≡ tree_of value.now)
+            × ((t : ℕ) → IsReady self.old self.new (events.Answered host epoch value.now t))) }
+        ensures place { OnOk result (0 < self.new.ejector.room) }
+        ensures text { OnOk result (length (text (tree_of value.now)) < 2 ^ 64 - 1) }
+        ensures refused { IfErr result (λ r. IsSame self.old self.new × ((t : ℕ) → HasCauseIn self.old (events.Answered host epoch value.now t) r)) }
+    {
+        if let Some(cause) = self.answer_cause(host, epoch, value) {
+            return Err(cause);
+        }
+        let Ok(shared) = value.share(self.alloc) else {
+            return Err(Refusal::NoMemory);
+        };
+        if self.ejector.room().is_err() {
+            return Err(Refusal::NoMemory);
+        }
+        make_room(&mut self.journal, value.text_len())?;
+        Ok(shared)
+    }
+
+    // Why the reply is refused, if it is for a cause of its own.
+    fn answer_cause(&self, host: usize, epoch: u64, value: &Value) -> Option<Refusal>
+        requires hosts { vec_len self.now.pipelines ≡ hosts (setting_in self.now) }
+        ensures { (t : ℕ) → result ≡ own_cause_in (setting_in self.now) (memory_in self.now) (events.Answered host epoch value.now t) }
+    {
+        let Some(pipeline) = self.pipelines.get(host) else {
+            return Some(Refusal::NoSuchHost);
+        };
+        if !value.is_plain() {
+            return Some(Refusal::NotPlain);
+        }
+        let current = pipeline.pipe.epoch();
+        if epoch != current {
+            return Some(Refusal::Stale { current });
+        }
+        if pipeline.pipe.flying() == 0 {
+            return Some(Refusal::Unasked);
+        }
+        None
+    }
+}

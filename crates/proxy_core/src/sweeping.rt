@@ -1,0 +1,71 @@
+//! It is time to look at the hosts that are out, and at those that answer badly.
+ghost use Rattle.std.specs.Prelude.{◌≡◌, ◌∷◌, List, IfOk, IfErr, OnOk, ◌<◌};
+ghost use Rattle.ejector.specs.declared.mark.Mark.{Mark};
+ghost use Rattle.ejector.specs.declared.mark.Mark.TheVariants as marks';
+ghost use Rattle.ejector.specs.Ejection.{state, swept};
+ghost use Rattle.proxy_history.specs.Answer.{counts_of};
+ghost use Rattle.proxy_history.specs.declared.event.Event.TheVariants as events;
+ghost use Rattle.proxy_core.specs.Machine.{memory_in, IsTurned, IsSame, IsReady, HasCauseIn};
+
+use crate::machine::{Machine, make_room};
+use crate::refused::Refused;
+use ejector::Swept;
+use journal_core::Step;
+use proxy_history::{Answer, Event, Refusal};
+
+impl Machine {
+    /// Sweeps the hosts.
+    pub(crate) fn sweep(&mut self, pass: u64, t: u64) -> Result<Answer, Refused>
+        ensures answered { IfOk result (λ a. (marks : List Mark) → state self.old.ejector.rules marks ≡ self.old.ejector.state
+            → (a ≡ counts_of (swept self.old.ejector.rules (marks'.Sweep t) marks))
+            × IsTurned self.old self.new pass (events.Swept t) a
+            (record (memory_in self.old) { hosts = state self.old.ejector.rules (marks'.Sweep t ∷ marks) })) }
+        ensures refused { IfErr result (λ r. (r.event ≡ events.Swept t) × IsSame self.old self.new
+            × HasCauseIn self.old (events.Swept t) r.cause) }
+    {
+        let event = Event::Swept { t };
+        if let Err(cause) = self.ready_to_sweep(t) {
+            return Err(Refused { cause, event });
+        }
+        match self.ejector.sweep(t) {
+            Ok(hosts) => {
+                self.journal.add(
+                    Step {
+                        pass,
+                        event,
+                        answer: counts_of(hosts),
+                    },
+                    0,
+                );
+                Ok(counts_of(hosts))
+            }
+            Err(_) => Err(Refused {
+                cause: Refusal::NoMemory,
+                event,
+            }),
+        }
+    }
+
+    // Makes room.
+    fn ready_to_sweep(&mut self, t: u64) -> Result<(), Refusal>
+        ensures ready { OnOk result (IsReady self.old self.new (events.Swept t)) }
+        ensures place { OnOk result (0 < self.new.ejector.room) }
+        ensures refused { IfErr result (λ r. IsSame self.old self.new × HasCauseIn self.old (events.Swept t) r) }
+    {
+        if self.ejector.room().is_err() {
+            return Err(Refusal::NoMemory);
+        }
+        make_room(&mut self.journal, 0)
+    }
+}
+
+// The answer to a sweep that had this result.
+fn counts_of(hosts: Swept) -> Answer
+    ensures { result ≡ counts_of hosts }
+{
+    Answer::Swept {
+        returned: hosts.returned,
+        ejected: hosts.ejected,
+        kept: hosts.kept,
+    }
+}
