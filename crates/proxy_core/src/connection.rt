@@ -85,7 +85,7 @@ fn hand_one(connection: &mut Option<Connection>)
     ensures { connection.new ≡ option_map handing connection.old }
 {
     if let Some(connection) = connection {
-        let _ = connection;
+        connection.queue.drop_front();
     }
 }
 

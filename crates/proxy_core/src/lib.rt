@@ -8,7 +8,7 @@
 
 mod answering;
 mod connection;
-//mod handing;
+mod handing;
 mod machine;
 mod opening;
 mod pipeline;

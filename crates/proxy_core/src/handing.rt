@@ -1,0 +1,78 @@
+//! Replies are handed out.
+ghost use Rattle.std.specs.Prelude.{◌≡◌, length, IfOk, IfErr};
+ghost use Rattle.resp_core.specs.Text.{text};
+ghost use Rattle.resp_core.specs.Value.{tree_of};
+ghost use Rattle.proxy_history.specs.declared.answer.Answer.TheVariants as answers;
+ghost use Rattle.proxy_history.specs.declared.event.Event.TheVariants as events;
+ghost use Rattle.proxy_core.specs.Connections.{handing, with_connection};
+ghost use Rattle.proxy_core.specs.Machine.{memory_in, text_in, IsTurned, IsSame, IsReady, HasCauseIn};
+
+use crate::connection::{connection_at, hand};
+use crate::machine::{Machine, make_room};
+use crate::refused::Refused;
+use bytes::Bytes;
+use journal_core::Step;
+use proxy_history::{Answer, Event, Refusal};
+use resp_core::{Value, put_text};
+use std::alloc::{AllocError, Global};
+
+impl Machine {
+    /// Hands out the reply to the oldest command of the connection that isn't handed out.
+    pub(crate) fn hand(&mut self, pass: u64, conn: u64) -> Result<Answer, Refused>
+        ensures answered { IfOk result (λ a. (a ≡ answers.Bytes (text_in (memory_in self.old) (events.Handed conn)))
+            × IsTurned self.old self.new pass (events.Handed conn) a
+            (record (memory_in self.old) { connections = with_connection handing conn self.old.connections.items })) }
+        ensures refused { IfErr result (λ r. (r.event ≡ events.Handed conn) × IsSame self.old self.new
+            × HasCauseIn self.old (events.Handed conn) r.cause) }
+    {
+        let event = Event::Handed { conn };
+        let (text, shared) = match self.ready_to_hand(conn) {
+            Ok(texts) => texts,
+            Err(cause) => return Err(Refused { cause, event }),
+        };
+        hand(&mut self.connections, conn);
+        let bytes = text.len() as u64;
+        self.journal.add(
+            Step {
+                pass,
+                event,
+                answer: Answer::Bytes { text: shared },
+            },
+            bytes,
+        );
+        Ok(Answer::Bytes { text })
+    }
+
+    // Looks for a cause, writes the reply's text, twice in one place, and makes room.
+    fn ready_to_hand(&mut self, conn: u64) -> Result<(Bytes, Bytes), Refusal>
+        ensures ready { IfOk result (λ texts. (texts.0 ≡ text_in (memory_in self.old) (events.Handed conn))
+            × (texts.1 ≡ text_in (memory_in self.old) (events.Handed conn)) × IsReady self.old self.new (events.Handed conn)) }
+        ensures refused { IfErr result (λ r. IsSame self.old self.new × HasCauseIn self.old (events.Handed conn) r) }
+    {
+        let Some(connection) = connection_at(&self.connections, conn) else {
+            return Err(Refusal::NoSuchConnection);
+        };
+        let Ok(reply) = connection.queue.front() else {
+            return Err(Refusal::NoMemory);
+        };
+        let Some(reply) = reply else {
+            let left = connection.queue.left() as u64;
+            return Err(Refusal::NotReady { left });
+        };
+        let text = text_of(self.alloc, &reply)?;
+        let shared = text.clone()?;
+        make_room(&mut self.journal, text.len() as u64)?;
+        Ok((text, shared))
+    }
+}
+
+// The text of a value.
+fn text_of(alloc: Global, value: &Value) -> Result<Bytes, AllocError>
+    ensures { IfOk result (λ bytes. bytes ≡ text (tree_of value.now)) }
+{
+    let mut text = Vec::new(alloc);
+    if put_text(alloc, value, &mut text).is_err() {
+        return Err(AllocError);
+    }
+    Ok(Bytes::from_vec(text)?)
+}
