@@ -1,3 +1,4 @@
 pub mod Tabled
 pub mod CommandRows
 pub mod Counts
+pub mod ConnectionFacts
