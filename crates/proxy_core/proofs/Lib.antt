@@ -2,3 +2,4 @@ pub mod Tabled
 pub mod CommandRows
 pub mod Counts
 pub mod ConnectionFacts
+pub mod ConnectionsMove
