@@ -85,3 +85,39 @@ connections-finished S H pass conn answer =
     let s : Step = record { pass = pass; event = Finished conn; answer = answer } in
     sym (changed-table (connection_of x) (connection_of (after S s x)) (option_map finished) (opened H) conn (λ l. finished_at S x s conn refl)
       (λ j l q. sym (aside S x s j (quiet-finished x conn) (record { no_request = refl; no_handing = refl; no_closing = refl; no_finish = differs j conn q }))))
+
+-- HANDED
+
+drop-one_more : {X : Type 0} (n : ℕ) (xs : List X) → drop (n + 1) xs ≡ drop 1 (drop n xs)
+drop-one_more zero xs = refl
+drop-one_more {X} (suc n) [] = drop-nil {A = X} (suc n + 1)
+drop-one_more (suc n) (x ∷ xs) = let e : suc n + 1 ≡ suc (n + 1) = omega arith in ap (λ z. drop z (x ∷ xs)) e ∙ drop-one_more n xs
+
+handed_at : (S : Setting) (x : Past) (s : Step) (conn : ℕ) → s.event ≡ Handed conn → connection_of (after S s x) conn ≡ option_map handing (connection_of x conn)
+handed_at S x s conn e =
+    let r = quiet_row S x s conn (rw e (quiet-handed x conn)) (rw e refl) in
+    elim (cases_Bool (is_closed conn x.steps)) [
+      | inl t ↦ rw (e, t) refl
+      | inr f ↦ rw (r, e, f, eq-eqb conn conn refl, drop-one_more (handed conn x.steps) (row x conn)) refl
+    ]
+
+pub connections-handed : (S : Setting) (H : History) (pass conn : ℕ) (answer : Answer)
+    → connections_of (past S (record { pass = pass; event = Handed conn; answer = answer } ∷ H)) ≡ with_connection handing conn (connections_of (past S H))
+connections-handed S H pass conn answer =
+    let x = past S H in
+    let s : Step = record { pass = pass; event = Handed conn; answer = answer } in
+    sym (changed-table (connection_of x) (connection_of (after S s x)) (option_map handing) (opened H) conn (λ l. handed_at S x s conn refl)
+      (λ j l q. sym (aside S x s j (quiet-handed x conn) (record { no_request = refl; no_handing = differs j conn q; no_closing = refl; no_finish = refl }))))
+
+-- CLOSED
+
+closed_at : (S : Setting) (x : Past) (s : Step) (conn : ℕ) → s.event ≡ Closed conn → connection_of (after S s x) conn ≡ None
+closed_at S x s conn e = rw (e, eq-eqb conn conn refl) refl
+
+pub connections-closed : (S : Setting) (H : History) (pass conn : ℕ) (answer : Answer)
+    → connections_of (past S (record { pass = pass; event = Closed conn; answer = answer } ∷ H)) ≡ closing conn (connections_of (past S H))
+connections-closed S H pass conn answer =
+    let x = past S H in
+    let s : Step = record { pass = pass; event = Closed conn; answer = answer } in
+    sym (changed-table (connection_of x) (connection_of (after S s x)) (λ k. None) (opened H) conn (λ l. closed_at S x s conn refl)
+      (λ j l q. sym (aside S x s j (quiet-closed x conn) (record { no_request = refl; no_handing = refl; no_closing = differs j conn q; no_finish = refl }))))
