@@ -3,3 +3,5 @@ pub mod CommandRows
 pub mod Counts
 pub mod ConnectionFacts
 pub mod ConnectionsMove
+pub mod NewParts
+pub mod ConnectionsArrived
