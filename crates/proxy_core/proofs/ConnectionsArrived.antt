@@ -3,6 +3,9 @@ use Rattle.std.proofs.Common.{◌≡◌, ℕ, zero, suc, ◌+◌, ◌≤◌, Boo
 use Rattle.std.specs.Prelude.{option_map}
 use Rattle.std.proofs.lemmas.Bool.{cases_Bool, and_left, eq-eqb}
 use Rattle.splitter.specs.Plan.{Plan, here, leave, parts, is_last}
+use Rattle.splitter.specs.Join.{MayJoin}
+use Rattle.splitter.specs.declared.plans.Join.{Join}
+use Rattle.splitter.specs.declared.plans.PartPlan.{PartPlan}
 use Rattle.splitter.specs.declared.request.Request.{Request}
 use Rattle.proxy_history.specs.Setting.{Setting}
 use Rattle.proxy_history.specs.History.{History, Step, opened, accepted, handed, is_closed, is_finishing, is_handing, is_closing, finishes, requests, request_by, plan_for}
@@ -15,6 +18,7 @@ use Rattle.proxy_history.specs.Legal.{IsLegal}
 use Rattle.proxy_history.specs.declared.answer.Answer.{Answer}
 use Rattle.proxy_history.specs.declared.event.Event.TheVariants.{Arrived}
 use Rattle.proxy_history.proofs.Fresh.{length-requests}
+use Rattle.proxy_history.proofs.CommandParts.{length-placing, plan_may_join}
 use Rattle.proxy_core.specs.Connections.{awaited_by, awaited_from, connection_of, connections_of, with_connection, accepting, arrived_command}
 use Rattle.proxy_core.proofs.Tabled.{changed-table}
 use Rattle.proxy_core.proofs.CommandRows.{IsQuiet, row, length-row, awaited_from-more, quiet_before, quiet_value, same_values}
@@ -89,3 +93,11 @@ connections-arrived S H pass conn request answer legal =
     sym (changed-table (connection_of x) (connection_of (after S s x)) (option_map change) (opened H) conn (λ l. arrived_at S H s conn request legal refl)
       (λ j l q. let d = differs j conn q in
         sym (aside S x s j (quiet-arrived x conn request) (record { no_request = rw d refl; no_handing = refl; no_closing = refl; no_finish = and_left (conn == j) (is_last (plan_for request)) d }))))
+
+-- a command has as many values as its join is asked
+pub arrived_may_join : (S : Setting) (x : Past) (conn : ℕ) (request : Request) (how : Join) (list : List PartPlan) → plan_for request ≡ parts how list
+    → MayJoin how (length (parts_by S x (Arrived conn request)))
+arrived_may_join S x conn request how list e =
+    let as_many : length (parts_by S x (Arrived conn request)) ≡ length list =
+      ap (λ z. length (placed_by S x conn z)) e ∙ length-placing S x conn (accepted conn x.steps) [] list ∙ omega arith in
+    rw as_many (plan_may_join request how list e)
