@@ -1,5 +1,5 @@
 -- The commands of a connection, and what they are a step later.
-use Rattle.std.proofs.Common.{◌≡◌, ℕ, zero, suc, ◌+◌, ◌<◌, ◌≤◌, false, List, [], ◌∷◌, ◌++◌, length, map, drop, Option, Some, None, refl, sym, ap, ◌∙◌, arith}
+use Rattle.std.proofs.Common.{◌≡◌, ℕ, zero, suc, ◌+◌, ◌<◌, ◌≤◌, false, List, [], ◌∷◌, ◌++◌, length, map, drop, Option, Some, None, refl, ap, ◌∙◌, arith}
 use Rattle.std.specs.Prelude.{option_map, slice_get}
 use Rattle.std.specs.Option.{option_and_then}
 use Rattle.std.proofs.Math.Seq.{drop-nil}
@@ -11,7 +11,7 @@ use Rattle.splitter.specs.declared.request.Request.{Request}
 use Rattle.reply_queue.specs.Command.{AwaitedCommand, reply_to, all_values}
 use Rattle.reply_queue.specs.Queue.{front_reply}
 use Rattle.proxy_history.specs.Setting.{Setting}
-use Rattle.proxy_history.specs.History.{Step, accepted, epoch, is_fault, requests, request_by, plan_for}
+use Rattle.proxy_history.specs.History.{Step, accepted, is_fault, requests, request_by, plan_for}
 use Rattle.proxy_history.specs.Replies.{came, reply_by}
 use Rattle.proxy_history.specs.Part.{Part, Past}
 use Rattle.proxy_history.specs.Past.{after}

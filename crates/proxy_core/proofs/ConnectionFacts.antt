@@ -1,16 +1,16 @@
 -- What the connections say that a history determines.
-use Rattle.std.proofs.Common.{◌≡◌, ℕ, ◌+◌, ◌-◌, ◌<◌, ◌≤◌, Bool, true, false, not, ◌==◌, ◌&&◌, nat_lt, nat_le, List, [], ◌∷◌, length, drop, Option, Some, None, is_some, is_none, refl, sym, ap, ◌∙◌, inl, inr, arith, if◌then◌else◌}
-use Rattle.std.specs.Prelude.{slice_get, option_map}
+use Rattle.std.proofs.Common.{◌≡◌, ℕ, ◌+◌, ◌-◌, ◌≤◌, Bool, true, false, not, nat_lt, nat_le, [], ◌∷◌, length, Some, None, is_some, refl, ap, ◌∙◌, inl, inr, arith, if◌then◌else◌}
+use Rattle.std.specs.Prelude.{slice_get}
 use Rattle.std.specs.Option.{option_and_then, unwrap_or}
-use Rattle.std.proofs.lemmas.Bool.{cases_Bool, and_left, and_right, lt-ltb, ltb-true, ltb-false}
+use Rattle.std.proofs.lemmas.Bool.{cases_Bool, ltb-true, ltb-false}
 use Rattle.std.proofs.lemmas.List.{length-drop}
 use Rattle.std.proofs.lemmas.List.FromFn.{length-map-range_with_len}
 use Rattle.std.proofs.lemmas.Option.{slice_get_past}
-use Rattle.resp_core.specs.Tree.{Tree, null_bulk}
+use Rattle.resp_core.specs.Tree.{null_bulk}
 use Rattle.resp_core.specs.Text.{text}
 use Rattle.splitter.specs.declared.request.Request.{Request}
 use Rattle.reply_queue.specs.Queue.{front_reply}
-use Rattle.proxy_history.specs.Setting.{Setting, max_connections, max_unwritten}
+use Rattle.proxy_history.specs.Setting.{Setting, max_connections}
 use Rattle.proxy_history.specs.History.{History, times, opened, accepted, handed, is_open, is_closed, is_finishing, is_any_closing, requests, plan_for}
 use Rattle.proxy_history.specs.Part.{Past}
 use Rattle.proxy_history.specs.Past.{past}
@@ -20,12 +20,11 @@ use Rattle.proxy_history.specs.Answer.{answer_to}
 use Rattle.proxy_history.specs.Payload.{payload_of}
 use Rattle.proxy_history.specs.Legal.{IsLegal}
 use Rattle.proxy_history.specs.declared.event.Event.TheVariants.{Opened, Arrived, Finished, Handed, Closed}
-use Rattle.proxy_history.specs.declared.refusal.Refusal.{Refusal}
 use Rattle.proxy_history.specs.declared.refusal.Refusal.TheVariants as refusal
 use Rattle.proxy_history.proofs.Fresh.{length-requests}
 use Rattle.proxy_core.specs.Connections.{queue_of, connection_of, connections_of}
 use Rattle.proxy_core.specs.Kept.{memory_of}
-use Rattle.proxy_core.specs.Machine.{connection_at, own_cause_in, text_in, payload_in, is_finishing_in, left_in, reply_in}
+use Rattle.proxy_core.specs.Machine.{connection_at, own_cause_in, text_in, payload_in}
 use Rattle.proxy_core.specs.declared.connection.Connection.{Connection}
 use Rattle.proxy_core.proofs.Tabled.{slice_get-table, slice_get-past-range}
 use Rattle.proxy_core.proofs.CommandRows.{row, length-row, front_reply-row}
@@ -37,33 +36,33 @@ pub length-connections_of : (x : Past) → length (connections_of x) ≡ opened 
 length-connections_of x = length-map-range_with_len (connection_of x) 0 (opened x.steps)
 
 -- an open connection
-abbrev pub opened_as : Past → ℕ → Connection
-opened_as x c = record { queue = queue_of x c; is_finishing = is_finishing c x.steps }
+abbrev pub open_connection : Past → ℕ → Connection
+open_connection x c = record { queue = queue_of x c; is_finishing = is_finishing c x.steps }
 
-below : (x : Past) (c : ℕ) (b : Bool) → is_closed c x.steps ≡ b
-    → connection_of x c ≡ (if not b then Some (opened_as x c) else None)
-below x c true e = rw e refl
-below x c false e = rw e refl
+connection_of-by_closed : (x : Past) (c : ℕ) (b : Bool) → is_closed c x.steps ≡ b
+    → connection_of x c ≡ (if not b then Some (open_connection x c) else None)
+connection_of-by_closed x c true e = rw e refl
+connection_of-by_closed x c false e = rw e refl
 
-pub connection_at-connections_of : (x : Past) (c : ℕ) → connection_at c (connections_of x) ≡ (if is_open c x.steps then Some (opened_as x c) else None)
+pub connection_at-connections_of : (x : Past) (c : ℕ) → connection_at c (connections_of x) ≡ (if is_open c x.steps then Some (open_connection x c) else None)
 connection_at-connections_of x c = elim (cases_Bool (nat_lt c (opened x.steps))) [
   | inl t ↦
       ap (option_and_then (λ k. k)) (slice_get-table (connection_of x) (opened x.steps) c (ltb-true c (opened x.steps) t))
-      ∙ below x c (is_closed c x.steps) refl ∙ rw t refl
+      ∙ connection_of-by_closed x c (is_closed c x.steps) refl ∙ rw t refl
   | inr f ↦
       ap (option_and_then (λ k. k)) (slice_get-past-range (connection_of x) 0 (opened x.steps) c (ltb-false c (opened x.steps) f)) ∙ rw f refl
 ]
 
-pub connection_at-open : (x : Past) (c : ℕ) → is_open c x.steps ≡ true → connection_at c (connections_of x) ≡ Some (opened_as x c)
+pub connection_at-open : (x : Past) (c : ℕ) → is_open c x.steps ≡ true → connection_at c (connections_of x) ≡ Some (open_connection x c)
 connection_at-open x c e = connection_at-connections_of x c ∙ rw e refl
 
 pub connection_at-not_open : (x : Past) (c : ℕ) → is_open c x.steps ≡ false → connection_at c (connections_of x) ≡ None
 connection_at-not_open x c e = connection_at-connections_of x c ∙ rw e refl
 
-pub slice_get-open : (x : Past) (c : ℕ) → is_open c x.steps ≡ true → slice_get (connections_of x) c ≡ Some (Some (opened_as x c))
+pub slice_get-open : (x : Past) (c : ℕ) → is_open c x.steps ≡ true → slice_get (connections_of x) c ≡ Some (Some (open_connection x c))
 slice_get-open x c e =
     let a = open_parts c x.steps e in
-    slice_get-table (connection_of x) (opened x.steps) c a.0 ∙ ap Some (below x c false a.1)
+    slice_get-table (connection_of x) (opened x.steps) c a.0 ∙ ap Some (connection_of-by_closed x c false a.1)
 
 -- ITS QUEUE
 

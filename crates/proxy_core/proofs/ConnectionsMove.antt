@@ -1,12 +1,11 @@
 -- How the connections change with an event of a connection.
-use Rattle.std.proofs.Common.{◌≡◌, ℕ, zero, suc, ◌+◌, ◌<◌, ◌≤◌, Bool, true, false, not, ◌==◌, ◌||◌, List, [], ◌∷◌, ◌++◌, map, drop, Option, Some, None, refl, sym, ap, ◌∙◌, inl, inr, arith, if◌then◌else◌}
+use Rattle.std.proofs.Common.{◌≡◌, ℕ, zero, suc, ◌+◌, false, ◌==◌, List, [], ◌∷◌, ◌++◌, drop, Some, None, refl, sym, ap, ◌∙◌, inl, inr, arith}
 use Rattle.std.specs.Prelude.{option_map}
-use Rattle.std.specs.List.{range_with_len}
 use Rattle.std.proofs.Math.Seq.{drop-nil}
 use Rattle.std.proofs.lemmas.Bool.{cases_Bool, ne_eqb, eq-eqb}
 use Rattle.std.proofs.lemmas.List.FromFn.{map-range_with_len_more}
 use Rattle.proxy_history.specs.Setting.{Setting}
-use Rattle.proxy_history.specs.History.{History, Step, opened, handed, is_open, is_closed, is_finishing, is_handing, is_closing, finishes, request_by}
+use Rattle.proxy_history.specs.History.{History, Step, opened, handed, is_closed, is_handing, is_closing, finishes, request_by}
 use Rattle.proxy_history.specs.Part.{Past}
 use Rattle.proxy_history.specs.Past.{past, after}
 use Rattle.proxy_history.specs.Legal.{IsLegal}
@@ -65,8 +64,10 @@ connections-opened S H pass answer legal =
     let s : Step = record { pass = pass; event = Opened; answer = answer } in
     let n = opened H in
     map-range_with_len_more (connection_of (after S s x)) 0 n n (omega arith)
-    ∙ rw (fresh_at S x s n refl (unused S H n legal (omega arith)),
-      same_range (connection_of (after S s x)) (connection_of x) 0 n (λ j l m. aside S x s j (quiet-opened x) (aside-opened j))) refl
+    ∙ rw (
+      fresh_at S x s n refl (unused S H n legal (omega arith)),
+      same_range (connection_of (after S s x)) (connection_of x) 0 n (λ j l m. aside S x s j (quiet-opened x) (aside-opened j)),
+    ) refl
 
 -- FINISHED
 
@@ -84,7 +85,7 @@ connections-finished S H pass conn answer =
     let x = past S H in
     let s : Step = record { pass = pass; event = Finished conn; answer = answer } in
     sym (changed-table (connection_of x) (connection_of (after S s x)) (option_map finished) (opened H) conn (λ l. finished_at S x s conn refl)
-      (λ j l q. sym (aside S x s j (quiet-finished x conn) (record { no_request = refl; no_handing = refl; no_closing = refl; no_finish = differs j conn q }))))
+    (λ j l q. sym (aside S x s j (quiet-finished x conn) (record { no_request = refl; no_handing = refl; no_closing = refl; no_finish = differs j conn q }))))
 
 -- HANDED
 
@@ -107,7 +108,7 @@ connections-handed S H pass conn answer =
     let x = past S H in
     let s : Step = record { pass = pass; event = Handed conn; answer = answer } in
     sym (changed-table (connection_of x) (connection_of (after S s x)) (option_map handing) (opened H) conn (λ l. handed_at S x s conn refl)
-      (λ j l q. sym (aside S x s j (quiet-handed x conn) (record { no_request = refl; no_handing = differs j conn q; no_closing = refl; no_finish = refl }))))
+    (λ j l q. sym (aside S x s j (quiet-handed x conn) (record { no_request = refl; no_handing = differs j conn q; no_closing = refl; no_finish = refl }))))
 
 -- CLOSED
 
@@ -120,4 +121,4 @@ connections-closed S H pass conn answer =
     let x = past S H in
     let s : Step = record { pass = pass; event = Closed conn; answer = answer } in
     sym (changed-table (connection_of x) (connection_of (after S s x)) (λ k. None) (opened H) conn (λ l. closed_at S x s conn refl)
-      (λ j l q. sym (aside S x s j (quiet-closed x conn) (record { no_request = refl; no_handing = refl; no_closing = differs j conn q; no_finish = refl }))))
+    (λ j l q. sym (aside S x s j (quiet-closed x conn) (record { no_request = refl; no_handing = refl; no_closing = differs j conn q; no_finish = refl }))))

@@ -1,12 +1,10 @@
 -- The parts of a command that has just arrived: none of them was sent, and their values are those that they got at once.
-use Rattle.std.proofs.Common.{◌≡◌, ℕ, ◌<◌, ◌≤◌, Bool, true, false, nat_lt, ◌==◌, ◌&&◌, List, [], ◌∷◌, ◌++◌, length, map, filter, Option, Some, None, refl, sym, ap, ◌∙◌, inl, inr, arith}
+use Rattle.std.proofs.Common.{◌≡◌, ℕ, ◌<◌, Bool, false, nat_lt, ◌==◌, ◌&&◌, List, [], ◌∷◌, ◌++◌, length, map, filter, Option, Some, None, refl, sym, ap, ◌∙◌, inl, inr, arith}
 use Rattle.std.specs.Prelude.{option_map}
 use Rattle.std.specs.List.{find, zip, list_any}
 use Rattle.std.proofs.lemmas.Bool.{cases_Bool, and_left, and_parts, or_parts, or_from, eqb-true, ltb-true, false_from_ne_true}
-use Rattle.std.proofs.lemmas.List.{append-nil}
 use Rattle.std.proofs.lemmas.List.Elements.{filter-append}
 use Rattle.resp_core.specs.Tree.{Tree}
-use Rattle.splitter.specs.Plan.{Plan, here, leave, parts}
 use Rattle.splitter.specs.declared.plans.PartPlan.{PartPlan}
 use Rattle.proxy_history.specs.Setting.{Setting}
 use Rattle.proxy_history.specs.History.{History, Step, accepted, epoch}
@@ -14,12 +12,12 @@ use Rattle.proxy_history.specs.Replies.{came}
 use Rattle.proxy_history.specs.Part.{Part, Past, is_same, is_of}
 use Rattle.proxy_history.specs.Past.{past, after}
 use Rattle.proxy_history.specs.Waiting.{waiting, waits, first, sent_by, sent_to}
-use Rattle.proxy_history.specs.Arrival.{parts_by, placed_by, placing, placed_part, with_host, host_for, hostless}
+use Rattle.proxy_history.specs.Arrival.{parts_by, placing, placed_part, with_host, host_for, hostless}
 use Rattle.proxy_history.specs.Value.{reply_to, value_at, value_of, value_or}
 use Rattle.proxy_history.specs.Outcome.{parts_of, is_part_of}
 use Rattle.proxy_history.specs.declared.event.Event.{Event}
 use Rattle.proxy_history.specs.declared.event.Event.TheVariants.{Opened, Arrived, Finished, Taken, Answered, Failed, Swept, Handed, Closed}
-use Rattle.proxy_history.proofs.Fresh.{AreOf, placing_are_of}
+use Rattle.proxy_history.proofs.Fresh.{AreOf}
 use Rattle.proxy_history.proofs.Apart.{AreEarlier, earlier_grows, earlier_both, parts_are_in_order}
 use Rattle.proxy_history.proofs.Waiting.{any_less}
 use Rattle.proxy_history.proofs.CommandParts.{all_of, are_placed, not_yet}
