@@ -37,7 +37,7 @@ changed_next change (suc n) [] = refl
 changed_next change (suc n) (x ∷ xs) = ap (λ ys. change x ∷ ys) (changed_next change n xs)
 
 pub changed_to-more : {X : Type 0} (change : X → X) (n : ℕ) (xs : List X) → changed_at change n (changed_to change n xs) ≡ changed_to change (n + 1) xs
-changed_to-more change n xs = changed_next change n xs ∙ ap (λ k. changed_to change k xs) (sym (add-one))
+changed_to-more change n xs = changed_next change n xs ∙ ap (λ k. changed_to change k xs) (sym (add-one n))
 
 pub changed_to-all : {X : Type 0} (change : X → X) (n : ℕ) (xs : List X) → length xs ≤ n → changed_to change n xs ≡ map change xs
 changed_to-all change zero [] l = refl

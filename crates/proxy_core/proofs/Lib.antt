@@ -1,2 +1,8 @@
 pub mod Tabled
 pub mod Changed
+pub mod CommandRows
+pub mod Counts
+pub mod ConnectionFacts
+pub mod ConnectionsMove
+pub mod NewParts
+pub mod ConnectionsArrived

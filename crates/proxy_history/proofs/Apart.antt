@@ -58,11 +58,11 @@ abbrev pub AreEarlier : History → List Part → Type 0
 AreEarlier H [] = Unit {0}
 AreEarlier H (p ∷ ps) = (p.command < accepted p.conn H) × AreEarlier H ps
 
-earlier_grows : (s : Step) (H : History) (ps : List Part) → AreEarlier H ps → AreEarlier (s ∷ H) ps
+pub earlier_grows : (s : Step) (H : History) (ps : List Part) → AreEarlier H ps → AreEarlier (s ∷ H) ps
 earlier_grows s H [] a = tt
 earlier_grows s H (p ∷ ps) a = (omega (arith, a.0, times_grows (is_arrival p.conn) s H), earlier_grows s H ps a.1)
 
-earlier_both : (H : History) (ps qs : List Part) → AreEarlier H ps → AreEarlier H qs → AreEarlier H (ps ++ qs)
+pub earlier_both : (H : History) (ps qs : List Part) → AreEarlier H ps → AreEarlier H qs → AreEarlier H (ps ++ qs)
 earlier_both H [] qs a b = b
 earlier_both H (p ∷ ps) qs a b = (a.0, earlier_both H ps qs a.1 b)
 

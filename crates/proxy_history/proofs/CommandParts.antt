@@ -32,7 +32,7 @@ length-placing S x conn command placed [] = omega arith
 length-placing S x conn command placed (p ∷ ps) =
     omega (arith, length-placing S x conn command (placed ++ placed_part S x conn command placed p ∷ []) ps, length-append placed (placed_part S x conn command placed p ∷ []))
 
-all_of : (conn command : ℕ) (ps : List Part) → AreOf conn command ps → filter (is_part_of conn command) ps ≡ ps
+pub all_of : (conn command : ℕ) (ps : List Part) → AreOf conn command ps → filter (is_part_of conn command) ps ≡ ps
 all_of conn command [] a = refl
 all_of conn command (p ∷ ps) a =
     let f : (p.conn == conn) ≡ true = eq-eqb p.conn conn a.0 in
@@ -45,7 +45,7 @@ none_of c i conn command (p ∷ ps) e a =
     let f : is_part_of c i p ≡ false = rw (a.0, a.1) e in
     rw f (none_of c i conn command ps e a.2)
 
-are_placed : (S : Setting) (x : Past) (conn : ℕ) (list : List PartPlan) → AreOf conn (accepted conn x.steps) (placing S x conn (accepted conn x.steps) [] list)
+pub are_placed : (S : Setting) (x : Past) (conn : ℕ) (list : List PartPlan) → AreOf conn (accepted conn x.steps) (placing S x conn (accepted conn x.steps) [] list)
 are_placed S x conn list = placing_are_of S x conn (accepted conn x.steps) [] list tt
 
 -- A COMMAND THAT HASN'T ARRIVED HAS NO PARTS
@@ -83,7 +83,7 @@ fewer : (b : Bool) (n i : ℕ) → (if b then n + 1 else n) ≤ i → n ≤ i
 fewer true n i l = omega arith
 fewer false n i l = l
 
-not_yet : (S : Setting) (H : History) (c i : ℕ) → accepted c H ≤ i → parts_of c i (past S H) ≡ []
+pub not_yet : (S : Setting) (H : History) (c i : ℕ) → accepted c H ≤ i → parts_of c i (past S H) ≡ []
 not_yet S [] c i l = refl
 not_yet S (s ∷ H) c i l =
     filter-append (is_part_of c i) (parts_in S H) (parts_by S (past S H) s.event)
@@ -150,7 +150,7 @@ length-parts_of S (s ∷ H) c i request how list e f = elim (cases_Bool (nat_lt 
 
 -- WHAT A JOIN IS ASKED
 
-plan_may_join : (r : Request) (how : Join) (list : List PartPlan) → plan_for r ≡ parts how list → MayJoin how (length list)
+pub plan_may_join : (r : Request) (how : Join) (list : List PartPlan) → plan_for r ≡ parts how list → MayJoin how (length list)
 plan_may_join (requests'.Read v) how list e = (parts_are_commands (tree_of v) how list e).0
 plan_may_join requests'.Broken how list e = absurd (cc e)
 

@@ -27,7 +27,7 @@ filter_both f g (x ∷ xs) = elim (cases_Bool (f x)) [
   | inr e ↦ rw (e) (filter_both f g xs)
 ]
 
-any_less : {X : Type 0} (t f : X → Bool) (xs : List X) → list_any t xs ≡ false → list_any t (filter f xs) ≡ false
+pub any_less : {X : Type 0} (t f : X → Bool) (xs : List X) → list_any t xs ≡ false → list_any t (filter f xs) ≡ false
 any_less t f [] e = refl
 any_less t f (x ∷ xs) e =
     let a = or_parts (t x) (list_any t xs) e in

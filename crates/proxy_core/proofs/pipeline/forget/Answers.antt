@@ -1,16 +1,16 @@
-use Rattle.std.proofs.Common.{rules, ◌≡◌, ◌+◌, ◌<◌, ◌^◌, map, ℕ, ◌-◌, ◌*◌, ◌≤◌, length, ◌/◌, ◌%◌, Bool, true, false, nat_eq, nat_lt, List, [], ◌∷◌, ◌++◌, slice_index_or, slice_set, bit_and, bit_or, Fits, w8, w32, w64, Bor, MutBor}
-use Rattle.proxy_core.specs.Pipelines.{state_of, taken_from, without_connection}
-use Rattle.proxy_core.specs.Machine.{text_of_oldest}
+use Rattle.std.proofs.Common.{◌≡◌, ◌≤◌, map, length, refl, sym, ap, ◌∙◌, arith}
+use Rattle.std.proofs.lemmas.List.{length-map}
+use Rattle.proxy_core.specs.Pipelines.{state_of, without_connection}
+use Rattle.proxy_core.proofs.Changed.{changed_to-more, changed_to-all, map-slice_set}
 use Rattle.proxy_core.proofs.pipeline.forget.Goals as goal
 
--- src/pipeline.rt:35:5
 pub loop-pipeline-init : goal.loop-pipeline-init
-loop-pipeline-init c = ?
+loop-pipeline-init c = refl
 
--- src/pipeline.rt:35:5
 pub loop-pipeline-preserved : goal.loop-pipeline-preserved
 loop-pipeline-preserved c = ?
 
--- src/pipeline.rt:32:1
 pub returns : goal.returns
-returns c = ?
+returns c =
+    let l : length (map state_of c.args.pipelines.now) ≤ c.loop-pipeline.pipeline-index = ? in
+    c.loop-pipeline.invariant ∙ changed_to-all (without_connection c.args.conn) c.loop-pipeline.pipeline-index (map state_of c.args.pipelines.now) l
