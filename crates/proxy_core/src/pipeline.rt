@@ -26,6 +26,13 @@ impl Pipeline {
             None => Bytes::new(),
         }
     }
+
+    // A connection is closed.
+    fn forget(&mut self, conn: u64)
+        ensures { state_of self.new ≡ without_connection conn (state_of self.old) }
+    {
+        self.pipe.forget(conn);
+    }
 }
 
 /// A connection is closed: its parts that wait are dropped, and the replies to those that fly go to nobody.
@@ -33,6 +40,6 @@ pub(crate) fn forget(pipelines: &mut [Pipeline], conn: u64)
     ensures { map state_of pipelines.new ≡ map (without_connection conn) (map state_of pipelines.old) }
 {
     for pipeline in pipelines.iter_mut() {
-        pipeline.pipe.forget(conn);
+        pipeline.forget(conn);
     }
 }

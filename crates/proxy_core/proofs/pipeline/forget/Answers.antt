@@ -1,6 +1,7 @@
-use Rattle.std.proofs.Common.{◌≡◌, ◌≤◌, map, length, refl, sym, ap, ◌∙◌, arith}
+use Rattle.std.proofs.Common.{◌≡◌, map, refl, ap, ◌∙◌, arith}
 use Rattle.std.proofs.lemmas.List.{length-map}
 use Rattle.proxy_core.specs.Pipelines.{state_of, without_connection}
+use Rattle.reply_queue.specs.Queue.{changed_at}
 use Rattle.proxy_core.proofs.Changed.{changed_to-more, changed_to-all, map-slice_set}
 use Rattle.proxy_core.proofs.pipeline.forget.Goals as goal
 
@@ -8,9 +9,14 @@ pub loop-pipeline-init : goal.loop-pipeline-init
 loop-pipeline-init c = refl
 
 pub loop-pipeline-preserved : goal.loop-pipeline-preserved
-loop-pipeline-preserved c = ?
+loop-pipeline-preserved c =
+    let change = without_connection c.args.conn in
+    map-slice_set state_of change c.loop-pipeline.pipeline-index c.loop-pipeline.pipelines c.forget.new.self c.pipeline-item.result c.forget.ensures
+    ∙ ap (changed_at change c.loop-pipeline.pipeline-index) c.loop-pipeline.invariant
+    ∙ changed_to-more change c.loop-pipeline.pipeline-index (map state_of c.args.pipelines.now)
 
 pub returns : goal.returns
 returns c =
-    let l : length (map state_of c.args.pipelines.now) ≤ c.loop-pipeline.pipeline-index = ? in
-    c.loop-pipeline.invariant ∙ changed_to-all (without_connection c.args.conn) c.loop-pipeline.pipeline-index (map state_of c.args.pipelines.now) l
+    c.loop-pipeline.invariant
+    ∙ changed_to-all (without_connection c.args.conn) c.loop-pipeline.pipeline-index (map state_of c.args.pipelines.now)
+    (omega (arith, length-map c.args.pipelines.now state_of, c.loop-pipeline-test.false))
