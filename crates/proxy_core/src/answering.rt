@@ -1,5 +1,5 @@
 //! Hosts answer, and hosts fail.
-ghost use Rattle.std.specs.Prelude.{◌≡◌, ◌<◌, ◌+◌, ◌^◌, length, map, vec_len, IfOk, IfErr, OnOk, List, ℕ, ◌-◌};
+ghost use Rattle.std.specs.Prelude.{◌≡◌, ◌<◌, ◌+◌, ◌^◌, length, map, vec_len, IfOk, IfErr, OnOk, List, ◌-◌, ◌∷◌};
 ghost use Rattle.resp_core.specs.Text.{text};
 ghost use Rattle.resp_core.specs.Value.{tree_of};
 ghost use Rattle.ejector.specs.declared.mark.Mark.{Mark};
@@ -70,14 +70,14 @@ impl Machine {
         Ok(Answer::Matched { trip })
     }
 
-    // Looks for a cause, shares the reply, and makes room.
+    // Looks for a cause, shares the reply, and makes room. Its moment doesn't count here.
     fn ready_to_answer(&mut self, host: usize, epoch: u64, value: &Value) -> Result<Value, Refusal>
         requires hosts { vec_len self.old.pipelines ≡ hosts (setting_in self.old) }
-        ensures ready { IfOk result (λ shared. (tree_of shared ≡ tree_of value.now)
-            × ((t : ℕ) → IsReady self.old self.new (events.Answered host epoch value.now t))) }
+        ensures ready { OnOk result (IsReady self.old self.new (events.Answered host epoch value.now 0)) }
+        ensures shared { IfOk result (λ shared. tree_of shared ≡ tree_of value.now) }
         ensures place { OnOk result (0 < self.new.ejector.room) }
         ensures text { OnOk result (length (text (tree_of value.now)) < 2 ^ 64 - 1) }
-        ensures refused { IfErr result (λ r. IsSame self.old self.new × ((t : ℕ) → HasCauseIn self.old (events.Answered host epoch value.now t) r)) }
+        ensures refused { IfErr result (λ r. IsSame self.old self.new × HasCauseIn self.old (events.Answered host epoch value.now 0) r) }
     {
         if let Some(cause) = self.answer_cause(host, epoch, value) {
             return Err(cause);
@@ -88,14 +88,16 @@ impl Machine {
         if self.ejector.room().is_err() {
             return Err(Refusal::NoMemory);
         }
-        make_room(&mut self.journal, value.text_len())?;
-        Ok(shared)
+        match make_room(&mut self.journal, value.text_len()) {
+            Ok(()) => Ok(shared),
+            Err(cause) => Err(cause),
+        }
     }
 
     // Why the reply is refused, if it is for a cause of its own.
     fn answer_cause(&self, host: usize, epoch: u64, value: &Value) -> Option<Refusal>
         requires hosts { vec_len self.now.pipelines ≡ hosts (setting_in self.now) }
-        ensures { (t : ℕ) → result ≡ own_cause_in (setting_in self.now) (memory_in self.now) (events.Answered host epoch value.now t) }
+        ensures { result ≡ own_cause_in (setting_in self.now) (memory_in self.now) (events.Answered host epoch value.now 0) }
     {
         let Some(pipeline) = self.pipelines.get(host) else {
             return Some(Refusal::NoSuchHost);

@@ -1,11 +1,12 @@
 //! Replies are handed out.
-ghost use Rattle.std.specs.Prelude.{◌≡◌, length, IfOk, IfErr};
+ghost use Rattle.std.specs.Prelude.{◌≡◌, length, IfOk, IfErr, IfSome, IsTrue};
 ghost use Rattle.resp_core.specs.Text.{text};
+ghost use Rattle.resp_core.specs.Tree.{is_plain_tree};
 ghost use Rattle.resp_core.specs.Value.{tree_of};
 ghost use Rattle.proxy_history.specs.declared.answer.Answer.TheVariants as answers;
 ghost use Rattle.proxy_history.specs.declared.event.Event.TheVariants as events;
 ghost use Rattle.proxy_core.specs.Connections.{handing, with_connection};
-ghost use Rattle.proxy_core.specs.Machine.{memory_in, text_in, IsTurned, IsSame, IsReady, HasCauseIn};
+ghost use Rattle.proxy_core.specs.Machine.{connection_at, memory_in, reply_in, text_in, IsTurned, IsSame, IsReady, HasCauseIn};
 
 use crate::connection::{connection_at, hand};
 use crate::machine::{Machine, make_room};
@@ -19,6 +20,7 @@ use std::alloc::{AllocError, Global};
 impl Machine {
     /// Hands out the reply to the oldest command of the connection that isn't handed out.
     pub(crate) fn hand(&mut self, pass: u64, conn: u64) -> Result<Answer, Refused>
+        requires plain { IfSome (reply_in (connection_at conn self.old.connections.items)) (λ v. IsTrue (is_plain_tree v)) }
         ensures answered { IfOk result (λ a. (a ≡ answers.Bytes (text_in (memory_in self.old) (events.Handed conn)))
             × IsTurned self.old self.new pass (events.Handed conn) a
             (record (memory_in self.old) { connections = with_connection handing conn self.old.connections.items })) }
@@ -45,6 +47,7 @@ impl Machine {
 
     // Looks for a cause, writes the reply's text, twice in one place, and makes room.
     fn ready_to_hand(&mut self, conn: u64) -> Result<(Bytes, Bytes), Refusal>
+        requires plain { IfSome (reply_in (connection_at conn self.old.connections.items)) (λ v. IsTrue (is_plain_tree v)) }
         ensures ready { IfOk result (λ texts. (texts.0 ≡ text_in (memory_in self.old) (events.Handed conn))
             × (texts.1 ≡ text_in (memory_in self.old) (events.Handed conn)) × IsReady self.old self.new (events.Handed conn)) }
         ensures refused { IfErr result (λ r. IsSame self.old self.new × HasCauseIn self.old (events.Handed conn) r) }
@@ -61,13 +64,16 @@ impl Machine {
         };
         let text = text_of(self.alloc, &reply)?;
         let shared = text.clone()?;
-        make_room(&mut self.journal, text.len() as u64)?;
-        Ok((text, shared))
+        match make_room(&mut self.journal, text.len() as u64) {
+            Ok(()) => Ok((text, shared)),
+            Err(cause) => Err(cause),
+        }
     }
 }
 
-// The text of a value.
+// The text of a value, which has to be plain.
 fn text_of(alloc: Global, value: &Value) -> Result<Bytes, AllocError>
+    requires { IsTrue (is_plain_tree (tree_of value.now)) }
     ensures { IfOk result (λ bytes. bytes ≡ text (tree_of value.now)) }
 {
     let mut text = Vec::new(alloc);

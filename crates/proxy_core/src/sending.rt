@@ -61,7 +61,9 @@ impl Machine {
             return Err(Refusal::NothingWaiting);
         };
         let text = part.text.clone()?;
-        make_room(&mut self.journal, text.len() as u64)?;
-        Ok(text)
+        match make_room(&mut self.journal, text.len() as u64) {
+            Ok(()) => Ok(text),
+            Err(cause) => Err(cause),
+        }
     }
 }
