@@ -1,2 +1,3 @@
 pub mod Tabled
 pub mod Members
+pub mod PartFacts

@@ -32,14 +32,14 @@ length-placing S x conn command placed [] = omega arith
 length-placing S x conn command placed (p ∷ ps) =
     omega (arith, length-placing S x conn command (placed ++ placed_part S x conn command placed p ∷ []) ps, length-append placed (placed_part S x conn command placed p ∷ []))
 
-all_of : (conn command : ℕ) (ps : List Part) → AreOf conn command ps → filter (is_part_of conn command) ps ≡ ps
+pub all_of : (conn command : ℕ) (ps : List Part) → AreOf conn command ps → filter (is_part_of conn command) ps ≡ ps
 all_of conn command [] a = refl
 all_of conn command (p ∷ ps) a =
     let f : (p.conn == conn) ≡ true = eq-eqb p.conn conn a.0 in
     let g : (p.command == command) ≡ true = eq-eqb p.command command a.1 in
     rw (f, g) (ap (λ z. p ∷ z) (all_of conn command ps a.2))
 
-none_of : (c i conn command : ℕ) (ps : List Part) → ((conn == c) && (command == i)) ≡ false → AreOf conn command ps → filter (is_part_of c i) ps ≡ []
+pub none_of : (c i conn command : ℕ) (ps : List Part) → ((conn == c) && (command == i)) ≡ false → AreOf conn command ps → filter (is_part_of c i) ps ≡ []
 none_of c i conn command [] e a = refl
 none_of c i conn command (p ∷ ps) e a =
     let f : is_part_of c i p ≡ false = rw (a.0, a.1) e in
@@ -83,7 +83,7 @@ fewer : (b : Bool) (n i : ℕ) → (if b then n + 1 else n) ≤ i → n ≤ i
 fewer true n i l = omega arith
 fewer false n i l = l
 
-not_yet : (S : Setting) (H : History) (c i : ℕ) → accepted c H ≤ i → parts_of c i (past S H) ≡ []
+pub not_yet : (S : Setting) (H : History) (c i : ℕ) → accepted c H ≤ i → parts_of c i (past S H) ≡ []
 not_yet S [] c i l = refl
 not_yet S (s ∷ H) c i l =
     filter-append (is_part_of c i) (parts_in S H) (parts_by S (past S H) s.event)
