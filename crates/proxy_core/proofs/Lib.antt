@@ -1,3 +1,4 @@
 pub mod Tabled
 pub mod Members
 pub mod PartFacts
+pub mod Valued
