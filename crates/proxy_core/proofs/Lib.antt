@@ -2,3 +2,4 @@ pub mod Tabled
 pub mod Members
 pub mod PartFacts
 pub mod Valued
+pub mod Given
