@@ -3,3 +3,4 @@ pub mod Members
 pub mod PartFacts
 pub mod Valued
 pub mod Given
+pub mod ValuesMove
