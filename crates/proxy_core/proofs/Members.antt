@@ -1,7 +1,7 @@
 -- Members of lists, and parts that are the same.
 use Rattle.std.proofs.Common.{◌≡◌, ◌⊎◌, ◌<◌, ℕ, zero, suc, ◌+◌, ◌&&◌, ◌==◌, Bool, true, false, List, [], ◌∷◌, ◌++◌, length, filter, drop, get_or, find, zip, Option, Some, None, Contains, slice_get, refl, sym, ap, ◌∙◌, subst, inl, inr, arith}
 use Rattle.std.specs.List.{list_any}
-use Rattle.std.proofs.lemmas.Bool.{cases_Bool, or_parts, or_from, or_cases, both_ways, eq-eqb}
+use Rattle.std.proofs.lemmas.Bool.{cases_Bool, or_parts, or_from, or_cases, or_left, or_right, both_ways, eq-eqb}
 use Rattle.std.proofs.lemmas.List.Elements.{Contains-append_cases, Contains-append_right}
 use Rattle.std.proofs.lemmas.List.Folds.{list_any-append}
 use Rattle.std.proofs.lemmas.Option.{slice_get-get_or}
@@ -81,6 +81,13 @@ any_of test [] e = absurd cc
 any_of test (q ∷ ps) e = elim (or_cases (test q) (list_any test ps) e) [
   | inl here ↦ (q, first_in q ps, here)
   | inr more ↦ let a = any_of test ps more in (a.0, later_in q ps a.0 a.1, a.2)
+]
+
+pub any_from : (test : Part → Bool) (ps : List Part) (p : Part) → Contains ps p → test p ≡ true → list_any test ps ≡ true
+any_from test [] p h e = absurd (none_in p h)
+any_from test (q ∷ ps) p h e = elim (in_cases q ps p h) [
+  | inl one ↦ or_left (test q) (list_any test ps) (ap test one ∙ e)
+  | inr more ↦ or_right (test q) (list_any test ps) (any_from test ps p more e)
 ]
 
 pub none_of_them : (test : Part → Bool) (ps : List Part) (p : Part) → list_any test ps ≡ false → Contains ps p → test p ≡ false

@@ -31,7 +31,7 @@ use Rattle.proxy_history.proofs.OfPast.{are_of_past}
 use Rattle.proxy_history.proofs.Apart.{parts_are_in_order}
 use Rattle.proxy_history.proofs.Asked.{some_fly}
 use Rattle.proxy_history.proofs.Arrived.{in_filter, sent_parts_arrived}
-use Rattle.proxy_core.proofs.Members.{first_in, later_in, in_cases, none_in, in_drop, in_filter_too, filter_passes, is_same_self, any_of, none_of_them, any_none, one_part, apart_drop, apart_append, none_found, unfound, behind_unfound}
+use Rattle.proxy_core.proofs.Members.{first_in, later_in, in_cases, none_in, in_drop, in_filter_too, filter_passes, is_same_self, any_of, any_from, none_of_them, any_none, one_part, apart_drop, apart_append, none_found, unfound, behind_unfound}
 
 -- WHO HAS NO REPLY YET
 
@@ -208,3 +208,162 @@ module _ (S : Setting) (H : History) (pass host e t : ℕ) (value : Value) (answ
             ∙ one_reply_more q p (tree_of value) (sent_to h q.epoch x) rest (came h q.epoch H) there
             ∙ ap (λ (b : Bool). value_or (reply_to q h x) (if b then Some (tree_of value) else None)) n
             ∙ value_or-none (reply_to q h x)
+
+    reply_to_oldest : reply_to p host (past S (answered_step ∷ H)) ≡ Some (tree_of value)
+    reply_to_oldest =
+        let x = past S H in
+        let u = flight_is_unanswered host x p (none_twice S H) (subst (λ (z : List Part). Contains z p) (sym flies) (first_in p rest)) in
+        let now : p.epoch ≡ epoch host H = u.epoch_is in
+        let there : drop (length (came host p.epoch H)) (sent_to host p.epoch x) ≡ p ∷ rest =
+            subst (λ (z : ℕ). drop (length (came host z H)) (sent_to host z x) ≡ p ∷ rest) (sym now) flies in
+        let this : ((host == host) && (e == p.epoch)) ≡ true = and_from _ _ (eq-eqb host host refl) (eq-eqb e p.epoch (is_current S x host e t value none ∙ sym now)) in
+        let one : reply_by host p.epoch (Answered host e value t) ≡ tree_of value ∷ [] = rw this refl in
+        ap (λ z. looked_up p (filter (is_of host p.epoch) z) (came host p.epoch H ++ reply_by host p.epoch (Answered host e value t))) (append-nil x.sent)
+        ∙ ap (λ z. looked_up p (sent_to host p.epoch x) (came host p.epoch H ++ z)) one
+        ∙ one_reply_more p p (tree_of value) (sent_to host p.epoch x) rest (came host p.epoch H) there
+        ∙ ap (λ (z : Option Tree). value_or z (if is_same p p then Some (tree_of value) else None)) u.no_reply
+        ∙ ap (λ (b : Bool). if b then Some (tree_of value) else None) (is_same_self p)
+
+    -- the oldest that flies gets the value
+    pub value_of_oldest : value_of (past S (answered_step ∷ H)) p ≡ Some (tree_of value)
+    value_of_oldest =
+        let x' = past S (answered_step ∷ H) in
+        let u = flight_is_unanswered host (past S H) p (none_twice S H) (subst (λ (z : List Part). Contains z p) (sym flies) (first_in p rest)) in
+        value-of_host x' host p u.no_local u.host_is ∙ ap (or_lost (nat_lt p.epoch (epoch host (answered_step ∷ H)))) reply_to_oldest
+
+    -- and the others keep theirs
+    pub value_of_other : (q : Part) → is_same q p ≡ false → value_of (past S (answered_step ∷ H)) q ≡ value_of (past S H) q
+    value_of_other q n = ap (value_or q.local) (by_host q.host)
+      where
+        by_host : (o : Option ℕ) → value_at (past S (answered_step ∷ H)) q o ≡ value_at (past S H) q o
+        by_host None = refl
+        by_host (Some h) = ap (or_lost (nat_lt q.epoch (epoch h H))) (reply_after q h n)
+
+    -- of the parts that arrived, the oldest that flies has this value now, and the others have what they had
+    pub values_answered : (q : Part) → Contains (past S H).parts q
+        → value_of (past S (answered_step ∷ H)) q ≡ (if list_any (is_same q) (p ∷ []) then Some (tree_of value) else value_of (past S H) q)
+    values_answered q i = by_part (cases_Bool (is_same q p))
+      where
+        by_part : (is_same q p ≡ true) ⊎ (is_same q p ≡ false)
+            → value_of (past S (answered_step ∷ H)) q ≡ (if list_any (is_same q) (p ∷ []) then Some (tree_of value) else value_of (past S H) q)
+        by_part (inl y) =
+            let arrived = flight_arrived S H host p (subst (λ (z : List Part). Contains z p) (sym flies) (first_in p rest)) in
+            let is : q ≡ p = one_part (past S H).parts q p (parts_are_in_order S H).apart i arrived y in
+            let any : list_any (is_same q) (p ∷ []) ≡ true = or_left (is_same q p) false y in
+            ap (value_of (past S (answered_step ∷ H))) is ∙ value_of_oldest
+            ∙ ap (λ (b : Bool). if b then Some (tree_of value) else value_of (past S H) q) (sym any)
+        by_part (inr n) =
+            let any : list_any (is_same q) (p ∷ []) ≡ false = ap (λ (b : Bool). b || false) n in
+            value_of_other q n ∙ ap (λ (b : Bool). if b then Some (tree_of value) else value_of (past S H) q) (sym any)
+
+-- A FAULT
+
+of_past_at : (H : History) (ps : List Part) (p : Part) (h : ℕ) → AreOfPast H ps → Contains ps p → p.host ≡ Some h → p.epoch ≤ epoch h H
+of_past_at H [] p h a i o = absurd (none_in p i)
+of_past_at H (q ∷ ps) p h a i o = elim (in_cases q ps p i) [
+  | inl one ↦
+      let there : is_host h q.host ≡ true = is_host_self h q.host (ap (λ (z : Part). z.host) one ∙ o) in
+      omega (arith, a.0 h there, ap (λ (z : Part). z.epoch) one)
+  | inr more ↦ of_past_at H ps p h a.1 more o
+]
+
+-- an open part of the host's present epoch that has no reply flies or waits
+unanswered_is_at_host : (S : Setting) (H : History) (h : ℕ) (q : Part) → Contains (past S H).parts q → is_closed q.conn H ≡ false → IsUnanswered (past S H) h q
+    → list_any (is_same q) (at_host h (past S H)) ≡ true
+unanswered_is_at_host S H h q i o u = list_any-append (is_same q) (in_flight h (past S H)) (waiting h (past S H)) ∙ by_sent (cases_Bool (list_any (is_same q) (past S H).sent))
+  where
+    ours : is_of h (epoch h H) q ≡ true
+    ours = from_pipe h (epoch h H) q u.host_is u.epoch_is u.no_local
+
+    not_there : find (λ (r : Part × Tree). is_same q r.0) (zip (sent_to h (epoch h H) (past S H)) (came h (epoch h H) H)) ≡ None
+    not_there = none_of_found (find (λ (r : Part × Tree). is_same q r.0) (zip (sent_to h (epoch h H) (past S H)) (came h (epoch h H) H)))
+        (subst (λ (z : ℕ). looked_up q (sent_to h z (past S H)) (came h z H) ≡ None) u.epoch_is u.no_reply)
+      where
+        none_of_found : (r : Option (Part × Tree)) → option_map (λ (z : Part × Tree). z.1) r ≡ None → r ≡ None
+        none_of_found None e = refl
+        none_of_found (Some r) e = absurd (cc e)
+
+    by_sent : (list_any (is_same q) (past S H).sent ≡ true) ⊎ (list_any (is_same q) (past S H).sent ≡ false)
+        → (list_any (is_same q) (in_flight h (past S H)) || list_any (is_same q) (waiting h (past S H))) ≡ true
+    by_sent (inl sent) =
+        let x = past S H in
+        let a = any_of (is_same q) x.sent sent in
+        let is : q ≡ a.0 = one_part x.parts q a.0 (parts_are_in_order S H).apart i (sent_parts_arrived S H a.0 a.1) a.2 in
+        let also : Contains (sent_to h (epoch h H) x) a.0 = in_filter_too (is_of h (epoch h H)) x.sent a.0 a.1 (ap (is_of h (epoch h H)) (sym is) ∙ ours) in
+        let among : list_any (is_same q) (sent_to h (epoch h H) x) ≡ true = any_from (is_same q) (sent_to h (epoch h H) x) a.0 also a.2 in
+        or_left (list_any (is_same q) (in_flight h x)) (list_any (is_same q) (waiting h x)) (unfound (is_same q) (sent_to h (epoch h H) x) (came h (epoch h H) H) not_there among)
+    by_sent (inr never) =
+        let x = past S H in
+        let w : waits h x q ≡ true = and_from _ _ (and_from _ _ ours (ap not never)) (ap not o) in
+        or_right (list_any (is_same q) (in_flight h x)) (list_any (is_same q) (waiting h x))
+        (any_from (is_same q) (waiting h x) q (in_filter_too (waits h x) x.parts q i w) (is_same_self q))
+
+module _ (S : Setting) (H : History) (pass host e t : ℕ) (kind : Kind) (answer : Answer) where
+  abbrev failed_step : Step
+  failed_step = record { pass = pass; event = Failed host e kind t; answer = answer }
+
+  next_epoch : epoch host (failed_step ∷ H) ≡ epoch host H + 1
+  next_epoch = rw (eq-eqb host host refl) refl
+
+  same_epoch : (h : ℕ) → (host == h) ≡ false → epoch h (failed_step ∷ H) ≡ epoch h H
+  same_epoch h n = rw n refl
+
+  same_replies : (q : Part) (h : ℕ) → reply_to q h (past S (failed_step ∷ H)) ≡ reply_to q h (past S H)
+  same_replies q h =
+      let x = past S H in
+      ap (λ z. looked_up q (filter (is_of h q.epoch) z) (came h q.epoch H ++ [])) (append-nil x.sent) ∙ ap (looked_up q (sent_to h q.epoch x)) (append-nil (came h q.epoch H))
+
+  -- who has no reply is lost
+  lost_now : (q : Part) → IsUnanswered (past S H) host q → value_of (past S (failed_step ∷ H)) q ≡ Some upstream_failure
+  lost_now q u =
+      value-of_host (past S (failed_step ∷ H)) host q u.no_local u.host_is
+      ∙ ap (λ b. or_lost b (reply_to q host (past S (failed_step ∷ H)))) (lt-ltb q.epoch (epoch host (failed_step ∷ H)) (omega (arith, u.epoch_is, next_epoch)))
+      ∙ ap (or_lost true) (same_replies q host ∙ u.no_reply)
+
+  -- the value of a part of the host stays, but where it has no reply in the present epoch
+  stays_at : (q : Part) → q.epoch ≤ epoch host H → (o : Option Tree) → reply_to q host (past S H) ≡ o → (q.epoch ≡ epoch host H → o ≡ None → ⊥)
+      → or_lost (nat_lt q.epoch (epoch host (failed_step ∷ H))) o ≡ or_lost (nat_lt q.epoch (epoch host H)) o
+  stays_at q l (Some v) r f = refl
+  stays_at q l None r f = elim (cases_Bool (nat_lt q.epoch (epoch host H))) [
+    | inl y ↦
+        let m = ltb-true q.epoch (epoch host H) y in
+        let still : nat_lt q.epoch (epoch host (failed_step ∷ H)) ≡ true = lt-ltb q.epoch (epoch host (failed_step ∷ H)) (omega (arith, m, next_epoch)) in
+        ap (λ b. or_lost b None) still ∙ sym (ap (λ b. or_lost b None) y)
+    | inr n ↦ absurd (f (omega (arith, l, ltb-false q.epoch (epoch host H) n)) refl)
+  ]
+
+  stays_by : (q : Part) (l : Option Tree) (o : Option ℕ) → q.local ≡ l → q.host ≡ o → Contains (past S H).parts q → (IsUnanswered (past S H) host q → ⊥)
+      → value_or l (value_at (past S (failed_step ∷ H)) q o) ≡ value_or l (value_at (past S H) q o)
+  stays_by q (Some v) o a b i n = refl
+  stays_by q None None a b i n = refl
+  stays_by q None (Some h) a b i n = elim (cases_Bool (host == h)) [
+    | inl y ↦
+        let is : host ≡ h = eqb-true host h y in
+        let ours : q.host ≡ Some host = b ∙ ap Some (sym is) in
+        let past_epoch : q.epoch ≤ epoch host H = of_past_at H (past S H).parts q host (are_of_past S H) i ours in
+        subst (λ (z : ℕ). value_at (past S (failed_step ∷ H)) q (Some z) ≡ value_at (past S H) q (Some z)) is
+        (ap (or_lost (nat_lt q.epoch (epoch host (failed_step ∷ H)))) (same_replies q host)
+        ∙ stays_at q past_epoch (reply_to q host (past S H)) refl (λ now none. n (record { no_local = a; host_is = ours; epoch_is = now; no_reply = none })))
+    | inr f ↦
+        ap (λ z. or_lost (nat_lt q.epoch z) (reply_to q h (past S (failed_step ∷ H)))) (same_epoch h f)
+        ∙ ap (or_lost (nat_lt q.epoch (epoch h H))) (same_replies q h)
+  ]
+
+  -- of the parts of open connections that arrived, those that fly to the host or wait for it are lost now, and the others have
+  -- what they had
+  pub values_failed : (q : Part) → Contains (past S H).parts q → is_closed q.conn H ≡ false
+      → value_of (past S (failed_step ∷ H)) q ≡ (if list_any (is_same q) (at_host host (past S H)) then Some upstream_failure else value_of (past S H) q)
+  values_failed q i o = by_place (cases_Bool (list_any (is_same q) (at_host host (past S H))))
+    where
+      by_place : (list_any (is_same q) (at_host host (past S H)) ≡ true) ⊎ (list_any (is_same q) (at_host host (past S H)) ≡ false)
+          → value_of (past S (failed_step ∷ H)) q ≡ (if list_any (is_same q) (at_host host (past S H)) then Some upstream_failure else value_of (past S H) q)
+      by_place (inl y) =
+          let x = past S H in
+          let a = any_of (is_same q) (at_host host x) y in
+          let is : q ≡ a.0 = one_part x.parts q a.0 (parts_are_in_order S H).apart i (at_host_arrived S H host a.0 a.1) a.2 in
+          ap (value_of (past S (failed_step ∷ H))) is ∙ lost_now a.0 (at_host_is_unanswered host x a.0 (none_twice S H) a.1)
+          ∙ ap (λ (b : Bool). if b then Some upstream_failure else value_of x q) (sym y)
+      by_place (inr n) =
+          let x = past S H in
+          stays_by q q.local q.host refl refl i (λ u. both_ways (list_any (is_same q) (at_host host x)) n (unanswered_is_at_host S H host q i o u))
+          ∙ ap (λ (b : Bool). if b then Some upstream_failure else value_of x q) (sym n)
