@@ -4,3 +4,6 @@ pub mod PartFacts
 pub mod Valued
 pub mod Given
 pub mod ValuesMove
+pub mod Coming
+pub mod ConnectionsAnswered
+pub mod ConnectionsFailed

@@ -169,20 +169,21 @@ value_or-none : (o : Option Tree) → value_or o None ≡ o
 value_or-none None = refl
 value_or-none (Some v) = refl
 
+-- where a reply is accepted some part flies, the oldest first
+pub oldest_flies : (S : Setting) (H : History) (host e t : ℕ) (value : Value) → own_cause S (past S H) (Answered host e value t) ≡ None
+    → (p : Part) × (rest : List Part) × (in_flight host (past S H) ≡ p ∷ rest)
+oldest_flies S H host e t value none = some_one (in_flight host (past S H)) refl
+  where
+    some_one : (ps : List Part) → in_flight host (past S H) ≡ ps → (p : Part) × (rest : List Part) × (ps ≡ p ∷ rest)
+    some_one [] i =
+        let x = past S H in
+        let n : 0 < flying host x = some_fly S x host e t value none in
+        absurd (omega (arith, n, ap length i, length-drop (length (came host (epoch host H) H)) (sent_to host (epoch host H) x)))
+    some_one (p ∷ rest) i = (p, rest, refl)
+
 module _ (S : Setting) (H : History) (pass host e t : ℕ) (value : Value) (answer : Answer) (none : own_cause S (past S H) (Answered host e value t) ≡ None) where
   abbrev answered_step : Step
   answered_step = record { pass = pass; event = Answered host e value t; answer = answer }
-
-  -- some part flies, the oldest first
-  pub oldest_flies : (p : Part) × (rest : List Part) × (in_flight host (past S H) ≡ p ∷ rest)
-  oldest_flies = some_one (in_flight host (past S H)) refl
-    where
-      some_one : (ps : List Part) → in_flight host (past S H) ≡ ps → (p : Part) × (rest : List Part) × (ps ≡ p ∷ rest)
-      some_one [] i =
-          let x = past S H in
-          let n : 0 < flying host x = some_fly S x host e t value none in
-          absurd (omega (arith, n, ap length i, length-drop (length (came host (epoch host H) H)) (sent_to host (epoch host H) x)))
-      some_one (p ∷ rest) i = (p, rest, refl)
 
   module _ (p : Part) (rest : List Part) (flies : in_flight host (past S H) ≡ p ∷ rest) where
     -- the reply to the oldest, and else as it was
