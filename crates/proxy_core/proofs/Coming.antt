@@ -1,13 +1,12 @@
 -- Connections once values have come to some parts.
-use Rattle.std.proofs.Common.{◌≡◌, ◌⊎◌, ℕ, ◌+◌, ◌<◌, ◌≤◌, ◌==◌, ◌&&◌, ◌||◌, not, Bool, true, false, if◌then◌else◌, List, [], ◌∷◌, ◌++◌, map, filter, filter_map, drop, Option, Some, None, Contains, refl, sym, ap, ◌∙◌, subst, inl, inr, arith}
-use Rattle.std.specs.List.{list_any, range_with_len}
-use Rattle.std.proofs.lemmas.Bool.{cases_Bool, not-true, eqb-true, and_parts, both_ways}
+use Rattle.std.proofs.Common.{◌≡◌, ◌⊎◌, ℕ, ◌==◌, ◌&&◌, not, Bool, true, false, if◌then◌else◌, List, [], ◌∷◌, ◌++◌, map, filter, filter_map, drop, Option, Some, None, Contains, refl, sym, ap, ◌∙◌, subst, inl, inr}
+use Rattle.std.specs.List.{list_any}
+use Rattle.std.proofs.lemmas.Bool.{cases_Bool, not-true, eqb-true, and_parts}
 use Rattle.std.proofs.lemmas.List.{append-nil}
 use Rattle.resp_core.specs.Tree.{Tree}
 use Rattle.splitter.specs.declared.request.Request.{Request}
-use Rattle.upstream_pipe.specs.declared.part.Owner.{Owner}
 use Rattle.proxy_history.specs.Setting.{Setting}
-use Rattle.proxy_history.specs.History.{History, Step, opened, handed, requests, is_closed, is_finishing}
+use Rattle.proxy_history.specs.History.{History, Step, handed, requests, is_closed, is_finishing}
 use Rattle.proxy_history.specs.Part.{Past, Part, is_same}
 use Rattle.proxy_history.specs.Past.{past}
 use Rattle.proxy_history.specs.Value.{value_of}
@@ -18,8 +17,7 @@ use Rattle.proxy_history.proofs.Arrived.{in_filter}
 use Rattle.proxy_core.specs.Connections.{connections_of, answered_parts, AreAwaited}
 use Rattle.proxy_core.specs.Pipelines.{owner_of_part, place_of}
 use Rattle.proxy_core.specs.declared.connection.Connection.{Connection}
-use Rattle.proxy_core.proofs.Tabled.{same_range}
-use Rattle.proxy_core.proofs.Members.{first_in, later_in, in_filter_too, filter_passes, any_of, any_from, any_none, none_of_them}
+use Rattle.proxy_core.proofs.Members.{in_filter_too, filter_passes, any_of, any_from, any_none, none_of_them}
 use Rattle.proxy_core.proofs.PartFacts.{part_in_place, parts_are_numbered, part_is_asked, part_is_opened, not_handed}
 use Rattle.proxy_core.proofs.Valued.{Values, valued, valued_connection, valued_from, connections-valued, same_valued, IsThere}
 use Rattle.proxy_core.proofs.Given.{AreDue, given, given-is, are_awaited, parts-valued}

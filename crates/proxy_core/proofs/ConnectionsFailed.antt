@@ -1,6 +1,5 @@
 -- The connections where a host fails.
-use Rattle.std.proofs.Common.{◌≡◌, ℕ, Bool, true, false, List, [], ◌∷◌, ◌++◌, length, map, filter, filter_map, drop, Option, Some, None, Contains, refl, sym, ap, ◌∙◌, subst, inl, inr, arith}
-use Rattle.std.proofs.lemmas.Bool.{cases_Bool}
+use Rattle.std.proofs.Common.{◌≡◌, ℕ, false, List, [], ◌∷◌, ◌++◌, map, Contains, refl, sym, ap, ◌∙◌, subst}
 use Rattle.std.proofs.lemmas.List.{map-append}
 use Rattle.std.proofs.lemmas.List.Elements.{filter-append}
 use Rattle.upstream_pipe.specs.declared.part.Owner.{Owner}
@@ -19,11 +18,11 @@ use Rattle.proxy_history.proofs.SentOnce.{none_twice}
 use Rattle.proxy_history.proofs.Good.{waits_parts}
 use Rattle.proxy_history.proofs.Apart.{parts_are_in_order}
 use Rattle.proxy_core.specs.Connections.{connections_of, answered_parts, AreAwaited}
-use Rattle.proxy_core.specs.Pipelines.{pipeline_of, place_of, piped, owner_of_part, lost_owners}
+use Rattle.proxy_core.specs.Pipelines.{pipeline_of, piped, owner_of_part, lost_owners}
 use Rattle.proxy_core.proofs.Tabled.{same_range}
 use Rattle.proxy_core.proofs.Members.{filter_passes, first_in, later_in}
 use Rattle.proxy_core.proofs.ValuesMove.{in_flight, at_host, at_host_is_unanswered, at_host_arrived, at_host_apart, unanswered_has_none, values_failed}
-use Rattle.proxy_core.proofs.Valued.{valued, connections-valued}
+use Rattle.proxy_core.proofs.Valued.{connections-valued}
 use Rattle.proxy_core.proofs.Coming.{HaveNone, has_open, open_parts, open_owners, come-awaited, come-connections, nothing-new}
 
 -- the owners of parts that wait

@@ -1,30 +1,25 @@
 -- Parts that have no value yet get one, each in its turn.
-use Rattle.std.proofs.Common.{◌≡◌, ℕ, zero, suc, ◌+◌, ◌-◌, ◌<◌, ◌≤◌, ◌||◌, nat_lt, Bool, true, false, if◌then◌else◌, List, [], ◌∷◌, ◌++◌, map, drop, Option, Some, None, Contains, slice_get, option_and_then, refl, sym, ap, ◌∙◌, subst, inl, inr, arith}
-use Rattle.std.specs.List.{list_any, range_with_len}
-use Rattle.std.proofs.lemmas.Bool.{cases_Bool, le-ltb, or_parts}
+use Rattle.std.proofs.Common.{◌≡◌, ℕ, zero, suc, ◌+◌, ◌-◌, ◌≤◌, ◌||◌, Bool, true, false, if◌then◌else◌, List, [], ◌∷◌, map, drop, Option, Some, None, Contains, slice_get, option_map, option_and_then, refl, sym, ap, ◌∙◌, subst, arith}
+use Rattle.std.specs.List.{list_any}
+use Rattle.std.proofs.lemmas.Bool.{le-ltb}
+use Rattle.std.proofs.lemmas.Option.{slice_get-map}
 use Rattle.resp_core.specs.Tree.{Tree}
-use Rattle.splitter.specs.Plan.{Plan, parts}
+use Rattle.splitter.specs.Plan.{Plan}
 use Rattle.splitter.specs.declared.request.Request.{Request}
 use Rattle.reply_queue.specs.Command.{AwaitedCommand}
-use Rattle.reply_queue.specs.Queue.{QueueState, IsOpen}
-use Rattle.proxy_history.specs.History.{History, plan_for, opened, handed, requests, is_closed, is_finishing}
+use Rattle.reply_queue.specs.Queue.{IsOpen}
+use Rattle.proxy_history.specs.History.{History, plan_for, opened, handed, requests, is_finishing}
 use Rattle.proxy_history.specs.Part.{Part, is_same}
 use Rattle.proxy_history.specs.Laws.{AreApart}
 use Rattle.proxy_history.proofs.SentOnce.{is_other_sym}
-use Rattle.proxy_core.specs.Connections.{answered_part, answered_parts, IsAwaited, AreAwaited}
+use Rattle.proxy_core.specs.Connections.{answered_parts, IsAwaited, AreAwaited}
 use Rattle.proxy_core.specs.Pipelines.{owner_of_part}
 use Rattle.proxy_core.specs.declared.connection.Connection.{Connection}
 use Rattle.proxy_core.proofs.Tabled.{slice_get-table}
 use Rattle.proxy_core.proofs.Members.{first_in, later_in, none_of_them}
-use Rattle.proxy_core.proofs.PartFacts.{IsAsked}
-use Rattle.proxy_core.proofs.Valued.{Values, valued, valued_connection, valued_queue, valued_from, valued_by, own_parts, set, set-other, IsThere, part-valued}
+use Rattle.proxy_core.proofs.Valued.{Values, valued, valued_connection, valued_queue, valued_from, valued_by, own_parts, having, having-other, IsThere, part-valued}
 
 -- WHO HAS NO VALUE IS AWAITED
-
-slice_get-map : {X Y : Type 0} (f : X → Y) (xs : List X) (k : ℕ) (x : X) → slice_get xs k ≡ Some x → slice_get (map f xs) k ≡ Some (f x)
-slice_get-map f [] k x e = absurd cc
-slice_get-map f (y ∷ xs) zero x e = let is : y ≡ x = cc in ap (λ z. Some (f z)) is
-slice_get-map f (y ∷ xs) (suc k) x e = slice_get-map f xs k x e
 
 slice_get_behind : {X : Type 0} (n k : ℕ) (xs : List X) → n ≤ k → slice_get (drop n xs) (k - n) ≡ slice_get xs k
 slice_get_behind zero k xs l = ap (slice_get xs) (omega arith)
@@ -45,7 +40,7 @@ module _ (f : Values) (ps : List Part) (H : History) (p : Part) (t : IsThere ps 
   own_values : (plan : Plan) → plan ≡ plan_for t.asked.request → slice_get (valued_by f ps p.conn p.command plan).values p.number ≡ Some None
   own_values plan e =
       ap (λ (z : Plan). slice_get (valued_by f ps p.conn p.command z).values p.number) (e ∙ t.asked.is_split)
-      ∙ slice_get-map f (own_parts ps p.conn p.command) p.number p t.in_place ∙ ap Some none
+      ∙ slice_get-map f (own_parts ps p.conn p.command) p.number ∙ ap (option_map f) t.in_place ∙ ap Some none
 
   is_open_part : IsOpen (valued_queue f ps H p.conn) p.command p.number
   is_open_part =
@@ -74,7 +69,7 @@ module _ (f : Values) (ps : List Part) (H : History) (p : Part) (t : IsThere ps 
 -- the values once these parts have this one
 abbrev pub given : List Part → Tree → Values → Values
 given [] v f = f
-given (p ∷ ps) v f = given ps v (set p v f)
+given (p ∷ ps) v f = given ps v (having p v f)
 
 either_way : {X : Type 0} (a b : Bool) (x y : X) → (if b then x else (if a then x else y)) ≡ (if a || b then x else y)
 either_way true true x y = refl
@@ -83,7 +78,7 @@ either_way false b x y = refl
 
 pub given-is : (ps : List Part) (v : Tree) (f : Values) (q : Part) → given ps v f q ≡ (if list_any (is_same q) ps then Some v else f q)
 given-is [] v f q = refl
-given-is (p ∷ ps) v f q = given-is ps v (set p v f) q ∙ either_way (is_same q p) (list_any (is_same q) ps) (Some v) (f q)
+given-is (p ∷ ps) v f q = given-is ps v (having p v f) q ∙ either_way (is_same q p) (list_any (is_same q) ps) (Some v) (f q)
 
 -- each of these parts may get a value, and has none yet
 pub record AreDue (f : Values) (ps : List Part) (H : History) (due : List Part) : Type 0 where
@@ -91,11 +86,11 @@ pub record AreDue (f : Values) (ps : List Part) (H : History) (due : List Part) 
   pub there : (p : Part) → Contains due p → IsThere ps H p
   pub none : (p : Part) → Contains due p → f p ≡ None
 
-others_due : (f : Values) (ps : List Part) (H : History) (p : Part) (due : List Part) (v : Tree) → AreDue f ps H (p ∷ due) → AreDue (set p v f) ps H due
+others_due : (f : Values) (ps : List Part) (H : History) (p : Part) (due : List Part) (v : Tree) → AreDue f ps H (p ∷ due) → AreDue (having p v f) ps H due
 others_due f ps H p due v d = record {
   apart = d.apart.1;
   there = λ q h. d.there q (later_in p due q h);
-  none = λ q h. set-other p v f q (is_other_sym p q (none_of_them (is_same p) due q d.apart.0 h)) ∙ d.none q (later_in p due q h);
+  none = λ q h. having-other p v f q (is_other_sym p q (none_of_them (is_same p) due q d.apart.0 h)) ∙ d.none q (later_in p due q h);
 }
 
 pub are_awaited : (f : Values) (ps : List Part) (H : History) (due : List Part) (v : Tree) → AreDue f ps H due → AreAwaited (map owner_of_part due) v (valued f ps H)
@@ -103,11 +98,11 @@ are_awaited f ps H [] v d = tt
 are_awaited f ps H (p ∷ due) v d = (
   is_awaited f ps H p (d.there p (first_in p due)) (d.none p (first_in p due)),
   subst (λ (z : List (Option Connection)). AreAwaited (map owner_of_part due) v z) (sym (part-valued f ps H p v (d.there p (first_in p due))))
-      (are_awaited (set p v f) ps H due v (others_due f ps H p due v d)),
+      (are_awaited (having p v f) ps H due v (others_due f ps H p due v d)),
 )
 
 pub parts-valued : (f : Values) (ps : List Part) (H : History) (due : List Part) (v : Tree) → AreDue f ps H due → answered_parts (map owner_of_part due) v (valued f ps H) ≡ valued (given due v f) ps H
 parts-valued f ps H [] v d = refl
 parts-valued f ps H (p ∷ due) v d =
     ap (answered_parts (map owner_of_part due) v) (part-valued f ps H p v (d.there p (first_in p due)))
-    ∙ parts-valued (set p v f) ps H due v (others_due f ps H p due v d)
+    ∙ parts-valued (having p v f) ps H due v (others_due f ps H p due v d)

@@ -1,12 +1,13 @@
 -- Members of lists, and parts that are the same.
-use Rattle.std.proofs.Common.{◌≡◌, ◌⊎◌, ◌<◌, ℕ, zero, suc, ◌+◌, ◌&&◌, ◌==◌, Bool, true, false, List, [], ◌∷◌, ◌++◌, length, filter, drop, get_or, find, zip, Option, Some, None, Contains, slice_get, refl, sym, ap, ◌∙◌, subst, inl, inr, arith}
+use Rattle.std.proofs.Common.{◌≡◌, ◌⊎◌, ◌<◌, ℕ, zero, suc, Bool, true, false, List, [], ◌∷◌, ◌++◌, length, filter, drop, get_or, find, zip, Some, None, Contains, slice_get, refl, sym, ap, ◌∙◌, subst, inl, inr, arith}
 use Rattle.std.specs.List.{list_any}
-use Rattle.std.proofs.lemmas.Bool.{cases_Bool, or_parts, or_from, or_cases, or_left, or_right, both_ways, eq-eqb}
+use Rattle.std.proofs.lemmas.Bool.{cases_Bool, or_parts, or_from, or_cases, or_left, or_right, both_ways}
 use Rattle.std.proofs.lemmas.List.Elements.{Contains-append_cases, Contains-append_right}
 use Rattle.std.proofs.lemmas.List.Folds.{list_any-append}
 use Rattle.std.proofs.lemmas.Option.{slice_get-get_or}
 use Rattle.proxy_history.specs.Part.{Part, is_same}
 use Rattle.proxy_history.specs.Laws.{AreApart}
+use Rattle.proxy_history.proofs.Arrived.{none_in_nothing}
 use Rattle.proxy_history.proofs.SentOnce.{is_same_sym, is_other_sym}
 
 -- MEMBERS
@@ -16,9 +17,6 @@ first_in x xs = (0, omega arith, refl)
 
 pub later_in : {X : Type 0} (x : X) (xs : List X) (y : X) → Contains xs y → Contains (x ∷ xs) y
 later_in x xs y h = Contains-append_right (x ∷ []) xs y h
-
-pub none_in : {X : Type 0} (x : X) → Contains [] x → ⊥
-none_in x h = omega (arith, h.1)
 
 only_one : {X : Type 0} (x y : X) (k : ℕ) → k < 1 → get_or (x ∷ []) k y ≡ y → x ≡ y
 only_one x y zero l e = e
@@ -61,7 +59,7 @@ in_filter_too f (q ∷ ps) p h e = elim (in_cases q ps p h) [
 ]
 
 pub filter_passes : (f : Part → Bool) (ps : List Part) (p : Part) → Contains (filter f ps) p → f p ≡ true
-filter_passes f [] p h = absurd (none_in p h)
+filter_passes f [] p h = absurd (none_in_nothing p h)
 filter_passes f (q ∷ ps) p h = elim (cases_Bool (f q)) [
   | inl t ↦ elim (in_cases q (filter f ps) p (subst (λ (z : List Part). Contains z p) (kept_first f q ps t) h)) [
     | inl one ↦ ap f (sym one) ∙ t
@@ -72,9 +70,6 @@ filter_passes f (q ∷ ps) p h = elim (cases_Bool (f q)) [
 
 -- PARTS THAT ARE THE SAME
 
-pub is_same_self : (p : Part) → is_same p p ≡ true
-is_same_self p = rw (eq-eqb p.conn p.conn refl, eq-eqb p.command p.command refl, eq-eqb p.number p.number refl) refl
-
 -- a member that passes
 pub any_of : (test : Part → Bool) (ps : List Part) → list_any test ps ≡ true → (p : Part) × Contains ps p × (test p ≡ true)
 any_of test [] e = absurd cc
@@ -84,14 +79,14 @@ any_of test (q ∷ ps) e = elim (or_cases (test q) (list_any test ps) e) [
 ]
 
 pub any_from : (test : Part → Bool) (ps : List Part) (p : Part) → Contains ps p → test p ≡ true → list_any test ps ≡ true
-any_from test [] p h e = absurd (none_in p h)
+any_from test [] p h e = absurd (none_in_nothing p h)
 any_from test (q ∷ ps) p h e = elim (in_cases q ps p h) [
   | inl one ↦ or_left (test q) (list_any test ps) (ap test one ∙ e)
   | inr more ↦ or_right (test q) (list_any test ps) (any_from test ps p more e)
 ]
 
 pub none_of_them : (test : Part → Bool) (ps : List Part) (p : Part) → list_any test ps ≡ false → Contains ps p → test p ≡ false
-none_of_them test [] p e h = absurd (none_in p h)
+none_of_them test [] p e h = absurd (none_in_nothing p h)
 none_of_them test (q ∷ ps) p e h =
     let a = or_parts (test q) (list_any test ps) e in
     elim (in_cases q ps p h) [ inl one ↦ rw (sym one) a.0 | inr more ↦ none_of_them test ps p a.1 more ]
@@ -102,7 +97,7 @@ any_none test (q ∷ ps) f = or_from _ _ (f q (first_in q ps)) (any_none test ps
 
 -- parts that are the same are one, where no two are the same
 pub one_part : (ps : List Part) (p q : Part) → AreApart ps → Contains ps p → Contains ps q → is_same p q ≡ true → p ≡ q
-one_part [] p q a h k e = absurd (none_in p h)
+one_part [] p q a h k e = absurd (none_in_nothing p h)
 one_part (r ∷ ps) p q a h k e = elim (in_cases r ps p h) [
   | inl first ↦ elim (in_cases r ps q k) [
     | inl also ↦ sym first ∙ also

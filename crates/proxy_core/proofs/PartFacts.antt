@@ -1,7 +1,6 @@
 -- What is known of a part of a legal history: its place among the parts of its command, its request, its connection.
-use Rattle.std.proofs.Common.{◌≡◌, ℕ, zero, suc, ◌+◌, ◌<◌, ◌≤◌, ◌==◌, ◌&&◌, nat_lt, Bool, true, false, List, [], ◌∷◌, ◌++◌, length, filter, Option, Some, None, is_some, Contains, slice_get, option_and_then, option_map, refl, sym, ap, ◌∙◌, subst, inl, inr, arith}
-use Rattle.std.proofs.lemmas.Bool.{cases_Bool, cases_lt, ltb-true, ltb-false, and_parts, and_from, eq-eqb, eqb-true, not-false}
-use Rattle.std.proofs.lemmas.List.{length-append, append-nil}
+use Rattle.std.proofs.Common.{◌≡◌, ℕ, zero, suc, ◌+◌, ◌<◌, ◌≤◌, ◌==◌, ◌&&◌, nat_lt, true, false, List, [], ◌∷◌, ◌++◌, length, filter, Option, Some, None, is_some, Contains, slice_get, option_and_then, option_map, refl, sym, ap, ◌∙◌, subst, inl, inr, arith}
+use Rattle.std.proofs.lemmas.Bool.{cases_Bool, cases_lt, ltb-true, and_parts, and_from, eq-eqb, eqb-true, not-false}
 use Rattle.std.proofs.lemmas.List.Elements.{filter-append}
 use Rattle.resp_core.specs.Tree.{Tree}
 use Rattle.splitter.specs.Plan.{Plan, here, leave, parts}
@@ -10,7 +9,7 @@ use Rattle.splitter.specs.declared.plans.Join.{Join}
 use Rattle.splitter.specs.declared.plans.PartPlan.{PartPlan}
 use Rattle.splitter.specs.declared.request.Request.{Request}
 use Rattle.proxy_history.specs.Setting.{Setting}
-use Rattle.proxy_history.specs.History.{History, Step, plan_for, opened, accepted, handed, requests, request_by, is_open, is_closed, is_opening}
+use Rattle.proxy_history.specs.History.{History, Step, plan_for, opened, accepted, handed, requests, request_by, is_open, is_opening}
 use Rattle.proxy_history.specs.Part.{Past, Part}
 use Rattle.proxy_history.specs.Past.{past, parts_in}
 use Rattle.proxy_history.specs.Cause.{own_cause, causes}
@@ -18,18 +17,17 @@ use Rattle.proxy_history.specs.Arrival.{placing, placed_part, placed_by, parts_b
 use Rattle.proxy_history.specs.Value.{value_of}
 use Rattle.proxy_history.specs.Outcome.{parts_of, is_part_of, values_of, with_value, outcome, outcome_by}
 use Rattle.proxy_history.specs.Legal.{IsLegal}
-use Rattle.proxy_history.specs.Laws.{HasArrived}
 use Rattle.proxy_history.specs.declared.event.Event.{Event}
 use Rattle.proxy_history.specs.declared.event.Event.TheVariants.{Opened, Arrived, Finished, Taken, Answered, Failed, Swept, Handed, Closed}
 use Rattle.proxy_history.proofs.Growing.{slice_get_stays, times_grows}
 use Rattle.proxy_history.proofs.NoCause.{are_false}
 use Rattle.proxy_history.proofs.Fresh.{AreOf, length-requests, placing_are_of, parts_stay}
 use Rattle.proxy_history.proofs.Apart.{host_keeps_number}
-use Rattle.proxy_history.proofs.Arrived.{parts_have_arrived}
+use Rattle.proxy_history.proofs.Arrived.{none_in_nothing, parts_have_arrived}
 use Rattle.proxy_history.proofs.Beginnings.{beginning}
 use Rattle.proxy_history.proofs.CommandParts.{none_of, all_of, not_yet}
 use Rattle.proxy_history.proofs.Order.{in_order}
-use Rattle.proxy_core.proofs.Members.{first_in, later_in, none_in, in_cases, in_filter_too, place_of_member}
+use Rattle.proxy_core.proofs.Members.{in_cases, in_filter_too, place_of_member}
 
 -- NUMBERS ARE PLACES
 
@@ -173,7 +171,7 @@ with_none None = refl
 with_none (Some v) = refl
 
 missing : (x : Past) (ps : List Part) (p : Part) → Contains ps p → value_of x p ≡ None → values_of x ps ≡ None
-missing x [] p h e = absurd (none_in p h)
+missing x [] p h e = absurd (none_in_nothing p h)
 missing x (q ∷ ps) p h e = elim (in_cases q ps p h) [
   | inl one ↦ ap (λ (z : Option Tree). with_value z (values_of x ps)) (ap (value_of x) one ∙ e)
   | inr more ↦ ap (λ (z : Option (List Tree)). with_value (value_of x q) z) (missing x ps p more e) ∙ with_none (value_of x q)

@@ -1,29 +1,25 @@
 -- The connections with any values of their parts, and how they change where parts get values.
-use Rattle.std.proofs.Common.{◌≡◌, ℕ, zero, suc, ◌+◌, ◌-◌, ◌<◌, ◌≤◌, ◌==◌, ◌&&◌, ◌||◌, nat_lt, Bool, true, false, if◌then◌else◌, List, [], ◌∷◌, ◌++◌, length, map, filter, drop, Option, Some, None, Contains, slice_get, slice_set, option_map, option_and_then, refl, sym, ap, ◌∙◌, subst, inl, inr, arith}
-use Rattle.std.specs.List.{list_any, range_with_len}
-use Rattle.std.proofs.lemmas.Bool.{cases_Bool, cases_lt, and_parts, and_left, and_right, eq-eqb, ne_eqb, eqb-true, false_from_ne_true, or_parts}
-use Rattle.std.proofs.lemmas.Option.{slice_get_within}
+use Rattle.std.proofs.Common.{◌≡◌, ℕ, zero, suc, ◌+◌, ◌-◌, ◌<◌, ◌≤◌, ◌==◌, ◌&&◌, true, false, if◌then◌else◌, List, [], ◌∷◌, map, filter, drop, Option, Some, None, Contains, slice_get, slice_set, option_map, refl, sym, ap, ◌∙◌, subst, inl, inr, arith}
+use Rattle.std.specs.List.{range_with_len}
+use Rattle.std.proofs.lemmas.Bool.{cases_Bool, and_parts, and_left, and_right, eq-eqb, ne_eqb, eqb-true}
 use Rattle.resp_core.specs.Tree.{Tree}
 use Rattle.splitter.specs.Plan.{Plan, here, leave, parts}
 use Rattle.splitter.specs.declared.plans.Join.{Join}
 use Rattle.splitter.specs.declared.plans.Join.TheVariants.{Same}
 use Rattle.splitter.specs.declared.plans.PartPlan.{PartPlan}
 use Rattle.splitter.specs.declared.request.Request.{Request}
-use Rattle.upstream_pipe.specs.declared.part.Owner.{Owner}
 use Rattle.reply_queue.specs.Command.{AwaitedCommand, with_value}
-use Rattle.reply_queue.specs.Queue.{QueueState, IsOpen, changed_at, with_part, command_at, value_at}
+use Rattle.reply_queue.specs.Queue.{QueueState, changed_at, with_part}
 use Rattle.proxy_history.specs.History.{History, plan_for, opened, handed, requests, is_closed, is_finishing}
 use Rattle.proxy_history.specs.Part.{Part, Past, is_same}
 use Rattle.proxy_history.specs.Value.{value_of}
 use Rattle.proxy_history.specs.Outcome.{is_part_of}
-use Rattle.proxy_history.specs.Laws.{AreApart}
-use Rattle.proxy_history.proofs.SentOnce.{is_other_sym}
 use Rattle.proxy_history.proofs.Arrived.{in_filter}
-use Rattle.proxy_core.specs.Connections.{awaited_by, awaited_from, queue_of, connection_of, connections_of, with_connection, answered_part, answered_parts, IsAwaited, AreAwaited}
+use Rattle.proxy_core.specs.Connections.{awaited_by, awaited_from, connection_of, connections_of, answered_part}
 use Rattle.proxy_core.specs.Pipelines.{owner_of_part}
 use Rattle.proxy_core.specs.declared.connection.Connection.{Connection}
-use Rattle.proxy_core.proofs.Tabled.{same_range, changed-table, slice_get-table}
-use Rattle.proxy_core.proofs.Members.{first_in, later_in, none_of_them, filter_passes}
+use Rattle.proxy_core.proofs.Tabled.{same_range, changed-table}
+use Rattle.proxy_core.proofs.Members.{first_in, later_in, filter_passes}
 use Rattle.proxy_core.proofs.PartFacts.{AreNumbered, IsAsked}
 
 -- A value or none yet for each part.
@@ -111,14 +107,14 @@ same_valued f g ps H e = same_range _ _ 0 (opened H) (λ c l m. same_connection 
 -- ONE PART GETS A VALUE
 
 -- the values once this part has one
-abbrev pub set : Part → Tree → Values → Values
-set p v f q = if is_same q p then Some v else f q
+abbrev pub having : Part → Tree → Values → Values
+having p v f q = if is_same q p then Some v else f q
 
-pub set-other : (p : Part) (v : Tree) (f : Values) (q : Part) → is_same q p ≡ false → set p v f q ≡ f q
-set-other p v f q e = rw e refl
+pub having-other : (p : Part) (v : Tree) (f : Values) (q : Part) → is_same q p ≡ false → having p v f q ≡ f q
+having-other p v f q e = rw e refl
 
-pub set-same : (p : Part) (v : Tree) (f : Values) (q : Part) → is_same q p ≡ true → set p v f q ≡ Some v
-set-same p v f q e = rw e refl
+pub having-same : (p : Part) (v : Tree) (f : Values) (q : Part) → is_same q p ≡ true → having p v f q ≡ Some v
+having-same p v f q e = rw e refl
 
 other_command : (p q : Part) → (q.command ≡ p.command → ⊥) → is_same q p ≡ false
 other_command p q n = and_left _ (q.number == p.number) (and_right (q.conn == p.conn) _ (ne_eqb q.command p.command n))
@@ -133,21 +129,21 @@ same_part : (p q : Part) → q.conn ≡ p.conn → q.command ≡ p.command → q
 same_part p q a b c = rw (eq-eqb q.conn p.conn a, eq-eqb q.command p.command b, eq-eqb q.number p.number c) refl
 
 -- behind its place nothing changes
-none_behind : (p : Part) (v : Tree) (f : Values) (n : ℕ) (ps : List Part) → AreNumbered n ps → p.number < n → map f ps ≡ map (set p v f) ps
+none_behind : (p : Part) (v : Tree) (f : Values) (n : ℕ) (ps : List Part) → AreNumbered n ps → p.number < n → map f ps ≡ map (having p v f) ps
 none_behind p v f n [] a l = refl
 none_behind p v f n (q ∷ ps) a l =
-    rw (set-other p v f q (other_number p q (λ e. omega (arith, a.0, e, l))), none_behind p v f (n + 1) ps a.1 (omega (arith, l))) refl
+    rw (having-other p v f q (other_number p q (λ e. omega (arith, a.0, e, l))), none_behind p v f (n + 1) ps a.1 (omega (arith, l))) refl
 
 -- the values of the command's parts, with one more in its place
 one_more_value : (p : Part) (v : Tree) (f : Values) (n k : ℕ) (ps : List Part) → AreNumbered n ps → ((q : Part) → Contains ps q → (q.conn ≡ p.conn) × (q.command ≡ p.command)) → n + k ≡ p.number
-    → slice_set (map f ps) k (Some v) ≡ map (set p v f) ps
+    → slice_set (map f ps) k (Some v) ≡ map (having p v f) ps
 one_more_value p v f n k [] a o e = refl
 one_more_value p v f n zero (q ∷ ps) a o e =
     let b = o q (first_in q ps) in
-    let here : set p v f q ≡ Some v = set-same p v f q (same_part p q b.0 b.1 (omega (arith, a.0, e))) in
+    let here : having p v f q ≡ Some v = having-same p v f q (same_part p q b.0 b.1 (omega (arith, a.0, e))) in
     rw (here, none_behind p v f (n + 1) ps a.1 (omega (arith, e))) refl
 one_more_value p v f n (suc k) (q ∷ ps) a o e =
-    let there : set p v f q ≡ f q = set-other p v f q (other_number p q (λ i. omega (arith, a.0, i, e))) in
+    let there : having p v f q ≡ f q = having-other p v f q (other_number p q (λ i. omega (arith, a.0, i, e))) in
     rw there (ap (λ z. f q ∷ z) (one_more_value p v f (n + 1) k ps a.1 (λ r h. o r (later_in q ps r h)) (omega (arith, e))))
 
 -- A part that may get a value: its command is there and not handed out, it stands in the place of its number.
@@ -161,30 +157,30 @@ pub record IsThere (ps : List Part) (H : History) (p : Part) : Type 0 where
 
 module _ (f : Values) (ps : List Part) (p : Part) (v : Tree) where
   own_command : AreNumbered 0 (own_parts ps p.conn p.command) → (plan : Plan) (how : Join) (list : List PartPlan) → plan ≡ parts how list
-      → with_value p.number v (valued_by f ps p.conn p.command plan) ≡ valued_by (set p v f) ps p.conn p.command plan
+      → with_value p.number v (valued_by f ps p.conn p.command plan) ≡ valued_by (having p v f) ps p.conn p.command plan
   own_command a plan how list e =
-      subst (λ (z : Plan). with_value p.number v (valued_by f ps p.conn p.command z) ≡ valued_by (set p v f) ps p.conn p.command z) (sym e)
+      subst (λ (z : Plan). with_value p.number v (valued_by f ps p.conn p.command z) ≡ valued_by (having p v f) ps p.conn p.command z) (sym e)
       (ap (λ (z : List (Option Tree)). record { how = how; values = z })
       (one_more_value p v f 0 p.number (own_parts ps p.conn p.command) a (λ q h. is_part_of-parts p.conn p.command q (filter_passes (is_part_of p.conn p.command) ps q h)) (omega arith)))
 
   own_commands : AreNumbered 0 (own_parts ps p.conn p.command) → (i k : ℕ) (rs : List Request) → i + k ≡ p.command
       → (r : Request) → slice_get rs k ≡ Some r → (how : Join) (list : List PartPlan) → plan_for r ≡ parts how list
-      → changed_at (with_value p.number v) k (valued_from f ps p.conn i rs) ≡ valued_from (set p v f) ps p.conn i rs
+      → changed_at (with_value p.number v) k (valued_from f ps p.conn i rs) ≡ valued_from (having p v f) ps p.conn i rs
   own_commands a i k [] e r s how list q = refl
   own_commands a i zero (t ∷ rs) e r s how list q =
       let is : t ≡ r = cc in
       let at : p.command ≡ i = omega (arith, e) in
-      let now : with_value p.number v (valued_by f ps p.conn i (plan_for t)) ≡ valued_by (set p v f) ps p.conn i (plan_for t) =
-          subst (λ (z : ℕ). with_value p.number v (valued_by f ps p.conn z (plan_for t)) ≡ valued_by (set p v f) ps p.conn z (plan_for t)) at
+      let now : with_value p.number v (valued_by f ps p.conn i (plan_for t)) ≡ valued_by (having p v f) ps p.conn i (plan_for t) =
+          subst (λ (z : ℕ). with_value p.number v (valued_by f ps p.conn z (plan_for t)) ≡ valued_by (having p v f) ps p.conn z (plan_for t)) at
           (own_command a (plan_for t) how list (ap plan_for is ∙ q)) in
-      let rest : valued_from f ps p.conn (i + 1) rs ≡ valued_from (set p v f) ps p.conn (i + 1) rs =
-          same_commands f (set p v f) ps p.conn (i + 1) rs (λ z h k l. sym (set-other p v f z (other_command p z (λ j. omega (arith, j, l, at))))) in
-      ap (λ z. z ∷ valued_from f ps p.conn (i + 1) rs) now ∙ ap (λ z. valued_by (set p v f) ps p.conn i (plan_for t) ∷ z) rest
+      let rest : valued_from f ps p.conn (i + 1) rs ≡ valued_from (having p v f) ps p.conn (i + 1) rs =
+          same_commands f (having p v f) ps p.conn (i + 1) rs (λ z h k l. sym (having-other p v f z (other_command p z (λ j. omega (arith, j, l, at))))) in
+      ap (λ z. z ∷ valued_from f ps p.conn (i + 1) rs) now ∙ ap (λ z. valued_by (having p v f) ps p.conn i (plan_for t) ∷ z) rest
   own_commands a i (suc k) (t ∷ rs) e r s how list q =
-      let first : valued_by f ps p.conn i (plan_for t) ≡ valued_by (set p v f) ps p.conn i (plan_for t) =
-          same_command f (set p v f) ps p.conn i (plan_for t) (λ z h c j. sym (set-other p v f z (other_command p z (λ m. omega (arith, j, m, e))))) in
+      let first : valued_by f ps p.conn i (plan_for t) ≡ valued_by (having p v f) ps p.conn i (plan_for t) =
+          same_command f (having p v f) ps p.conn i (plan_for t) (λ z h c j. sym (having-other p v f z (other_command p z (λ m. omega (arith, j, m, e))))) in
       ap (λ z. z ∷ changed_at (with_value p.number v) k (valued_from f ps p.conn (i + 1) rs)) first
-      ∙ ap (λ z. valued_by (set p v f) ps p.conn i (plan_for t) ∷ z) (own_commands a (i + 1) k rs (omega (arith, e)) r s how list q)
+      ∙ ap (λ z. valued_by (having p v f) ps p.conn i (plan_for t) ∷ z) (own_commands a (i + 1) k rs (omega (arith, e)) r s how list q)
 
 -- a change behind what is dropped
 changed_behind : {X : Type 0} (change : X → X) (n k : ℕ) (xs : List X) → n ≤ k → changed_at change (k - n) (drop n xs) ≡ drop n (changed_at change k xs)
@@ -197,18 +193,18 @@ abbrev valuing : Part → Tree → Connection → Connection
 valuing p v k = record k { queue = with_part p.command p.number v k.queue }
 
 own_connection : (f : Values) (ps : List Part) (H : History) (p : Part) (v : Tree) → IsThere ps H p
-    → valued_connection (set p v f) ps H p.conn ≡ option_map (valuing p v) (valued_connection f ps H p.conn)
+    → valued_connection (having p v f) ps H p.conn ≡ option_map (valuing p v) (valued_connection f ps H p.conn)
 own_connection f ps H p v t =
     let n = handed p.conn H in
     let rs = requests p.conn H in
-    let commands : changed_at (with_value p.number v) (p.command - n) (drop n (valued_from f ps p.conn 0 rs)) ≡ drop n (valued_from (set p v f) ps p.conn 0 rs) =
+    let commands : changed_at (with_value p.number v) (p.command - n) (drop n (valued_from f ps p.conn 0 rs)) ≡ drop n (valued_from (having p v f) ps p.conn 0 rs) =
         changed_behind (with_value p.number v) n p.command (valued_from f ps p.conn 0 rs) t.not_handed
         ∙ ap (drop n) (own_commands f ps p v t.numbered 0 p.command rs (omega arith) t.asked.request t.asked.is_request t.asked.how t.asked.list t.asked.is_split) in
     rw (t.is_open) (ap (λ (z : List AwaitedCommand). Some (record { queue = record { popped = n; commands = z }; is_finishing = is_finishing p.conn H })) (sym commands))
 
 -- a part of the connections gets a value
-pub part-valued : (f : Values) (ps : List Part) (H : History) (p : Part) (v : Tree) → IsThere ps H p → answered_part (owner_of_part p) v (valued f ps H) ≡ valued (set p v f) ps H
+pub part-valued : (f : Values) (ps : List Part) (H : History) (p : Part) (v : Tree) → IsThere ps H p → answered_part (owner_of_part p) v (valued f ps H) ≡ valued (having p v f) ps H
 part-valued f ps H p v t =
-    changed-table (valued_connection f ps H) (valued_connection (set p v f) ps H) (option_map (valuing p v)) (opened H) p.conn
+    changed-table (valued_connection f ps H) (valued_connection (having p v f) ps H) (option_map (valuing p v)) (opened H) p.conn
     (λ l. own_connection f ps H p v t)
-    (λ c l n. same_connection f (set p v f) ps c H (λ o q h k. sym (set-other p v f q (other_conn p q (λ e. n (sym k ∙ e))))))
+    (λ c l n. same_connection f (having p v f) ps c H (λ o q h k. sym (having-other p v f q (other_conn p q (λ e. n (sym k ∙ e))))))

@@ -1,8 +1,8 @@
 -- How the values of the parts move where a host answers or fails.
-use Rattle.std.proofs.Common.{◌≡◌, ◌⊎◌, ℕ, zero, suc, ◌+◌, ◌-◌, ◌<◌, ◌≤◌, ◌==◌, ◌&&◌, ◌||◌, not, nat_lt, is_none, Bool, true, false, if◌then◌else◌, List, [], ◌∷◌, ◌++◌, length, filter, drop, find, zip, Option, Some, None, option_map, Contains, refl, sym, ap, ◌∙◌, subst, inl, inr, arith}
+use Rattle.std.proofs.Common.{◌≡◌, ◌⊎◌, ℕ, ◌+◌, ◌<◌, ◌≤◌, ◌==◌, ◌&&◌, ◌||◌, not, nat_lt, is_none, Bool, true, false, if◌then◌else◌, List, [], ◌∷◌, ◌++◌, length, filter, drop, find, zip, Option, Some, None, option_map, Contains, refl, sym, ap, ◌∙◌, subst, inl, inr, arith}
 use Rattle.std.specs.List.{list_any}
-use Rattle.std.proofs.lemmas.Bool.{cases_Bool, and_parts, and_from, eq-eqb, eqb-true, lt-ltb, ltb-true, ltb-false, le-ltb, both_ways, or_parts, or_right, or_left, false_from_ne_true}
-use Rattle.std.proofs.lemmas.List.{append-nil, length-append}
+use Rattle.std.proofs.lemmas.Bool.{cases_Bool, and_parts, and_from, eq-eqb, eqb-true, lt-ltb, ltb-true, ltb-false, le-ltb, both_ways, or_right, or_left}
+use Rattle.std.proofs.lemmas.List.{append-nil}
 use Rattle.std.proofs.lemmas.List.Elements.{Contains-append_cases}
 use Rattle.std.proofs.lemmas.List.Folds.{list_any-append}
 use Rattle.std.proofs.Common.{length-drop}
@@ -17,21 +17,19 @@ use Rattle.proxy_history.specs.Replies.{came, reply_by}
 use Rattle.proxy_history.specs.Waiting.{waiting, waits, sent_to, flying}
 use Rattle.proxy_history.specs.Value.{value_of, value_or, value_at, or_lost, reply_to, upstream_failure}
 use Rattle.proxy_history.specs.Cause.{own_cause}
-use Rattle.proxy_history.specs.Legal.{IsLegal}
 use Rattle.proxy_history.specs.Laws.{AreApart}
 use Rattle.proxy_history.specs.declared.answer.Answer.{Answer}
 use Rattle.proxy_history.specs.declared.event.Kind.{Kind}
-use Rattle.proxy_history.specs.declared.event.Event.{Event}
 use Rattle.proxy_history.specs.declared.event.Event.TheVariants.{Answered, Failed}
 use Rattle.proxy_history.proofs.NoCause.{is_current}
 use Rattle.proxy_history.proofs.SentOnce.{none_twice, is_other_sym}
 use Rattle.proxy_history.proofs.Good.{waits_parts}
-use Rattle.proxy_history.proofs.Waiting.{AreOfPast, apart_filter}
+use Rattle.proxy_history.proofs.Waiting.{AreOfPast, apart_filter, any_less, is_same_self}
 use Rattle.proxy_history.proofs.OfPast.{are_of_past}
 use Rattle.proxy_history.proofs.Apart.{parts_are_in_order}
 use Rattle.proxy_history.proofs.Asked.{some_fly}
-use Rattle.proxy_history.proofs.Arrived.{in_filter, sent_parts_arrived}
-use Rattle.proxy_core.proofs.Members.{first_in, later_in, in_cases, none_in, in_drop, in_filter_too, filter_passes, is_same_self, any_of, any_from, none_of_them, any_none, one_part, apart_drop, apart_append, none_found, unfound, behind_unfound}
+use Rattle.proxy_history.proofs.Arrived.{none_in_nothing, in_filter, sent_parts_arrived}
+use Rattle.proxy_core.proofs.Members.{first_in, in_cases, in_drop, in_filter_too, filter_passes, any_of, any_from, none_of_them, one_part, apart_drop, apart_append, none_found, unfound, behind_unfound}
 
 -- WHO HAS NO REPLY YET
 
@@ -102,9 +100,6 @@ flight_is_unanswered h x p a i =
       no_reply = not_found x h e p b.1 (behind_unfound (sent_to h e x) (came h e x.steps) p (apart_filter (is_of h e) x.sent a) i);
     }
 
-fewer_any : (test f : Part → Bool) (ps : List Part) → list_any test ps ≡ false → list_any test (filter f ps) ≡ false
-fewer_any test f ps e = any_none test (filter f ps) (λ p h. none_of_them test ps p e (in_filter f ps p h))
-
 -- who waits has none
 pub waiting_is_unanswered : (h : ℕ) (x : Past) (p : Part) → Contains (waiting h x) p → IsUnanswered x h p
 waiting_is_unanswered h x p i =
@@ -115,7 +110,7 @@ waiting_is_unanswered h x p i =
       no_local = b.2;
       host_is = b.0;
       epoch_is = b.1;
-      no_reply = not_found x h e p b.1 (none_found (is_same p) (sent_to h e x) (came h e x.steps) (fewer_any (is_same p) (is_of h e) x.sent w.1));
+      no_reply = not_found x h e p b.1 (none_found (is_same p) (sent_to h e x) (came h e x.steps) (any_less (is_same p) (is_of h e) x.sent w.1));
     }
 
 pub at_host_is_unanswered : (h : ℕ) (x : Past) (p : Part) → AreApart x.sent → Contains (at_host h x) p → IsUnanswered x h p
@@ -260,7 +255,7 @@ module _ (S : Setting) (H : History) (pass host e t : ℕ) (value : Value) (answ
 -- A FAULT
 
 of_past_at : (H : History) (ps : List Part) (p : Part) (h : ℕ) → AreOfPast H ps → Contains ps p → p.host ≡ Some h → p.epoch ≤ epoch h H
-of_past_at H [] p h a i o = absurd (none_in p i)
+of_past_at H [] p h a i o = absurd (none_in_nothing p i)
 of_past_at H (q ∷ ps) p h a i o = elim (in_cases q ps p i) [
   | inl one ↦
       let there : is_host h q.host ≡ true = is_host_self h q.host (ap (λ (z : Part). z.host) one ∙ o) in
