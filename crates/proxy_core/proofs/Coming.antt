@@ -91,7 +91,7 @@ come-connections S H s ps v legal n e f =
     let due = open_parts H ps in
     e
     ∙ same_valued (value_of (past S (s ∷ H))) (given due v (value_of x)) x.parts H (λ q i o.
-        f q i o ∙ ap (λ (b : Bool). if b then Some v else value_of x q) (sym (any_open H ps q o)) ∙ sym (given-is due v (value_of x) q))
+    f q i o ∙ ap (λ (b : Bool). if b then Some v else value_of x q) (sym (any_open H ps q o)) ∙ sym (given-is due v (value_of x) q))
     ∙ sym (parts-valued (value_of x) x.parts H due v (are_due S H ps legal n))
     ∙ ap (answered_parts (map owner_of_part due) v) (sym (connections-valued x))
 

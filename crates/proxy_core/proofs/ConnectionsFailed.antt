@@ -42,7 +42,7 @@ lost_is : (x : Past) (h : ℕ) → lost_owners (pipeline_of x h) ≡ map owner_o
 lost_is x h =
     let flew = open_parts x.steps (in_flight h x) in
     let still : open_parts x.steps (at_host h x) ≡ flew ++ waiting h x =
-        filter-append (has_open x.steps) (in_flight h x) (waiting h x) ∙ ap (λ z. flew ++ z) (waiting_are_open h x) in
+    filter-append (has_open x.steps) (in_flight h x) (waiting h x) ∙ ap (λ z. flew ++ z) (waiting_are_open h x) in
     ap (λ z. z ++ map owner_in (map piped (waiting h x))) (open_owners x (in_flight h x))
     ∙ ap (λ z. map owner_of_part flew ++ z) (waiting_owners (waiting h x))
     ∙ sym (map-append owner_of_part flew (waiting h x))

@@ -46,9 +46,9 @@ module _ (f : Values) (ps : List Part) (H : History) (p : Part) (t : IsThere ps 
   is_open_part =
       let n = handed p.conn H in
       let there : slice_get (drop n (valued_from f ps p.conn 0 (requests p.conn H))) (p.command - n) ≡ Some (valued_by f ps p.conn p.command (plan_for t.asked.request)) =
-          slice_get_behind n p.command (valued_from f ps p.conn 0 (requests p.conn H)) t.not_handed
-          ∙ command-valued f ps p.conn 0 p.command (requests p.conn H) t.asked.request t.asked.is_request
-          ∙ ap (λ z. Some (valued_by f ps p.conn z (plan_for t.asked.request))) (omega arith) in
+      slice_get_behind n p.command (valued_from f ps p.conn 0 (requests p.conn H)) t.not_handed
+      ∙ command-valued f ps p.conn 0 p.command (requests p.conn H) t.asked.request t.asked.is_request
+      ∙ ap (λ z. Some (valued_by f ps p.conn z (plan_for t.asked.request))) (omega arith) in
       ap (λ (b : Bool). option_and_then (λ (command : AwaitedCommand). slice_get command.values p.number) (if b then None else slice_get (drop n (valued_from f ps p.conn 0 (requests p.conn H))) (p.command - n)))
       (le-ltb p.command n t.not_handed)
       ∙ ap (option_and_then (λ (command : AwaitedCommand). slice_get command.values p.number)) there

@@ -53,8 +53,8 @@ one_command c i conn command ps o a = elim (cases_Bool ((conn == c) && (command 
   | inl t ↦
       let b = and_parts (conn == c) (command == i) t in
       let same : filter (is_part_of c i) ps ≡ ps =
-          subst (λ (z : ℕ). filter (is_part_of z i) ps ≡ ps) (eqb-true conn c b.0)
-          (subst (λ (z : ℕ). filter (is_part_of conn z) ps ≡ ps) (eqb-true command i b.1) (all_of conn command ps o)) in
+      subst (λ (z : ℕ). filter (is_part_of z i) ps ≡ ps) (eqb-true conn c b.0)
+      (subst (λ (z : ℕ). filter (is_part_of conn z) ps ≡ ps) (eqb-true command i b.1) (all_of conn command ps o)) in
       subst (λ (z : List Part). AreNumbered 0 z) (sym same) a
   | inr f ↦ subst (λ (z : List Part). AreNumbered 0 z) (sym (none_of c i conn command ps f o)) tt
 ]
@@ -85,7 +85,7 @@ parts_are_numbered S (s ∷ H) c i = elim (cases_lt i (accepted c H)) [
   | inr l ↦
       let new = filter (is_part_of c i) (parts_by S (past S H) s.event) in
       let all : parts_of c i (past S (s ∷ H)) ≡ new =
-          filter-append (is_part_of c i) (parts_in S H) (parts_by S (past S H) s.event) ∙ ap (λ (z : List Part). z ++ new) (not_yet S H c i l) in
+      filter-append (is_part_of c i) (parts_in S H) (parts_by S (past S H) s.event) ∙ ap (λ (z : List Part). z ++ new) (not_yet S H c i l) in
       subst (λ (z : List Part). AreNumbered 0 z) (sym all) (new_numbered S (past S H) c i s.event)
 ]
 

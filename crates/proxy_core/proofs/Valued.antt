@@ -171,14 +171,14 @@ module _ (f : Values) (ps : List Part) (p : Part) (v : Tree) where
       let is : t ≡ r = cc in
       let at : p.command ≡ i = omega (arith, e) in
       let now : with_value p.number v (valued_by f ps p.conn i (plan_for t)) ≡ valued_by (having p v f) ps p.conn i (plan_for t) =
-          subst (λ (z : ℕ). with_value p.number v (valued_by f ps p.conn z (plan_for t)) ≡ valued_by (having p v f) ps p.conn z (plan_for t)) at
-          (own_command a (plan_for t) how list (ap plan_for is ∙ q)) in
+      subst (λ (z : ℕ). with_value p.number v (valued_by f ps p.conn z (plan_for t)) ≡ valued_by (having p v f) ps p.conn z (plan_for t)) at
+      (own_command a (plan_for t) how list (ap plan_for is ∙ q)) in
       let rest : valued_from f ps p.conn (i + 1) rs ≡ valued_from (having p v f) ps p.conn (i + 1) rs =
-          same_commands f (having p v f) ps p.conn (i + 1) rs (λ z h k l. sym (having-other p v f z (other_command p z (λ j. omega (arith, j, l, at))))) in
+      same_commands f (having p v f) ps p.conn (i + 1) rs (λ z h k l. sym (having-other p v f z (other_command p z (λ j. omega (arith, j, l, at))))) in
       ap (λ z. z ∷ valued_from f ps p.conn (i + 1) rs) now ∙ ap (λ z. valued_by (having p v f) ps p.conn i (plan_for t) ∷ z) rest
   own_commands a i (suc k) (t ∷ rs) e r s how list q =
       let first : valued_by f ps p.conn i (plan_for t) ≡ valued_by (having p v f) ps p.conn i (plan_for t) =
-          same_command f (having p v f) ps p.conn i (plan_for t) (λ z h c j. sym (having-other p v f z (other_command p z (λ m. omega (arith, j, m, e))))) in
+      same_command f (having p v f) ps p.conn i (plan_for t) (λ z h c j. sym (having-other p v f z (other_command p z (λ m. omega (arith, j, m, e))))) in
       ap (λ z. z ∷ changed_at (with_value p.number v) k (valued_from f ps p.conn (i + 1) rs)) first
       ∙ ap (λ z. valued_by (having p v f) ps p.conn i (plan_for t) ∷ z) (own_commands a (i + 1) k rs (omega (arith, e)) r s how list q)
 
@@ -198,8 +198,8 @@ own_connection f ps H p v t =
     let n = handed p.conn H in
     let rs = requests p.conn H in
     let commands : changed_at (with_value p.number v) (p.command - n) (drop n (valued_from f ps p.conn 0 rs)) ≡ drop n (valued_from (having p v f) ps p.conn 0 rs) =
-        changed_behind (with_value p.number v) n p.command (valued_from f ps p.conn 0 rs) t.not_handed
-        ∙ ap (drop n) (own_commands f ps p v t.numbered 0 p.command rs (omega arith) t.asked.request t.asked.is_request t.asked.how t.asked.list t.asked.is_split) in
+    changed_behind (with_value p.number v) n p.command (valued_from f ps p.conn 0 rs) t.not_handed
+    ∙ ap (drop n) (own_commands f ps p v t.numbered 0 p.command rs (omega arith) t.asked.request t.asked.is_request t.asked.how t.asked.list t.asked.is_split) in
     rw (t.is_open) (ap (λ (z : List AwaitedCommand). Some (record { queue = record { popped = n; commands = z }; is_finishing = is_finishing p.conn H })) (sym commands))
 
 -- a part of the connections gets a value

@@ -197,8 +197,8 @@ module _ (S : Setting) (H : History) (pass host e t : ℕ) (value : Value) (answ
             let host_is : host ≡ h = eqb-true host h a.0 in
             let now : epoch host H ≡ q.epoch = sym (is_current S x host e t value none) ∙ eqb-true e q.epoch a.1 in
             let there : drop (length (came h q.epoch H)) (sent_to h q.epoch x) ≡ p ∷ rest =
-                subst (λ (z : ℕ). drop (length (came z q.epoch H)) (sent_to z q.epoch x) ≡ p ∷ rest) host_is
-                (subst (λ (z : ℕ). drop (length (came host z H)) (sent_to host z x) ≡ p ∷ rest) now flies) in
+            subst (λ (z : ℕ). drop (length (came z q.epoch H)) (sent_to z q.epoch x) ≡ p ∷ rest) host_is
+            (subst (λ (z : ℕ). drop (length (came host z H)) (sent_to host z x) ≡ p ∷ rest) now flies) in
             let one : reply_by h q.epoch (Answered host e value t) ≡ tree_of value ∷ [] = rw i refl in
             ap (λ z. looked_up q (sent_to h q.epoch x) (came h q.epoch H ++ z)) one
             ∙ one_reply_more q p (tree_of value) (sent_to h q.epoch x) rest (came h q.epoch H) there
@@ -211,7 +211,7 @@ module _ (S : Setting) (H : History) (pass host e t : ℕ) (value : Value) (answ
         let u = flight_is_unanswered host x p (none_twice S H) (subst (λ (z : List Part). Contains z p) (sym flies) (first_in p rest)) in
         let now : p.epoch ≡ epoch host H = u.epoch_is in
         let there : drop (length (came host p.epoch H)) (sent_to host p.epoch x) ≡ p ∷ rest =
-            subst (λ (z : ℕ). drop (length (came host z H)) (sent_to host z x) ≡ p ∷ rest) (sym now) flies in
+        subst (λ (z : ℕ). drop (length (came host z H)) (sent_to host z x) ≡ p ∷ rest) (sym now) flies in
         let this : ((host == host) && (e == p.epoch)) ≡ true = and_from _ _ (eq-eqb host host refl) (eq-eqb e p.epoch (is_current S x host e t value none ∙ sym now)) in
         let one : reply_by host p.epoch (Answered host e value t) ≡ tree_of value ∷ [] = rw this refl in
         ap (λ z. looked_up p (filter (is_of host p.epoch) z) (came host p.epoch H ++ reply_by host p.epoch (Answered host e value t))) (append-nil x.sent)
