@@ -6,3 +6,11 @@ pub mod ConnectionFacts
 pub mod ConnectionsMove
 pub mod NewParts
 pub mod ConnectionsArrived
+pub mod Members
+pub mod PartFacts
+pub mod Valued
+pub mod Given
+pub mod ValuesMove
+pub mod Coming
+pub mod ConnectionsAnswered
+pub mod ConnectionsFailed

@@ -1,5 +1,5 @@
 -- What a turn does with what the core keeps.
-use Rattle.std.specs.Prelude.{◌≡◌, ◌<◌, ◌≤◌, ◌+◌, ◌-◌, ℕ, Bool, true, false, not, ◌==◌, nat_le, if◌then◌else◌, Option, Some, None, List, [], ◌∷◌, ◌++◌, length, map, slice_get, is_some, is_none}
+use Rattle.std.specs.Prelude.{◌≡◌, ◌<◌, ◌≤◌, ◌+◌, ◌-◌, ℕ, Bool, true, false, not, ◌==◌, nat_le, if◌then◌else◌, Option, Some, None, List, [], ◌∷◌, ◌++◌, length, map, reverse, slice_get, is_some, is_none}
 use Rattle.std.specs.Option.{option_and_then, unwrap_or}
 use Rattle.resp_core.specs.Tree.{Tree, is_plain_tree, null_bulk}
 use Rattle.resp_core.specs.Text.{text}
@@ -7,8 +7,10 @@ use Rattle.resp_core.specs.Value.{tree_of}
 use Rattle.upstream_pipe.specs.declared.part.Part.{Part as PipePart}
 use Rattle.reply_queue.specs.Queue.{front_reply}
 use Rattle.journal_core.specs.Journal.{IsFull}
+use Rattle.ejector.specs.Settings.{first_fault}
 use Rattle.proxy_history.specs.Setting.{Setting, hosts, max_connections, max_unwritten}
-use Rattle.proxy_history.specs.History.{Step}
+use Rattle.proxy_history.specs.History.{History, Step}
+use Rattle.proxy_history.specs.Legal.{IsLegal}
 use Rattle.proxy_history.specs.Cause.{first_true}
 use Rattle.proxy_history.specs.Payload.{length_of_event}
 use Rattle.proxy_history.specs.declared.answer.Answer.{Answer}
@@ -17,7 +19,7 @@ use Rattle.proxy_history.specs.declared.event.Event.TheVariants.{Opened, Arrived
 use Rattle.proxy_history.specs.declared.refusal.Refusal.{Refusal}
 use Rattle.proxy_history.specs.declared.refusal.Refusal.TheVariants as refusal
 use Rattle.proxy_core.specs.Pipelines.{PipelineState, state_of}
-use Rattle.proxy_core.specs.Kept.{Memory}
+use Rattle.proxy_core.specs.Kept.{Memory, memory_of}
 use Rattle.proxy_core.specs.declared.connection.Connection.{Connection}
 use Rattle.proxy_core.specs.declared.machine.Machine.{Machine}
 
@@ -32,6 +34,18 @@ memory_in m = record {
   pipelines = map state_of m.pipelines.items;
   hosts = m.ejector.state;
 }
+
+-- the steps so far, the newest first
+abbrev pub history_in : Machine → History
+history_in m = reverse m.journal.steps
+
+-- The steps are a legal history, and what is kept beside them is what it determines. The ring and outlier detection are of
+-- the same hosts, and no setting is out of its range.
+pub record IsKept (m : Machine) : Type 0 where
+  pub legal : IsLegal (setting_in m) (history_in m)
+  pub memory : memory_in m ≡ memory_of (setting_in m) (history_in m)
+  pub hosts : m.ejector.rules.hosts ≡ m.ring.hosts
+  pub rules : first_fault m.ejector.rules ≡ None
 
 -- the connection of this number, if it is open
 abbrev pub connection_at : ℕ → List (Option Connection) → Option Connection

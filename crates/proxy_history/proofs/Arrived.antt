@@ -20,7 +20,7 @@ use Rattle.proxy_history.specs.declared.event.Event.TheVariants.{Opened, Arrived
 use Rattle.proxy_history.proofs.Fresh.{host_keeps_conn, host_keeps_command}
 use Rattle.proxy_history.proofs.Apart.{host_keeps_number}
 
-none_in_nothing : {X : Type 0} (x : X) → Contains [] x → ⊥
+pub none_in_nothing : {X : Type 0} (x : X) → Contains [] x → ⊥
 none_in_nothing x h = omega (arith, h.1)
 
 -- WHAT IS PLACED

@@ -18,7 +18,7 @@ use Rattle.proxy_history.specs.declared.event.Event.TheVariants.{Opened, Arrived
 use Rattle.proxy_history.proofs.NoCause.{are_false, is_current}
 
 -- where a reply is accepted some part flies
-some_fly : (S : Setting) (x : Past) (host e t : ℕ) (value : Value) → own_cause S x (Answered host e value t) ≡ None → 0 < flying host x
+pub some_fly : (S : Setting) (x : Past) (host e t : ℕ) (value : Value) → own_cause S x (Answered host e value t) ≡ None → 0 < flying host x
 some_fly S x host e t value n =
     let a = are_false (causes S x (Answered host e value t)) n in
     let ne : flying host x ≡ 0 → ⊥ = eqb-false (flying host x) 0 a.1.1.1.0 in

@@ -39,7 +39,7 @@ all_of conn command (p ∷ ps) a =
     let g : (p.command == command) ≡ true = eq-eqb p.command command a.1 in
     rw (f, g) (ap (λ z. p ∷ z) (all_of conn command ps a.2))
 
-none_of : (c i conn command : ℕ) (ps : List Part) → ((conn == c) && (command == i)) ≡ false → AreOf conn command ps → filter (is_part_of c i) ps ≡ []
+pub none_of : (c i conn command : ℕ) (ps : List Part) → ((conn == c) && (command == i)) ≡ false → AreOf conn command ps → filter (is_part_of c i) ps ≡ []
 none_of c i conn command [] e a = refl
 none_of c i conn command (p ∷ ps) e a =
     let f : is_part_of c i p ≡ false = rw (a.0, a.1) e in

@@ -47,7 +47,7 @@ all_stay p (q ∷ ps) e =
     let a = or_parts (is_same p q) (list_any (is_same p) ps) e in
     rw (is_other_sym p q a.0) (ap (λ r. q ∷ r) (all_stay p ps a.1))
 
-is_same_self : (p : Part) → is_same p p ≡ true
+pub is_same_self : (p : Part) → is_same p p ≡ true
 is_same_self p = rw (eq-eqb p.conn p.conn refl, eq-eqb p.command p.command refl, eq-eqb p.number p.number refl) refl
 
 -- EVENTS THAT TAKE
