@@ -109,6 +109,17 @@ fn answer_one(connection: &mut Option<Connection>, owner: Owner, value: Value)
     }
 }
 
+/// Gives the part of this owner, if there is one, its value.
+pub(crate) fn give(connections: &mut [Option<Connection>], owner: Option<Owner>, value: Value)
+    requires { AreAwaited (list_of owner) (tree_of value) connections.old }
+    ensures { connections.new ≡ answered_parts (list_of owner) (tree_of value) connections.old }
+{
+    match owner {
+        Some(owner) => answer_part(connections, owner, value),
+        None => drop(value),
+    }
+}
+
 /// The value of a part whose host failed before its reply came.
 fn upstream_failure() -> Value
     ensures { tree_of result ≡ upstream_failure }
@@ -132,16 +143,6 @@ pub(crate) fn fail_places(connections: &mut [Option<Connection>], places: &[Opti
     ensures { connections.new ≡ answered_parts (filter_map (λ o. o) places.now) upstream_failure connections.old }
 {
     for place in places {
-        fail_place(connections, *place);
-    }
-}
-
-// Gives the part of this owner, if there is one, the failure of its host.
-fn fail_place(connections: &mut [Option<Connection>], place: Option<Owner>)
-    requires { AreAwaited (list_of place) upstream_failure connections.old }
-    ensures { connections.new ≡ answered_parts (list_of place) upstream_failure connections.old }
-{
-    if let Some(owner) = place {
-        answer_part(connections, owner, upstream_failure());
+        give(connections, *place, upstream_failure());
     }
 }

@@ -1,10 +1,11 @@
 //! The pipelines to the hosts.
-ghost use Rattle.std.specs.Prelude.{◌≡◌, ◌+◌, ◌<◌, ◌^◌, map};
-ghost use Rattle.proxy_core.specs.Pipelines.{state_of, taken_from, without_connection};
+ghost use Rattle.std.specs.Prelude.{◌≡◌, ◌≢◌, ◌+◌, ◌<◌, ◌^◌, [], map};
+ghost use Rattle.proxy_history.specs.Scan.{list_of};
+ghost use Rattle.proxy_core.specs.Pipelines.{answered_by, next_owner, state_of, taken_from, without_connection};
 ghost use Rattle.proxy_core.specs.Machine.{text_of_oldest};
 
 use bytes::Bytes;
-use upstream_pipe::Pipe;
+use upstream_pipe::{Owner, Pipe};
 
 /// The pipe to a host, and how many parts were taken from it in its epoch.
 #[derive(Drop)]
@@ -25,6 +26,17 @@ impl Pipeline {
             Some(part) => part.text,
             None => Bytes::new(),
         }
+    }
+
+    /// A reply of this epoch came, which is the present one, and a part flies: takes the oldest that flies, and gives its
+    /// owner, where its connection is open.
+    pub(crate) fn answered(&mut self, epoch: u64) -> Option<Owner>
+        requires epoch { epoch ≡ self.old.pipe.epoch }
+        requires flying { self.old.pipe.flying ≢ [] }
+        ensures owner { list_of result ≡ next_owner self.old.pipe.flying }
+        ensures answered { state_of self.new ≡ answered_by (state_of self.old) }
+    {
+        self.pipe.answered(epoch).unwrap_or(None)
     }
 
     // A connection is closed.

@@ -60,10 +60,7 @@ impl Machine {
         let Some(part) = pipeline.pipe.oldest() else {
             return Err(Refusal::NothingWaiting);
         };
-        let text = part.text.clone()?;
-        match make_room(&mut self.journal, text.len() as u64) {
-            Ok(()) => Ok(text),
-            Err(cause) => Err(cause),
-        }
+        make_room(&mut self.journal, part.text.len() as u64)?;
+        Ok(part.text.clone()?)
     }
 }
