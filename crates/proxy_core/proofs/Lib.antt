@@ -5,3 +5,4 @@ pub mod ConnectionFacts
 pub mod ConnectionsMove
 pub mod NewParts
 pub mod ConnectionsArrived
+pub mod PipelineFacts
