@@ -89,7 +89,7 @@ connections-finished S H pass conn answer =
 
 -- HANDED
 
-drop-one_more : {X : Type 0} (n : ℕ) (xs : List X) → drop (n + 1) xs ≡ drop 1 (drop n xs)
+pub drop-one_more : {X : Type 0} (n : ℕ) (xs : List X) → drop (n + 1) xs ≡ drop 1 (drop n xs)
 drop-one_more zero xs = refl
 drop-one_more {X} (suc n) [] = drop-nil {A = X} (suc n + 1)
 drop-one_more (suc n) (x ∷ xs) = let e : suc n + 1 ≡ suc (n + 1) = omega arith in ap (λ z. drop z (x ∷ xs)) e ∙ drop-one_more n xs

@@ -6,3 +6,5 @@ pub mod ConnectionsMove
 pub mod NewParts
 pub mod ConnectionsArrived
 pub mod PipelineFacts
+pub mod PipelineStays
+pub mod PipelinesMove

@@ -41,7 +41,7 @@ apart_filter f (p ∷ ps) a = elim (cases_Bool (f p)) [
 ]
 
 -- who is none of these stays
-all_stay : (p : Part) (ps : List Part) → list_any (is_same p) ps ≡ false → filter (λ q. not (is_same q p)) ps ≡ ps
+pub all_stay : (p : Part) (ps : List Part) → list_any (is_same p) ps ≡ false → filter (λ q. not (is_same q p)) ps ≡ ps
 all_stay p [] e = refl
 all_stay p (q ∷ ps) e =
     let a = or_parts (is_same p q) (list_any (is_same p) ps) e in
