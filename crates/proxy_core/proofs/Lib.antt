@@ -8,3 +8,4 @@ pub mod ConnectionsArrived
 pub mod PipelineFacts
 pub mod PipelineStays
 pub mod PipelinesMove
+pub mod PipelinesTaken

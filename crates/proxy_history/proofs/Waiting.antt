@@ -60,7 +60,7 @@ bools true false false true = refl
 bools true false false false = refl
 bools false b c d = refl
 
-taken_waits : (h : ℕ) (x : Past) (p q : Part) → waits h (record x { sent = x.sent ++ p ∷ [] }) q ≡ (waits h x q && not (is_same q p))
+pub taken_waits : (h : ℕ) (x : Past) (p q : Part) → waits h (record x { sent = x.sent ++ p ∷ [] }) q ≡ (waits h x q && not (is_same q p))
 taken_waits h x p q = rw (list_any-append (is_same q) x.sent (p ∷ [])) (bools (is_of h (epoch h x.steps) q) (list_any (is_same q) x.sent) (is_same q p) (not (is_closed q.conn x.steps)))
 
 without_first : (p : Part) (ps : List Part) → AreApart (p ∷ ps) → filter (λ q. not (is_same q p)) (p ∷ ps) ≡ ps
