@@ -9,3 +9,4 @@ pub mod PipelineFacts
 pub mod PipelineStays
 pub mod PipelinesMove
 pub mod PipelinesTaken
+pub mod PipelinesArrived
