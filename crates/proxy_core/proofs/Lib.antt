@@ -10,3 +10,4 @@ pub mod PipelineStays
 pub mod PipelinesMove
 pub mod PipelinesTaken
 pub mod PipelinesArrived
+pub mod ConnectionsStay
