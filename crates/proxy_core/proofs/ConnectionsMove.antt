@@ -32,13 +32,13 @@ aside S x s c q a = rw (a.no_handing, a.no_closing, a.no_finish, quiet_row S x s
 
 -- THE CONNECTION OF THE EVENT
 
-quiet-opened : (x : Past) → IsQuiet x Opened
+pub quiet-opened : (x : Past) → IsQuiet x Opened
 quiet-opened x = record { sends_none = refl; brings_none = λ h e. refl; is_no_fault = λ h. refl }
 
-quiet-finished : (x : Past) (conn : ℕ) → IsQuiet x (Finished conn)
+pub quiet-finished : (x : Past) (conn : ℕ) → IsQuiet x (Finished conn)
 quiet-finished x conn = record { sends_none = refl; brings_none = λ h e. refl; is_no_fault = λ h. refl }
 
-quiet-handed : (x : Past) (conn : ℕ) → IsQuiet x (Handed conn)
+pub quiet-handed : (x : Past) (conn : ℕ) → IsQuiet x (Handed conn)
 quiet-handed x conn = record { sends_none = refl; brings_none = λ h e. refl; is_no_fault = λ h. refl }
 
 quiet-closed : (x : Past) (conn : ℕ) → IsQuiet x (Closed conn)

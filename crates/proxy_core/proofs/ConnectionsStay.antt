@@ -18,19 +18,21 @@ use Rattle.proxy_history.proofs.Asked.{replies_were_asked}
 use Rattle.proxy_core.specs.Connections.{connection_of, connections_of}
 use Rattle.proxy_core.proofs.Tabled.{same_map}
 use Rattle.proxy_core.proofs.CommandRows.{IsQuiet, steady_row}
-use Rattle.proxy_core.proofs.ConnectionsMove.{IsAside, aside}
+use Rattle.proxy_core.proofs.ConnectionsMove.{aside}
 use Rattle.proxy_core.proofs.PipelineStays.{sent_to_later}
 
 -- SWEPT
+
+pub quiet-swept : (x : Past) (t : ℕ) → IsQuiet x (Swept t)
+quiet-swept x t = record { sends_none = refl; brings_none = λ h e. refl; is_no_fault = λ h. refl }
 
 pub connections-swept : (S : Setting) (H : History) (pass t : ℕ) (answer : Answer)
     → connections_of (past S (record { pass = pass; event = Swept t; answer = answer } ∷ H)) ≡ connections_of (past S H)
 connections-swept S H pass t answer =
     let x = past S H in
     let s : Step = record { pass = pass; event = Swept t; answer = answer } in
-    let quiet : IsQuiet x s.event = record { sends_none = refl; brings_none = λ h e. refl; is_no_fault = λ h. refl } in
     same_map (connection_of (after S s x)) (connection_of x) (range_with_len 0 (opened H))
-    (λ c. aside S x s c quiet (record { no_request = refl; no_handing = refl; no_closing = refl; no_finish = refl }))
+    (λ c. aside S x s c (quiet-swept x t) (record { no_request = refl; no_handing = refl; no_closing = refl; no_finish = refl }))
 
 -- TAKEN
 

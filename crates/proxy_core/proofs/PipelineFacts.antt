@@ -1,5 +1,5 @@
 -- What the pipelines say that a history determines.
-use Rattle.std.proofs.Common.{◌≡◌, ℕ, ◌+◌, ◌-◌, ◌<◌, ◌≤◌, Bool, ◌==◌, ◌&&◌, nat_le, List, [], ◌∷◌, ◌++◌, length, map, filter, drop, None, refl, ap, ◌∙◌, inl, inr, arith}
+use Rattle.std.proofs.Common.{◌≡◌, ℕ, ◌+◌, ◌<◌, ◌≤◌, Bool, ◌==◌, ◌&&◌, nat_le, List, [], ◌∷◌, length, map, filter, drop, refl, ap, ◌∙◌, inl, inr, arith}
 use Rattle.std.specs.Option.{unwrap_or}
 use Rattle.std.proofs.lemmas.Bool.{cases_Bool, leb-false}
 use Rattle.std.proofs.lemmas.List.{length-map, length-drop, length-append}
@@ -19,7 +19,7 @@ use Rattle.proxy_history.specs.Payload.{payload_of}
 use Rattle.proxy_history.specs.declared.event.Kind.{Kind}
 use Rattle.proxy_history.specs.declared.event.Event.{Event}
 use Rattle.proxy_history.specs.declared.event.Event.TheVariants.{Opened, Arrived, Finished, Taken, Answered, Failed, Swept, Handed, Closed}
-use Rattle.proxy_core.specs.Pipelines.{PipelineState, piped, place_of, pipeline_of, pipelines_of}
+use Rattle.proxy_core.specs.Pipelines.{piped, place_of, pipeline_of, pipelines_of}
 use Rattle.proxy_core.specs.Kept.{memory_of}
 use Rattle.proxy_core.specs.Machine.{no_pipeline, pipeline_at, own_cause_in, text_of_oldest, payload_in}
 use Rattle.proxy_core.proofs.Tabled.{slice_get-table}

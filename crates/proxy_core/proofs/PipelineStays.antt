@@ -1,18 +1,16 @@
 -- A pipeline that an event has nothing to do with stays as it is.
-use Rattle.std.proofs.Common.{◌≡◌, ℕ, ◌+◌, Bool, true, false, List, [], ◌∷◌, ◌++◌, length, map, filter, drop, Option, None, refl, sym, ap, ◌∙◌, inl, inr, arith}
-use Rattle.std.specs.List.{list_any}
+use Rattle.std.proofs.Common.{◌≡◌, ℕ, false, List, [], ◌∷◌, ◌++◌, length, map, filter, drop, Option, refl, ap, ◌∙◌}
 use Rattle.std.proofs.lemmas.List.{append-nil}
 use Rattle.std.proofs.lemmas.List.Elements.{filter-append}
 use Rattle.upstream_pipe.specs.declared.part.Owner.{Owner}
 use Rattle.upstream_pipe.specs.declared.part.Part.{Part as PipePart}
 use Rattle.proxy_history.specs.Setting.{Setting}
-use Rattle.proxy_history.specs.History.{History, Step, epoch, is_fault, is_closing}
+use Rattle.proxy_history.specs.History.{Step, epoch, is_fault, is_closing}
 use Rattle.proxy_history.specs.Replies.{came, reply_by}
-use Rattle.proxy_history.specs.Part.{Part, Past, is_of, is_same}
-use Rattle.proxy_history.specs.Past.{past, after}
+use Rattle.proxy_history.specs.Part.{Part, Past, is_of}
+use Rattle.proxy_history.specs.Past.{after}
 use Rattle.proxy_history.specs.Waiting.{waiting, waits, sent_by, sent_to}
 use Rattle.proxy_history.specs.Arrival.{parts_by}
-use Rattle.proxy_history.specs.declared.event.Event.{Event}
 use Rattle.proxy_history.proofs.Waiting.{same_filter}
 use Rattle.proxy_core.specs.Pipelines.{PipelineState, piped, place_of, pipeline_of}
 use Rattle.proxy_core.proofs.CommandRows.{same_values}

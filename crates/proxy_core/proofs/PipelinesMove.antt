@@ -1,10 +1,9 @@
 -- How the pipelines change with an event, but for an arrival.
-use Rattle.std.proofs.Common.{◌≡◌, ℕ, zero, suc, ◌+◌, ◌<◌, ◌≤◌, Bool, true, false, not, ◌==◌, ◌||◌, List, [], ◌∷◌, ◌++◌, length, map, filter, drop, Option, Some, None, refl, sym, ap, ◌∙◌, inl, inr, arith, if◌then◌else◌}
-use Rattle.std.specs.List.{list_any, range_with_len}
+use Rattle.std.proofs.Common.{◌≡◌, ℕ, ◌+◌, Bool, true, false, not, ◌==◌, ◌||◌, List, [], ◌∷◌, length, map, filter, drop, Some, None, refl, sym, ap, ◌∙◌, inl, inr, arith, if◌then◌else◌}
+use Rattle.std.specs.List.{range_with_len}
 use Rattle.std.proofs.Math.Seq.{drop-nil}
-use Rattle.std.proofs.lemmas.Bool.{cases_Bool, ne_eqb, eq-eqb, and_left, both_ways}
+use Rattle.std.proofs.lemmas.Bool.{cases_Bool, ne_eqb, eq-eqb, both_ways}
 use Rattle.std.proofs.lemmas.List.{append-nil, length-append}
-use Rattle.std.proofs.lemmas.List.Elements.{filter-append}
 use Rattle.std.proofs.lemmas.Simd.{map-map}
 use Rattle.resp_core.specs.declared.value.Value.{Value}
 use Rattle.resp_core.specs.Value.{tree_of}
@@ -13,11 +12,11 @@ use Rattle.upstream_pipe.specs.Pipe.{is_kept, forgotten}
 use Rattle.proxy_history.specs.Setting.{Setting, hosts}
 use Rattle.proxy_history.specs.History.{History, Step, epoch, is_closed, is_fault, is_closing}
 use Rattle.proxy_history.specs.Replies.{came, reply_by}
-use Rattle.proxy_history.specs.Part.{Part, Past, is_of, is_same, is_host}
+use Rattle.proxy_history.specs.Part.{Part, Past, is_of}
 use Rattle.proxy_history.specs.Past.{past, after}
 use Rattle.proxy_history.specs.Waiting.{waiting, waits, first, sent_by, sent_to}
+use Rattle.proxy_history.specs.Arrival.{parts_by}
 use Rattle.proxy_history.specs.Cause.{own_cause}
-use Rattle.proxy_history.specs.Legal.{IsLegal}
 use Rattle.proxy_history.specs.declared.answer.Answer.{Answer}
 use Rattle.proxy_history.specs.declared.event.Kind.{Kind}
 use Rattle.proxy_history.specs.declared.event.Event.{Event}
@@ -27,56 +26,41 @@ use Rattle.proxy_history.proofs.SentOnce.{eqb_sym}
 use Rattle.proxy_history.proofs.Values.{is_of_parts}
 use Rattle.proxy_history.proofs.Waiting.{AreOfPast, none_of_next, after_closed}
 use Rattle.proxy_history.proofs.OfPast.{of_past_grows, of_past_both, are_of_past, fault_empties}
-use Rattle.proxy_core.specs.Pipelines.{PipelineState, owner_of_part, piped, place_of, pipeline_of, pipelines_of, with_pipeline, answered_by, failed, without_connection}
+use Rattle.proxy_core.specs.Pipelines.{owner_of_part, piped, place_of, pipeline_of, pipelines_of, with_pipeline, answered_by, failed, without_connection}
 use Rattle.proxy_core.proofs.Tabled.{same_map, changed-table}
-use Rattle.proxy_core.proofs.CommandRows.{same_values}
-use Rattle.proxy_core.proofs.ConnectionsMove.{differs, drop-one_more}
-use Rattle.proxy_core.proofs.PipelineStays.{same_pipeline, same_places, IsApartFrom, pipeline_stays, waiting_stays}
+use Rattle.proxy_core.proofs.CommandRows.{IsQuiet, same_values}
+use Rattle.proxy_core.proofs.ConnectionsMove.{quiet-opened, quiet-finished, quiet-handed, differs, drop-one_more}
+use Rattle.proxy_core.proofs.ConnectionsStay.{quiet-swept}
+use Rattle.proxy_core.proofs.PipelineStays.{same_pipeline, same_places, pipeline_stays, waiting_stays}
 
 -- EVENTS WITH NOTHING TO DO WITH HOSTS
 
-all_stay : (S : Setting) (x : Past) (s : Step) → ((h : ℕ) → IsApartFrom S x s h) → pipelines_of S (after S s x) ≡ pipelines_of S x
-all_stay S x s a = same_map (pipeline_of (after S s x)) (pipeline_of x) (range_with_len 0 (hosts S)) (λ h. pipeline_stays S x s h (a h))
+-- a quiet event that brings no parts and closes no connection changes no pipeline
+all_stay : (S : Setting) (x : Past) (s : Step) → IsQuiet x s.event → parts_by S x s.event ≡ [] → ((c : ℕ) → is_closing c s.event ≡ false) → pipelines_of S (after S s x) ≡ pipelines_of S x
+all_stay S x s quiet no_parts closes_none =
+    same_map (pipeline_of (after S s x)) (pipeline_of x) (range_with_len 0 (hosts S)) (λ h. pipeline_stays S x s h (record {
+      is_no_fault = quiet.is_no_fault h;
+      sends_none = λ e. ap (filter (is_of h e)) quiet.sends_none;
+      brings_none = λ e. quiet.brings_none h e;
+      closes_none = closes_none;
+      same_waiting = waiting_stays S x s h (quiet.is_no_fault h) quiet.sends_none closes_none no_parts;
+    }))
 
 pub pipelines-opened : (S : Setting) (H : History) (pass : ℕ) (answer : Answer)
     → pipelines_of S (past S (record { pass = pass; event = Opened; answer = answer } ∷ H)) ≡ pipelines_of S (past S H)
-pipelines-opened S H pass answer =
-    let x = past S H in
-    let s : Step = record { pass = pass; event = Opened; answer = answer } in
-    all_stay S x s (λ h. record {
-      is_no_fault = refl; sends_none = λ e. refl; brings_none = λ e. refl; closes_none = λ c. refl;
-      same_waiting = waiting_stays S x s h refl refl (λ c. refl) refl;
-    })
+pipelines-opened S H pass answer = all_stay S (past S H) (record { pass = pass; event = Opened; answer = answer }) (quiet-opened (past S H)) refl (λ c. refl)
 
 pub pipelines-finished : (S : Setting) (H : History) (pass conn : ℕ) (answer : Answer)
     → pipelines_of S (past S (record { pass = pass; event = Finished conn; answer = answer } ∷ H)) ≡ pipelines_of S (past S H)
-pipelines-finished S H pass conn answer =
-    let x = past S H in
-    let s : Step = record { pass = pass; event = Finished conn; answer = answer } in
-    all_stay S x s (λ h. record {
-      is_no_fault = refl; sends_none = λ e. refl; brings_none = λ e. refl; closes_none = λ c. refl;
-      same_waiting = waiting_stays S x s h refl refl (λ c. refl) refl;
-    })
+pipelines-finished S H pass conn answer = all_stay S (past S H) (record { pass = pass; event = Finished conn; answer = answer }) (quiet-finished (past S H) conn) refl (λ c. refl)
 
 pub pipelines-swept : (S : Setting) (H : History) (pass t : ℕ) (answer : Answer)
     → pipelines_of S (past S (record { pass = pass; event = Swept t; answer = answer } ∷ H)) ≡ pipelines_of S (past S H)
-pipelines-swept S H pass t answer =
-    let x = past S H in
-    let s : Step = record { pass = pass; event = Swept t; answer = answer } in
-    all_stay S x s (λ h. record {
-      is_no_fault = refl; sends_none = λ e. refl; brings_none = λ e. refl; closes_none = λ c. refl;
-      same_waiting = waiting_stays S x s h refl refl (λ c. refl) refl;
-    })
+pipelines-swept S H pass t answer = all_stay S (past S H) (record { pass = pass; event = Swept t; answer = answer }) (quiet-swept (past S H) t) refl (λ c. refl)
 
 pub pipelines-handed : (S : Setting) (H : History) (pass conn : ℕ) (answer : Answer)
     → pipelines_of S (past S (record { pass = pass; event = Handed conn; answer = answer } ∷ H)) ≡ pipelines_of S (past S H)
-pipelines-handed S H pass conn answer =
-    let x = past S H in
-    let s : Step = record { pass = pass; event = Handed conn; answer = answer } in
-    all_stay S x s (λ h. record {
-      is_no_fault = refl; sends_none = λ e. refl; brings_none = λ e. refl; closes_none = λ c. refl;
-      same_waiting = waiting_stays S x s h refl refl (λ c. refl) refl;
-    })
+pipelines-handed S H pass conn answer = all_stay S (past S H) (record { pass = pass; event = Handed conn; answer = answer }) (quiet-handed (past S H) conn) refl (λ c. refl)
 
 -- ANSWERED
 
@@ -117,7 +101,10 @@ pipelines-answered S H pass host e t value answer n =
     sym (changed-table (pipeline_of x) (pipeline_of (after S s x)) answered_by (hosts S) host
     (λ l. answered_at S x s host t value (ap (λ z. Answered host z value t) (is_current S x host e t value n)))
     (λ j l q. let d = differs j host q in sym (pipeline_stays S x s j (record {
-      is_no_fault = refl; sends_none = λ k. refl; brings_none = λ k. rw d refl; closes_none = λ c. refl;
+      is_no_fault = refl;
+      sends_none = λ k. refl;
+      brings_none = λ k. rw d refl;
+      closes_none = λ c. refl;
       same_waiting = waiting_stays S x s j refl refl (λ c. refl) refl;
     }))))
 
@@ -183,7 +170,10 @@ pipelines-failed S H pass host e t kind answer =
     sym (changed-table (pipeline_of x) (pipeline_of (after S s x)) failed (hosts S) host
     (λ l. failed_at S H s host (eq-eqb host host refl) refl (fault_empties S H host pass e t kind answer))
     (λ j l q. let d = differs j host q in sym (pipeline_stays S x s j (record {
-      is_no_fault = d; sends_none = λ k. refl; brings_none = λ k. refl; closes_none = λ c. refl;
+      is_no_fault = d;
+      sends_none = λ k. refl;
+      brings_none = λ k. refl;
+      closes_none = λ c. refl;
       same_waiting = waiting_stays S x s j d refl (λ c. refl) refl;
     }))))
 

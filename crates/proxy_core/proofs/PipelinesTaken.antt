@@ -1,12 +1,12 @@
 -- How the pipelines change as a part is taken.
-use Rattle.std.proofs.Common.{◌≡◌, ℕ, ◌+◌, ◌<◌, ◌≤◌, Bool, true, false, not, ◌==◌, ◌&&◌, List, [], ◌∷◌, ◌++◌, length, map, filter, drop, Option, Some, None, refl, sym, ap, ◌∙◌, subst, inl, inr, arith}
+use Rattle.std.proofs.Common.{◌≡◌, ℕ, ◌≤◌, Bool, true, false, not, ◌&&◌, List, [], ◌∷◌, ◌++◌, length, map, filter, drop, Some, None, refl, sym, ap, ◌∙◌, subst, inl, inr}
 use Rattle.std.specs.List.{list_any}
 use Rattle.std.proofs.lemmas.Bool.{cases_Bool, or_parts, false_from_ne_true, eqb-false}
 use Rattle.std.proofs.lemmas.List.{append-nil, length-append, map-append, drop-append-le}
 use Rattle.proxy_history.specs.Setting.{Setting, hosts}
-use Rattle.proxy_history.specs.History.{History, Step, epoch, is_closed, is_closing}
+use Rattle.proxy_history.specs.History.{History, Step, epoch}
 use Rattle.proxy_history.specs.Replies.{came}
-use Rattle.proxy_history.specs.Part.{Part, Past, is_of, is_same, is_host}
+use Rattle.proxy_history.specs.Part.{Part, Past, is_of, is_same}
 use Rattle.proxy_history.specs.Past.{past, after}
 use Rattle.proxy_history.specs.Waiting.{waiting, waits, first, sent_by, sent_to}
 use Rattle.proxy_history.specs.Cause.{own_cause, causes}
@@ -16,12 +16,11 @@ use Rattle.proxy_history.specs.declared.answer.Answer.{Answer}
 use Rattle.proxy_history.specs.declared.event.Event.TheVariants.{Taken}
 use Rattle.proxy_history.proofs.NoCause.{are_false}
 use Rattle.proxy_history.proofs.Good.{AreGood, filter_is_good, waits_parts}
-use Rattle.proxy_history.proofs.SentOnce.{is_other_sym}
 use Rattle.proxy_history.proofs.Values.{is_of_parts, same_host}
 use Rattle.proxy_history.proofs.Waiting.{same_filter, filter_both, any_less, all_stay, taken_waits, after_taken}
 use Rattle.proxy_history.proofs.Apart.{parts_are_in_order}
 use Rattle.proxy_history.proofs.Asked.{replies_were_asked}
-use Rattle.proxy_core.specs.Pipelines.{PipelineState, owner_of_part, piped, place_of, pipeline_of, pipelines_of, with_pipeline, flying_of, taken_from}
+use Rattle.proxy_core.specs.Pipelines.{owner_of_part, piped, place_of, pipeline_of, pipelines_of, with_pipeline, flying_of, taken_from}
 use Rattle.proxy_core.proofs.Tabled.{changed-table}
 use Rattle.proxy_core.proofs.PipelineStays.{same_pipeline, same_places, sent_to_later, pipeline_stays}
 
@@ -64,7 +63,7 @@ waits_elsewhere : (S : Setting) (h j pass : ℕ) (answer : Answer) (x : Past) (p
     → waiting j (after S (record { pass = pass; event = Taken h; answer = answer }) x) ≡ waiting j x
 waits_elsewhere S h j pass answer x p ps a e q =
     let no : waits j x p ≡ false = false_from_ne_true _ (λ t.
-      q (same_host j h p.host (is_of_parts j (epoch j x.steps) p (waits_parts j x p t).0).0 (is_of_parts h (epoch h x.steps) p (waits_parts h x p (first_waits h x p ps e)).0).0)) in
+    q (same_host j h p.host (is_of_parts j (epoch j x.steps) p (waits_parts j x p t).0).0 (is_of_parts h (epoch h x.steps) p (waits_parts h x p (first_waits h x p ps e)).0).0)) in
     rw (append-nil x.parts, e) (same_filter _ (λ q. waits j x q && not (is_same q p)) (taken_waits j x p) x.parts ∙ one_less (waits j x) (waits h x) p ps x.parts a e no)
 
 -- THE PIPELINE OF THE HOST
