@@ -7,7 +7,9 @@
 #![tactic(auto)]
 
 mod answering;
+mod arrival;
 mod connection;
+mod failing;
 mod handing;
 mod machine;
 mod opening;
