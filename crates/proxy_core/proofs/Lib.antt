@@ -20,3 +20,7 @@ pub mod PipelinesMove
 pub mod PipelinesTaken
 pub mod PipelinesArrived
 pub mod ConnectionsStay
+pub mod Turned
+pub mod TurnedResults
+pub mod TurnedEvents
+pub mod TurnedAsked

@@ -17,5 +17,7 @@ mod pipeline;
 mod refused;
 mod sending;
 mod sweeping;
+mod turns;
 
 pub use refused::Refused;
+pub use turns::Core;
