@@ -15,6 +15,7 @@ ghost use Rattle.proxy_core.specs.Machine.{own_cause_in, setting_in, memory_in, 
 
 use crate::connection::give;
 use crate::machine::{Machine, make_room};
+use crate::pipeline::answer_from;
 use crate::refused::Refused;
 use ejector::{Ejector, Trip};
 use journal_core::Step;
@@ -51,7 +52,7 @@ impl Machine {
                 return Err(Refused { cause, event });
             }
         };
-        let owner = self.pipelines[host].answered(epoch);
+        let owner = answer_from(&mut self.pipelines, host, epoch);
         give(&mut self.connections, owner, shared);
         let trip = counted(&mut self.ejector, host, true, t);
         let bytes = value.text_len();

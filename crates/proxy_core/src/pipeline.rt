@@ -1,8 +1,8 @@
 //! The pipelines to the hosts.
-ghost use Rattle.std.specs.Prelude.{◌≡◌, ◌≢◌, ◌+◌, ◌<◌, ◌^◌, [], map};
+ghost use Rattle.std.specs.Prelude.{◌≡◌, ◌≢◌, ◌+◌, ◌<◌, ◌^◌, [], length, map};
 ghost use Rattle.proxy_history.specs.Scan.{list_of};
-ghost use Rattle.proxy_core.specs.Pipelines.{answered_by, next_owner, state_of, taken_from, without_connection};
-ghost use Rattle.proxy_core.specs.Machine.{text_of_oldest};
+ghost use Rattle.proxy_core.specs.Pipelines.{answered_by, next_owner, state_of, taken_from, with_pipeline, without_connection};
+ghost use Rattle.proxy_core.specs.Machine.{pipeline_at, text_of_oldest};
 
 use bytes::Bytes;
 use upstream_pipe::{Owner, Pipe};
@@ -15,8 +15,8 @@ pub(crate) struct Pipeline {
 }
 
 impl Pipeline {
-    /// Takes the oldest part that waits, and gives its text, which is empty where none waits.
-    pub(crate) fn take(&mut self) -> Bytes
+    // Takes the oldest part that waits, and gives its text, which is empty where none waits.
+    fn take(&mut self) -> Bytes
         requires { self.old.taken + 1 < 2 ^ 64 }
         ensures text { result ≡ text_of_oldest self.old.pipe.waiting }
         ensures taken { state_of self.new ≡ taken_from (state_of self.old) }
@@ -28,9 +28,9 @@ impl Pipeline {
         }
     }
 
-    /// A reply of this epoch came, which is the present one, and a part flies: takes the oldest that flies, and gives its
-    /// owner, where its connection is open.
-    pub(crate) fn answered(&mut self, epoch: u64) -> Option<Owner>
+    // A reply of this epoch came, which is the present one, and a part flies: takes the oldest that flies, and gives its
+    // owner, where its connection is open.
+    fn answered(&mut self, epoch: u64) -> Option<Owner>
         requires epoch { epoch ≡ self.old.pipe.epoch }
         requires flying { self.old.pipe.flying ≢ [] }
         ensures owner { list_of result ≡ next_owner self.old.pipe.flying }
@@ -45,6 +45,34 @@ impl Pipeline {
     {
         self.pipe.forget(conn);
     }
+}
+
+/// Takes the oldest part that waits for a host. Gives the host's epoch, how many parts were taken in it before, and the
+/// part's text.
+pub(crate) fn take_from(pipelines: &mut [Pipeline], host: usize) -> (u64, u64, Bytes)
+    requires host { host < length pipelines.old }
+    requires taken { (pipeline_at host (map state_of pipelines.old)).taken + 1 < 2 ^ 64 }
+    ensures epoch { result.0 ≡ (pipeline_at host (map state_of pipelines.old)).epoch }
+    ensures place { result.1 ≡ (pipeline_at host (map state_of pipelines.old)).taken }
+    ensures text { result.2 ≡ text_of_oldest (pipeline_at host (map state_of pipelines.old)).waiting }
+    ensures taken { map state_of pipelines.new ≡ with_pipeline taken_from host (map state_of pipelines.old) }
+{
+    let pipeline = &mut pipelines[host];
+    let (epoch, place) = (pipeline.pipe.epoch(), pipeline.taken);
+    let text = pipeline.take();
+    (epoch, place, text)
+}
+
+/// A reply of this epoch came from a host, which is its present one, and a part flies to it: takes the oldest that flies,
+/// and gives its owner, where its connection is open.
+pub(crate) fn answer_from(pipelines: &mut [Pipeline], host: usize, epoch: u64) -> Option<Owner>
+    requires host { host < length pipelines.old }
+    requires epoch { epoch ≡ (pipeline_at host (map state_of pipelines.old)).epoch }
+    requires flying { (pipeline_at host (map state_of pipelines.old)).flying ≢ [] }
+    ensures owner { list_of result ≡ next_owner (pipeline_at host (map state_of pipelines.old)).flying }
+    ensures answered { map state_of pipelines.new ≡ with_pipeline answered_by host (map state_of pipelines.old) }
+{
+    pipelines[host].answered(epoch)
 }
 
 /// A connection is closed: its parts that wait are dropped, and the replies to those that fly go to nobody.
