@@ -20,3 +20,4 @@ pub mod PipelinesMove
 pub mod PipelinesTaken
 pub mod PipelinesArrived
 pub mod ConnectionsStay
+pub mod Lost

@@ -119,8 +119,8 @@ impl Machine {
     }
 }
 
-// Tells outlier detection of a result of the host, and gives what it did to it. There has to be room for a mark.
-fn counted(ejector: &mut Ejector, host: usize, ok: bool, t: u64) -> Trip
+/// Tells outlier detection of a result of the host, and gives what it did to it. There has to be room for a mark.
+pub(crate) fn counted(ejector: &mut Ejector, host: usize, ok: bool, t: u64) -> Trip
     requires host { host < ejector.old.rules.hosts }
     requires room { 0 < ejector.old.room }
     ensures state { (marks : List Mark) → state ejector.old.rules marks ≡ ejector.old.state

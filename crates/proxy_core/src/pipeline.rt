@@ -1,11 +1,12 @@
 //! The pipelines to the hosts.
-ghost use Rattle.std.specs.Prelude.{◌≡◌, ◌≢◌, ◌+◌, ◌<◌, ◌^◌, [], length, map};
+ghost use Rattle.std.specs.Prelude.{◌≡◌, ◌≢◌, ◌+◌, ◌-◌, ◌<◌, ◌^◌, [], length, map, IfOk, OnOk, OnErr};
+ghost use Rattle.upstream_pipe.specs.Pipe.{owner_in};
 ghost use Rattle.proxy_history.specs.Scan.{list_of};
-ghost use Rattle.proxy_core.specs.Pipelines.{answered_by, next_owner, state_of, taken_from, with_pipeline, without_connection};
+ghost use Rattle.proxy_core.specs.Pipelines.{answered_by, failed, next_owner, state_of, taken_from, with_pipeline, without_connection};
 ghost use Rattle.proxy_core.specs.Machine.{pipeline_at, text_of_oldest};
 
 use bytes::Bytes;
-use upstream_pipe::{Owner, Pipe};
+use upstream_pipe::{Lost, Owner, Pipe, PipeRefusal};
 
 /// The pipe to a host, and how many parts were taken from it in its epoch.
 #[derive(Drop)]
@@ -37,6 +38,20 @@ impl Pipeline {
         ensures answered { state_of self.new ≡ answered_by (state_of self.old) }
     {
         self.pipe.answered(epoch).unwrap_or(None)
+    }
+
+    // The host failed in this epoch, which is the present one: all its parts are lost.
+    fn fail(&mut self, epoch: u64) -> Result<Lost, PipeRefusal>
+        requires epoch { epoch ≡ self.old.pipe.epoch }
+        requires next { epoch < 2 ^ 64 - 1 }
+        ensures flying { IfOk result (λ lost. lost.flying.items ≡ self.old.pipe.flying) }
+        ensures waiting { IfOk result (λ lost. lost.waiting.items ≡ map owner_in self.old.pipe.waiting) }
+        ensures failed { OnOk result (state_of self.new ≡ failed (state_of self.old)) }
+        ensures err { OnErr result (state_of self.new ≡ state_of self.old) }
+    {
+        let lost = self.pipe.fault(epoch)?;
+        self.taken = 0;
+        Ok(lost)
     }
 
     // A connection is closed.
@@ -73,6 +88,20 @@ pub(crate) fn answer_from(pipelines: &mut [Pipeline], host: usize, epoch: u64) -
     ensures answered { map state_of pipelines.new ≡ with_pipeline answered_by host (map state_of pipelines.old) }
 {
     pipelines[host].answered(epoch)
+}
+
+/// A host failed in this epoch, which is its present one: all its parts are lost, and handed out. Refused where memory is,
+/// and nothing has changed then.
+pub(crate) fn fail_all(pipelines: &mut [Pipeline], host: usize, epoch: u64) -> Result<Lost, PipeRefusal>
+    requires host { host < length pipelines.old }
+    requires epoch { epoch ≡ (pipeline_at host (map state_of pipelines.old)).epoch }
+    requires next { epoch < 2 ^ 64 - 1 }
+    ensures flying { IfOk result (λ lost. lost.flying.items ≡ (pipeline_at host (map state_of pipelines.old)).flying) }
+    ensures waiting { IfOk result (λ lost. lost.waiting.items ≡ map owner_in (pipeline_at host (map state_of pipelines.old)).waiting) }
+    ensures failed { OnOk result (map state_of pipelines.new ≡ with_pipeline failed host (map state_of pipelines.old)) }
+    ensures err { OnErr result (map state_of pipelines.new ≡ map state_of pipelines.old) }
+{
+    pipelines[host].fail(epoch)
 }
 
 /// A connection is closed: its parts that wait are dropped, and the replies to those that fly go to nobody.
