@@ -158,8 +158,11 @@ impl Queue {
         Ok(reply)
     }
 
-    // What `pop` gives.
-    fn front(&self) -> Result<Option<Value>, QueueRefusal>
+    /// What `pop` would give: the reply to the oldest command, or `None` exactly if there is no command or a part of the
+    /// oldest has no value. It changes nothing.
+    ///
+    /// Refused 801 (no memory), and only where there is a reply to give.
+    pub fn front(&self) -> Result<Option<Value>, QueueRefusal>
         ensures reply { IfOk result (λ reply. option_map tree_of reply ≡ front_reply self.now.commands) }
         ensures ready { OnErr result (IsSome (front_reply self.now.commands)) }
         ensures memory { IfErr result (λ e. e ≡ QueueRefusal.NoMemory) }
@@ -170,8 +173,9 @@ impl Queue {
         }
     }
 
-    // Takes the oldest command out, whose parts all have a value.
-    fn drop_front(&mut self)
+    /// Takes the oldest command out. There has to be one, and each of its parts has to have a value, as `ready` tells. It
+    /// takes no memory.
+    pub fn drop_front(&mut self)
         requires { IsSome (front_reply self.old.commands) }
         ensures { self.new ≡ without_front self.old }
     {
