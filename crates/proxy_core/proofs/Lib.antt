@@ -24,3 +24,4 @@ pub mod Turned
 pub mod TurnedResults
 pub mod TurnedEvents
 pub mod TurnedAsked
+pub mod Lost

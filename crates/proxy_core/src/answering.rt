@@ -15,6 +15,7 @@ ghost use Rattle.proxy_core.specs.Machine.{own_cause_in, setting_in, memory_in, 
 
 use crate::connection::give;
 use crate::machine::{Machine, make_room};
+use crate::pipeline::answer_from;
 use crate::refused::Refused;
 use ejector::{Ejector, Trip};
 use journal_core::Step;
@@ -51,7 +52,7 @@ impl Machine {
                 return Err(Refused { cause, event });
             }
         };
-        let owner = self.pipelines[host].answered(epoch);
+        let owner = answer_from(&mut self.pipelines, host, epoch);
         give(&mut self.connections, owner, shared);
         let trip = counted(&mut self.ejector, host, true, t);
         let bytes = value.text_len();
@@ -118,8 +119,8 @@ impl Machine {
     }
 }
 
-// Tells outlier detection of a result of the host, and gives what it did to it. There has to be room for a mark.
-fn counted(ejector: &mut Ejector, host: usize, ok: bool, t: u64) -> Trip
+/// Tells outlier detection of a result of the host, and gives what it did to it. There has to be room for a mark.
+pub(crate) fn counted(ejector: &mut Ejector, host: usize, ok: bool, t: u64) -> Trip
     requires host { host < ejector.old.rules.hosts }
     requires room { 0 < ejector.old.room }
     ensures state { (marks : List Mark) → state ejector.old.rules marks ≡ ejector.old.state

@@ -1,5 +1,5 @@
 //! The open connections.
-ghost use Rattle.std.specs.Prelude.{◌≡◌, IsSome, filter_map};
+ghost use Rattle.std.specs.Prelude.{◌≡◌, ◌++◌, IsSome, filter_map};
 ghost use Rattle.std.specs.Option.{option_copied, option_map};
 ghost use Rattle.resp_core.specs.Value.{tree_of};
 ghost use Rattle.proxy_history.specs.Scan.{list_of};
@@ -11,7 +11,7 @@ use bytes::Bytes;
 use reply_queue::Queue;
 use resp_core::Value;
 use std::alloc::Global;
-use upstream_pipe::Owner;
+use upstream_pipe::{Lost, Owner};
 
 /// An open connection: its commands that are accepted and not handed out, and whether it takes no further one.
 #[derive(Drop)]
@@ -127,8 +127,17 @@ fn upstream_failure() -> Value
     Value::Fault(Bytes::from_static(b"upstream failure"))
 }
 
-/// Gives each of these parts, none of which has a value, the failure of its host.
-pub(crate) fn fail_parts(connections: &mut [Option<Connection>], owners: &[Owner])
+/// Gives each of the parts that were lost, none of which has a value, the failure of its host.
+pub(crate) fn fail_lost(connections: &mut [Option<Connection>], lost: &Lost)
+    requires { AreAwaited (filter_map (λ o. o) lost.now.flying.items ++ lost.now.waiting.items) upstream_failure connections.old }
+    ensures { connections.new ≡ answered_parts (filter_map (λ o. o) lost.now.flying.items ++ lost.now.waiting.items) upstream_failure connections.old }
+{
+    fail_places(connections, &lost.flying);
+    fail_parts(connections, &lost.waiting);
+}
+
+// Gives each of these parts the failure of its host.
+fn fail_parts(connections: &mut [Option<Connection>], owners: &[Owner])
     requires { AreAwaited owners.now upstream_failure connections.old }
     ensures { connections.new ≡ answered_parts owners.now upstream_failure connections.old }
 {
@@ -137,8 +146,8 @@ pub(crate) fn fail_parts(connections: &mut [Option<Connection>], owners: &[Owner
     }
 }
 
-/// So it gives each of those that are there.
-pub(crate) fn fail_places(connections: &mut [Option<Connection>], places: &[Option<Owner>])
+// So it gives each of those that are there.
+fn fail_places(connections: &mut [Option<Connection>], places: &[Option<Owner>])
     requires { AreAwaited (filter_map (λ o. o) places.now) upstream_failure connections.old }
     ensures { connections.new ≡ answered_parts (filter_map (λ o. o) places.now) upstream_failure connections.old }
 {

@@ -1,12 +1,15 @@
-use Rattle.std.proofs.Common.{rules, ◌≡◌, ◌∷◌, List, IfOk, IfErr, OnOk, ◌<◌, ℕ, ◌+◌, ◌-◌, ◌*◌, ◌≤◌, length, ◌/◌, ◌%◌, Bool, true, false, nat_eq, nat_lt, [], ◌++◌, slice_index_or, slice_set, bit_and, bit_or, Fits, w8, w32, w64, Bor, MutBor}
-use Rattle.ejector.specs.declared.mark.Mark.{Mark}
-use Rattle.ejector.specs.declared.mark.Mark.TheVariants as marks'
-use Rattle.ejector.specs.Ejection.{state, swept}
-use Rattle.proxy_history.specs.Answer.{counts_of}
-use Rattle.proxy_history.specs.declared.event.Event.TheVariants as events
-use Rattle.proxy_core.specs.Machine.{memory_in, IsTurned, IsSame, IsReady, HasCauseIn}
+use Rattle.std.proofs.Common.{◌≡◌, ◌∷◌, ap, sym, ◌∙◌}
+use Rattle.ejector.specs.declared.mark.Mark.TheVariants.{Sweep}
+use Rattle.ejector.specs.declared.settings.Rules.{Rules}
+use Rattle.ejector.specs.Ejection.{state}
+use Rattle.proxy_history.specs.Setting.{Setting}
+use Rattle.proxy_core.specs.Kept.{Memory}
 use Rattle.proxy_core.proofs.machine.Machine.sweep.Goals as goal
 
--- src/sweeping.rt:18:5
 pub returns-clause-hosts : goal.returns-clause-hosts
-returns-clause-hosts c = ?
+returns-clause-hosts c = λ marks e.
+    let same = c.in_default.ensures.ready.same in
+    let rules : c.ready_to_sweep.new.self.ejector.rules ≡ c.args.self.now.ejector.rules = ap (λ (z : Setting). z.rules) same.setting in
+    let hosts : c.ready_to_sweep.new.self.ejector.state ≡ c.args.self.now.ejector.state = ap (λ (z : Memory). z.hosts) same.memory in
+    c.swept-hosts.ensures.state marks (ap (λ (r : Rules). state r marks) rules ∙ e ∙ sym hosts)
+    ∙ ap (λ (r : Rules). state r (Sweep c.args.t ∷ marks)) rules
