@@ -1,7 +1,7 @@
 -- What the turns of a machine ask for holds where its history determines what it keeps.
-use Rattle.std.proofs.Common.{◌≡◌, ℕ, ◌+◌, ◌-◌, ◌≤◌, ◌<◌, ◌^◌, Bool, true, false, nat_lt, nat_le, ◌==◌, List, [], ◌∷◌, map, length, Option, Some, None, refl, sym, ap, ◌∙◌, subst, inl, inr, arith}
+use Rattle.std.proofs.Common.{◌≡◌, ℕ, suc, ◌+◌, ◌-◌, ◌≤◌, ◌<◌, ◌^◌, Bool, true, false, nat_lt, nat_le, ◌==◌, List, [], ◌∷◌, map, length, Option, Some, None, refl, sym, ap, ◌∙◌, subst, inl, inr, arith}
 use Rattle.std.specs.Prelude.{vec_len, slice_get, IfSome, IsTrue}
-use Rattle.std.proofs.lemmas.Bool.{cases_Bool, ltb-true, leb-true, leb-false, lt-leb, and_parts, eq-eqb}
+use Rattle.std.proofs.lemmas.Bool.{cases_Bool, ltb-true, leb-true, leb-false, lt-leb, and_parts, eq-eqb, eqb-true}
 use Rattle.std.proofs.lemmas.List.{length-map}
 use Rattle.resp_core.specs.Tree.{Tree, is_plain_tree}
 use Rattle.resp_core.specs.Value.{tree_of}
@@ -44,7 +44,7 @@ steps-at_most S (s ∷ H) legal =
     omega (arith, ltb-true (length H) max_steps a.0)
 
 pub asked_hosts : (m : Machine) → IsKept m → vec_len m.pipelines ≡ hosts (setting_in m)
-asked_hosts m kept = sym (length-map m.pipelines.items state_of) ∙ ap length (kept_pipelines m kept) ∙ length-pipelines_of (setting_in m) (past (setting_in m) (history_in m))
+asked_hosts m kept = m.pipelines.ok.0 ∙ sym (length-map m.pipelines.items state_of) ∙ ap length (kept_pipelines m kept) ∙ length-pipelines_of (setting_in m) (past (setting_in m) (history_in m))
 
 pub asked_closed : (m : Machine) → IsKept m → m.closed + 1 < 18446744073709551616
 asked_closed m kept = omega (arith, kept_closed m kept, times-at_most is_any_closing (history_in m), steps-at_most (setting_in m) (history_in m) kept.legal)
@@ -93,7 +93,10 @@ any_value (Some o ∷ places) v w connections h = (h.0, tt)
 
 empty_flies : (places : List (Option Owner)) (v : Tree) (connections : List (Option Connection)) → (length places == 0) ≡ true → AreAwaited (next_owner places) v connections
 empty_flies [] v connections e = tt
-empty_flies (o ∷ places) v connections e = absurd cc
+empty_flies (o ∷ places) v connections e = absurd (some_left (length places) e)
+  where
+    some_left : (n : ℕ) → (suc n == 0) ≡ true → ⊥
+    some_left n e = omega (arith, eqb-true (suc n) 0 e)
 
 answered_here : (S : Setting) (H : History) (h : ℕ) (v : Tree) → IsLegal S H → h < hosts S → AreAwaited (next_owner (pipeline_of (past S H) h).flying) v (connections_of (past S H))
 answered_here S H h v legal l =

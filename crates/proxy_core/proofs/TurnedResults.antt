@@ -24,7 +24,7 @@ both P Q (Ok a) p q = (p, q)
 both P Q (Err r) p q = tt
 
 pub all_three : (P Q R : Answer → Type 0) (r : Result Answer Refused) → IfOk r P → IfOk r Q → IfOk r R → IfOk r (λ a. P a × Q a × R a)
-all_three P Q R (Ok a) p q s = (p, (q, s))
+all_three P Q R (Ok a) p q s = (p, q, s)
 all_three P Q R (Err r) p q s = tt
 
 -- a fact that doesn't depend on the answer

@@ -105,7 +105,7 @@ pub fail-requires-clause-epochs : goal.fail-requires-clause-epochs
 fail-requires-clause-epochs c = asked_epochs c.args.self.now c.in-Failed.host c.requires
 
 pub hand-requires : goal.hand-requires
-hand-requires c = asked_reply c.args.self.now c.in-Handed.conn c.requires
+hand-requires c = record { plain = asked_reply c.args.self.now c.in-Handed.conn c.requires }
 
 pub close-requires : goal.close-requires
 close-requires c = asked_closed c.args.self.now c.requires
