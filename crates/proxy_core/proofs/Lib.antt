@@ -25,3 +25,5 @@ pub mod TurnedResults
 pub mod TurnedEvents
 pub mod TurnedAsked
 pub mod Lost
+pub mod TurnedNew
+pub mod TurnedRuns
