@@ -27,3 +27,4 @@ pub mod TurnedAsked
 pub mod Lost
 pub mod TurnedNew
 pub mod TurnedRuns
+pub mod TurnedRecorded

@@ -38,9 +38,9 @@ fresh_more ps p n e f = map-append state_of ps (p ∷ []) ∙ rw (e, f) (replica
 
 
 -- where there is a result, no field is at fault
-pub no_fault : {A E P : Type 0} (e : A) (bad : Field → E) (o : Option Field) → MatchOption o P (λ f. IsErrOf (Ok e) (bad f)) → o ≡ None
-no_fault e bad None h = refl
-no_fault e bad (Some f) h = absurd cc
+pub no_fault : {A E : Type 0} (P : Type 0) (e : A) (bad : Field → E) (o : Option Field) → MatchOption o P (λ f. IsErrOf (Ok e) (bad f)) → o ≡ None
+no_fault P e bad None h = refl
+no_fault P e bad (Some f) h = absurd cc
 
 pub fresh_is : (ps qs : List Pipeline) (p : Pipeline) (n : ℕ) → map state_of ps ≡ replicate n no_pipeline → qs ≡ ps ++ p ∷ [] → p.pipe.waiting ≡ [] → p.pipe.flying ≡ []
     → p.pipe.epoch ≡ 0 → p.taken ≡ 0 → map state_of qs ≡ replicate (n + 1) no_pipeline

@@ -2,6 +2,8 @@
 use Rattle.std.specs.Prelude.{◌≡◌, ℕ, List, [], ◌∷◌, ◌++◌, map, reverse}
 use Rattle.std.proofs.Common.{subst, ap, ◌∙◌}
 use Rattle.std.proofs.lemmas.List.{map-append, reverse-append}
+use Rattle.ketama.specs.Continuum.{Continuum}
+use Rattle.ejector.specs.declared.settings.Settings.{Settings}
 use Rattle.proxy_history.specs.Setting.{Setting}
 use Rattle.proxy_history.specs.History.{History, Step}
 use Rattle.proxy_history.specs.Legal.{IsLegal, IsCause}
@@ -23,22 +25,32 @@ journal_of k = map triple_of k.steps
 abbrev pub history_by : List (ℕ × Event × Answer) → History
 history_by journal = reverse (map step_of journal)
 
-abbrev pub IsLegalJournal : Setting → List (ℕ × Event × Answer) → Type 0
-IsLegalJournal S journal = IsLegal S (history_by journal)
+-- the ring, and the hosts and settings of outlier detection
+abbrev pub Made : Type 0
+Made = Continuum × ℕ × Settings
 
-abbrev pub IsCauseIn : Setting → Refusal → Event → List (ℕ × Event × Answer) → Type 0
-IsCauseIn S r event journal = IsCause S (history_by journal) event r
+abbrev pub made_with : Kept → Made
+made_with k = (k.setting.ring, k.setting.rules.hosts, k.setting.rules.settings)
+
+abbrev pub setting_by : Made → Setting
+setting_by w = record { ring = w.0; rules = record { hosts = w.1; settings = w.2 } }
+
+abbrev pub IsLegalJournal : Made → List (ℕ × Event × Answer) → Type 0
+IsLegalJournal w journal = IsLegal (setting_by w) (history_by journal)
+
+abbrev pub IsCauseIn : Made → Refusal → Event → List (ℕ × Event × Answer) → Type 0
+IsCauseIn w r event journal = IsCause (setting_by w) (history_by journal) event r
 
 -- the empty journal is legal
-pub legal_at_first : (S : Setting) → IsLegalJournal S []
-legal_at_first S = tt
+pub legal_at_first : (w : Made) → IsLegalJournal w []
+legal_at_first w = tt
 
 earlier : (S : Setting) (later before : History) → IsLegal S (later ++ before) → IsLegal S before
 earlier S [] before legal = legal
 earlier S (s ∷ later) before legal = earlier S later before legal.0
 
 -- each beginning of a legal journal is legal
-pub legal_before : (S : Setting) (journal more : List (ℕ × Event × Answer)) → IsLegalJournal S (journal ++ more) → IsLegalJournal S journal
-legal_before S journal more legal =
-    earlier S (history_by more) (history_by journal)
-    (subst (IsLegal S) (ap reverse (map-append step_of journal more) ∙ reverse-append (map step_of journal) (map step_of more)) legal)
+pub legal_before : (w : Made) (journal more : List (ℕ × Event × Answer)) → IsLegalJournal w (journal ++ more) → IsLegalJournal w journal
+legal_before w journal more legal =
+    earlier (setting_by w) (history_by more) (history_by journal)
+    (subst (IsLegal (setting_by w)) (ap reverse (map-append step_of journal more) ∙ reverse-append (map step_of journal) (map step_of more)) legal)

@@ -202,9 +202,7 @@ impl Machine {
 }
 
 impl Recorded for Core {
-    ghost use Rattle.proxy_history.specs.Setting.{Setting};
-    ghost use Rattle.proxy_history.specs.Reference.{Kept};
-    ghost use Rattle.proxy_core.specs.Recorded.{journal_of, IsLegalJournal, IsCauseIn, legal_at_first, legal_before};
+    ghost use Rattle.proxy_core.specs.Recorded.{journal_of, made_with, IsLegalJournal, IsCauseIn, legal_at_first, legal_before};
 
     type Event = Event;
 
@@ -212,11 +210,12 @@ impl Recorded for Core {
 
     type Refusal = Refusal;
 
-    ghost Setting = { Setting };
+    // The ring, and the hosts and settings of outlier detection.
+    type Setting = (Ring, usize, Settings);
 
     ghost journal = { journal_of };
 
-    ghost setting = { λ (k : Kept). k.setting };
+    ghost setting = { made_with };
 
     ghost legal = { IsLegalJournal };
 

@@ -17,4 +17,4 @@ invariant_of-result c =
     (c.in_ok-fresh_pipelines.ensures ∙ ap (λ n. replicate n no_pipeline) same)
     (ap (λ (z : Rules). z.hosts) rules ∙ same)
     c.in-Ok.ensures.made.1
-    (ap first_fault rules ∙ no_fault c.in-Ok.ejector BadSettings _ c.in-Ok.ensures.refused)
+    (ap first_fault rules ∙ no_fault _ c.in-Ok.ejector BadSettings _ c.in-Ok.ensures.refused)
