@@ -87,7 +87,16 @@ fn request(rt: &(impl Abort + AllocGlobal), numbers: &mut Numbers) -> Request {
     }
 }
 
-// The epoch of the host as the core tells it, and now and then another.
+// The epochs of the three hosts.
+fn epochs(core: &Core) -> [u64; 3] {
+    if core.hosts() == 3 {
+        [core.epoch(0), core.epoch(1), core.epoch(2)]
+    } else {
+        [0; 3]
+    }
+}
+
+// The epoch of the host, and now and then another.
 fn epoch(numbers: &mut Numbers, epochs: [u64; 3], host: usize) -> u64 {
     let now = match epochs.get(host) {
         Some(epoch) => *epoch,
@@ -291,7 +300,7 @@ fn run(rt: &(impl Abort + AllocGlobal), seed: u64, events: u64) {
     let mut numbers = Numbers(seed);
     let (mut core, mut plain) = both(rt, settings(&mut numbers));
     for t in 0..events {
-        let epochs = [core.epoch(0), core.epoch(1), core.epoch(2)];
+        let epochs = epochs(&core);
         let mut twin = numbers;
         let one = event(rt, &mut numbers, epochs, t);
         let other = event(rt, &mut twin, epochs, t);
@@ -339,7 +348,7 @@ fn full_pipes_agree(rt: HostRuntime) -> Result<(), Fail> {
     }
     let mut numbers = Numbers(77);
     for t in 0..12 {
-        let epochs = [core.epoch(0), core.epoch(1), core.epoch(2)];
+        let epochs = epochs(&core);
         let mut twin = numbers;
         let one = event(&rt, &mut numbers, epochs, t);
         let other = event(&rt, &mut twin, epochs, t);

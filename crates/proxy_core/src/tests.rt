@@ -844,8 +844,8 @@ fn no_more_than_4096_connections_are_open(rt: HostRuntime) -> Result<(), Fail> {
 #[test]
 fn what_is_asked_of_hosts(rt: HostRuntime) -> Result<(), Fail> {
     let mut proxy = proxy(&rt, false);
-    assert_eq!(rt; proxy.hosts(), 3);
     bad_results(&rt, &mut proxy, 0, 4);
+    assert_eq!(rt; proxy.hosts(), 3);
     assert!(rt; !proxy.is_out(1) && !proxy.in_panic());
     lost(
         &rt,
@@ -853,9 +853,33 @@ fn what_is_asked_of_hosts(rt: HostRuntime) -> Result<(), Fail> {
         fault(1, 4, Kind::Refused),
         (0, Trip::Ejected),
     );
+    assert_eq!(rt; proxy.hosts(), 3);
     assert_eq!(rt; (proxy.epoch(0), proxy.epoch(1), proxy.epoch(2)), (0, 5, 0));
     assert!(rt; !proxy.is_out(0) && proxy.is_out(1) && !proxy.is_out(2));
     assert!(rt; !proxy.in_panic());
+    Ok(())
+}
+
+// With one host of three to be put aside at most, and a panic below all three, one that is out is a panic.
+#[test]
+fn panic_is_told(rt: HostRuntime) -> Result<(), Fail> {
+    let settings = Settings {
+        consecutive: 1,
+        panic_percent: 100,
+        ..Settings::default()
+    };
+    let mut proxy = match made(rt.alloc(), POINTS, settings) {
+        Ok(proxy) => proxy,
+        Err(_) => made(rt.alloc(), POINTS, settings).expect(&rt, "no memory twice"),
+    };
+    assert!(rt; !proxy.in_panic());
+    lost(
+        &rt,
+        &mut proxy,
+        fault(2, 0, Kind::Late),
+        (0, Trip::Ejected),
+    );
+    assert!(rt; proxy.in_panic());
     Ok(())
 }
 
