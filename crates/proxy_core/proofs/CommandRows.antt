@@ -109,24 +109,35 @@ pub same_values : {X : Type 0} (f g : Part → X) → ((p : Part) → f p ≡ g 
 same_values f g e [] = refl
 same_values f g e (p ∷ ps) = rw (e p, same_values f g e ps) refl
 
-quiet_command : (S : Setting) (x : Past) (s : Step) (c i : ℕ) (plan : Plan) → IsQuiet x s.event → i < accepted c x.steps → awaited_by (after S s x) c i plan ≡ awaited_by x c i plan
-quiet_command S x s c i (here name value) q l = refl
-quiet_command S x s c i (leave name value) q l = refl
-quiet_command S x s c i (parts how list) q l =
-    ap (λ z. record { how = how; values = map (value_of (after S s x)) z }) (parts_stay S x c i s l)
-    ∙ ap (λ z. record { how = how; values = z }) (same_values (value_of (after S s x)) (value_of x) (λ p. quiet_value S x s p q) (parts_of c i x))
+-- ROWS A STEP LATER
 
-quiet_from : (S : Setting) (x : Past) (s : Step) (c i : ℕ) (rs : List Request) → IsQuiet x s.event → i + length rs ≤ accepted c x.steps
+-- A command whose parts keep their values stays as it is.
+steady_command : (S : Setting) (x : Past) (s : Step) (c i : ℕ) (plan : Plan) → ((p : Part) → value_of (after S s x) p ≡ value_of x p) → i < accepted c x.steps
+    → awaited_by (after S s x) c i plan ≡ awaited_by x c i plan
+steady_command S x s c i (here name value) same l = refl
+steady_command S x s c i (leave name value) same l = refl
+steady_command S x s c i (parts how list) same l =
+    ap (λ z. record { how = how; values = map (value_of (after S s x)) z }) (parts_stay S x c i s l)
+    ∙ ap (λ z. record { how = how; values = z }) (same_values (value_of (after S s x)) (value_of x) same (parts_of c i x))
+
+steady_from : (S : Setting) (x : Past) (s : Step) (c i : ℕ) (rs : List Request) → ((p : Part) → value_of (after S s x) p ≡ value_of x p) → i + length rs ≤ accepted c x.steps
     → awaited_from (after S s x) c i rs ≡ awaited_from x c i rs
-quiet_from S x s c i [] q l = refl
-quiet_from S x s c i (r ∷ rs) q l =
-    rw (quiet_command S x s c i (plan_for r) q (omega (arith, l)), quiet_from S x s c (i + 1) rs q (omega (arith, l))) refl
+steady_from S x s c i [] same l = refl
+steady_from S x s c i (r ∷ rs) same l =
+    rw (steady_command S x s c i (plan_for r) same (omega (arith, l)), steady_from S x s c (i + 1) rs same (omega (arith, l))) refl
 
 -- the commands that arrived before are the same
+steady_before : (S : Setting) (x : Past) (s : Step) (c : ℕ) → ((p : Part) → value_of (after S s x) p ≡ value_of x p) → awaited_from (after S s x) c 0 (requests c x.steps) ≡ row x c
+steady_before S x s c same = steady_from S x s c 0 (requests c x.steps) same (omega (arith, length-requests c x.steps))
+
+-- where each part keeps its value and no command arrives, the row stays
+pub steady_row : (S : Setting) (x : Past) (s : Step) (c : ℕ) → ((p : Part) → value_of (after S s x) p ≡ value_of x p) → request_by c s.event ≡ [] → row (after S s x) c ≡ row x c
+steady_row S x s c same e =
+    ap (λ z. awaited_from (after S s x) c 0 (requests c x.steps ++ z)) e ∙ ap (awaited_from (after S s x) c 0) (append-nil (requests c x.steps))
+    ∙ steady_before S x s c same
+
 pub quiet_before : (S : Setting) (x : Past) (s : Step) (c : ℕ) → IsQuiet x s.event → awaited_from (after S s x) c 0 (requests c x.steps) ≡ row x c
-quiet_before S x s c q = quiet_from S x s c 0 (requests c x.steps) q (omega (arith, length-requests c x.steps))
+quiet_before S x s c q = steady_before S x s c (λ p. quiet_value S x s p q)
 
 pub quiet_row : (S : Setting) (x : Past) (s : Step) (c : ℕ) → IsQuiet x s.event → request_by c s.event ≡ [] → row (after S s x) c ≡ row x c
-quiet_row S x s c q e =
-    ap (λ z. awaited_from (after S s x) c 0 (requests c x.steps ++ z)) e ∙ ap (awaited_from (after S s x) c 0) (append-nil (requests c x.steps))
-    ∙ quiet_before S x s c q
+quiet_row S x s c q e = steady_row S x s c (λ p. quiet_value S x s p q) e

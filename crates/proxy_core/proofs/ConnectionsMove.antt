@@ -32,13 +32,13 @@ aside S x s c q a = rw (a.no_handing, a.no_closing, a.no_finish, quiet_row S x s
 
 -- THE CONNECTION OF THE EVENT
 
-quiet-opened : (x : Past) → IsQuiet x Opened
+pub quiet-opened : (x : Past) → IsQuiet x Opened
 quiet-opened x = record { sends_none = refl; brings_none = λ h e. refl; is_no_fault = λ h. refl }
 
-quiet-finished : (x : Past) (conn : ℕ) → IsQuiet x (Finished conn)
+pub quiet-finished : (x : Past) (conn : ℕ) → IsQuiet x (Finished conn)
 quiet-finished x conn = record { sends_none = refl; brings_none = λ h e. refl; is_no_fault = λ h. refl }
 
-quiet-handed : (x : Past) (conn : ℕ) → IsQuiet x (Handed conn)
+pub quiet-handed : (x : Past) (conn : ℕ) → IsQuiet x (Handed conn)
 quiet-handed x conn = record { sends_none = refl; brings_none = λ h e. refl; is_no_fault = λ h. refl }
 
 quiet-closed : (x : Past) (conn : ℕ) → IsQuiet x (Closed conn)
@@ -89,7 +89,7 @@ connections-finished S H pass conn answer =
 
 -- HANDED
 
-drop-one_more : {X : Type 0} (n : ℕ) (xs : List X) → drop (n + 1) xs ≡ drop 1 (drop n xs)
+pub drop-one_more : {X : Type 0} (n : ℕ) (xs : List X) → drop (n + 1) xs ≡ drop 1 (drop n xs)
 drop-one_more zero xs = refl
 drop-one_more {X} (suc n) [] = drop-nil {A = X} (suc n + 1)
 drop-one_more (suc n) (x ∷ xs) = let e : suc n + 1 ≡ suc (n + 1) = omega arith in ap (λ z. drop z (x ∷ xs)) e ∙ drop-one_more n xs

@@ -14,3 +14,9 @@ pub mod ValuesMove
 pub mod Coming
 pub mod ConnectionsAnswered
 pub mod ConnectionsFailed
+pub mod PipelineFacts
+pub mod PipelineStays
+pub mod PipelinesMove
+pub mod PipelinesTaken
+pub mod PipelinesArrived
+pub mod ConnectionsStay

@@ -17,11 +17,11 @@ use Rattle.proxy_history.proofs.Growing.{times_grows}
 use Rattle.proxy_history.proofs.Waiting.{AreOfPast}
 use Rattle.proxy_history.proofs.Apart.{after_failed}
 
-of_past_grows : (s : Step) (H : History) (ps : List Part) → AreOfPast H ps → AreOfPast (s ∷ H) ps
+pub of_past_grows : (s : Step) (H : History) (ps : List Part) → AreOfPast H ps → AreOfPast (s ∷ H) ps
 of_past_grows s H [] a = tt
 of_past_grows s H (p ∷ ps) a = (λ h e. omega (arith, a.0 h e, times_grows (is_fault h) s H), of_past_grows s H ps a.1)
 
-of_past_both : (H : History) (ps qs : List Part) → AreOfPast H ps → AreOfPast H qs → AreOfPast H (ps ++ qs)
+pub of_past_both : (H : History) (ps qs : List Part) → AreOfPast H ps → AreOfPast H qs → AreOfPast H (ps ++ qs)
 of_past_both H [] qs a b = b
 of_past_both H (p ∷ ps) qs a b = (a.0, of_past_both H ps qs a.1 b)
 

@@ -62,7 +62,7 @@ no_reply S x (Handed conn) h e n l = refl
 no_reply S x (Closed conn) h e n l = refl
 
 -- a part belongs to one host and one epoch
-same_host : (h k : ℕ) (o : Option ℕ) → is_host h o ≡ true → is_host k o ≡ true → h ≡ k
+pub same_host : (h k : ℕ) (o : Option ℕ) → is_host h o ≡ true → is_host k o ≡ true → h ≡ k
 same_host h k None a b = absurd cc
 same_host h k (Some j) a b = sym (eqb-true j h a) ∙ eqb-true j k b
 

@@ -41,7 +41,7 @@ apart_filter f (p ∷ ps) a = elim (cases_Bool (f p)) [
 ]
 
 -- who is none of these stays
-all_stay : (p : Part) (ps : List Part) → list_any (is_same p) ps ≡ false → filter (λ q. not (is_same q p)) ps ≡ ps
+pub all_stay : (p : Part) (ps : List Part) → list_any (is_same p) ps ≡ false → filter (λ q. not (is_same q p)) ps ≡ ps
 all_stay p [] e = refl
 all_stay p (q ∷ ps) e =
     let a = or_parts (is_same p q) (list_any (is_same p) ps) e in
@@ -60,7 +60,7 @@ bools true false false true = refl
 bools true false false false = refl
 bools false b c d = refl
 
-taken_waits : (h : ℕ) (x : Past) (p q : Part) → waits h (record x { sent = x.sent ++ p ∷ [] }) q ≡ (waits h x q && not (is_same q p))
+pub taken_waits : (h : ℕ) (x : Past) (p q : Part) → waits h (record x { sent = x.sent ++ p ∷ [] }) q ≡ (waits h x q && not (is_same q p))
 taken_waits h x p q = rw (list_any-append (is_same q) x.sent (p ∷ [])) (bools (is_of h (epoch h x.steps) q) (list_any (is_same q) x.sent) (is_same q p) (not (is_closed q.conn x.steps)))
 
 without_first : (p : Part) (ps : List Part) → AreApart (p ∷ ps) → filter (λ q. not (is_same q p)) (p ∷ ps) ≡ ps
