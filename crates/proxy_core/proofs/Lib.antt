@@ -20,3 +20,5 @@ pub mod PipelinesMove
 pub mod PipelinesTaken
 pub mod PipelinesArrived
 pub mod ConnectionsStay
+pub mod Pushed
+pub mod Accepted

@@ -12,6 +12,7 @@ mod handing;
 mod machine;
 mod opening;
 mod pipeline;
+mod place;
 mod refused;
 mod sending;
 mod sweeping;
