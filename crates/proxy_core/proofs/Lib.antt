@@ -22,3 +22,4 @@ pub mod PipelinesArrived
 pub mod ConnectionsStay
 pub mod Pushed
 pub mod Accepted
+pub mod Places

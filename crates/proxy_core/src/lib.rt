@@ -7,6 +7,7 @@
 #![tactic(auto)]
 
 mod answering;
+mod arrival;
 mod connection;
 mod handing;
 mod machine;
