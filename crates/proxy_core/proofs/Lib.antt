@@ -23,3 +23,5 @@ pub mod ConnectionsStay
 pub mod Pushed
 pub mod Accepted
 pub mod Places
+pub mod FewParts
+pub mod Arriving

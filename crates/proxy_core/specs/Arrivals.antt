@@ -3,18 +3,25 @@ use Rattle.std.specs.Prelude.{◌≡◌, ◌<◌, ◌≤◌, ◌+◌, ◌-◌, �
 use Rattle.resp_core.specs.Tree.{Tree}
 use Rattle.ejector.specs.Ejection.{state}
 use Rattle.splitter.specs.declared.plans.Local.{Local}
+use Rattle.splitter.specs.Plan.{Plan, here, leave, parts, is_last}
+use Rattle.splitter.specs.Join.{MayJoin}
+use Rattle.journal_core.specs.Journal.{IsFull}
 use Rattle.upstream_pipe.specs.declared.part.Part.{Part as PipePart}
 use Rattle.reply_queue.specs.Queue.{QueueState, with_part}
 use Rattle.proxy_history.specs.Setting.{Setting, hosts, max_waiting, max_unwritten}
 use Rattle.proxy_history.specs.History.{accepted}
 use Rattle.proxy_history.specs.Part.{Part, Past}
 use Rattle.proxy_history.specs.Waiting.{waiting}
-use Rattle.proxy_history.specs.Arrival.{no_upstream_host, proxy_busy}
+use Rattle.proxy_history.specs.Arrival.{no_upstream_host, proxy_busy, placed_by}
+use Rattle.proxy_history.specs.Answer.{accepts, local_of}
+use Rattle.proxy_history.specs.declared.event.Event.{Event}
 use Rattle.proxy_history.specs.declared.answer.Answer.{Answer}
 use Rattle.proxy_history.specs.declared.answer.Answer.TheVariants as answer
-use Rattle.proxy_core.specs.Pipelines.{PipelineState, state_of, with_pipeline}
+use Rattle.proxy_core.specs.Pipelines.{PipelineState, state_of, with_pipeline, pushed_parts}
+use Rattle.proxy_core.specs.Connections.{with_connection, accepting, arrived_command}
 use Rattle.proxy_core.specs.Kept.{Memory}
-use Rattle.proxy_core.specs.Machine.{connection_at, pipeline_at}
+use Rattle.proxy_core.specs.Machine.{connection_at, pipeline_at, setting_in, memory_in, own_cause_in, payload_in}
+use Rattle.proxy_core.specs.declared.machine.Machine.{Machine}
 use Rattle.proxy_core.specs.declared.connection.Connection.{Connection}
 use Rattle.proxy_core.specs.declared.pipeline.Pipeline.{Pipeline}
 use Rattle.proxy_core.specs.declared.place.Place.{Place}
@@ -141,3 +148,36 @@ with_value_at Busy command part q = with_part command part proxy_busy q
 
 abbrev pub answer_of : Accepted → Answer
 answer_of a = answer.Accepted a.index a.local a.parts a.no_host a.busy
+
+-- a plan of the proxy's own answer
+abbrev pub own_plan : Bool → Local → Tree → Plan
+own_plan true name value = leave name value
+own_plan false name value = here name value
+
+-- the values of a plan's parts may be joined, and the parts be numbered
+abbrev pub MayJoinAll : Plan → Type 0
+MayJoinAll (here name value) = Unit {0}
+MayJoinAll (leave name value) = Unit {0}
+MayJoinAll (parts how list) = MayJoin how (length list) × (length list < 2 ^ 32)
+
+-- what is kept once a command of this plan is accepted
+abbrev pub with_arrival : Machine → ℕ → Plan → Past → Memory
+with_arrival m conn plan x =
+    let placed = placed_by (setting_in m) x conn plan in
+    record (memory_in m) {
+      connections = with_connection (accepting (arrived_command plan placed) (is_last plan)) conn m.connections.items;
+      pipelines = pushed_parts placed (memory_in m).pipelines;
+    }
+
+-- The command is accepted, and this is what is answered.
+pub record IsAccepted (old new : Machine) (conn : ℕ) (plan : Plan) (x : Past) (a : Accepted) : Type 0 where
+  pub answer_is : answer_of a ≡ accepts (accepted conn x.steps) (local_of plan) (placed_by (setting_in old) x conn plan)
+  pub setting : setting_in new ≡ setting_in old
+  pub steps : new.journal.steps ≡ old.journal.steps
+  pub memory : memory_in new ≡ with_arrival old conn plan x
+
+-- The event has no cause to be refused, and room was made for its step.
+pub record HasRoomFor (old new : Machine) (event : Event) : Type 0 where
+  pub has_no_cause : own_cause_in (setting_in old) (memory_in old) event ≡ None
+  pub has_room : IsFull old.journal (payload_in (memory_in old) event) → ⊥
+  pub room : new.journal.room ≡ Some (payload_in (memory_in old) event)
