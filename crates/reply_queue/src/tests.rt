@@ -66,10 +66,20 @@ fn pop(queue: &mut Queue) -> Result<Option<Value>, QueueRefusal> {
     }
 }
 
-// Pops a reply with this text.
-fn gives(rt: &(impl Abort + AllocGlobal), queue: &mut Queue, want: &[u8]) {
-    assert!(rt; queue.ready());
-    match pop(queue) {
+fn front(queue: &Queue) -> Result<Option<Value>, QueueRefusal> {
+    match queue.front() {
+        Err(QueueRefusal::NoMemory) => queue.front(),
+        answer => answer,
+    }
+}
+
+// The answer is a reply with this text.
+fn is_reply(
+    rt: &(impl Abort + AllocGlobal),
+    answer: Result<Option<Value>, QueueRefusal>,
+    want: &[u8],
+) {
+    match answer {
         Ok(Some(reply)) => {
             let mut out = Vec::new(rt.alloc());
             assert!(rt; reply.is_plain());
@@ -83,9 +93,28 @@ fn gives(rt: &(impl Abort + AllocGlobal), queue: &mut Queue, want: &[u8]) {
     }
 }
 
+// Pops a reply with this text.
+fn gives(rt: &(impl Abort + AllocGlobal), queue: &mut Queue, want: &[u8]) {
+    assert!(rt; queue.ready());
+    is_reply(rt, pop(queue), want);
+}
+
+// Shows a reply with this text as often as asked, and then drops its command.
+fn shows_and_drops(rt: &(impl Abort + AllocGlobal), queue: &mut Queue, want: &[u8]) {
+    let left = queue.left();
+    is_reply(rt, front(queue), want);
+    is_reply(rt, front(queue), want);
+    assert_eq!(rt; queue.left(), left);
+    if queue.ready() {
+        queue.drop_front();
+    }
+    assert_eq!(rt; queue.left() + 1, left);
+}
+
 fn gives_nothing(rt: &impl Abort, queue: &mut Queue) {
     let left = queue.left();
     assert!(rt; !queue.ready());
+    assert!(rt; matches!(queue.front(), Ok(None)));
     assert!(rt; matches!(queue.pop(), Ok(None)));
     assert_eq!(rt; queue.left(), left);
 }
@@ -111,6 +140,24 @@ fn replies_leave_in_the_order_of_the_commands(rt: HostRuntime) {
     gives_nothing(&rt, &mut queue);
     give(&rt, &mut queue, 3, 0, Sent::Done);
     gives(&rt, &mut queue, b"+OK\r\n");
+    gives_nothing(&rt, &mut queue);
+}
+
+#[test]
+fn the_oldest_reply_is_shown_and_dropped(rt: HostRuntime) {
+    let mut queue = Queue::starting_at(rt.alloc(), 5);
+    assert_eq!(rt; accept(&mut queue, Join::Same, 1), Ok(5));
+    assert_eq!(rt; accept(&mut queue, Join::Get, 2), Ok(6));
+    give(&rt, &mut queue, 6, 0, Sent::Bulk(b"a"));
+    give(&rt, &mut queue, 6, 1, Sent::Null);
+    gives_nothing(&rt, &mut queue);
+    give(&rt, &mut queue, 5, 0, Sent::Whole(3));
+    shows_and_drops(&rt, &mut queue, b":3\r\n");
+    assert_eq!(rt; accept(&mut queue, Join::Sum, 1), Ok(7));
+    shows_and_drops(&rt, &mut queue, b"*2\r\n$1\r\na\r\n$-1\r\n");
+    gives_nothing(&rt, &mut queue);
+    give(&rt, &mut queue, 7, 0, Sent::Whole(-1));
+    gives(&rt, &mut queue, b":-1\r\n");
     gives_nothing(&rt, &mut queue);
 }
 
