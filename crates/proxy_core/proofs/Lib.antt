@@ -21,3 +21,8 @@ pub mod PipelinesTaken
 pub mod PipelinesArrived
 pub mod ConnectionsStay
 pub mod Lost
+pub mod Pushed
+pub mod Accepted
+pub mod Places
+pub mod FewParts
+pub mod Arriving

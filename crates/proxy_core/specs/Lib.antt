@@ -2,3 +2,4 @@ pub mod Connections
 pub mod Pipelines
 pub mod Kept
 pub mod Machine
+pub mod Arrivals

@@ -14,6 +14,7 @@ mod handing;
 mod machine;
 mod opening;
 mod pipeline;
+mod place;
 mod refused;
 mod sending;
 mod sweeping;
