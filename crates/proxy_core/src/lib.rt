@@ -18,5 +18,7 @@ mod place;
 mod refused;
 mod sending;
 mod sweeping;
+mod turns;
 
 pub use refused::Refused;
+pub use turns::Core;
