@@ -50,6 +50,10 @@ with_return R now s =
 abbrev pub rate_then : Rules → HostState → Option ℕ
 rate_then R s = if s.is_out || nat_lt s.results R.settings.request_volume then None else rate_of s.good_results s.results
 
+-- whether it may be used, where `panic` says whether all are
+abbrev pub usable_then : Bool → HostState → Bool
+usable_then panic s = panic || not s.is_out
+
 abbrev pub in_new_interval : HostState → HostState
 in_new_interval s = record s { good_results = 0; results = 0 }
 

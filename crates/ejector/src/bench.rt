@@ -4,7 +4,7 @@ ghost use Rattle.std.specs.Prelude.{◌≡◌};
 use crate::answer::{Swept, Trip};
 use crate::ejector::Ejector;
 use crate::error::EjectError;
-use crate::settings::Settings;
+use crate::settings::{Rules, Settings};
 use std::alloc::Global;
 
 #[derive(Drop)]
@@ -68,6 +68,19 @@ impl Bench {
 
     pub fn usable(&self, host: usize) -> bool {
         host < self.hosts && self.ejector.usable(host)
+    }
+
+    /// Whether each host may be used, where there are as many places as hosts.
+    pub fn all_usable(&self, usable: &mut [bool]) -> Option<()> {
+        if usable.len() != self.hosts {
+            return None;
+        }
+        self.ejector.all_usable(usable);
+        Some(())
+    }
+
+    pub fn rules(&self) -> &Rules {
+        self.ejector.rules()
     }
 
     pub fn multiplier(&self, host: usize) -> u32 {

@@ -1,9 +1,9 @@
-ghost use Rattle.std.specs.Prelude.{◌≡◌, ◌+◌, ◌-◌, ◌*◌, ◌/◌, ◌<◌, ◌≤◌, ◌==◌, ◌&&◌, length, slice_index_or, nat_lt};
+ghost use Rattle.std.specs.Prelude.{◌≡◌, ◌+◌, ◌-◌, ◌*◌, ◌/◌, ◌<◌, ◌≤◌, ◌==◌, ◌&&◌, length, map, slice_index_or, nat_lt};
 ghost use Rattle.ejector.specs.Settings.{IsInRange};
 ghost use Rattle.ejector.specs.Deeds.{max_multiplier};
 ghost use Rattle.ejector.specs.State.{fresh_host};
 ghost use Rattle.ejector.specs.Trips.{may_eject};
-ghost use Rattle.ejector.specs.Counting.{IsSound, counted, with_bad, ejected, kept, tripped, outs, trips_then, with_good_result, with_bad_result, trip_then};
+ghost use Rattle.ejector.specs.Counting.{IsSound, counted, with_bad, ejected, kept, tripped, outs, trips_then, with_good_result, with_bad_result, trip_then, usable_then};
 
 use crate::answer::Trip;
 use crate::host::HostState;
@@ -83,6 +83,16 @@ pub fn is_panic(rules: &Rules, out: usize) -> bool
     ensures { result ≡ nat_lt (100 * (rules.now.hosts - out)) (rules.now.settings.panic_percent * rules.now.hosts) }
 {
     100 * (rules.hosts - out) < rules.settings.panic_percent as usize * rules.hosts
+}
+
+/// Writes for each host, in its place, whether it may be used: it isn't out, or all are used in panic.
+pub fn set_usable(panic: bool, hosts: &[HostState], usable: &mut [bool])
+    requires { length usable.old ≡ length hosts.now }
+    ensures { usable.new ≡ map (usable_then panic) hosts.now }
+{
+    for i in 0..hosts.len() {
+        usable[i] = panic || !hosts[i].is_out;
+    }
 }
 
 /// How many hosts are out.

@@ -1,17 +1,17 @@
-ghost use Rattle.std.specs.Prelude.{◌≡◌, List, [], ◌∷◌, ◌-◌, ◌<◌, ◌≤◌, IfOk, IfErr, OnOk, OnErr, IsOk, IsErrOf, MatchOption, All, replicate};
+ghost use Rattle.std.specs.Prelude.{◌≡◌, List, [], ◌∷◌, ◌-◌, ◌<◌, ◌≤◌, IfOk, IfErr, OnOk, OnErr, IsOk, IsErrOf, MatchOption, All, None, length, map, replicate};
 ghost use Rattle.ejector.specs.Settings.{first_fault, IsInRange};
 ghost use Rattle.ejector.specs.Marks.{IsAmong};
 ghost use Rattle.ejector.specs.Counting.{IsSound};
 ghost use Rattle.ejector.specs.declared.mark.Mark.{Mark};
 ghost use Rattle.ejector.specs.declared.mark.Mark.TheVariants.{Sweep};
-ghost use Rattle.ejector.specs.State.{fresh_host, host_of, is_out, out_count};
+ghost use Rattle.ejector.specs.State.{fresh_host, host_of, hosts_of, is_out, out_count};
 ghost use Rattle.ejector.specs.Trips.{most_out};
 ghost use Rattle.ejector.specs.Ejection.{state, trip, swept};
 ghost use Rattle.ejector.specs.Usable.{is_usable, is_panic};
 ghost use Rattle.ejector.specs.Ejector.{result_mark};
 
 use crate::answer::{Swept, Trip};
-use crate::counting::{is_panic, out_count, take_bad};
+use crate::counting::{is_panic, out_count, set_usable, take_bad};
 use crate::error::EjectError;
 use crate::host::{FRESH, HostState};
 use crate::mark::Mark;
@@ -67,6 +67,14 @@ impl Ejector {
             rules,
             marks: Vec::new(alloc),
         })
+    }
+
+    /// The number of hosts and the settings, of which no field is out of its range. It takes no memory.
+    pub fn rules(&self) -> &Rules
+        ensures rules { result.now ≡ self.now.rules }
+        ensures range { first_fault self.now.rules ≡ None }
+    {
+        &self.rules
     }
 
     /// Makes room for one mark: after Ok the next `result` or `sweep` takes no memory and is Ok.
@@ -137,6 +145,19 @@ impl Ejector {
         ensures { result ≡ is_usable self.now.rules self.now.state host }
     {
         self.in_panic() || !self.is_out(host)
+    }
+
+    /// Writes for each host, in its place, whether it may be used, as `usable` tells it. There has to be a place for each
+    /// host. It counts the marks once for all hosts, and takes no memory.
+    pub fn all_usable(&self, usable: &mut [bool])
+        requires { length usable.old ≡ self.now.rules.hosts }
+        ensures { usable.new ≡ map (is_usable self.now.rules self.now.state) (hosts_of self.now.rules) }
+    {
+        let mut places = [FRESH; MAX_HOSTS];
+        let hosts = &mut places[..self.rules.hosts];
+        self.count(hosts);
+        let out = out_count(hosts);
+        set_usable(is_panic(&self.rules, out), hosts, usable);
     }
 
     /// Whether the host is put aside.

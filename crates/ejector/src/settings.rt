@@ -36,6 +36,7 @@ pub struct Settings {
 pub struct Rules {
     /// How many hosts there are, numbered from 0.
     pub hosts: usize,
+    /// The settings of outlier detection.
     pub settings: Settings,
 }
 

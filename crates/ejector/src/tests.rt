@@ -2,7 +2,7 @@ use crate::answer::Trip;
 use crate::bench::Bench;
 use crate::ejector::Ejector;
 use crate::error::EjectError;
-use crate::settings::{Field, Settings};
+use crate::settings::{Field, Rules, Settings};
 use std::alloc::Global;
 use std::test::Fail;
 
@@ -73,6 +73,51 @@ fn panic_with_three_of_four_out(rt: HostRuntime) -> Result<(), Fail> {
     for host in 0..4 {
         assert!(rt; four.usable(host), "host {host}");
     }
+    Ok(())
+}
+
+#[test]
+fn all_hosts_at_once(rt: HostRuntime) -> Result<(), Fail> {
+    let settings = Settings {
+        max_percent: 100,
+        consecutive: 1,
+        ..Settings::default()
+    };
+    let mut four = Bench::new(rt.alloc(), 4, settings)?;
+    for (host, usable) in [
+        (1, [true, false, true, true]),
+        (3, [true, false, true, false]),
+        (0, [true, true, true, true]),
+        (2, [true, true, true, true]),
+    ] {
+        assert_eq!(rt; result_again(&mut four, host, 0), Ok(Trip::Ejected));
+        for before in [false, true] {
+            let mut places = [before; 4];
+            assert_eq!(rt; four.all_usable(&mut places), Some(()));
+            assert_eq!(rt; places, usable, "host {host} is out");
+        }
+    }
+    assert_eq!(rt; sweep_again(&mut four, 30_000), Ok((4, 0, 0)));
+    let mut places = [false; 4];
+    assert_eq!(rt; four.all_usable(&mut places), Some(()));
+    assert_eq!(rt; places, [true; 4]);
+    Ok(())
+}
+
+#[test]
+fn the_rules_are_those_of_new(rt: HostRuntime) -> Result<(), Fail> {
+    let settings = Settings {
+        tags: true,
+        factor: 7,
+        ..Settings::default()
+    };
+    let bench = Bench::new(rt.alloc(), 64, settings)?;
+    let rules = Rules {
+        hosts: 64,
+        settings,
+    };
+    assert_eq!(rt; *bench.rules(), rules);
+    assert_eq!(rt; bench.rules().first_fault(), None);
     Ok(())
 }
 

@@ -19,12 +19,19 @@ pub map-changed_at : {X Y : Type 0} (view : X → Y) (change : X → X) (seen : 
 map-changed_at view change seen place [] e = refl
 map-changed_at view change seen zero (x ∷ xs) e = ap (λ y. y ∷ map view xs) (e x)
 map-changed_at view change seen (suc place) (x ∷ xs) e = ap (λ ys. view x ∷ ys) (map-changed_at view change seen place xs e)
+
 -- a write is seen as a change of what is seen there
 pub map-slice_set : {X Y : Type 0} (view : X → Y) (seen : Y → Y) (place : ℕ) (xs : List X) (y d : X) → view y ≡ seen (view (get_or xs place d))
     → map view (slice_set xs place y) ≡ changed_at seen place (map view xs)
 map-slice_set view seen place [] y d e = refl
 map-slice_set view seen zero (x ∷ xs) y d e = ap (λ z. z ∷ map view xs) e
 map-slice_set view seen (suc place) (x ∷ xs) y d e = ap (λ zs. view x ∷ zs) (map-slice_set view seen place xs y d e)
+
+-- a write that isn't seen
+pub map-slice_set-same : {X Y : Type 0} (view : X → Y) (place : ℕ) (xs : List X) (y d : X) → view y ≡ view (get_or xs place d) → map view (slice_set xs place y) ≡ map view xs
+map-slice_set-same view place [] y d e = refl
+map-slice_set-same view zero (x ∷ xs) y d e = ap (λ z. z ∷ map view xs) e
+map-slice_set-same view (suc place) (x ∷ xs) y d e = ap (λ zs. view x ∷ zs) (map-slice_set-same view place xs y d e)
 
 -- the first n items changed
 abbrev pub changed_to : {X : Type 0} → (X → X) → ℕ → List X → List X

@@ -28,3 +28,8 @@ pub mod Lost
 pub mod TurnedNew
 pub mod TurnedRuns
 pub mod TurnedRecorded
+pub mod Pushed
+pub mod Accepted
+pub mod Places
+pub mod FewParts
+pub mod Arriving

@@ -74,11 +74,11 @@ abbrev pub AreNow : History → List Part → Type 0
 AreNow H [] = Unit {0}
 AreNow H (p ∷ ps) = ((h : ℕ) → p.host ≡ Some h → p.epoch ≡ epoch h H) × AreNow H ps
 
-now_both : (H : History) (ps : List Part) (q : Part) → AreNow H ps → ((h : ℕ) → q.host ≡ Some h → q.epoch ≡ epoch h H) → AreNow H (ps ++ q ∷ [])
+pub now_both : (H : History) (ps : List Part) (q : Part) → AreNow H ps → ((h : ℕ) → q.host ≡ Some h → q.epoch ≡ epoch h H) → AreNow H (ps ++ q ∷ [])
 now_both H [] q a b = (b, tt)
 now_both H (p ∷ ps) q a b = (a.0, now_both H ps q a.1 b)
 
-part_now : (x : Past) (placed : List Part) (o : Option ℕ) (p : Part) → p.host ≡ None → (h : ℕ) → (with_host x placed o p).host ≡ Some h → (with_host x placed o p).epoch ≡ epoch h x.steps
+pub part_now : (x : Past) (placed : List Part) (o : Option ℕ) (p : Part) → p.host ≡ None → (h : ℕ) → (with_host x placed o p).host ≡ Some h → (with_host x placed o p).epoch ≡ epoch h x.steps
 part_now x placed None p n h e = absurd cc
 part_now x placed (Some k) p n h e = let same : k ≡ h = cc in ap (λ j. epoch j x.steps) same
 

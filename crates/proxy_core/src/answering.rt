@@ -13,7 +13,7 @@ ghost use Rattle.proxy_core.specs.Connections.{AreAwaited, answered_parts};
 ghost use Rattle.proxy_core.specs.Pipelines.{answered_by, next_owner, with_pipeline};
 ghost use Rattle.proxy_core.specs.Machine.{own_cause_in, setting_in, memory_in, pipeline_at, IsTurned, IsSame, IsReady, HasCauseIn};
 
-use crate::connection::give;
+use crate::connection::give_part;
 use crate::machine::{Machine, make_room};
 use crate::pipeline::answer_from;
 use crate::refused::Refused;
@@ -53,7 +53,7 @@ impl Machine {
             }
         };
         let owner = answer_from(&mut self.pipelines, host, epoch);
-        give(&mut self.connections, owner, shared);
+        give_part(&mut self.connections, owner, shared);
         let trip = counted(&mut self.ejector, host, true, t);
         let bytes = value.text_len();
         let event = Event::Answered {

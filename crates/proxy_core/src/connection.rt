@@ -1,15 +1,23 @@
 //! The open connections.
-ghost use Rattle.std.specs.Prelude.{◌≡◌, ◌++◌, IsSome, filter_map};
+ghost use Rattle.std.specs.Prelude.{◌≡◌, false, ◌+◌, ◌-◌, ◌^◌, ◌<◌, ◌++◌, ◌∷◌, [], Some, length, map, IsSome, filter_map, IfOk, IfErr, OnOk};
 ghost use Rattle.std.specs.Option.{option_copied, option_map};
 ghost use Rattle.resp_core.specs.Value.{tree_of};
+ghost use Rattle.reply_queue.specs.Queue.{IsOpen};
+ghost use Rattle.splitter.specs.Join.{MayJoin};
+ghost use Rattle.splitter.specs.declared.plans.Join.TheVariants.{Same};
+ghost use Rattle.proxy_history.specs.Setting.{max_unwritten};
 ghost use Rattle.proxy_history.specs.Scan.{list_of};
 ghost use Rattle.proxy_history.specs.Value.{upstream_failure};
-ghost use Rattle.proxy_core.specs.Connections.{IsAwaited, IsAwaitedIn, AreAwaited, with_answer, answered_part, answered_parts, closing, finished, fresh_connection, handing, with_connection};
+ghost use Rattle.proxy_core.specs.Arrivals.{MayAccept, next_index, value_of_placed, with_value_at};
+ghost use Rattle.proxy_core.specs.Connections.{accepting, IsAwaited, IsAwaitedIn, AreAwaited, with_answer, answered_part, answered_parts, closing, finished, fresh_connection, handing, with_connection};
 ghost use Rattle.proxy_core.specs.Machine.{connection_at, reply_in};
 
+use crate::place::{Place, Placed};
 use bytes::Bytes;
+use proxy_history::Refusal;
 use reply_queue::Queue;
 use resp_core::Value;
+use splitter::Join;
 use std::alloc::Global;
 use upstream_pipe::{Lost, Owner};
 
@@ -103,14 +111,12 @@ fn answer_one(connection: &mut Option<Connection>, owner: Owner, value: Value)
     ensures { connection.new ≡ option_map (with_answer owner (tree_of value)) connection.old }
 {
     if let Some(connection) = connection {
-        connection
-            .queue
-            .set_part(owner.command, owner.part, value);
+        connection.queue.set_part(owner.command, owner.part, value);
     }
 }
 
 /// Gives the part of this owner, if there is one, its value.
-pub(crate) fn give(connections: &mut [Option<Connection>], owner: Option<Owner>, value: Value)
+pub(crate) fn give_part(connections: &mut [Option<Connection>], owner: Option<Owner>, value: Value)
     requires { AreAwaited (list_of owner) (tree_of value) connections.old }
     ensures { connections.new ≡ answered_parts (list_of owner) (tree_of value) connections.old }
 {
@@ -152,6 +158,136 @@ fn fail_places(connections: &mut [Option<Connection>], places: &[Option<Owner>])
     ensures { connections.new ≡ answered_parts (filter_map (λ o. o) places.now) upstream_failure connections.old }
 {
     for place in places {
-        give(connections, *place, upstream_failure());
+        give_part(connections, *place, upstream_failure());
     }
+}
+
+/// Accepts a command of the connection whose parts are placed, behind the others, and gives its index. Each part that got
+/// a value at once has it.
+pub(crate) fn accept_parts(
+    connections: &mut [Option<Connection>],
+    conn: u64,
+    how: Join,
+    placed: &[Placed],
+) -> Result<u64, Refusal>
+    requires open { MayAccept (connection_at conn connections.old) }
+    requires join { MayJoin how (length placed.now) }
+    requires parts { length placed.now < 2 ^ 32 }
+    ensures index { IfOk result (λ index. index ≡ next_index (connection_at conn connections.old)) }
+    ensures accepted { OnOk result (connections.new
+        ≡ with_connection (accepting (record { how = how; values = map value_of_placed placed.now }) false) conn connections.old) }
+    ensures refused { IfErr result (λ r. (r ≡ Refusal.NoMemory) × (connections.new ≡ connections.old)) }
+{
+    accept_parts_on(&mut connections[conn as usize], how, placed)
+}
+
+// Accepts a command of the connection, which is open.
+fn accept_parts_on(
+    connection: &mut Option<Connection>,
+    how: Join,
+    placed: &[Placed],
+) -> Result<u64, Refusal>
+    requires open { MayAccept connection.old }
+    requires join { MayJoin how (length placed.now) }
+    requires parts { length placed.now < 2 ^ 32 }
+    ensures index { IfOk result (λ index. index ≡ next_index connection.old) }
+    ensures accepted { OnOk result (connection.new
+        ≡ option_map (accepting (record { how = how; values = map value_of_placed placed.now }) false) connection.old) }
+    ensures refused { IfErr result (λ r. (r ≡ Refusal.NoMemory) × (connection.new ≡ connection.old)) }
+{
+    match connection {
+        Some(connection) => queue_parts(&mut connection.queue, how, placed),
+        None => Err(Refusal::NoSuchConnection),
+    }
+}
+
+// Puts a command behind the others.
+fn queue_parts(queue: &mut Queue, how: Join, placed: &[Placed]) -> Result<u64, Refusal>
+    requires left { length queue.old.commands < max_unwritten }
+    requires index { queue.old.popped + length queue.old.commands < 2 ^ 64 - 1 }
+    requires join { MayJoin how (length placed.now) }
+    requires parts { length placed.now < 2 ^ 32 }
+    ensures index { IfOk result (λ index. index ≡ queue.old.popped + length queue.old.commands) }
+    ensures commands { OnOk result (queue.new ≡ record {
+      popped = queue.old.popped;
+      commands = queue.old.commands ++ record { how = how; values = map value_of_placed placed.now } ∷ [];
+    }) }
+    ensures refused { IfErr result (λ r. (r ≡ Refusal.NoMemory) × (queue.new ≡ queue.old)) }
+{
+    let Ok(command) = queue.accept(how, placed.len()) else {
+        return Err(Refusal::NoMemory);
+    };
+    for part in 0..placed.len() {
+        give(queue, command, part as u32, placed[part].place);
+    }
+    Ok(command)
+}
+
+// Gives a part its value, if it gets one at once.
+fn give(queue: &mut Queue, command: u64, part: u32, place: Place)
+    requires { IsOpen queue.old command part }
+    ensures { queue.new ≡ with_value_at place command part queue.old }
+{
+    if let Some(value) = place.value() {
+        queue.set_part(command, part, value);
+    }
+}
+
+/// Accepts a command of the connection that the proxy answers itself, behind the others, and gives its index. After the
+/// last one the connection takes no further command.
+pub(crate) fn accept_own(
+    connections: &mut [Option<Connection>],
+    conn: u64,
+    value: Value,
+    is_last: bool,
+) -> Result<u64, Refusal>
+    requires open { MayAccept (connection_at conn connections.old) }
+    ensures index { IfOk result (λ index. index ≡ next_index (connection_at conn connections.old)) }
+    ensures accepted { OnOk result (connections.new
+        ≡ with_connection (accepting (record { how = Same; values = Some (tree_of value) ∷ [] }) is_last) conn connections.old) }
+    ensures refused { IfErr result (λ r. (r ≡ Refusal.NoMemory) × (connections.new ≡ connections.old)) }
+{
+    accept_own_on(&mut connections[conn as usize], value, is_last)
+}
+
+// Accepts a command of the connection, which is open.
+fn accept_own_on(
+    connection: &mut Option<Connection>,
+    value: Value,
+    is_last: bool,
+) -> Result<u64, Refusal>
+    requires open { MayAccept connection.old }
+    ensures index { IfOk result (λ index. index ≡ next_index connection.old) }
+    ensures accepted { OnOk result (connection.new
+        ≡ option_map (accepting (record { how = Same; values = Some (tree_of value) ∷ [] }) is_last) connection.old) }
+    ensures refused { IfErr result (λ r. (r ≡ Refusal.NoMemory) × (connection.new ≡ connection.old)) }
+{
+    let Some(connection) = connection else {
+        return Err(Refusal::NoSuchConnection);
+    };
+    match queue_own(&mut connection.queue, value) {
+        Ok(command) => {
+            connection.is_finishing = connection.is_finishing || is_last;
+            Ok(command)
+        }
+        Err(cause) => Err(cause),
+    }
+}
+
+// Puts a command behind the others that has its one value.
+fn queue_own(queue: &mut Queue, value: Value) -> Result<u64, Refusal>
+    requires left { length queue.old.commands < max_unwritten }
+    requires index { queue.old.popped + length queue.old.commands < 2 ^ 64 - 1 }
+    ensures index { IfOk result (λ index. index ≡ queue.old.popped + length queue.old.commands) }
+    ensures commands { OnOk result (queue.new ≡ record {
+      popped = queue.old.popped;
+      commands = queue.old.commands ++ record { how = Same; values = Some (tree_of value) ∷ [] } ∷ [];
+    }) }
+    ensures refused { IfErr result (λ r. (r ≡ Refusal.NoMemory) × (queue.new ≡ queue.old)) }
+{
+    let Ok(command) = queue.accept(Join::Same, 1) else {
+        return Err(Refusal::NoMemory);
+    };
+    queue.set_part(command, 0, value);
+    Ok(command)
 }

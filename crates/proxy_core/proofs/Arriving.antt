@@ -1,0 +1,275 @@
+-- What a command's parts got, as places say it; and what a kept machine tells of an arrival.
+use Rattle.std.proofs.Common.{◌≡◌, ℕ, zero, suc, ◌+◌, ◌-◌, ◌^◌, ◌<◌, ◌≤◌, Bool, true, false, not, nat_le, nat_lt, List, [], ◌∷◌, ◌++◌, length, map, count_by, get_or, Option, Some, None, is_some, cond, refl, sym, ap, ◌∙◌, subst, inl, inr, arith, if◌then◌else◌}
+use Rattle.std.proofs.lemmas.Bool.{cases_Bool, ltb-true, ltb-false, leb-true, leb-false}
+use Rattle.std.proofs.lemmas.List.{map-append, length-map, length-reverse}
+use Rattle.std.proofs.lemmas.List.Sums.{sum_by-cons}
+use Rattle.resp_core.specs.Tree.{Tree}
+use Rattle.splitter.specs.Plan.{Plan, here, leave, parts, is_last}
+use Rattle.splitter.specs.declared.plans.Join.{Join}
+use Rattle.splitter.specs.declared.plans.PartPlan.{PartPlan}
+use Rattle.splitter.specs.declared.request.Request.{Request}
+use Rattle.journal_core.specs.Journal.{IsFull}
+use Rattle.proxy_history.specs.Setting.{Setting, hosts, max_waiting, max_unwritten}
+use Rattle.proxy_history.specs.History.{accepted, is_open, plan_for}
+use Rattle.proxy_history.specs.Part.{Part, Past}
+use Rattle.proxy_history.specs.Past.{past}
+use Rattle.proxy_history.specs.Arrival.{placed_by, placing, placed_part, with_host, host_for, hostless, before_it, no_upstream_host, proxy_busy}
+use Rattle.proxy_history.specs.Answer.{accepts, local_of, is_hostless, is_busy}
+use Rattle.proxy_history.specs.Payload.{length_of_request}
+use Rattle.proxy_history.specs.Cause.{causes, own_cause}
+use Rattle.proxy_history.specs.declared.event.Event.TheVariants.{Arrived}
+use Rattle.proxy_history.proofs.Fresh.{AreOf}
+use Rattle.proxy_history.proofs.CommandParts.{are_placed, plan_may_join}
+use Rattle.proxy_history.proofs.NoCause.{are_false}
+use Rattle.proxy_core.specs.Pipelines.{PipelineState, state_of, pushed_part, pushed_parts}
+use Rattle.proxy_core.specs.Kept.{Memory, memory_of}
+use Rattle.proxy_core.specs.Machine.{connection_at, pipeline_at, setting_in, memory_in, history_in, own_cause_in, IsKept, IsReady}
+use Rattle.proxy_core.specs.Connections.{with_connection, accepting, arrived_command}
+use Rattle.proxy_core.specs.declared.connection.Connection.{Connection}
+use Rattle.proxy_core.specs.declared.machine.Machine.{Machine}
+use Rattle.proxy_core.specs.declared.pipeline.Pipeline.{Pipeline}
+use Rattle.proxy_core.specs.declared.place.Placed.{Placed}
+use Rattle.proxy_core.specs.Arrivals.{place_by, placed_as, value_at, value_of_placed, is_without_host, is_too_many, pushed_at, pushed_all, piped_as, count_at, AreCounted, HaveRoom, MayAccept, Tells, MayJoinAll, IsAccepted, next_index, answer_of, with_arrival}
+use Rattle.proxy_core.specs.declared.place.Accepted.{Accepted}
+use Rattle.proxy_core.proofs.FewParts.{few_parts}
+use Rattle.proxy_core.proofs.ConnectionFacts.{open_connection, connection_at-open, length-queue_of, popped_and_left, cause_in-arrived}
+use Rattle.proxy_core.proofs.Counts.{arrived_open, accepted-at_most}
+use Rattle.proxy_core.proofs.PipelineFacts.{length-pipelines_of, pipeline_at-pipelines_of, length-pipeline_waiting}
+
+-- VALUES
+
+-- each part's value is the one that its place says
+abbrev AreTold : List Part → Type 0
+AreTold [] = Unit {0}
+AreTold (p ∷ ps) = (value_of_placed (placed_as p) ≡ p.local) × AreTold ps
+
+told_by : (b : Bool) (h : ℕ) → value_at (place_by (Some h) (if b then None else Some proxy_busy)) ≡ (if b then None else Some proxy_busy)
+told_by true h = refl
+told_by false h = refl
+
+told_of : (x : Past) (placed : List Part) (host : Option ℕ) (p : Part) → p.host ≡ None → p.local ≡ Some no_upstream_host
+    → value_of_placed (placed_as (with_host x placed host p)) ≡ (with_host x placed host p).local
+told_of x placed None p n l = rw (n, l) refl
+told_of x placed (Some h) p n l = told_by (nat_lt (before_it h x placed) max_waiting) h
+
+told_more : (ps : List Part) (p : Part) → AreTold ps → value_of_placed (placed_as p) ≡ p.local → AreTold (ps ++ p ∷ [])
+told_more [] p a e = (e, tt)
+told_more (q ∷ ps) p a e = (a.0, told_more ps p a.1 e)
+
+placing_is_told : (S : Setting) (x : Past) (conn command : ℕ) (placed : List Part) (list : List PartPlan) → AreTold placed → AreTold (placing S x conn command placed list)
+placing_is_told S x conn command placed [] a = a
+placing_is_told S x conn command placed (p ∷ list) a =
+    placing_is_told S x conn command (placed ++ placed_part S x conn command placed p ∷ []) list
+    (told_more placed (placed_part S x conn command placed p) a (told_of x placed (host_for S x p.key) (hostless conn command (length placed) p) refl refl))
+
+told_values : (ps : List Part) → AreTold ps → map value_of_placed (map placed_as ps) ≡ map (λ (p : Part). p.local) ps
+told_values [] a = refl
+told_values (p ∷ ps) a = rw (a.0, told_values ps a.1) refl
+
+pub placed_values : (S : Setting) (x : Past) (conn command : ℕ) (list : List PartPlan)
+    → map value_of_placed (map placed_as (placing S x conn command [] list)) ≡ map (λ (p : Part). p.local) (placing S x conn command [] list)
+placed_values S x conn command list = told_values (placing S x conn command [] list) (placing_is_told S x conn command [] list tt)
+
+-- COUNTS
+
+same_counts : (f : Part → Bool) (g : Placed → Bool) (ps : List Part) → ((p : Part) → g (placed_as p) ≡ f p) → count_by g (map placed_as ps) ≡ count_by f ps
+same_counts f g [] e = refl
+same_counts f g (p ∷ ps) e =
+    sum_by-cons (λ q. cond (g q) 1 0) (placed_as p) (map placed_as ps)
+    ∙ ap (λ n. cond (g (placed_as p)) 1 0 + n) (same_counts f g ps e)
+    ∙ ap (λ b. cond b 1 0 + count_by f ps) (e p)
+    ∙ sym (sum_by-cons (λ q. cond (f q) 1 0) p ps)
+
+no_host_is : (host : Option ℕ) (local : Option Tree) → is_without_host (place_by host local) ≡ not (is_some host)
+no_host_is None v = refl
+no_host_is (Some h) None = refl
+no_host_is (Some h) (Some v) = refl
+
+too_many_is : (host : Option ℕ) (local : Option Tree) → is_too_many (place_by host local) ≡ (if is_some host then is_some local else false)
+too_many_is None v = refl
+too_many_is (Some h) None = refl
+too_many_is (Some h) (Some v) = refl
+
+pub hostless_count : (ps : List Part) → count_by (λ (p : Placed). is_without_host p.place) (map placed_as ps) ≡ count_by is_hostless ps
+hostless_count ps = same_counts is_hostless (λ (p : Placed). is_without_host p.place) ps (λ p. no_host_is p.host p.local)
+
+pub busy_count : (ps : List Part) → count_by (λ (p : Placed). is_too_many p.place) (map placed_as ps) ≡ count_by is_busy ps
+busy_count ps = same_counts is_busy (λ (p : Placed). is_too_many p.place) ps (λ p. too_many_is p.host p.local)
+
+-- PUSHES
+
+pushed_by : (conn command : ℕ) (p : Part) (host : Option ℕ) (local : Option Tree) (pipelines : List PipelineState) → p.host ≡ host → p.local ≡ local
+    → p.conn ≡ conn → p.command ≡ command → pushed_at (place_by host local) (piped_as conn command (placed_as p)) pipelines ≡ pushed_part p pipelines
+pushed_by conn command p None None pipelines e f a b = rw (e, f) refl
+pushed_by conn command p None (Some v) pipelines e f a b = rw (e, f) refl
+pushed_by conn command p (Some h) (Some v) pipelines e f a b = rw (e, f) refl
+pushed_by conn command p (Some h) None pipelines e f a b = rw (e, f, ← a, ← b) refl
+
+pub pushed_as_parts : (conn command : ℕ) (ps : List Part) (pipelines : List PipelineState) → AreOf conn command ps
+    → pushed_all conn command (map placed_as ps) pipelines ≡ pushed_parts ps pipelines
+pushed_as_parts conn command [] pipelines a = refl
+pushed_as_parts conn command (p ∷ ps) pipelines a =
+    ap (pushed_all conn command (map placed_as ps)) (pushed_by conn command p p.host p.local pipelines refl refl a.0 a.1)
+    ∙ pushed_as_parts conn command ps (pushed_part p pipelines) a.2
+
+-- ROOM
+
+waiting_same : (xs : List Pipeline) (h : ℕ) (d : Pipeline) → h < length xs → pipeline_at h (map state_of xs) ≡ state_of (get_or xs h d)
+waiting_same [] h d l = absurd (omega (arith, l))
+waiting_same (x ∷ xs) zero d l = refl
+waiting_same (x ∷ xs) (suc h) d l = waiting_same xs h d (omega (arith, l))
+
+-- where room was made for those that are counted there is room for all
+pub have_room : (placed : List Placed) (counts : List ℕ) (before now : List Pipeline) → map state_of now ≡ map state_of before
+    → AreCounted (map state_of before) counts placed
+    → ((h : ℕ) (d : Pipeline) → h < length now → get_or counts h 0 ≤ (get_or now h d).pipe.room) → HaveRoom placed now
+have_room placed counts before now same a room =
+    let n : length now ≡ length (map state_of before) = sym (length-map now state_of) ∙ ap length same in
+    record {
+      within = λ h l. omega (arith, n, a.within h l);
+      room = λ h d l. omega (arith, room h d l, a.counted h (omega (arith, n, l)));
+      limit = λ h d l.
+          let inside : h < length now = omega (arith, n, a.within h l) in
+          let its : pipeline_at h (map state_of before) ≡ state_of (get_or now h d) = ap (pipeline_at h) (sym same) ∙ waiting_same now h d inside in
+          omega (arith, a.limit h l, ap (λ (q : PipelineState). length q.waiting) its);
+    }
+
+-- A KEPT MACHINE
+
+pub kept_pipelines : (m : Machine) → IsKept m → length m.pipelines.items ≡ hosts (setting_in m)
+kept_pipelines m k =
+    sym (length-map m.pipelines.items state_of) ∙ ap (λ (z : Memory). length z.pipelines) k.memory ∙ length-pipelines_of (setting_in m) (past (setting_in m) (history_in m))
+
+pub kept_cause : (m : Machine) (conn : ℕ) (request : Request) → IsKept m → own_cause_in (setting_in m) (memory_in m) (Arrived conn request) ≡ None
+    → own_cause (setting_in m) (past (setting_in m) (history_in m)) (Arrived conn request) ≡ None
+kept_cause m conn request k e =
+    sym (ap (λ z. own_cause_in (setting_in m) z (Arrived conn request)) k.memory ∙ cause_in-arrived (setting_in m) (history_in m) conn request) ∙ e
+
+kept_connection : (m : Machine) (conn : ℕ) (request : Request) → IsKept m → own_cause_in (setting_in m) (memory_in m) (Arrived conn request) ≡ None
+    → connection_at conn m.connections.items ≡ Some (open_connection (past (setting_in m) (history_in m)) conn)
+kept_connection m conn request k e =
+    let x = past (setting_in m) (history_in m) in
+    ap (λ (z : Memory). connection_at conn z.connections) k.memory
+    ∙ connection_at-open x conn (arrived_open (setting_in m) x conn request (kept_cause m conn request k e))
+
+pub kept_accepts : (m : Machine) (conn : ℕ) (request : Request) → IsKept m → own_cause_in (setting_in m) (memory_in m) (Arrived conn request) ≡ None
+    → length m.journal.steps < 2 ^ 64 - 1 → MayAccept (connection_at conn m.connections.items)
+kept_accepts m conn request k e few =
+    let S = setting_in m in
+    let H = history_in m in
+    let x = past S H in
+    let none = are_false (causes S x (Arrived conn request)) (kept_cause m conn request k e) in
+    record {
+      connection = open_connection x conn;
+      is_open = kept_connection m conn request k e;
+      left = omega (arith, length-queue_of x conn, leb-false max_unwritten _ none.1.1.0);
+      index = omega (arith, popped_and_left S H conn k.legal, accepted-at_most conn H, length-reverse m.journal.steps, few);
+    }
+
+pub kept_tells : (m : Machine) (conn : ℕ) (request : Request) → IsKept m → own_cause_in (setting_in m) (memory_in m) (Arrived conn request) ≡ None
+    → Tells (setting_in m) (memory_in m) conn (past (setting_in m) (history_in m))
+kept_tells m conn request k e =
+    let S = setting_in m in
+    let H = history_in m in
+    let x = past S H in
+    record {
+      state_is = ap (λ (z : Memory). z.hosts) k.memory;
+      waiting_are = λ h l. ap (λ (z : Memory). length (pipeline_at h z.pipelines).waiting) k.memory
+          ∙ ap (λ (q : PipelineState). length q.waiting) (pipeline_at-pipelines_of S x h l) ∙ length-pipeline_waiting x h;
+      index_is = λ c is.
+          let same : Some c ≡ Some (open_connection x conn) = sym is ∙ kept_connection m conn request k e in
+          ap (λ o. next_index o) same ∙ popped_and_left S H conn k.legal;
+    }
+
+-- A COMMAND OF PARTS
+
+pub accepted_as : (ps : List Part) (placed : List Placed) (index n : ℕ) → placed ≡ map placed_as ps → index ≡ n
+    → answer_of (record { index = index; local = None; parts = length placed; no_host = count_by (λ (p : Placed). is_without_host p.place) placed; busy = count_by (λ (p : Placed). is_too_many p.place) placed })
+    ≡ accepts n None ps
+accepted_as ps placed index n e f = rw (e, f, length-map ps placed_as, hostless_count ps, busy_count ps) refl
+
+pub list_accepted : (old : Machine) (connections : List (Option Connection)) (pipelines : List Pipeline) (conn index : ℕ) (how : Join) (list : List PartPlan) (x : Past) (placed : List Placed)
+    → index ≡ accepted conn x.steps → placed ≡ map placed_as (placing (setting_in old) x conn (accepted conn x.steps) [] list)
+    → connections ≡ with_connection (accepting (record { how = how; values = map value_of_placed placed }) false) conn old.connections.items
+    → map state_of pipelines ≡ pushed_all conn index placed (map state_of old.pipelines.items)
+    → record (memory_in old) { connections = connections; pipelines = map state_of pipelines } ≡ with_arrival old conn (parts how list) x
+list_accepted old connections pipelines conn index how list x placed e f g h =
+    let S = setting_in old in
+    let ps = placing S x conn (accepted conn x.steps) [] list in
+    let values : map value_of_placed placed ≡ map (λ (p : Part). p.local) ps = ap (map value_of_placed) f ∙ placed_values S x conn (accepted conn x.steps) list in
+    let its : connections ≡ with_connection (accepting (record { how = how; values = map (λ (p : Part). p.local) ps }) false) conn old.connections.items =
+    g ∙ ap (λ z. with_connection (accepting (record { how = how; values = z }) false) conn old.connections.items) values in
+    let pushed : map state_of pipelines ≡ pushed_parts ps (map state_of old.pipelines.items) =
+    h ∙ ap (λ z. pushed_all conn z placed (map state_of old.pipelines.items)) e ∙ ap (λ z. pushed_all conn (accepted conn x.steps) z (map state_of old.pipelines.items)) f
+    ∙ pushed_as_parts conn (accepted conn x.steps) ps (map state_of old.pipelines.items) (are_placed S x conn list) in
+    ap (λ z. record (memory_in old) { connections = z; pipelines = map state_of pipelines }) its
+    ∙ ap (λ z. record (memory_in old) { connections = with_connection (accepting (record { how = how; values = map (λ (p : Part). p.local) ps }) false) conn old.connections.items; pipelines = z }) pushed
+
+-- the index that the next command gets is the one that the history gives it
+pub index_told : (S : Setting) (m : Memory) (conn : ℕ) (x : Past) → Tells S m conn x → MayAccept (connection_at conn m.connections) → next_index (connection_at conn m.connections) ≡ accepted conn x.steps
+index_told S m conn x tells may = ap next_index may.is_open ∙ tells.index_is may.connection may.is_open
+
+-- ONCE ROOM WAS MADE
+
+small_enough : (old new : Machine) (conn : ℕ) (request : Request) → IsReady old new (Arrived conn request) → (length old.journal.steps < 262144) × (length_of_request request ≤ 67108864)
+small_enough old new conn request r =
+    (elim (cases_Bool (nat_lt (length old.journal.steps) 262144)) [
+      | inl t ↦ ltb-true _ 262144 t
+      | inr f ↦ absurd (r.has_room (inl (ltb-false _ 262144 f)))
+    ],
+    elim (cases_Bool (nat_le (length_of_request request) 67108864)) [
+      | inl t ↦ leb-true _ 67108864 t
+      | inr f ↦ let l = leb-false (length_of_request request) 67108864 f in absurd (r.has_room (inr (omega (arith, l))))
+    ])
+
+join_by_plan : (plan : Plan) (request : Request) → plan ≡ plan_for request → length_of_request request ≤ 67108864 → MayJoinAll plan
+join_by_plan (here name value) request e l = tt
+join_by_plan (leave name value) request e l = tt
+join_by_plan (parts how list) request e l = (plan_may_join request how list (sym e), omega (arith, few_parts request how list (sym e), l))
+
+-- the parts of the plan may be joined and numbered
+pub may_join_all : (old new : Machine) (conn : ℕ) (request : Request) (plan : Plan) → plan ≡ plan_for request → IsReady old new (Arrived conn request) → MayJoinAll plan
+may_join_all old new conn request plan e r = join_by_plan plan request e (small_enough old new conn request r).1
+
+pub ready_accepts : (old new : Machine) (conn : ℕ) (request : Request) → IsKept old → IsReady old new (Arrived conn request) → MayAccept (connection_at conn new.connections.items)
+ready_accepts old new conn request k r =
+    let same : old.connections.items ≡ new.connections.items = sym (ap (λ (z : Memory). z.connections) r.same.memory) in
+    subst (λ z. MayAccept (connection_at conn z)) same
+    (kept_accepts old conn request k r.has_no_cause (omega (arith, (small_enough old new conn request r).0)))
+
+pub ready_pipelines : (old new : Machine) (conn : ℕ) (request : Request) → IsKept old → IsReady old new (Arrived conn request) → length new.pipelines.items ≡ hosts (setting_in new)
+ready_pipelines old new conn request k r =
+    sym (length-map new.pipelines.items state_of) ∙ ap (λ (z : Memory). length z.pipelines) r.same.memory ∙ length-map old.pipelines.items state_of
+    ∙ kept_pipelines old k ∙ sym (ap hosts r.same.setting)
+
+pub ready_tells : (old new : Machine) (conn : ℕ) (request : Request) → IsKept old → IsReady old new (Arrived conn request)
+    → Tells (setting_in new) (memory_in new) conn (past (setting_in old) (history_in old))
+ready_tells old new conn request k r =
+    subst (λ S. Tells S (memory_in new) conn (past (setting_in old) (history_in old))) (sym r.same.setting)
+    (subst (λ z. Tells (setting_in old) z conn (past (setting_in old) (history_in old))) (sym r.same.memory) (kept_tells old conn request k r.has_no_cause))
+
+-- what is kept after the arrival, by what was kept before
+abbrev arrival_of : Setting → Memory → ℕ → Plan → Past → Memory
+arrival_of S m conn plan x =
+    let placed = placed_by S x conn plan in
+    record m {
+      connections = with_connection (accepting (arrived_command plan placed) (is_last plan)) conn m.connections;
+      pipelines = pushed_parts placed m.pipelines;
+    }
+
+-- what is accepted then is accepted of the machine before
+pub accepted_before : (old ready new : Machine) (conn : ℕ) (request : Request) (plan : Plan) (x : Past) (a : Accepted) → plan ≡ plan_for request → IsReady old ready (Arrived conn request)
+    → IsAccepted ready new conn plan x a → IsAccepted old new conn (plan_for request) x a
+accepted_before old ready new conn request plan x a e r is =
+    let same = r.same in
+    let arrived : with_arrival ready conn plan x ≡ with_arrival old conn (plan_for request) x =
+    ap (λ p. with_arrival ready conn p x) e
+    ∙ ap (λ S. arrival_of S (memory_in ready) conn (plan_for request) x) same.setting
+    ∙ ap (λ z. arrival_of (setting_in old) z conn (plan_for request) x) same.memory in
+    record {
+      answer_is = is.answer_is ∙ ap (λ p. accepts (accepted conn x.steps) (local_of p) (placed_by (setting_in ready) x conn p)) e
+          ∙ ap (λ S. accepts (accepted conn x.steps) (local_of (plan_for request)) (placed_by S x conn (plan_for request))) same.setting;
+      setting = is.setting ∙ same.setting;
+      steps = is.steps ∙ same.steps;
+      memory = is.memory ∙ arrived;
+    }

@@ -1,0 +1,160 @@
+//! Where the parts of a command go as it arrives.
+ghost use Rattle.std.specs.Prelude.{◌≡◌, ◌<◌, Some, None, length, map, count_by, IfSome};
+ghost use Rattle.std.specs.Option.{option_map};
+ghost use Rattle.resp_core.specs.Value.{tree_of};
+ghost use Rattle.proxy_core.specs.Arrivals.{answer_of, is_too_many, is_without_host, next_place, counted_at, value_at};
+ghost use Rattle.proxy_core.specs.Pipelines.{state_of};
+
+use crate::pipeline::Pipeline;
+use bytes::Bytes;
+use proxy_history::Answer;
+use resp_core::Value;
+use splitter::Local;
+use upstream_pipe::MAX_WAITING;
+
+/// Where a part goes for good.
+#[derive(Clone, Copy)]
+pub(crate) enum Place {
+    /// It waits for the host.
+    Waits(usize),
+    /// No usable host has its key.
+    NoHost,
+    /// As many parts as may wait for its host do.
+    Busy,
+}
+
+impl Place {
+    /// The value that a part gets at once, if it doesn't wait.
+    pub(crate) fn value(self) -> Option<Value>
+        ensures { option_map tree_of result ≡ value_at self }
+    {
+        let text: &'static [u8] = match self {
+            Place::Waits(_) => return None,
+            Place::NoHost => b"no upstream host",
+            Place::Busy => b"proxy busy",
+        };
+        Some(Value::Fault(Bytes::from_static(text)))
+    }
+
+    fn is_without_host(self) -> bool
+        ensures { result ≡ is_without_host self }
+    {
+        match self {
+            Place::NoHost => true,
+            Place::Waits(_) | Place::Busy => false,
+        }
+    }
+
+    fn is_too_many(self) -> bool
+        ensures { result ≡ is_too_many self }
+    {
+        match self {
+            Place::Busy => true,
+            Place::Waits(_) | Place::NoHost => false,
+        }
+    }
+}
+
+/// A part with its place.
+#[derive(Drop)]
+pub(crate) struct Placed {
+    pub number: u32,
+    pub place: Place,
+    pub text: Bytes,
+}
+
+/// What is answered to a command that is accepted.
+#[derive(Clone, Copy)]
+pub(crate) struct Accepted {
+    pub index: u64,
+    pub local: Option<Local>,
+    pub parts: u64,
+    pub no_host: u64,
+    pub busy: u64,
+}
+
+impl Accepted {
+    /// A command that the proxy answers itself.
+    pub(crate) fn own(index: u64, name: Local) -> Accepted
+        ensures { result ≡ record { index = index; local = Some name; parts = 0; no_host = 0; busy = 0 } }
+    {
+        Accepted {
+            index,
+            local: Some(name),
+            parts: 0,
+            no_host: 0,
+            busy: 0,
+        }
+    }
+
+    /// A command with these parts.
+    pub(crate) fn counted(index: u64, placed: &[Placed]) -> Accepted
+        ensures { result ≡ record {
+          index = index;
+          local = None;
+          parts = length placed.now;
+          no_host = count_by (λ (p : Placed). is_without_host p.place) placed.now;
+          busy = count_by (λ (p : Placed). is_too_many p.place) placed.now;
+        } }
+    {
+        Accepted {
+            index,
+            local: None,
+            parts: placed.len() as u64,
+            no_host: without_host(placed),
+            busy: too_many(placed),
+        }
+    }
+
+    /// The same as an answer.
+    pub(crate) fn answer(self) -> Answer
+        ensures { result ≡ answer_of self }
+    {
+        Answer::Accepted {
+            index: self.index,
+            local: self.local,
+            parts: self.parts,
+            no_host: self.no_host,
+            busy: self.busy,
+        }
+    }
+}
+
+// How many of the parts have no host.
+fn without_host(placed: &[Placed]) -> u64
+    ensures { result ≡ count_by (λ (p : Placed). is_without_host p.place) placed.now }
+{
+    placed
+        .iter()
+        .filter(|part| part.place.is_without_host())
+        .count() as u64
+}
+
+// How many of the parts have a host for which too many waited.
+fn too_many(placed: &[Placed]) -> u64
+    ensures { result ≡ count_by (λ (p : Placed). is_too_many p.place) placed.now }
+{
+    placed
+        .iter()
+        .filter(|part| part.place.is_too_many())
+        .count() as u64
+}
+
+/// The place of the next part, whose key has this host. `counts` has for each host how many parts of the command wait for
+/// it, and is brought up to date.
+pub(crate) fn next_place(pipelines: &[Pipeline], counts: &mut [usize], host: Option<usize>) -> Place
+    requires hosts { length counts.old ≡ length pipelines.now }
+    requires host { IfSome host (λ h. h < length pipelines.now) }
+    ensures place { result ≡ next_place (map state_of pipelines.now) counts.old host }
+    ensures counts { counts.new ≡ counted_at result counts.old }
+{
+    let Some(host) = host else {
+        return Place::NoHost;
+    };
+    let waiting = pipelines[host].pipe.waiting();
+    if waiting.saturating_add(counts[host]) >= MAX_WAITING {
+        return Place::Busy;
+    }
+    counts[host] += 1;
+    Place::Waits(host)
+}
