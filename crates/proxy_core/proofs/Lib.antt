@@ -20,6 +20,11 @@ pub mod PipelinesMove
 pub mod PipelinesTaken
 pub mod PipelinesArrived
 pub mod ConnectionsStay
+pub mod Turned
+pub mod TurnedResults
+pub mod TurnedEvents
+pub mod TurnedAsked
+pub mod Lost
 pub mod Pushed
 pub mod Accepted
 pub mod Places

@@ -3,3 +3,4 @@ pub mod Pipelines
 pub mod Kept
 pub mod Machine
 pub mod Arrivals
+pub mod Core

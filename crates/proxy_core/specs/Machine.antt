@@ -1,5 +1,5 @@
 -- What a turn does with what the core keeps.
-use Rattle.std.specs.Prelude.{◌≡◌, ◌<◌, ◌≤◌, ◌+◌, ◌-◌, ℕ, Bool, true, false, not, ◌==◌, nat_le, if◌then◌else◌, Option, Some, None, List, [], ◌∷◌, ◌++◌, length, map, reverse, slice_get, is_some, is_none}
+use Rattle.std.specs.Prelude.{◌≡◌, ◌<◌, ◌≤◌, ◌+◌, ◌-◌, ℕ, Bool, true, false, not, ◌==◌, ◌&&◌, nat_le, if◌then◌else◌, Option, Some, None, List, [], ◌∷◌, ◌++◌, length, map, reverse, slice_get, is_some, is_none}
 use Rattle.std.specs.Option.{option_and_then, unwrap_or}
 use Rattle.resp_core.specs.Tree.{Tree, is_plain_tree, null_bulk}
 use Rattle.resp_core.specs.Text.{text}
@@ -8,6 +8,12 @@ use Rattle.upstream_pipe.specs.declared.part.Part.{Part as PipePart}
 use Rattle.reply_queue.specs.Queue.{front_reply}
 use Rattle.journal_core.specs.Journal.{IsFull}
 use Rattle.ejector.specs.Settings.{first_fault}
+use Rattle.ejector.specs.declared.settings.Rules.{Rules}
+use Rattle.ejector.specs.declared.mark.Mark.{Mark}
+use Rattle.ejector.specs.declared.mark.Mark.TheVariants.{Bad}
+use Rattle.ejector.specs.declared.answer.Trip.{Trip}
+use Rattle.ejector.specs.declared.answer.Trip.TheVariants as trips
+use Rattle.ejector.specs.Ejection.{trip}
 use Rattle.proxy_history.specs.Setting.{Setting, hosts, max_connections, max_unwritten}
 use Rattle.proxy_history.specs.History.{History, Step}
 use Rattle.proxy_history.specs.Legal.{IsLegal}
@@ -16,6 +22,8 @@ use Rattle.proxy_history.specs.Payload.{length_of_event}
 use Rattle.proxy_history.specs.declared.answer.Answer.{Answer}
 use Rattle.proxy_history.specs.declared.event.Event.{Event}
 use Rattle.proxy_history.specs.declared.event.Event.TheVariants.{Opened, Arrived, Finished, Taken, Answered, Failed, Swept, Handed, Closed}
+use Rattle.proxy_history.specs.declared.event.Kind.{Kind}
+use Rattle.proxy_history.specs.declared.event.Kind.TheVariants.{Refused, Dropped, Late, Garbled}
 use Rattle.proxy_history.specs.declared.refusal.Refusal.{Refusal}
 use Rattle.proxy_history.specs.declared.refusal.Refusal.TheVariants as refusal
 use Rattle.proxy_core.specs.Pipelines.{PipelineState, state_of}
@@ -104,6 +112,24 @@ causes_in S m (Closed conn) = no_such_connection_in (connection_at conn m.connec
 
 abbrev pub own_cause_in : Setting → Memory → Event → Option Refusal
 own_cause_in S m event = first_true (causes_in S m event)
+
+-- RESULTS
+
+-- a link that ends while its host has nothing to do is no fault of the host
+abbrev pub is_excused_in : PipelineState → Kind → Bool
+is_excused_in p Refused = false
+is_excused_in p Dropped = (length p.waiting == 0) && (length p.flying == 0)
+is_excused_in p Late = false
+is_excused_in p Garbled = false
+
+-- the mark of a fault, if it is one
+abbrev pub fault_mark : PipelineState → ℕ → Kind → ℕ → List Mark
+fault_mark p host kind t = if is_excused_in p kind then [] else Bad host t ∷ []
+
+-- what the newest of these marks does after the others, if there is one
+abbrev pub trip_by : Rules → List Mark → List Mark → Trip
+trip_by rules [] marks = trips.None
+trip_by rules (m ∷ _) marks = trip rules m marks
 
 -- PAYLOAD
 

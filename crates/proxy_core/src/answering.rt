@@ -5,6 +5,7 @@ ghost use Rattle.resp_core.specs.Value.{tree_of};
 ghost use Rattle.ejector.specs.declared.mark.Mark.{Mark};
 ghost use Rattle.ejector.specs.declared.mark.Mark.TheVariants as marks';
 ghost use Rattle.ejector.specs.Ejection.{state, trip};
+ghost use Rattle.ejector.specs.Ejector.{result_mark};
 ghost use Rattle.proxy_history.specs.Setting.{hosts};
 ghost use Rattle.proxy_history.specs.declared.answer.Answer.TheVariants as answers;
 ghost use Rattle.proxy_history.specs.declared.event.Event.TheVariants as events;
@@ -12,10 +13,11 @@ ghost use Rattle.proxy_core.specs.Connections.{AreAwaited, answered_parts};
 ghost use Rattle.proxy_core.specs.Pipelines.{answered_by, next_owner, with_pipeline};
 ghost use Rattle.proxy_core.specs.Machine.{own_cause_in, setting_in, memory_in, pipeline_at, IsTurned, IsSame, IsReady, HasCauseIn};
 
-use crate::connection::answer_part;
+use crate::connection::give_part;
 use crate::machine::{Machine, make_room};
+use crate::pipeline::answer_from;
 use crate::refused::Refused;
-use ejector::Trip;
+use ejector::{Ejector, Trip};
 use journal_core::Step;
 use proxy_history::{Answer, Event, Refusal};
 use resp_core::Value;
@@ -25,14 +27,16 @@ impl Machine {
     pub(crate) fn answer(&mut self, pass: u64, host: usize, epoch: u64, value: Value, t: u64) -> Result<Answer, Refused>
         requires hosts { vec_len self.old.pipelines ≡ hosts (setting_in self.old) }
         requires awaited { AreAwaited (next_owner (pipeline_at host (memory_in self.old).pipelines).flying) (tree_of value) self.old.connections.items }
-        ensures answered { IfOk result (λ a. (marks : List Mark) → state self.old.ejector.rules marks ≡ self.old.ejector.state
-            → (a ≡ answers.Matched (trip self.old.ejector.rules (marks'.Good host t) marks))
-            × IsTurned self.old self.new pass (events.Answered host epoch value t) a
+        ensures answered { IfOk result (λ a. IsTurned self.old self.new pass (events.Answered host epoch value t) a
             (record (memory_in self.old) {
               connections = answered_parts (next_owner (pipeline_at host (memory_in self.old).pipelines).flying) (tree_of value) self.old.connections.items;
               pipelines = with_pipeline answered_by host (memory_in self.old).pipelines;
-              hosts = state self.old.ejector.rules (marks'.Good host t ∷ marks);
+              hosts = self.new.ejector.state;
             })) }
+        ensures matched { IfOk result (λ a. (marks : List Mark) → state self.old.ejector.rules marks ≡ self.old.ejector.state
+            → a ≡ answers.Matched (trip self.old.ejector.rules (marks'.Good host t) marks)) }
+        ensures hosts { OnOk result ((marks : List Mark) → state self.old.ejector.rules marks ≡ self.old.ejector.state
+            → self.new.ejector.state ≡ state self.old.ejector.rules (marks'.Good host t ∷ marks)) }
         ensures refused { IfErr result (λ r. (r.event ≡ events.Answered host epoch value t) × IsSame self.old self.new
             × HasCauseIn self.old (events.Answered host epoch value t) r.cause) }
     {
@@ -48,10 +52,9 @@ impl Machine {
                 return Err(Refused { cause, event });
             }
         };
-        if let Ok(Some(owner)) = self.pipelines[host].pipe.answered(epoch) {
-            answer_part(&mut self.connections, owner, shared);
-        }
-        let trip = self.ejector.result(host, true, t).unwrap_or(Trip::None);
+        let owner = answer_from(&mut self.pipelines, host, epoch);
+        give_part(&mut self.connections, owner, shared);
+        let trip = counted(&mut self.ejector, host, true, t);
         let bytes = value.text_len();
         let event = Event::Answered {
             host,
@@ -114,4 +117,17 @@ impl Machine {
         }
         None
     }
+}
+
+/// Tells outlier detection of a result of the host, and gives what it did to it. There has to be room for a mark.
+pub(crate) fn counted(ejector: &mut Ejector, host: usize, ok: bool, t: u64) -> Trip
+    requires host { host < ejector.old.rules.hosts }
+    requires room { 0 < ejector.old.room }
+    ensures state { (marks : List Mark) → state ejector.old.rules marks ≡ ejector.old.state
+        → ejector.new.state ≡ state ejector.old.rules (result_mark ok host t ∷ marks) }
+    ensures trip { (marks : List Mark) → state ejector.old.rules marks ≡ ejector.old.state
+        → result ≡ trip ejector.old.rules (result_mark ok host t) marks }
+    ensures rules { ejector.new.rules ≡ ejector.old.rules }
+{
+    ejector.result(host, ok, t).unwrap_or(Trip::None)
 }

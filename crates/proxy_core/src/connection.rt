@@ -19,7 +19,7 @@ use reply_queue::Queue;
 use resp_core::Value;
 use splitter::Join;
 use std::alloc::Global;
-use upstream_pipe::Owner;
+use upstream_pipe::{Lost, Owner};
 
 /// An open connection: its commands that are accepted and not handed out, and whether it takes no further one.
 #[derive(Drop)]
@@ -115,6 +115,17 @@ fn answer_one(connection: &mut Option<Connection>, owner: Owner, value: Value)
     }
 }
 
+/// Gives the part of this owner, if there is one, its value.
+pub(crate) fn give_part(connections: &mut [Option<Connection>], owner: Option<Owner>, value: Value)
+    requires { AreAwaited (list_of owner) (tree_of value) connections.old }
+    ensures { connections.new ≡ answered_parts (list_of owner) (tree_of value) connections.old }
+{
+    match owner {
+        Some(owner) => answer_part(connections, owner, value),
+        None => drop(value),
+    }
+}
+
 /// The value of a part whose host failed before its reply came.
 fn upstream_failure() -> Value
     ensures { tree_of result ≡ upstream_failure }
@@ -122,8 +133,17 @@ fn upstream_failure() -> Value
     Value::Fault(Bytes::from_static(b"upstream failure"))
 }
 
-/// Gives each of these parts, none of which has a value, the failure of its host.
-pub(crate) fn fail_parts(connections: &mut [Option<Connection>], owners: &[Owner])
+/// Gives each of the parts that were lost, none of which has a value, the failure of its host.
+pub(crate) fn fail_lost(connections: &mut [Option<Connection>], lost: &Lost)
+    requires { AreAwaited (filter_map (λ o. o) lost.now.flying.items ++ lost.now.waiting.items) upstream_failure connections.old }
+    ensures { connections.new ≡ answered_parts (filter_map (λ o. o) lost.now.flying.items ++ lost.now.waiting.items) upstream_failure connections.old }
+{
+    fail_places(connections, &lost.flying);
+    fail_parts(connections, &lost.waiting);
+}
+
+// Gives each of these parts the failure of its host.
+fn fail_parts(connections: &mut [Option<Connection>], owners: &[Owner])
     requires { AreAwaited owners.now upstream_failure connections.old }
     ensures { connections.new ≡ answered_parts owners.now upstream_failure connections.old }
 {
@@ -132,23 +152,13 @@ pub(crate) fn fail_parts(connections: &mut [Option<Connection>], owners: &[Owner
     }
 }
 
-/// So it gives each of those that are there.
-pub(crate) fn fail_places(connections: &mut [Option<Connection>], places: &[Option<Owner>])
+// So it gives each of those that are there.
+fn fail_places(connections: &mut [Option<Connection>], places: &[Option<Owner>])
     requires { AreAwaited (filter_map (λ o. o) places.now) upstream_failure connections.old }
     ensures { connections.new ≡ answered_parts (filter_map (λ o. o) places.now) upstream_failure connections.old }
 {
     for place in places {
-        fail_place(connections, *place);
-    }
-}
-
-// Gives the part of this owner, if there is one, the failure of its host.
-fn fail_place(connections: &mut [Option<Connection>], place: Option<Owner>)
-    requires { AreAwaited (list_of place) upstream_failure connections.old }
-    ensures { connections.new ≡ answered_parts (list_of place) upstream_failure connections.old }
-{
-    if let Some(owner) = place {
-        answer_part(connections, owner, upstream_failure());
+        give_part(connections, *place, upstream_failure());
     }
 }
 

@@ -9,6 +9,7 @@
 mod answering;
 mod arrival;
 mod connection;
+mod failing;
 mod handing;
 mod machine;
 mod opening;
@@ -17,5 +18,7 @@ mod place;
 mod refused;
 mod sending;
 mod sweeping;
+mod turns;
 
 pub use refused::Refused;
+pub use turns::Core;

@@ -7,6 +7,7 @@ ghost use Rattle.proxy_core.specs.Pipelines.{taken_from, with_pipeline};
 ghost use Rattle.proxy_core.specs.Machine.{setting_in, memory_in, pipeline_at, text_in, IsTurned, IsSame, IsReady, HasCauseIn};
 
 use crate::machine::{Machine, make_room};
+use crate::pipeline::take_from;
 use crate::refused::Refused;
 use bytes::Bytes;
 use journal_core::Step;
@@ -29,12 +30,11 @@ impl Machine {
             Ok(text) => text,
             Err(cause) => return Err(Refused { cause, event }),
         };
-        let pipeline = &mut self.pipelines[host];
-        let (epoch, place) = (pipeline.pipe.epoch(), pipeline.taken);
+        let (epoch, place, taken) = take_from(&mut self.pipelines, host);
         let answer = Answer::Sent {
             epoch,
             place,
-            text: pipeline.take(),
+            text: taken,
         };
         let bytes = text.len() as u64;
         self.journal.add(
@@ -60,10 +60,7 @@ impl Machine {
         let Some(part) = pipeline.pipe.oldest() else {
             return Err(Refusal::NothingWaiting);
         };
-        let text = part.text.clone()?;
-        match make_room(&mut self.journal, text.len() as u64) {
-            Ok(()) => Ok(text),
-            Err(cause) => Err(cause),
-        }
+        make_room(&mut self.journal, part.text.len() as u64)?;
+        Ok(part.text.clone()?)
     }
 }

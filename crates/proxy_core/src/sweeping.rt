@@ -9,17 +9,19 @@ ghost use Rattle.proxy_core.specs.Machine.{memory_in, IsTurned, IsSame, IsReady,
 
 use crate::machine::{Machine, make_room};
 use crate::refused::Refused;
-use ejector::Swept;
+use ejector::{Ejector, Swept};
 use journal_core::Step;
 use proxy_history::{Answer, Event, Refusal};
 
 impl Machine {
     /// Sweeps the hosts.
     pub(crate) fn sweep(&mut self, pass: u64, t: u64) -> Result<Answer, Refused>
-        ensures answered { IfOk result (λ a. (marks : List Mark) → state self.old.ejector.rules marks ≡ self.old.ejector.state
-            → (a ≡ counts_of (swept self.old.ejector.rules (marks'.Sweep t) marks))
-            × IsTurned self.old self.new pass (events.Swept t) a
-            (record (memory_in self.old) { hosts = state self.old.ejector.rules (marks'.Sweep t ∷ marks) })) }
+        ensures answered { IfOk result (λ a. IsTurned self.old self.new pass (events.Swept t) a
+            (record (memory_in self.old) { hosts = self.new.ejector.state })) }
+        ensures swept { IfOk result (λ a. (marks : List Mark) → state self.old.ejector.rules marks ≡ self.old.ejector.state
+            → a ≡ counts_of (swept self.old.ejector.rules (marks'.Sweep t) marks)) }
+        ensures hosts { OnOk result ((marks : List Mark) → state self.old.ejector.rules marks ≡ self.old.ejector.state
+            → self.new.ejector.state ≡ state self.old.ejector.rules (marks'.Sweep t ∷ marks)) }
         ensures refused { IfErr result (λ r. (r.event ≡ events.Swept t) × IsSame self.old self.new
             × HasCauseIn self.old (events.Swept t) r.cause) }
     {
@@ -27,23 +29,16 @@ impl Machine {
         if let Err(cause) = self.ready_to_sweep(t) {
             return Err(Refused { cause, event });
         }
-        match self.ejector.sweep(t) {
-            Ok(hosts) => {
-                self.journal.add(
-                    Step {
-                        pass,
-                        event,
-                        answer: counts_of(hosts),
-                    },
-                    0,
-                );
-                Ok(counts_of(hosts))
-            }
-            Err(_) => Err(Refused {
-                cause: Refusal::NoMemory,
+        let hosts = swept(&mut self.ejector, t);
+        self.journal.add(
+            Step {
+                pass,
                 event,
-            }),
-        }
+                answer: counts_of(hosts),
+            },
+            0,
+        );
+        Ok(counts_of(hosts))
     }
 
     // Makes room.
@@ -57,6 +52,22 @@ impl Machine {
         }
         make_room(&mut self.journal, 0)
     }
+}
+
+// Sweeps the hosts. There has to be room for a mark.
+fn swept(ejector: &mut Ejector, t: u64) -> Swept
+    requires { 0 < ejector.old.room }
+    ensures state { (marks : List Mark) → state ejector.old.rules marks ≡ ejector.old.state
+        → ejector.new.state ≡ state ejector.old.rules (marks'.Sweep t ∷ marks) }
+    ensures swept { (marks : List Mark) → state ejector.old.rules marks ≡ ejector.old.state
+        → result ≡ swept ejector.old.rules (marks'.Sweep t) marks }
+    ensures rules { ejector.new.rules ≡ ejector.old.rules }
+{
+    ejector.sweep(t).unwrap_or(Swept {
+        returned: 0,
+        ejected: 0,
+        kept: 0,
+    })
 }
 
 // The answer to a sweep that had this result.

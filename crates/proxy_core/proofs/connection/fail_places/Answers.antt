@@ -25,16 +25,16 @@ rest_answered (Some o) os ks = refl
 pub loop-place-init : goal.loop-place-init
 loop-place-init c = record { awaited = c.requires; answered = refl }
 
-pub fail_place-requires : goal.fail_place-requires
-fail_place-requires c =
+pub give_part-requires : goal.give_part-requires
+give_part-requires c =
     let a = rw (drop_more c.args.places.now c.loop-place.place-index None c.loop-place-test.true) at c.loop-place.invariant.awaited in
-    first_awaited (get_or c.args.places.now c.loop-place.place-index None) (drop (c.loop-place.place-index + 1) c.args.places.now) c.loop-place.connections a
+    rw (c.upstream_failure.ensures) (first_awaited (get_or c.args.places.now c.loop-place.place-index None) (drop (c.loop-place.place-index + 1) c.args.places.now) c.loop-place.connections a)
 
 pub loop-place-preserved : goal.loop-place-preserved
 loop-place-preserved c =
     let a = rw (drop_more c.args.places.now c.loop-place.place-index None c.loop-place-test.true) at c.loop-place.invariant.awaited in
     let b = rw (drop_more c.args.places.now c.loop-place.place-index None c.loop-place-test.true) at c.loop-place.invariant.answered in
-    rw (c.fail_place.ensures) (record { awaited = rest_awaited (get_or c.args.places.now c.loop-place.place-index None) (drop (c.loop-place.place-index + 1) c.args.places.now) c.loop-place.connections a; answered = rest_answered (get_or c.args.places.now c.loop-place.place-index None) (drop (c.loop-place.place-index + 1) c.args.places.now) c.loop-place.connections ∙ b })
+    rw (c.give_part.ensures, c.upstream_failure.ensures) (record { awaited = rest_awaited (get_or c.args.places.now c.loop-place.place-index None) (drop (c.loop-place.place-index + 1) c.args.places.now) c.loop-place.connections a; answered = rest_answered (get_or c.args.places.now c.loop-place.place-index None) (drop (c.loop-place.place-index + 1) c.args.places.now) c.loop-place.connections ∙ b })
 
 pub returns : goal.returns
 returns c = rw (drop_of_length-le c.args.places.now c.loop-place-test.false) at c.loop-place.invariant.answered

@@ -1,0 +1,128 @@
+//! Hosts fail.
+ghost use Rattle.std.specs.Prelude.{◌≡◌, ◌<◌, ◌+◌, ◌-◌, ◌^◌, ◌++◌, Some, None, length, map, vec_len, IfOk, IfErr, OnOk, OnErr, List};
+ghost use Rattle.ejector.specs.declared.mark.Mark.{Mark};
+ghost use Rattle.ejector.specs.Ejection.{state};
+ghost use Rattle.proxy_history.specs.Setting.{hosts};
+ghost use Rattle.proxy_history.specs.Value.{upstream_failure};
+ghost use Rattle.proxy_history.specs.declared.answer.Answer.TheVariants as answers;
+ghost use Rattle.proxy_history.specs.declared.event.Event.TheVariants as events;
+ghost use Rattle.proxy_history.specs.declared.event.Kind.TheVariants.{Late};
+ghost use Rattle.upstream_pipe.specs.Pipe.{owner_in};
+ghost use Rattle.journal_core.specs.Journal.{IsFull};
+ghost use Rattle.proxy_core.specs.Connections.{AreAwaited, answered_parts};
+ghost use Rattle.proxy_core.specs.Pipelines.{PipelineState, failed, lost_owners, with_pipeline, state_of};
+ghost use Rattle.proxy_core.specs.Machine.{setting_in, memory_in, pipeline_at, own_cause_in, is_excused_in, fault_mark, trip_by, IsTurned, IsSame, IsReady, HasCauseIn};
+
+use crate::answering::counted;
+use crate::connection::fail_lost;
+use crate::machine::{Machine, make_room};
+use crate::pipeline::fail_all;
+use crate::refused::Refused;
+use ejector::{Ejector, Trip};
+use journal_core::Step;
+use proxy_history::{Answer, Event, Kind, Refusal};
+use upstream_pipe::Lost;
+
+impl Machine {
+    /// A host failed: all parts that wait for it or fly to it are lost, and its epoch is over.
+    pub(crate) fn fail(
+        &mut self,
+        pass: u64,
+        host: usize,
+        epoch: u64,
+        kind: Kind,
+        t: u64,
+    ) -> Result<Answer, Refused>
+        requires hosts { vec_len self.old.pipelines ≡ hosts (setting_in self.old) }
+        requires awaited { AreAwaited (lost_owners (pipeline_at host (memory_in self.old).pipelines)) upstream_failure self.old.connections.items }
+        requires epochs { (pipeline_at host (memory_in self.old).pipelines).epoch < 2 ^ 64 - 1 }
+        ensures answered { IfOk result (λ a. IsTurned self.old self.new pass (events.Failed host epoch kind t) a
+            (record (memory_in self.old) {
+              connections = answered_parts (lost_owners (pipeline_at host (memory_in self.old).pipelines)) upstream_failure self.old.connections.items;
+              pipelines = with_pipeline failed host (memory_in self.old).pipelines;
+              hosts = self.new.ejector.state;
+            })) }
+        ensures lost { IfOk result (λ a. (marks : List Mark) → state self.old.ejector.rules marks ≡ self.old.ejector.state
+            → a ≡ answers.Lost (length (pipeline_at host (memory_in self.old).pipelines).waiting + length (pipeline_at host (memory_in self.old).pipelines).flying)
+            (trip_by self.old.ejector.rules (fault_mark (pipeline_at host (memory_in self.old).pipelines) host kind t) marks)) }
+        ensures hosts { OnOk result ((marks : List Mark) → state self.old.ejector.rules marks ≡ self.old.ejector.state
+            → self.new.ejector.state ≡ state self.old.ejector.rules (fault_mark (pipeline_at host (memory_in self.old).pipelines) host kind t ++ marks)) }
+        ensures refused { IfErr result (λ r. (r.event ≡ events.Failed host epoch kind t) × IsSame self.old self.new
+            × HasCauseIn self.old (events.Failed host epoch kind t) r.cause) }
+    {
+        let event = Event::Failed {
+            host,
+            epoch,
+            kind,
+            t,
+        };
+        let lost = match self.ready_to_fail(host, epoch) {
+            Ok(lost) => lost,
+            Err(cause) => return Err(Refused { cause, event }),
+        };
+        fail_lost(&mut self.connections, &lost);
+        let parts = lost.waiting.len() as u64 + lost.flying.len() as u64;
+        let trip = faulted(&mut self.ejector, host, kind, parts, t);
+        self.journal.add(
+            Step {
+                pass,
+                event,
+                answer: Answer::Lost { parts, trip },
+            },
+            0,
+        );
+        Ok(Answer::Lost { parts, trip })
+    }
+
+    // Looks for a cause, makes room, and takes the host's parts, which are lost. Its kind and its moment don't count here.
+    fn ready_to_fail(&mut self, host: usize, epoch: u64) -> Result<Lost, Refusal>
+        requires hosts { vec_len self.old.pipelines ≡ hosts (setting_in self.old) }
+        requires epochs { (pipeline_at host (memory_in self.old).pipelines).epoch < 2 ^ 64 - 1 }
+        ensures flying { IfOk result (λ lost. lost.flying.items ≡ (pipeline_at host (memory_in self.old).pipelines).flying) }
+        ensures waiting { IfOk result (λ lost. lost.waiting.items ≡ map owner_in (pipeline_at host (memory_in self.old).pipelines).waiting) }
+        ensures cause { OnOk result (own_cause_in (setting_in self.old) (memory_in self.old) (events.Failed host epoch Late 0) ≡ None) }
+        ensures full { OnOk result (IsFull self.old.journal 0 → ⊥) }
+        ensures room { OnOk result (self.new.journal.room ≡ Some 0) }
+        ensures place { OnOk result (0 < self.new.ejector.room) }
+        ensures setting { setting_in self.new ≡ setting_in self.old }
+        ensures steps { self.new.journal.steps ≡ self.old.journal.steps }
+        ensures memory { OnOk result (memory_in self.new
+            ≡ record (memory_in self.old) { pipelines = with_pipeline failed host (memory_in self.old).pipelines }) }
+        ensures err { OnErr result (memory_in self.new ≡ memory_in self.old) }
+        ensures refused { IfErr result (λ r. HasCauseIn self.old (events.Failed host epoch Late 0) r) }
+    {
+        if host >= self.pipelines.len() {
+            return Err(Refusal::NoSuchHost);
+        }
+        let current = self.pipelines[host].pipe.epoch();
+        if epoch != current {
+            return Err(Refusal::Stale { current });
+        }
+        if self.ejector.room().is_err() {
+            return Err(Refusal::NoMemory);
+        }
+        make_room(&mut self.journal, 0)?;
+        match fail_all(&mut self.pipelines, host, epoch) {
+            Ok(lost) => Ok(lost),
+            Err(_) => Err(Refusal::NoMemory),
+        }
+    }
+}
+
+// Tells outlier detection of a fault of the host, unless the host had nothing to do and its link was dropped, and gives what
+// it did to the host. There has to be room for a mark.
+fn faulted(ejector: &mut Ejector, host: usize, kind: Kind, parts: u64, t: u64) -> Trip
+    requires host { host < ejector.old.rules.hosts }
+    requires room { 0 < ejector.old.room }
+    ensures state { (p : PipelineState) (marks : List Mark) → parts ≡ length p.waiting + length p.flying → state ejector.old.rules marks ≡ ejector.old.state
+        → ejector.new.state ≡ state ejector.old.rules (fault_mark p host kind t ++ marks) }
+    ensures trip { (p : PipelineState) (marks : List Mark) → parts ≡ length p.waiting + length p.flying → state ejector.old.rules marks ≡ ejector.old.state
+        → result ≡ trip_by ejector.old.rules (fault_mark p host kind t) marks }
+    ensures rules { ejector.new.rules ≡ ejector.old.rules }
+{
+    if parts == 0 && kind == Kind::Dropped {
+        Trip::None
+    } else {
+        counted(ejector, host, false, t)
+    }
+}

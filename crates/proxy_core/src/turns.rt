@@ -1,0 +1,201 @@
+//! The core: each event is a turn.
+ghost use Rattle.std.specs.Prelude.{◌≡◌, ◌≤◌, ◌<◌, [], map, replicate, IfOk, IfErr, IsErrOf, OnErr, MatchOption};
+ghost use Rattle.ejector.specs.Settings.{first_fault};
+ghost use Rattle.ejector.specs.State.{is_out};
+ghost use Rattle.ejector.specs.Usable.{is_panic};
+ghost use Rattle.proxy_history.specs.Setting.{hosts};
+ghost use Rattle.proxy_history.specs.History.{epoch};
+ghost use Rattle.proxy_history.specs.Legal.{IsLegal, IsCause};
+ghost use Rattle.proxy_history.specs.Reference.{history_in, setting_of, IsStep};
+ghost use Rattle.proxy_core.specs.Pipelines.{state_of};
+ghost use Rattle.proxy_core.specs.Machine.{IsKept, no_pipeline};
+ghost use Rattle.proxy_core.specs.Core.{IsMade, IsLeft, IsTurn, IsRun, detected};
+
+use crate::machine::Machine;
+use crate::pipeline::Pipeline;
+use crate::refused::Refused;
+use ejector::{EjectError, Ejector, Settings};
+use journal_core::Journal;
+use ketama::Ring;
+use proxy_history::{Answer, Event, Refusal};
+use std::alloc::{AllocError, Global};
+use std::marker::Model;
+use upstream_pipe::Pipe;
+
+/// The core of a proxy: it takes one event after another.
+///
+/// Contracts see its setting, and its steps, which are a legal history.
+#[derive(Drop)]
+pub struct Core {
+    machine: Machine,
+}
+
+impl Model for Core {
+    ghost use Rattle.proxy_history.specs.Reference.{Kept};
+    ghost use Rattle.proxy_core.specs.Machine.{IsKept, setting_in};
+
+    ghost Value = { Kept };
+
+    ghost use Rattle.std.specs.Coded.{codes};
+    ghost use Rattle.resp_core.specs.Code.{tree_code};
+
+    ghost coded = { Prim.hlevel (codes, tree_code) };
+
+    ghost view = { λ c. record { setting = setting_in c.machine; steps = c.machine.journal.steps } };
+
+    ghost invariant = { λ c. IsKept c.machine };
+}
+
+impl Core {
+    /// A core to which nothing has happened.
+    ///
+    /// Refused 1011 with the first setting that is out of its range, `hosts` where the ring has none; 1001 comes only
+    /// where no setting is.
+    pub fn new(alloc: Global, ring: Ring, settings: Settings) -> Result<Core, Refusal>
+        ensures made { IfOk result (λ c. (c.setting ≡ setting_of ring settings) × (c.steps ≡ [])) }
+        ensures refused { MatchOption (first_fault (setting_of ring settings).rules)
+            (IfErr result (λ e. e ≡ Refusal.NoMemory)) (λ field. IsErrOf result (Refusal.BadSettings field)) }
+    {
+        let hosts = ring.hosts();
+        let ejector = match Ejector::new(alloc, hosts, settings) {
+            Ok(ejector) => ejector,
+            Err(EjectError::BadSettings { field }) => return Err(Refusal::BadSettings { field }),
+            Err(EjectError::NoMemory) => return Err(Refusal::NoMemory),
+        };
+        let machine = Machine {
+            alloc,
+            ring,
+            ejector,
+            journal: Journal::new(alloc),
+            connections: Vec::new(alloc),
+            closed: 0,
+            pipelines: fresh_pipelines(alloc, hosts)?,
+        };
+        Ok(Core { machine })
+    }
+
+    /// Takes one event of the pass `pass`: it is answered as a legal history has it, and its step with this answer is added.
+    ///
+    /// Refused by the first cause of the event's own that holds (1003 to 1010, 1012, 1013), else with 1002 where the journal
+    /// would be full, and with 1001 only where memory was refused and the event has no cause of its own. The event comes
+    /// back then, and nothing has changed.
+    pub fn turn(&mut self, pass: u64, event: Event) -> Result<Answer, Refused>
+        ensures step { IfOk result (λ a. IsStep self.old self.new pass event (record { pass = pass; event = event; answer = a })) }
+        ensures legal { IsLegal self.new.setting (history_in self.new) }
+        ensures event { IfErr result (λ r. r.event ≡ event) }
+        ensures cause { IfErr result (λ r. IsCause self.old.setting (history_in self.old) event r.cause) }
+        ensures err { OnErr result (self.new ≡ self.old) }
+    {
+        self.machine.turn(pass, event)
+    }
+
+    /// Takes one event after another, each of its pass: item `i` of the answers is that of pair `i`, or why it was refused.
+    ///
+    /// Refused 1001 where there is no memory for the answers; no event was taken then.
+    pub fn run(&mut self, pairs: Vec<(u64, Event)>) -> Result<Vec<Result<Answer, Refusal>>, Refusal>
+        ensures run { IfOk result (λ answers. IsRun self.old.setting (history_in self.old) pairs.items answers.items (history_in self.new)) }
+        ensures setting { self.new.setting ≡ self.old.setting }
+        ensures refused { IfErr result (λ r. r ≡ Refusal.NoMemory) }
+        ensures err { OnErr result (self.new ≡ self.old) }
+    {
+        let mut answers = Vec::with_capacity(self.machine.alloc, pairs.len())?;
+        for (pass, event) in pairs {
+            answers.push_reserved(self.answer(pass, event));
+        }
+        Ok(answers)
+    }
+
+    // Takes one event, which is dropped where it is refused.
+    fn answer(&mut self, pass: u64, event: Event) -> Result<Answer, Refusal>
+        ensures turn { IsTurn self.old.setting (history_in self.old) pass event result (history_in self.new) }
+        ensures setting { self.new.setting ≡ self.old.setting }
+    {
+        match self.turn(pass, event) {
+            Ok(answer) => Ok(answer),
+            Err(refused) => Err(refused.cause),
+        }
+    }
+
+    /// The journal: the steps so far, which are a legal history.
+    pub fn journal(&self) -> &Journal<Event, Answer>
+        ensures steps { result.now.steps ≡ self.now.steps }
+        ensures legal { IsLegal self.now.setting (history_in self.now) }
+    {
+        &self.machine.journal
+    }
+
+    /// How many hosts there are, 1 to 64. Their numbers count from 0.
+    pub fn hosts(&self) -> usize
+        ensures hosts { result ≡ hosts self.now.setting }
+        ensures some { 1 ≤ result }
+        ensures few { result ≤ 64 }
+    {
+        self.machine.pipelines.len()
+    }
+
+    /// The epoch of a host: how many faults it has had.
+    pub fn epoch(&self, host: usize) -> u64
+        requires { host < hosts self.now.setting }
+        ensures { result ≡ epoch host (history_in self.now) }
+    {
+        self.machine.pipelines[host].pipe.epoch()
+    }
+
+    /// Whether the host is put aside.
+    pub fn is_out(&self, host: usize) -> bool
+        requires { host < hosts self.now.setting }
+        ensures { result ≡ is_out (detected self.now) host }
+    {
+        self.machine.ejector.is_out(host)
+    }
+
+    /// Whether so few hosts are available that all are used.
+    pub fn in_panic(&self) -> bool
+        ensures { result ≡ is_panic self.now.setting.rules (detected self.now) }
+    {
+        self.machine.ejector.in_panic()
+    }
+}
+
+// A pipeline to each of so many hosts, to which nothing was sent.
+fn fresh_pipelines(alloc: Global, hosts: usize) -> Result<Vec<Pipeline>, AllocError>
+    ensures { IfOk result (λ pipelines. map state_of pipelines.items ≡ replicate hosts no_pipeline) }
+{
+    let mut pipelines = Vec::with_capacity(alloc, hosts)?;
+    for _ in 0..hosts {
+        let pipe = Pipe::new(alloc);
+        pipelines.push_reserved(Pipeline { pipe, taken: 0 });
+    }
+    Ok(pipelines)
+}
+
+impl Machine {
+    // Takes one event.
+    fn turn(&mut self, pass: u64, event: Event) -> Result<Answer, Refused>
+        requires { IsKept self.old }
+        ensures answered { IfOk result (λ a. IsMade self.old self.new pass event a) }
+        ensures refused { IfErr result (λ r. IsLeft self.old self.new event r) }
+    {
+        match event {
+            Event::Opened => self.open(pass),
+            Event::Arrived { conn, request } => self.arrive(pass, conn, request),
+            Event::Finished { conn } => self.finish(pass, conn),
+            Event::Taken { host } => self.take(pass, host),
+            Event::Answered {
+                host,
+                epoch,
+                value,
+                t,
+            } => self.answer(pass, host, epoch, value, t),
+            Event::Failed {
+                host,
+                epoch,
+                kind,
+                t,
+            } => self.fail(pass, host, epoch, kind, t),
+            Event::Swept { t } => self.sweep(pass, t),
+            Event::Handed { conn } => self.hand(pass, conn),
+            Event::Closed { conn } => self.close(pass, conn),
+        }
+    }
+}
