@@ -20,5 +20,13 @@ mod sending;
 mod sweeping;
 mod turns;
 
+pub use ejector::{Field, Settings, Trip};
+pub use journal_core::{Journal, Step};
+pub use proxy_history::{Answer, Event, Kind, Local, Refusal, Request};
 pub use refused::Refused;
 pub use turns::Core;
+
+#[cfg(test)]
+mod random;
+#[cfg(test)]
+mod tests;
