@@ -51,9 +51,3 @@ changed_to-all change zero [] l = refl
 changed_to-all change (suc n) [] l = refl
 changed_to-all change zero (x ∷ xs) l = absurd (omega (arith, l))
 changed_to-all change (suc n) (x ∷ xs) l = ap (λ ys. change x ∷ ys) (changed_to-all change n xs (omega (arith, l)))
-
--- a write that is seen as what stood there is not seen
-pub map-slice_set-same : {X Y : Type 0} (view : X → Y) (place : ℕ) (xs : List X) (y d : X) → view y ≡ view (get_or xs place d) → map view (slice_set xs place y) ≡ map view xs
-map-slice_set-same view place [] y d e = refl
-map-slice_set-same view zero (x ∷ xs) y d e = ap (λ z. z ∷ map view xs) e
-map-slice_set-same view (suc place) (x ∷ xs) y d e = ap (λ zs. view x ∷ zs) (map-slice_set-same view place xs y d e)

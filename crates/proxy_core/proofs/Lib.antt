@@ -25,11 +25,11 @@ pub mod TurnedResults
 pub mod TurnedEvents
 pub mod TurnedAsked
 pub mod Lost
-pub mod TurnedNew
-pub mod TurnedRuns
-pub mod TurnedRecorded
 pub mod Pushed
 pub mod Accepted
 pub mod Places
 pub mod FewParts
 pub mod Arriving
+pub mod TurnedNew
+pub mod TurnedRuns
+pub mod TurnedRecorded
