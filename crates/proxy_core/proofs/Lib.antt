@@ -30,3 +30,6 @@ pub mod Accepted
 pub mod Places
 pub mod FewParts
 pub mod Arriving
+pub mod TurnedNew
+pub mod TurnedRuns
+pub mod TurnedRecorded

@@ -123,12 +123,12 @@ pub record IsMoved (S : Setting) (H : History) (s : Step) (memory : Memory) : Ty
 abbrev memory' : ℕ → List (Option Connection) → ℕ → List PipelineState → State → Memory
 memory' b c n p h = record { bytes = b; connections = c; closed = n; pipelines = p; hosts = h }
 
-same_fields : (b b' : ℕ) (c c' : List (Option Connection)) (n n' : ℕ) (p p' : List PipelineState) (h h' : State) → b ≡ b' → c ≡ c' → n ≡ n' → p ≡ p' → h ≡ h'
+pub same_fields : (b b' : ℕ) (c c' : List (Option Connection)) (n n' : ℕ) (p p' : List PipelineState) (h h' : State) → b ≡ b' → c ≡ c' → n ≡ n' → p ≡ p' → h ≡ h'
     → memory' b c n p h ≡ memory' b' c' n' p' h'
 same_fields b b' c c' n n' p p' h h' v w x y z = rw (v, w, x, y, z) refl
 
 -- it is kept where setting and history are these
-kept_so : (m : Machine) (S : Setting) (H : History) → setting_in m ≡ S → history_in m ≡ H → IsLegal S H → memory_in m ≡ memory_of S H → S.rules.hosts ≡ S.ring.hosts
+pub kept_so : (m : Machine) (S : Setting) (H : History) → setting_in m ≡ S → history_in m ≡ H → IsLegal S H → memory_in m ≡ memory_of S H → S.rules.hosts ≡ S.ring.hosts
     → first_fault S.rules ≡ None → IsKept m
 kept_so m S H a b legal e f g = record {
   legal = subst (λ (T : Setting). IsLegal T (history_in m)) (sym a) (subst (λ (K : History). IsLegal S K) (sym b) legal);

@@ -1,6 +1,6 @@
 -- What the turns of a machine ask for holds where its history determines what it keeps.
-use Rattle.std.proofs.Common.{◌≡◌, ℕ, suc, ◌+◌, ◌-◌, ◌≤◌, ◌<◌, ◌^◌, Bool, true, false, nat_lt, nat_le, ◌==◌, List, [], ◌∷◌, map, length, Option, Some, None, refl, sym, ap, ◌∙◌, subst, inl, inr, arith}
-use Rattle.std.specs.Prelude.{vec_len, slice_get, IfSome, IsTrue}
+use Rattle.std.proofs.Common.{◌≡◌, ℕ, zero, suc, ◌+◌, ◌-◌, ◌≤◌, ◌<◌, ◌^◌, Bool, true, false, nat_lt, nat_le, ◌==◌, List, [], ◌∷◌, map, length, Option, Some, None, refl, sym, ap, ◌∙◌, subst, inl, inr, arith}
+use Rattle.std.specs.Prelude.{vec_len, slice_index_or, IfSome, IsTrue}
 use Rattle.std.proofs.lemmas.Bool.{cases_Bool, ltb-true, leb-true, leb-false, lt-leb, and_parts, eq-eqb, eqb-true}
 use Rattle.std.proofs.lemmas.List.{length-map}
 use Rattle.resp_core.specs.Tree.{Tree, is_plain_tree}
@@ -25,6 +25,7 @@ use Rattle.proxy_core.specs.Pipelines.{PipelineState, state_of, pipeline_of, pip
 use Rattle.proxy_core.specs.Kept.{Memory, memory_of}
 use Rattle.proxy_core.specs.Machine.{setting_in, memory_in, history_in, pipeline_at, no_pipeline, connection_at, reply_in, IsKept}
 use Rattle.proxy_core.specs.declared.connection.Connection.{Connection}
+use Rattle.proxy_core.specs.declared.pipeline.Pipeline.{Pipeline}
 use Rattle.proxy_core.specs.declared.machine.Machine.{Machine}
 use Rattle.proxy_core.proofs.Tabled.{slice_get-past-range}
 use Rattle.proxy_core.proofs.Counts.{times-at_most}
@@ -32,7 +33,7 @@ use Rattle.proxy_core.proofs.ConnectionFacts.{connection_at-open, connection_at-
 use Rattle.proxy_core.proofs.ConnectionsAnswered.{answered-awaited}
 use Rattle.proxy_core.proofs.ConnectionsFailed.{failed-awaited}
 use Rattle.proxy_core.proofs.PipelineFacts.{length-pipelines_of, pipeline_at-pipelines_of, length-pipeline_flying, sent_to-at_most, epoch-at_most}
-use Rattle.proxy_core.proofs.TurnedEvents.{kept_connections, kept_closed, kept_pipelines}
+use Rattle.proxy_core.proofs.TurnedEvents.{kept_connections, kept_closed, kept_pipelines, at_host}
 
 -- COUNTS
 
@@ -141,3 +142,15 @@ pub asked_reply : (m : Machine) (c : ℕ) → IsKept m → IfSome (reply_in (con
 asked_reply m c kept =
     subst (λ (z : List (Option Connection)). IfSome (reply_in (connection_at c z)) (λ v. IsTrue (is_plain_tree v))) (sym (kept_connections m kept))
     (reply_here (setting_in m) (history_in m) c kept.legal)
+
+-- ONE PIPELINE
+
+pub item_at : (ps : List Pipeline) (h : ℕ) (p : Pipeline) → h < length ps → p ≡ slice_index_or ps h p → pipeline_at h (map state_of ps) ≡ state_of p
+item_at [] h p l e = absurd (omega (arith, l))
+item_at (x ∷ ps) zero p l e = ap state_of (sym e)
+item_at (x ∷ ps) (suc h) p l e = item_at ps h p (omega (arith, l)) e
+
+pub epoch_is : (m : Machine) (h : ℕ) (p : Pipeline) → IsKept m → h < hosts (setting_in m) → p ≡ slice_index_or m.pipelines.items h p → p.pipe.epoch ≡ epoch h (history_in m)
+epoch_is m h p kept l e =
+    let few : h < length m.pipelines.items = omega (arith, l, asked_hosts m kept, m.pipelines.ok.0) in
+    ap (λ (q : PipelineState). q.epoch) (sym (item_at m.pipelines.items h p few e) ∙ at_host m h kept l)

@@ -154,7 +154,7 @@ handed-made old new pass conn a kept h =
 -- TAKEN, ANSWERED, FAILED
 
 -- the pipeline of a host that there is
-at_host : (m : Machine) (h : ℕ) → IsKept m → h < hosts (setting_in m) → pipeline_at h (memory_in m).pipelines ≡ pipeline_of (past (setting_in m) (history_in m)) h
+pub at_host : (m : Machine) (h : ℕ) → IsKept m → h < hosts (setting_in m) → pipeline_at h (memory_in m).pipelines ≡ pipeline_of (past (setting_in m) (history_in m)) h
 at_host m h kept l = ap (λ (z : List PipelineState). pipeline_at h z) (kept_pipelines m kept) ∙ pipeline_at-pipelines_of (setting_in m) (past (setting_in m) (history_in m)) h l
 
 sent : (x : Past) (h : ℕ) (p : PipelineState) → p ≡ pipeline_of x h

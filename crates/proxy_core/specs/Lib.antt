@@ -4,3 +4,4 @@ pub mod Kept
 pub mod Machine
 pub mod Arrivals
 pub mod Core
+pub mod Recorded

@@ -20,6 +20,7 @@ use ketama::Ring;
 use proxy_history::{Answer, Event, Refusal};
 use std::alloc::{AllocError, Global};
 use std::marker::Model;
+use ticket_gate::Recorded;
 use upstream_pipe::Pipe;
 
 /// The core of a proxy: it takes one event after another.
@@ -198,4 +199,36 @@ impl Machine {
             Event::Closed { conn } => self.close(pass, conn),
         }
     }
+}
+
+impl Recorded for Core {
+    ghost use Rattle.proxy_core.specs.Recorded.{journal_of, made_with, IsLegalJournal, IsCauseIn, legal_at_first, legal_before};
+
+    type Event = Event;
+
+    type Answer = Answer;
+
+    type Refusal = Refusal;
+
+    // The ring, and the hosts and settings of outlier detection.
+    type Setting = (Ring, usize, Settings);
+
+    ghost journal = { journal_of };
+
+    ghost setting = { made_with };
+
+    ghost legal = { IsLegalJournal };
+
+    ghost cause = { IsCauseIn };
+
+    fn turn(&mut self, pass: u64, event: Event) -> Result<Answer, (Refusal, Event)> {
+        match Core::turn(self, pass, event) {
+            Ok(answer) => Ok(answer),
+            Err(refused) => Err((refused.cause, refused.event)),
+        }
+    }
+
+    ghost legal_at_first = { legal_at_first };
+
+    ghost legal_before = { legal_before };
 }

@@ -81,7 +81,7 @@ pub returns-in-Arrived-clause-answered : goal.returns-in-Arrived-clause-answered
 returns-in-Arrived-clause-answered c =
     if_made _ c.arrive.result c.args.self.now c.arrive.new.self c.args.pass (Arrived c.in-Arrived.conn c.in-Arrived.request) c.args.event c.in-Arrived.is
     (λ a h. arrived-made c.args.self.now c.arrive.new.self c.args.pass c.in-Arrived.conn c.in-Arrived.request a c.requires h.0 h.1)
-    (both _ _ c.arrive.result c.arrive.ensures.answer c.arrive.ensures.answered)
+    c.arrive.ensures.answered
 
 pub take-requires-clause-hosts : goal.take-requires-clause-hosts
 take-requires-clause-hosts c = asked_hosts c.args.self.now c.requires

@@ -1,0 +1,33 @@
+-- The core's journal of triples, and its history.
+use Rattle.std.proofs.Common.{◌≡◌, ℕ, List, [], ◌∷◌, ◌++◌, map, refl, sym, ap, ◌∙◌, subst}
+use Rattle.std.specs.Prelude.{reverse}
+use Rattle.std.proofs.lemmas.List.{map-append, reverse-append, reverse-reverse}
+use Rattle.proxy_history.specs.Setting.{Setting}
+use Rattle.proxy_history.specs.History.{History, Step}
+use Rattle.proxy_history.specs.Legal.{IsLegal, IsCause}
+use Rattle.proxy_history.specs.Reference.{Kept, history_in}
+use Rattle.proxy_history.specs.declared.answer.Answer.{Answer}
+use Rattle.proxy_history.specs.declared.event.Event.{Event}
+use Rattle.proxy_history.specs.declared.refusal.Refusal.{Refusal}
+use Rattle.proxy_core.specs.Recorded.{triple_of, step_of, journal_of, history_by, made_with, IsLegalJournal, IsCauseIn}
+
+round_trip : (steps : List Step) → map step_of (map triple_of steps) ≡ steps
+round_trip [] = refl
+round_trip (s ∷ steps) = ap (λ z. s ∷ z) (round_trip steps)
+
+same_history : (k : Kept) → history_by (journal_of k) ≡ history_in k
+same_history k = ap reverse (round_trip k.steps)
+
+-- a step more
+pub journal_more : (old new : Kept) (s : Step) → history_in new ≡ s ∷ history_in old → journal_of new ≡ journal_of old ++ triple_of s ∷ []
+journal_more old new s e =
+    let steps : new.steps ≡ old.steps ++ s ∷ [] =
+    sym (reverse-reverse new.steps) ∙ ap reverse e ∙ reverse-append (s ∷ []) (reverse old.steps) ∙ ap (λ z. z ++ s ∷ []) (reverse-reverse old.steps) in
+    ap (map triple_of) steps ∙ map-append triple_of old.steps (s ∷ [])
+
+pub journal_legal : (old new : Kept) → new.setting ≡ old.setting → IsLegal new.setting (history_in new) → IsLegalJournal (made_with old) (journal_of new)
+journal_legal old new e legal =
+    subst (IsLegal old.setting) (sym (same_history new)) (subst (λ (T : Setting). IsLegal T (history_in new)) e legal)
+
+pub journal_cause : (k : Kept) (r : Refusal) (event : Event) → IsCause k.setting (history_in k) event r → IsCauseIn (made_with k) r event (journal_of k)
+journal_cause k r event cause = subst (λ (H : History). IsCause k.setting H event r) (sym (same_history k)) cause

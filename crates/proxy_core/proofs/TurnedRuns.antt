@@ -1,0 +1,25 @@
+-- Runs of a core.
+use Rattle.std.proofs.Common.{◌≡◌, ℕ, List, [], ◌∷◌, ◌++◌, length, Result, Ok, Err, refl, sym, ap, ◌∙◌, subst, arith}
+use Rattle.std.proofs.lemmas.List.{append_assoc, append-nil}
+use Rattle.proxy_history.specs.Setting.{Setting}
+use Rattle.proxy_history.specs.History.{History}
+use Rattle.proxy_history.specs.declared.answer.Answer.{Answer}
+use Rattle.proxy_history.specs.declared.event.Event.{Event}
+use Rattle.proxy_history.specs.declared.refusal.Refusal.{Refusal}
+use Rattle.proxy_core.specs.Core.{IsTurn, IsRun}
+
+-- a run and one turn more
+pub run_more : (S : Setting) (before : History) (pairs : List (ℕ × Event)) (results : List (Result Answer Refusal)) (between : History) (pass : ℕ) (event : Event)
+    (r : Result Answer Refusal) (after : History) → IsRun S before pairs results between → IsTurn S between pass event r after
+    → IsRun S before (pairs ++ (pass, event) ∷ []) (results ++ r ∷ []) after
+run_more S before [] [] between pass event r after h turn = (after, subst (λ (z : History). IsTurn S z pass event r after) h turn, refl)
+run_more S before [] (x ∷ results) between pass event r after h turn = absurd h
+run_more S before (p ∷ pairs) [] between pass event r after h turn = absurd h
+run_more S before (p ∷ pairs) (x ∷ results) between pass event r after h turn = (h.0, h.1, run_more S h.0 pairs results between pass event r after h.2 turn)
+
+pub append-item : {X : Type 0} (xs ys zs all : List X) (x : X) → ys ≡ x ∷ zs → xs ++ ys ≡ all → (xs ++ x ∷ []) ++ zs ≡ all
+append-item xs ys zs all x e h = append_assoc xs (x ∷ []) zs ∙ ap (λ z. xs ++ z) (sym e) ∙ h
+
+pub all-yielded : {X : Type 0} (xs ys all : List X) → length ys ≡ 0 → xs ++ ys ≡ all → xs ≡ all
+all-yielded xs [] all e h = sym (append-nil xs) ∙ h
+all-yielded xs (y ∷ ys) all e h = absurd (omega (arith, e))

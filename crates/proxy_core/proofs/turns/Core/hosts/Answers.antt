@@ -1,0 +1,15 @@
+use Rattle.std.proofs.Common.{◌≡◌, ◌≤◌, ◌∙◌, ap, arith}
+use Rattle.ejector.proofs.InRange.{in_range}
+use Rattle.proxy_history.specs.Setting.{hosts}
+use Rattle.proxy_history.specs.Reference.{Kept}
+use Rattle.proxy_core.proofs.TurnedAsked.{asked_hosts}
+use Rattle.proxy_core.proofs.turns.Core.hosts.Goals as goal
+
+pub returns-clause-hosts : goal.returns-clause-hosts
+returns-clause-hosts c = c.len.ensures ∙ asked_hosts c.self.inside.machine c.self.invariant ∙ ap (λ (k : Kept). hosts k.setting) c.self.view_is
+
+pub returns-clause-few : goal.returns-clause-few
+returns-clause-few c =
+    let m = c.self.inside.machine in
+    let same : c.len.result ≡ m.ejector.rules.hosts = c.len.ensures ∙ asked_hosts m c.self.invariant in
+    omega (arith, same, (in_range m.ejector.rules c.self.invariant.rules).few_hosts)
