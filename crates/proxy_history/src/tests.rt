@@ -2,6 +2,7 @@
 //!
 //! A turn that finds no memory is made again, so that the tests hold too where one allocation is refused.
 
+use crate::payload::{payload, payload_of};
 use crate::*;
 use bytes::Bytes;
 use ketama::Ring;
@@ -805,11 +806,12 @@ fn zeros_in(alloc: Global, count: usize) -> Result<Bytes, AllocError> {
     }
 }
 
-// An array of 1,024 bulk strings, whose text has 67,108,864 bytes: 7 for its count, 65,529 for its first member, and
-// 65,536 for each of the others.
-fn big_in(alloc: Global) -> Result<Request, AllocError> {
+// An array of 1,024 bulk strings, whose text has 67,108,864 bytes less `left`, which may be up to 55,519: 7 for its
+// count, 65,529 less `left` for its first member, and 65,536 for each of the others.
+fn big_in(alloc: Global, left: usize) -> Result<Request, AllocError> {
     let mut members = Vec::new(alloc);
-    members.push(Value::Bulk(zeros_in(alloc, 65_519)?))?;
+    let first = 65_519_usize.saturating_sub(left);
+    members.push(Value::Bulk(zeros_in(alloc, first)?))?;
     let rest = zeros_in(alloc, 65_526)?;
     for _ in 0..1_023 {
         members.push(Value::Bulk(rest.clone()?))?;
@@ -817,12 +819,17 @@ fn big_in(alloc: Global) -> Result<Request, AllocError> {
     Ok(Request::Read(Value::List(Values(members))))
 }
 
-fn big(rt: &(impl Abort + AllocGlobal), conn: u64) -> Event {
-    let request = match big_in(rt.alloc()) {
+// An arrival of 67,108,864 bytes less `left`.
+fn nearly_all(rt: &(impl Abort + AllocGlobal), conn: u64, left: usize) -> Event {
+    let request = match big_in(rt.alloc(), left) {
         Ok(request) => request,
-        Err(_) => big_in(rt.alloc()).expect(rt, "no memory twice"),
+        Err(_) => big_in(rt.alloc(), left).expect(rt, "no memory twice"),
     };
     Event::Arrived { conn, request }
+}
+
+fn big(rt: &(impl Abort + AllocGlobal), conn: u64) -> Event {
+    nearly_all(rt, conn, 0)
 }
 
 #[test]
@@ -851,6 +858,206 @@ fn payload_of_more_bytes_does_not_fit(rt: HostRuntime) -> Result<(), Fail> {
     local(&rt, &mut proxy, broken, (0, Local::Broken));
     handed(&rt, &mut proxy, 0, b"-downstream protocol error\r\n");
     refused(&rt, &mut proxy, big(&rt, 1), Refusal::JournalFull);
+    Ok(())
+}
+
+// The newest step has so many bytes of payload, and all steps have so many.
+fn keeps(rt: &impl Abort, proxy: &Reference, newest: u64, all: u64) {
+    let step = proxy.steps().last().expect(rt, "no step");
+    assert_eq!(rt; payload_of(&step.event, &step.answer), newest);
+    assert_eq!(rt; payload(proxy.steps()), all);
+}
+
+#[test]
+fn each_kind_of_event_keeps_its_payload(rt: HostRuntime) -> Result<(), Fail> {
+    let mut proxy = proxy(&rt, false);
+    keeps(&rt, &proxy, 0, 0);
+    asks(&rt, &mut proxy, 0, "GET a", (0, 1));
+    keeps(&rt, &proxy, 20, 20);
+    let event = arrival(&rt, 1, "PING");
+    local(&rt, &mut proxy, event, (0, Local::Pong));
+    keeps(&rt, &proxy, 14, 34);
+    assert_eq!(rt; cause(&mut proxy, Event::Finished { conn: 1 }), None);
+    keeps(&rt, &proxy, 0, 34);
+    taken(&rt, &mut proxy, 1, (0, 0), GET_A);
+    keeps(&rt, &proxy, 20, 54);
+    matched(&rt, &mut proxy, 1, 0, bulk(b"hello"));
+    keeps(&rt, &proxy, 11, 65);
+    swept(&rt, &mut proxy, 1, (0, 0, 0));
+    keeps(&rt, &proxy, 0, 65);
+    handed(&rt, &mut proxy, 0, b"$5\r\nhello\r\n");
+    keeps(&rt, &proxy, 11, 76);
+    handed(&rt, &mut proxy, 1, b"+PONG\r\n");
+    keeps(&rt, &proxy, 7, 83);
+    asks(&rt, &mut proxy, 0, "GET a", (1, 1));
+    keeps(&rt, &proxy, 20, 103);
+    for (epoch, kind, parts) in [
+        (0, Kind::Late, 1),
+        (1, Kind::Dropped, 0),
+        (2, Kind::Refused, 0),
+        (3, Kind::Garbled, 0),
+    ] {
+        lost(&rt, &mut proxy, fault(1, epoch, kind), (parts, Trip::None));
+        keeps(&rt, &proxy, 0, 103);
+    }
+    handed(&rt, &mut proxy, 0, FAILURE);
+    keeps(&rt, &proxy, 19, 122);
+    closed(&rt, &mut proxy, 0);
+    keeps(&rt, &proxy, 0, 122);
+    opened(&rt, &mut proxy, 2);
+    keeps(&rt, &proxy, 0, 122);
+    Ok(())
+}
+
+#[test]
+fn requests_that_are_no_command_keep_their_payload(rt: HostRuntime) -> Result<(), Fail> {
+    let mut proxy = proxy(&rt, false);
+    let request = Request::Read(Value::Simple(Bytes::from_static(b"a\rb")));
+    local(
+        &rt,
+        &mut proxy,
+        Event::Arrived { conn: 0, request },
+        (0, Local::Invalid),
+    );
+    keeps(&rt, &proxy, 6, 6);
+    handed(&rt, &mut proxy, 0, b"-invalid request\r\n");
+    keeps(&rt, &proxy, 18, 24);
+    let broken = Event::Arrived {
+        conn: 0,
+        request: Request::Broken,
+    };
+    local(&rt, &mut proxy, broken, (1, Local::Broken));
+    keeps(&rt, &proxy, 0, 24);
+    handed(&rt, &mut proxy, 0, b"-downstream protocol error\r\n");
+    keeps(&rt, &proxy, 28, 52);
+    Ok(())
+}
+
+// The request has 30 bytes, its parts have 20 and 22, and the reply has 18.
+#[test]
+fn parts_and_their_join_keep_their_own_payload(rt: HostRuntime) -> Result<(), Fail> {
+    let mut proxy = proxy(&rt, false);
+    asks(&rt, &mut proxy, 0, "MGET a abc", (0, 2));
+    keeps(&rt, &proxy, 30, 30);
+    taken(&rt, &mut proxy, 0, (0, 0), GET_ABC);
+    keeps(&rt, &proxy, 22, 52);
+    taken(&rt, &mut proxy, 1, (0, 0), GET_A);
+    keeps(&rt, &proxy, 20, 72);
+    let error = Value::Fault(Bytes::from_static(b"ERR no"));
+    matched(&rt, &mut proxy, 0, 0, error);
+    keeps(&rt, &proxy, 9, 81);
+    matched(&rt, &mut proxy, 1, 0, Value::NullBulk);
+    keeps(&rt, &proxy, 5, 86);
+    handed(&rt, &mut proxy, 0, b"*2\r\n$-1\r\n-ERR no\r\n");
+    keeps(&rt, &proxy, 18, 104);
+    Ok(())
+}
+
+fn pair_in(alloc: Global) -> Result<Value, AllocError> {
+    let mut members = Vec::new(alloc);
+    members.push(Value::Whole(1))?;
+    members.push(bulk(b"ab"))?;
+    Ok(Value::List(Values(members)))
+}
+
+// A host's answer with this value keeps so many bytes, and so does the reply that is handed out.
+fn answer_keeps(rt: &(impl Abort + AllocGlobal), value: Value, want: u64) {
+    let mut proxy = proxy(rt, false);
+    asks(rt, &mut proxy, 0, "GET a", (0, 1));
+    taken(rt, &mut proxy, 1, (0, 0), GET_A);
+    matched(rt, &mut proxy, 1, 0, value);
+    keeps(rt, &proxy, want, want.saturating_add(40));
+    assert_eq!(rt; cause(&mut proxy, Event::Handed { conn: 0 }), None);
+    keeps(
+        rt,
+        &proxy,
+        want,
+        want.saturating_add(want).saturating_add(40),
+    );
+}
+
+#[test]
+fn answers_of_hosts_keep_their_payload(rt: HostRuntime) -> Result<(), Fail> {
+    answer_keeps(&rt, Value::Simple(Bytes::from_static(b"OK")), 5);
+    answer_keeps(&rt, Value::Fault(Bytes::from_static(b"ERR no")), 9);
+    answer_keeps(&rt, Value::Whole(-12), 6);
+    answer_keeps(&rt, bulk(b""), 6);
+    answer_keeps(&rt, bulk(b"0123456789"), 17);
+    answer_keeps(&rt, Value::NullBulk, 5);
+    answer_keeps(&rt, Value::NullList, 5);
+    answer_keeps(&rt, Value::List(Values(Vec::new(rt.alloc()))), 4);
+    let pair = match pair_in(rt.alloc()) {
+        Ok(pair) => pair,
+        Err(_) => pair_in(rt.alloc())?,
+    };
+    answer_keeps(&rt, pair, 16);
+    Ok(())
+}
+
+// A proxy whose payload has so many bytes left, once host 1 was sent a GET of 20 bytes that came with 20 bytes.
+fn nearly_full(rt: &(impl Abort + AllocGlobal), left: usize) -> Reference {
+    let mut proxy = proxy(rt, false);
+    let event = nearly_all(rt, 1, left.saturating_add(40));
+    local(rt, &mut proxy, event, (0, Local::Unsupported));
+    asks(rt, &mut proxy, 0, "GET a", (0, 1));
+    proxy
+}
+
+#[test]
+fn each_payload_fits_up_to_67108864_bytes(rt: HostRuntime) -> Result<(), Fail> {
+    let mut proxy = nearly_full(&rt, 22);
+    taken(&rt, &mut proxy, 1, (0, 0), GET_A);
+    matched(&rt, &mut proxy, 1, 0, bulk(b"hello"));
+    handed(&rt, &mut proxy, 0, b"$5\r\nhello\r\n");
+    keeps(&rt, &proxy, 11, 67_108_864);
+    closed(&rt, &mut proxy, 0);
+    opened(&rt, &mut proxy, 2);
+    Ok(())
+}
+
+#[test]
+fn a_taken_part_needs_room_for_its_text(rt: HostRuntime) -> Result<(), Fail> {
+    let mut proxy = proxy(&rt, false);
+    let event = nearly_all(&rt, 1, 39);
+    local(&rt, &mut proxy, event, (0, Local::Unsupported));
+    asks(&rt, &mut proxy, 0, "GET a", (0, 1));
+    refused(
+        &rt,
+        &mut proxy,
+        Event::Taken { host: 1 },
+        Refusal::JournalFull,
+    );
+    keeps(&rt, &proxy, 20, 67_108_845);
+    Ok(())
+}
+
+#[test]
+fn an_answer_needs_room_for_its_value(rt: HostRuntime) -> Result<(), Fail> {
+    let mut proxy = nearly_full(&rt, 10);
+    taken(&rt, &mut proxy, 1, (0, 0), GET_A);
+    refused(
+        &rt,
+        &mut proxy,
+        reply(1, 0, bulk(b"hello")),
+        Refusal::JournalFull,
+    );
+    matched(&rt, &mut proxy, 1, 0, bulk(b"hell"));
+    keeps(&rt, &proxy, 10, 67_108_864);
+    Ok(())
+}
+
+#[test]
+fn a_reply_needs_room_for_its_text(rt: HostRuntime) -> Result<(), Fail> {
+    let mut proxy = nearly_full(&rt, 21);
+    taken(&rt, &mut proxy, 1, (0, 0), GET_A);
+    matched(&rt, &mut proxy, 1, 0, bulk(b"hello"));
+    refused(
+        &rt,
+        &mut proxy,
+        Event::Handed { conn: 0 },
+        Refusal::JournalFull,
+    );
+    keeps(&rt, &proxy, 11, 67_108_854);
     Ok(())
 }
 
