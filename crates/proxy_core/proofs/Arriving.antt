@@ -1,16 +1,15 @@
 -- What a command's parts got, as places say it; and what a kept machine tells of an arrival.
 use Rattle.std.proofs.Common.{◌≡◌, ℕ, zero, suc, ◌+◌, ◌-◌, ◌^◌, ◌<◌, ◌≤◌, Bool, true, false, not, nat_le, nat_lt, List, [], ◌∷◌, ◌++◌, length, map, count_by, get_or, Option, Some, None, is_some, cond, refl, sym, ap, ◌∙◌, subst, inl, inr, arith, if◌then◌else◌}
 use Rattle.std.proofs.lemmas.Bool.{cases_Bool, ltb-true, ltb-false, leb-true, leb-false}
-use Rattle.std.proofs.lemmas.List.{map-append, length-map, length-reverse}
+use Rattle.std.proofs.lemmas.List.{length-map, length-reverse}
 use Rattle.std.proofs.lemmas.List.Sums.{sum_by-cons}
 use Rattle.resp_core.specs.Tree.{Tree}
 use Rattle.splitter.specs.Plan.{Plan, here, leave, parts, is_last}
 use Rattle.splitter.specs.declared.plans.Join.{Join}
 use Rattle.splitter.specs.declared.plans.PartPlan.{PartPlan}
 use Rattle.splitter.specs.declared.request.Request.{Request}
-use Rattle.journal_core.specs.Journal.{IsFull}
 use Rattle.proxy_history.specs.Setting.{Setting, hosts, max_waiting, max_unwritten}
-use Rattle.proxy_history.specs.History.{accepted, is_open, plan_for}
+use Rattle.proxy_history.specs.History.{accepted, plan_for}
 use Rattle.proxy_history.specs.Part.{Part, Past}
 use Rattle.proxy_history.specs.Past.{past}
 use Rattle.proxy_history.specs.Arrival.{placed_by, placing, placed_part, with_host, host_for, hostless, before_it, no_upstream_host, proxy_busy}
@@ -22,14 +21,14 @@ use Rattle.proxy_history.proofs.Fresh.{AreOf}
 use Rattle.proxy_history.proofs.CommandParts.{are_placed, plan_may_join}
 use Rattle.proxy_history.proofs.NoCause.{are_false}
 use Rattle.proxy_core.specs.Pipelines.{PipelineState, state_of, pushed_part, pushed_parts}
-use Rattle.proxy_core.specs.Kept.{Memory, memory_of}
+use Rattle.proxy_core.specs.Kept.{Memory}
 use Rattle.proxy_core.specs.Machine.{connection_at, pipeline_at, setting_in, memory_in, history_in, own_cause_in, IsKept, IsReady}
 use Rattle.proxy_core.specs.Connections.{with_connection, accepting, arrived_command}
 use Rattle.proxy_core.specs.declared.connection.Connection.{Connection}
 use Rattle.proxy_core.specs.declared.machine.Machine.{Machine}
 use Rattle.proxy_core.specs.declared.pipeline.Pipeline.{Pipeline}
 use Rattle.proxy_core.specs.declared.place.Placed.{Placed}
-use Rattle.proxy_core.specs.Arrivals.{place_by, placed_as, value_at, value_of_placed, is_without_host, is_too_many, pushed_at, pushed_all, piped_as, count_at, AreCounted, HaveRoom, MayAccept, Tells, MayJoinAll, IsAccepted, next_index, answer_of, with_arrival}
+use Rattle.proxy_core.specs.Arrivals.{place_by, placed_as, value_at, value_of_placed, is_without_host, is_too_many, pushed_at, pushed_all, piped_as, AreCounted, HaveRoom, MayAccept, Tells, MayJoinAll, IsAccepted, next_index, answer_of, with_arrival}
 use Rattle.proxy_core.specs.declared.place.Accepted.{Accepted}
 use Rattle.proxy_core.proofs.FewParts.{few_parts}
 use Rattle.proxy_core.proofs.ConnectionFacts.{open_connection, connection_at-open, length-queue_of, popped_and_left, cause_in-arrived}
@@ -212,15 +211,16 @@ index_told S m conn x tells may = ap next_index may.is_open ∙ tells.index_is m
 -- ONCE ROOM WAS MADE
 
 small_enough : (old new : Machine) (conn : ℕ) (request : Request) → IsReady old new (Arrived conn request) → (length old.journal.steps < 262144) × (length_of_request request ≤ 67108864)
-small_enough old new conn request r =
-    (elim (cases_Bool (nat_lt (length old.journal.steps) 262144)) [
-      | inl t ↦ ltb-true _ 262144 t
-      | inr f ↦ absurd (r.has_room (inl (ltb-false _ 262144 f)))
-    ],
-    elim (cases_Bool (nat_le (length_of_request request) 67108864)) [
-      | inl t ↦ leb-true _ 67108864 t
-      | inr f ↦ let l = leb-false (length_of_request request) 67108864 f in absurd (r.has_room (inr (omega (arith, l))))
-    ])
+small_enough old new conn request r = (
+  elim (cases_Bool (nat_lt (length old.journal.steps) 262144)) [
+    | inl t ↦ ltb-true _ 262144 t
+    | inr f ↦ absurd (r.has_room (inl (ltb-false _ 262144 f)))
+  ],
+  elim (cases_Bool (nat_le (length_of_request request) 67108864)) [
+    | inl t ↦ leb-true _ 67108864 t
+    | inr f ↦ let l = leb-false (length_of_request request) 67108864 f in absurd (r.has_room (inr (omega (arith, l))))
+  ],
+)
 
 join_by_plan : (plan : Plan) (request : Request) → plan ≡ plan_for request → length_of_request request ≤ 67108864 → MayJoinAll plan
 join_by_plan (here name value) request e l = tt

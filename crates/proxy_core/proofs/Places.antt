@@ -1,7 +1,7 @@
 -- The places that the code finds are those of the parts that are placed.
-use Rattle.std.proofs.Common.{◌≡◌, ◌≢◌, ℕ, zero, suc, ◌+◌, ◌<◌, ◌≤◌, ◌==◌, Bool, true, false, nat_lt, List, [], ◌∷◌, ◌++◌, length, map, filter, get_or, slice_set, replicate, Option, Some, None, is_none, refl, sym, ap, ◌∙◌, inl, inr, cond, subst, arith, if◌then◌else◌}
+use Rattle.std.proofs.Common.{◌≡◌, ℕ, ◌+◌, ◌<◌, ◌≤◌, ◌==◌, Bool, true, false, nat_lt, List, [], ◌∷◌, ◌++◌, length, map, filter, get_or, replicate, Option, Some, None, refl, sym, ap, ◌∙◌, inl, inr, subst, arith, if◌then◌else◌}
 use Rattle.std.proofs.lemmas.Bool.{cases_Bool, eqb-true, eqb-false, eq-eqb, ne_eqb, and_right, ltb-true, ltb-false}
-use Rattle.std.proofs.lemmas.List.{get_or-set_other, length-append, length-map, length-set, length-replicate, get_or-replicate, map-append}
+use Rattle.std.proofs.lemmas.List.{get_or-set_other, length-map, length-set, length-replicate, get_or-replicate, map-append}
 use Rattle.std.proofs.lemmas.Grind.{get_or-set_at}
 use Rattle.resp_core.specs.Tree.{Tree}
 use Rattle.splitter.specs.declared.plans.PartPlan.{PartPlan}

@@ -1,10 +1,9 @@
 -- Parts that are pushed, and the room for them.
-use Rattle.std.proofs.Common.{◌≡◌, ◌≢◌, ℕ, ◌+◌, ◌<◌, ◌≤◌, ◌==◌, Bool, true, false, List, [], ◌∷◌, length, map, get_or, slice_set, cond, refl, ap, ◌∙◌, inl, inr, arith, if◌then◌else◌}
+use Rattle.std.proofs.Common.{◌≡◌, ◌≢◌, ℕ, ◌+◌, ◌<◌, ◌≤◌, ◌==◌, Bool, true, false, List, ◌∷◌, length, get_or, slice_set, cond, refl, ap, ◌∙◌, inl, inr, arith, if◌then◌else◌}
 use Rattle.std.proofs.lemmas.Bool.{cases_Bool, eqb-true, eq-eqb, eqb-false}
 use Rattle.std.proofs.lemmas.List.{get_or-set_other}
 use Rattle.std.proofs.lemmas.List.Sums.{sum_by-cons}
 use Rattle.std.proofs.lemmas.Grind.{get_or-set_at}
-use Rattle.proxy_history.specs.Setting.{max_waiting}
 use Rattle.proxy_core.specs.declared.pipeline.Pipeline.{Pipeline}
 use Rattle.proxy_core.specs.declared.place.Place.{Place}
 use Rattle.proxy_core.specs.declared.place.Place.TheVariants.{Waits, NoHost, Busy}

@@ -1,5 +1,5 @@
 -- Where the parts of a command go as it arrives.
-use Rattle.std.specs.Prelude.{◌≡◌, ◌<◌, ◌≤◌, ◌+◌, ◌-◌, ◌^◌, ◌==◌, ℕ, Bool, true, false, nat_lt, if◌then◌else◌, Option, Some, None, List, [], ◌∷◌, ◌++◌, length, map, count_by, get_or, slice_set}
+use Rattle.std.specs.Prelude.{◌≡◌, ◌<◌, ◌≤◌, ◌+◌, ◌-◌, ◌^◌, ◌==◌, ℕ, Bool, true, false, nat_lt, if◌then◌else◌, Option, Some, None, List, [], ◌∷◌, ◌++◌, length, count_by, get_or, slice_set}
 use Rattle.resp_core.specs.Tree.{Tree}
 use Rattle.ejector.specs.Ejection.{state}
 use Rattle.splitter.specs.declared.plans.Local.{Local}
@@ -17,7 +17,7 @@ use Rattle.proxy_history.specs.Answer.{accepts, local_of}
 use Rattle.proxy_history.specs.declared.event.Event.{Event}
 use Rattle.proxy_history.specs.declared.answer.Answer.{Answer}
 use Rattle.proxy_history.specs.declared.answer.Answer.TheVariants as answer
-use Rattle.proxy_core.specs.Pipelines.{PipelineState, state_of, with_pipeline, pushed_parts}
+use Rattle.proxy_core.specs.Pipelines.{PipelineState, with_pipeline, pushed_parts}
 use Rattle.proxy_core.specs.Connections.{with_connection, accepting, arrived_command}
 use Rattle.proxy_core.specs.Kept.{Memory}
 use Rattle.proxy_core.specs.Machine.{connection_at, pipeline_at, setting_in, memory_in, own_cause_in, payload_in}

@@ -38,7 +38,12 @@ const MAX_HOSTS: usize = 64;
 impl Machine {
     /// A request of a connection arrived: the command is accepted, and each of its parts gets its host for good, or a value at
     /// once.
-    pub(crate) fn arrive(&mut self, pass: u64, conn: u64, request: Request) -> Result<Answer, Refused>
+    pub(crate) fn arrive(
+        &mut self,
+        pass: u64,
+        conn: u64,
+        request: Request,
+    ) -> Result<Answer, Refused>
         requires { IsKept self.old }
         ensures answered { IfOk result (λ a. (a ≡ answer_to (setting_in self.old) (past (setting_in self.old) (history_in self.old)) (events.Arrived conn request))
             × IsTurned self.old self.new pass (events.Arrived conn request) a
@@ -120,7 +125,13 @@ impl Machine {
     }
 
     // Accepts a command that the proxy answers itself.
-    fn accept_value(&mut self, conn: u64, name: Local, value: Value, is_last: bool) -> Result<Accepted, Refusal>
+    fn accept_value(
+        &mut self,
+        conn: u64,
+        name: Local,
+        value: Value,
+        is_last: bool,
+    ) -> Result<Accepted, Refusal>
         requires open { MayAccept (connection_at conn self.old.connections.items) }
         ensures accepted { IfOk result (λ a. (x : Past) → Tells (setting_in self.old) (memory_in self.old) conn x
             → IsAccepted self.old self.new conn (own_plan is_last name (tree_of value)) x a) }

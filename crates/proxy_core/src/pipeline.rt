@@ -118,7 +118,11 @@ pub(crate) fn answer_from(pipelines: &mut [Pipeline], host: usize, epoch: u64) -
 
 /// A host failed in this epoch, which is its present one: all its parts are lost, and handed out. Refused where memory is,
 /// and nothing has changed then.
-pub(crate) fn fail_all(pipelines: &mut [Pipeline], host: usize, epoch: u64) -> Result<Lost, PipeRefusal>
+pub(crate) fn fail_all(
+    pipelines: &mut [Pipeline],
+    host: usize,
+    epoch: u64,
+) -> Result<Lost, PipeRefusal>
     requires host { host < length pipelines.old }
     requires epoch { epoch ≡ (pipeline_at host (map state_of pipelines.old)).epoch }
     requires next { epoch < 2 ^ 64 - 1 }

@@ -1,6 +1,5 @@
-use Rattle.std.proofs.Common.{map, ap, ◌∙◌, subst}
+use Rattle.std.proofs.Common.{ap, ◌∙◌, subst}
 use Rattle.std.specs.Vec.Iter.{into_iter_items}
-use Rattle.proxy_core.specs.Pipelines.{state_of}
 use Rattle.proxy_core.specs.Arrivals.{HaveRoom, pushed_all}
 use Rattle.proxy_core.proofs.Pushed.{may_wait, room_for_rest}
 use Rattle.proxy_core.proofs.pipeline.push_all.Goals as goal

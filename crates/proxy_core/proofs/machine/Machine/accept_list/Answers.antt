@@ -1,10 +1,8 @@
-use Rattle.std.proofs.Common.{◌≡◌, [], length, map, replicate, false, refl, sym, ap, ◌∙◌, subst, arith}
+use Rattle.std.proofs.Common.{◌≡◌, [], length, map, replicate, false, refl, sym, ap, ◌∙◌, arith}
 use Rattle.std.specs.Vec.{with_items}
-use Rattle.std.proofs.lemmas.List.{with_items_is, take-replicate, length-map}
-use Rattle.splitter.specs.Join.{MayJoin}
+use Rattle.std.proofs.lemmas.List.{with_items_is, take-replicate}
 use Rattle.proxy_history.specs.History.{accepted}
 use Rattle.proxy_history.specs.Arrival.{placing}
-use Rattle.proxy_history.proofs.CommandParts.{length-placing}
 use Rattle.proxy_core.specs.Pipelines.{state_of}
 use Rattle.proxy_core.specs.Machine.{setting_in, memory_in, connection_at}
 use Rattle.proxy_core.specs.Arrivals.{placed_as, value_of_placed, next_index, answer_of, pushed_all}

@@ -1,8 +1,7 @@
 -- The places so far are those of the parts so far, and for each host it is counted how many wait there.
-use Rattle.std.proofs.Common.{◌≡◌, ◌+◌, ◌≤◌, ℕ, length, map, vec_len, vec_capacity}
+use Rattle.std.proofs.Common.{◌≡◌, ◌+◌, ◌≤◌, ℕ, length, vec_capacity}
 use Rattle.std.specs.Vec.Iter.{into_iter_items}
 use Rattle.proxy_history.specs.Part.{Past}
-use Rattle.proxy_core.specs.Pipelines.{state_of}
 use Rattle.proxy_core.specs.Machine.{setting_in, memory_in}
 use Rattle.proxy_core.specs.Arrivals.{AreCounted, Tells}
 use Rattle.proxy_core.proofs.Places.{AreSoFar}
