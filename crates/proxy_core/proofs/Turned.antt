@@ -176,9 +176,11 @@ made old new pass event a memory kept turned is moved =
 cause_so : (m : Machine) (event : Event) (r : Refusal) → IsKept m → HasCauseIn m event r → IsCause (setting_in m) (history_in m) event r
 cause_so m event refusal.NoMemory kept h = sym (own_cause_is m event kept) ∙ h
 cause_so m event refusal.JournalFull kept h =
-    let n = sym (own_cause_is m event kept) ∙ h.0 in
-    (n, sym (fits-has_room m event (answer_to (setting_in m) (past (setting_in m) (history_in m)) event) (payload_in (memory_in m) event) kept (own_payload_is m event kept n))
-    ∙ full m (payload_in (memory_in m) event) h.1)
+    let n = sym (own_cause_is m event kept) ∙ h.0 in (
+      n,
+      sym (fits-has_room m event (answer_to (setting_in m) (past (setting_in m) (history_in m)) event) (payload_in (memory_in m) event) kept (own_payload_is m event kept n))
+          ∙ full m (payload_in (memory_in m) event) h.1,
+    )
 cause_so m event refusal.NoSuchConnection kept h = sym (own_cause_is m event kept) ∙ h
 cause_so m event refusal.Crowded kept h = sym (own_cause_is m event kept) ∙ h
 cause_so m event refusal.NothingWaiting kept h = sym (own_cause_is m event kept) ∙ h

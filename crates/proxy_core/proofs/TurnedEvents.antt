@@ -203,9 +203,9 @@ answered-made old new pass host e t value a kept turned is moves =
     (is (past S H).marks (sym (kept_hosts old kept)))
     (record {
       connections =
-        ap (λ (z : PipelineState). answered_parts (next_owner z.flying) (tree_of value) old.connections.items) at
-        ∙ ap (λ z. answered_parts (next_owner (pipeline_of (past S H) host).flying) (tree_of value) z) (kept_connections old kept)
-        ∙ sym (connections-answered S H pass host e t value a kept.legal n);
+          ap (λ (z : PipelineState). answered_parts (next_owner z.flying) (tree_of value) old.connections.items) at
+          ∙ ap (λ z. answered_parts (next_owner (pipeline_of (past S H) host).flying) (tree_of value) z) (kept_connections old kept)
+          ∙ sym (connections-answered S H pass host e t value a kept.legal n);
       closed = kept_closed old kept;
       pipelines = ap (with_pipeline answered_by host) (kept_pipelines old kept) ∙ sym (pipelines-answered S H pass host e t value a n);
       hosts = moves (past S H).marks (sym (kept_hosts old kept));
@@ -241,10 +241,10 @@ pub failed-made : (old new : Machine) (pass host e t : ℕ) (kind : Kind) (a : A
       hosts = new.ejector.state;
     })
     → ((marks : List Mark) → state old.ejector.rules marks ≡ old.ejector.state
-      → a ≡ answers.Lost (length (pipeline_at host (memory_in old).pipelines).waiting + length (pipeline_at host (memory_in old).pipelines).flying)
-      (trip_by old.ejector.rules (fault_mark (pipeline_at host (memory_in old).pipelines) host kind t) marks))
+    → a ≡ answers.Lost (length (pipeline_at host (memory_in old).pipelines).waiting + length (pipeline_at host (memory_in old).pipelines).flying)
+    (trip_by old.ejector.rules (fault_mark (pipeline_at host (memory_in old).pipelines) host kind t) marks))
     → ((marks : List Mark) → state old.ejector.rules marks ≡ old.ejector.state
-      → new.ejector.state ≡ state old.ejector.rules (fault_mark (pipeline_at host (memory_in old).pipelines) host kind t ++ marks))
+    → new.ejector.state ≡ state old.ejector.rules (fault_mark (pipeline_at host (memory_in old).pipelines) host kind t ++ marks))
     → IsMade old new pass (Failed host e kind t) a
 failed-made old new pass host e t kind a kept turned is moves =
     let S = setting_in old in
@@ -260,13 +260,13 @@ failed-made old new pass host e t kind a kept turned is moves =
     (is (past S H).marks (sym (kept_hosts old kept)) ∙ lost_is S (past S H) host e t kind (pipeline_at host (memory_in old).pipelines) at)
     (record {
       connections =
-        ap (λ (z : PipelineState). answered_parts (lost_owners z) upstream_failure old.connections.items) at
-        ∙ ap (λ z. answered_parts (lost_owners (pipeline_of (past S H) host)) upstream_failure z) (kept_connections old kept)
-        ∙ sym (connections-failed S H pass host e t kind a kept.legal);
+          ap (λ (z : PipelineState). answered_parts (lost_owners z) upstream_failure old.connections.items) at
+          ∙ ap (λ z. answered_parts (lost_owners (pipeline_of (past S H) host)) upstream_failure z) (kept_connections old kept)
+          ∙ sym (connections-failed S H pass host e t kind a kept.legal);
       closed = kept_closed old kept;
       pipelines = ap (with_pipeline failed host) (kept_pipelines old kept) ∙ sym (pipelines-failed S H pass host e t kind a);
       hosts = moves (past S H).marks (sym (kept_hosts old kept))
-        ∙ ap (λ z. state S.rules (z ++ (past S H).marks)) (ap (λ (z : PipelineState). fault_mark z host kind t) at ∙ mark_is (past S H) host e t kind);
+          ∙ ap (λ z. state S.rules (z ++ (past S H).marks)) (ap (λ (z : PipelineState). fault_mark z host kind t) at ∙ mark_is (past S H) host e t kind);
     })
 
 -- ARRIVED

@@ -36,7 +36,6 @@ pub fresh_more : (ps : List Pipeline) (p : Pipeline) (n : ℕ) → map state_of 
     → map state_of (ps ++ p ∷ []) ≡ replicate (n + 1) no_pipeline
 fresh_more ps p n e f = map-append state_of ps (p ∷ []) ∙ rw (e, f) (replicate_more n no_pipeline)
 
-
 -- where there is a result, no field is at fault
 pub no_fault : {A E : Type 0} (P : Type 0) (e : A) (bad : Field → E) (o : Option Field) → MatchOption o P (λ f. IsErrOf (Ok e) (bad f)) → o ≡ None
 no_fault P e bad None h = refl

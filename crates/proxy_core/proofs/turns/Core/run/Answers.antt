@@ -26,9 +26,9 @@ loop-pass-preserved c =
     let i = c.loop-pass.invariant in
     record {
       run =
-        subst (λ (z : List (Result Answer Refusal)). IsRun S H (c.loop-pass.yielded ++ (c.in-Some.pass, c.in-Some.event) ∷ []) z (history_in c.answer.new.self)) (sym c.push_reserved.ensures.items)
-        (run_more S H c.loop-pass.yielded c.loop-pass.answers.items (history_in c.loop-pass.self) c.in-Some.pass c.in-Some.event c.answer.result (history_in c.answer.new.self) i.run
-        (subst (λ (T : Setting). IsTurn T (history_in c.loop-pass.self) c.in-Some.pass c.in-Some.event c.answer.result (history_in c.answer.new.self)) i.setting c.answer.ensures.turn));
+          subst (λ (z : List (Result Answer Refusal)). IsRun S H (c.loop-pass.yielded ++ (c.in-Some.pass, c.in-Some.event) ∷ []) z (history_in c.answer.new.self)) (sym c.push_reserved.ensures.items)
+          (run_more S H c.loop-pass.yielded c.loop-pass.answers.items (history_in c.loop-pass.self) c.in-Some.pass c.in-Some.event c.answer.result (history_in c.answer.new.self) i.run
+          (subst (λ (T : Setting). IsTurn T (history_in c.loop-pass.self) c.in-Some.pass c.in-Some.event c.answer.result (history_in c.answer.new.self)) i.setting c.answer.ensures.turn));
       setting = c.answer.ensures.setting ∙ i.setting;
       pairs = append-item c.loop-pass.yielded c.loop-pass.pass-iterator.rest.items c.next.new.self.rest.items c.args.pairs.items (c.in-Some.pass, c.in-Some.event) c.in-Some.ensures.steps.0 i.pairs;
       room = omega (arith, ap length c.in-Some.ensures.steps.0, i.room, c.push_reserved.ensures.len, c.push_reserved.ensures.capacity);
