@@ -20,7 +20,9 @@ fn main(rt: HostRuntime) -> Result<()> {
         .nth(1)
         .is_some_and(|word| word.as_str() == "run");
     if !asked_to_run {
-        println!(rt; "core_bench run: prints turns a second, and how their cost grows with the journal")?;
+        println!(rt;
+            "core_bench run: prints turns a second, and how their cost grows with the journal"
+        )?;
         return Ok(());
     }
     let small = vec![in rt.alloc(); 120u8; 64]?;
@@ -30,7 +32,10 @@ fn main(rt: HostRuntime) -> Result<()> {
         let payload = Bytes::from_vec(payload)?;
         let mut core = core(rt.alloc())?;
         let time = cycles_in(&rt, rt.alloc(), &mut core, &payload, cycles)?;
-        println!(rt; "payload of {bytes} bytes: {} turns a second", per_second(4 * cycles, time))?;
+        println!(rt;
+            "payload of {bytes} bytes: {} turns a second",
+            per_second(4 * cycles, time)
+        )?;
     }
     growth(&rt)
 }

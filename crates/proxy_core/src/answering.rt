@@ -24,7 +24,14 @@ use resp_core::Value;
 
 impl Machine {
     /// A host answered: the reply belongs to the oldest part that flies.
-    pub(crate) fn answer(&mut self, pass: u64, host: usize, epoch: u64, value: Value, t: u64) -> Result<Answer, Refused>
+    pub(crate) fn answer(
+        &mut self,
+        pass: u64,
+        host: usize,
+        epoch: u64,
+        value: Value,
+        t: u64,
+    ) -> Result<Answer, Refused>
         requires hosts { vec_len self.old.pipelines ≡ hosts (setting_in self.old) }
         requires awaited { AreAwaited (next_owner (pipeline_at host (memory_in self.old).pipelines).flying) (tree_of value) self.old.connections.items }
         ensures answered { IfOk result (λ a. IsTurned self.old self.new pass (events.Answered host epoch value t) a

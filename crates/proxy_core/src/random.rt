@@ -182,9 +182,7 @@ fn same(one: &Answer, other: &Answer) -> bool {
                 text: other_text,
             },
         ) => {
-            epoch == other_epoch
-                && place == other_place
-                && text.as_slice() == other_text.as_slice()
+            epoch == other_epoch && place == other_place && text.as_slice() == other_text.as_slice()
         }
         (Answer::Matched { trip }, Answer::Matched { trip: twin }) => trip == twin,
         (
@@ -206,7 +204,8 @@ fn same(one: &Answer, other: &Answer) -> bool {
                 kept: other_kept,
             },
         ) => returned == other_returned && ejected == other_ejected && kept == other_kept,
-        (Answer::Bytes { text }, Answer::Bytes { text: twin }) => text.as_slice() == twin.as_slice(),
+        (Answer::Bytes { text }, Answer::Bytes { text: twin }) => text.as_slice()
+            == twin.as_slice(),
         (Answer::Closed, Answer::Closed) => true,
         _ => false,
     }
@@ -216,10 +215,12 @@ fn same(one: &Answer, other: &Answer) -> bool {
 fn core_turn(core: &mut Core, event: Event) -> Result<Answer, Refusal> {
     match core.turn(3, event) {
         Ok(answer) => Ok(answer),
-        Err(Refused {
-            cause: Refusal::NoMemory,
-            event,
-        }) => match core.turn(3, event) {
+        Err(
+            Refused {
+                cause: Refusal::NoMemory,
+                event,
+            },
+        ) => match core.turn(3, event) {
             Ok(answer) => Ok(answer),
             Err(refused) => Err(refused.cause),
         },
@@ -338,13 +339,7 @@ fn full_pipes_agree(rt: HostRuntime) -> Result<(), Fail> {
     let (mut core, mut plain) = both(&rt, Settings::default());
     agree(&rt, &mut core, &mut plain, Event::Opened, Event::Opened);
     for keys in [700, 400, 3] {
-        agree(
-            &rt,
-            &mut core,
-            &mut plain,
-            many(&rt, keys),
-            many(&rt, keys),
-        );
+        agree(&rt, &mut core, &mut plain, many(&rt, keys), many(&rt, keys));
     }
     let mut numbers = Numbers(77);
     for t in 0..12 {

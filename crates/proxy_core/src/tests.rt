@@ -93,10 +93,12 @@ fn fault(host: usize, epoch: u64, kind: Kind) -> Event {
 // Makes a turn of pass 7, again where it found no memory.
 fn turned(proxy: &mut Core, event: Event) -> Result<Answer, Refused> {
     match proxy.turn(7, event) {
-        Err(Refused {
-            cause: Refusal::NoMemory,
-            event,
-        }) => proxy.turn(7, event),
+        Err(
+            Refused {
+                cause: Refusal::NoMemory,
+                event,
+            },
+        ) => proxy.turn(7, event),
         answer => answer,
     }
 }
@@ -824,20 +826,10 @@ fn no_more_than_4096_connections_are_open(rt: HostRuntime) -> Result<(), Fail> {
     for conn in 0..4_096 {
         opened(&rt, &mut proxy, conn);
     }
-    refused(
-        &rt,
-        &mut proxy,
-        Event::Opened,
-        Refusal::TooManyConnections,
-    );
+    refused(&rt, &mut proxy, Event::Opened, Refusal::TooManyConnections);
     closed(&rt, &mut proxy, 17);
     opened(&rt, &mut proxy, 4_096);
-    refused(
-        &rt,
-        &mut proxy,
-        Event::Opened,
-        Refusal::TooManyConnections,
-    );
+    refused(&rt, &mut proxy, Event::Opened, Refusal::TooManyConnections);
     Ok(())
 }
 
@@ -873,12 +865,7 @@ fn panic_is_told(rt: HostRuntime) -> Result<(), Fail> {
         Err(_) => made(rt.alloc(), POINTS, settings).expect(&rt, "no memory twice"),
     };
     assert!(rt; !proxy.in_panic());
-    lost(
-        &rt,
-        &mut proxy,
-        fault(2, 0, Kind::Late),
-        (0, Trip::Ejected),
-    );
+    lost(&rt, &mut proxy, fault(2, 0, Kind::Late), (0, Trip::Ejected));
     assert!(rt; proxy.in_panic());
     Ok(())
 }
@@ -913,13 +900,29 @@ fn answers_of_a_run_belong_to_its_events(rt: HostRuntime) -> Result<(), Fail> {
             assert_eq!(rt; answers.len(), 4);
             for answer in &answers {
                 if let Err(cause) = answer {
-                    assert!(rt; matches!(cause, Refusal::NothingWaiting | Refusal::NoMemory
-                        | Refusal::NoSuchConnection | Refusal::NotReady { .. }));
+                    assert!(rt;
+                        matches!(
+                            cause,
+                            Refusal::NothingWaiting
+                                | Refusal::NoMemory
+                                | Refusal::NoSuchConnection
+                                | Refusal::NotReady { .. }
+                        )
+                    );
                 }
             }
             if proxy.journal().len() == 3 {
                 assert!(rt; matches!(&answers[0], Ok(Answer::Opened { conn: 0 })));
-                assert!(rt; matches!(&answers[1], Ok(Answer::Accepted { index: 0, local: Some(Local::Pong), .. })));
+                assert!(rt;
+                    matches!(
+                        &answers[1],
+                        Ok(Answer::Accepted {
+                            index: 0,
+                            local: Some(Local::Pong),
+                            ..
+                        })
+                    )
+                );
                 assert!(rt; matches!(&answers[2], Err(Refusal::NothingWaiting)));
                 assert!(rt; matches!(&answers[3], Ok(Answer::Bytes { .. })));
                 let step = proxy.journal().get(1).expect(&rt, "no step");
