@@ -25,32 +25,44 @@ fn main(rt: HostRuntime) -> Result<()> {
         )?;
         return Ok(());
     }
-    let small = vec![in rt.alloc(); 120u8; 64]?;
-    let large = vec![in rt.alloc(); 120u8; 65_536]?;
-    for (payload, cycles) in [(small, 2_500u64), (large, 250u64)] {
-        let bytes = payload.len();
-        let payload = Bytes::from_vec(payload)?;
-        let mut core = core(rt.alloc())?;
-        let time = cycles_in(&rt, rt.alloc(), &mut core, &payload, cycles)?;
-        println!(rt;
-            "payload of {bytes} bytes: {} turns a second",
-            per_second(4 * cycles, time)
-        )?;
+    for (bytes, cycles) in [(64, 2_500), (65_536, 250)] {
+        let rate = turns_a_second(&rt, rt.alloc(), bytes, cycles)?;
+        println!(rt; "payload of {bytes} bytes: {rate} turns a second")?;
     }
-    growth(&rt)
-}
-
-// How long a turn takes as the journal grows to 1,000, 10,000 and 50,000 steps.
-fn growth(rt: &(impl Clock + AllocGlobal + Stdout)) -> Result<()> {
-    let payload = Bytes::from_vec(vec![in rt.alloc(); 120u8; 64]?)?;
     let mut core = core(rt.alloc())?;
-    for steps in [1_000usize, 10_000, 50_000] {
-        let missing = steps.saturating_sub(core.journal().len()) as u64 / 4;
-        cycles_in(rt, rt.alloc(), &mut core, &payload, missing)?;
-        let time = cycles_in(rt, rt.alloc(), &mut core, &payload, 25)?;
-        println!(rt; "at {steps} steps: {} ns a turn", time.as_nanos() / 100)?;
+    for steps in [1_000, 10_000, 50_000] {
+        let time = nanoseconds_a_turn(&rt, rt.alloc(), &mut core, steps)?;
+        println!(rt; "at {steps} steps: {time} ns a turn")?;
     }
     Ok(())
+}
+
+// So many bytes.
+fn payload_of(alloc: Global, bytes: usize) -> Result<Bytes> {
+    let payload = vec![in alloc; 120u8; bytes]?;
+    Ok(Bytes::from_vec(payload)?)
+}
+
+// How many turns a second are made in so many cycles with a payload of so many bytes.
+fn turns_a_second(rt: &impl Clock, alloc: Global, bytes: usize, cycles: u64) -> Result<u128> {
+    let payload = payload_of(alloc, bytes)?;
+    let mut core = core(alloc)?;
+    let time = cycles_in(rt, alloc, &mut core, &payload, cycles)?;
+    Ok(u128::from(cycles) * 4_000_000_000 / time.as_nanos().max(1))
+}
+
+// How long a turn takes once the journal has so many steps.
+fn nanoseconds_a_turn(
+    rt: &impl Clock,
+    alloc: Global,
+    core: &mut Core,
+    steps: usize,
+) -> Result<u128> {
+    let payload = payload_of(alloc, 64)?;
+    let missing = steps.saturating_sub(core.journal().len()) as u64 / 4;
+    cycles_in(rt, alloc, core, &payload, missing)?;
+    let time = cycles_in(rt, alloc, core, &payload, 25)?;
+    Ok(time.as_nanos() / 100)
 }
 
 // A core of one host, with connection 0 open.
@@ -116,8 +128,4 @@ fn turn(core: &mut Core, event: Event) -> Result<()> {
         Ok(_) => Ok(()),
         Err(_) => bail!("a turn was refused"),
     }
-}
-
-fn per_second(turns: u64, time: Duration) -> u128 {
-    u128::from(turns) * 1_000_000_000 / time.as_nanos().max(1)
 }
