@@ -33,3 +33,4 @@ pub mod Arriving
 pub mod TurnedNew
 pub mod TurnedRuns
 pub mod TurnedRecorded
+pub mod Crosses

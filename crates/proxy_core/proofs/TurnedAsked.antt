@@ -1,28 +1,26 @@
 -- What the turns of a machine ask for holds where its history determines what it keeps.
-use Rattle.std.proofs.Common.{◌≡◌, ℕ, zero, suc, ◌+◌, ◌-◌, ◌≤◌, ◌<◌, ◌^◌, Bool, true, false, nat_lt, nat_le, ◌==◌, List, [], ◌∷◌, map, length, Option, Some, None, refl, sym, ap, ◌∙◌, subst, inl, inr, arith}
+use Rattle.std.proofs.Common.{◌≡◌, ℕ, zero, suc, ◌+◌, ◌≤◌, ◌<◌, true, false, nat_lt, nat_le, ◌==◌, List, [], ◌∷◌, map, length, Option, Some, None, refl, sym, ap, ◌∙◌, subst, inl, inr, arith}
 use Rattle.std.specs.Prelude.{vec_len, slice_index_or, IfSome, IsTrue}
 use Rattle.std.proofs.lemmas.Bool.{cases_Bool, ltb-true, leb-true, leb-false, lt-leb, and_parts, eq-eqb, eqb-true}
 use Rattle.std.proofs.lemmas.List.{length-map}
 use Rattle.resp_core.specs.Tree.{Tree, is_plain_tree}
 use Rattle.resp_core.specs.Value.{tree_of}
-use Rattle.resp_core.specs.declared.value.Value.{Value}
 use Rattle.resp_core.specs.declared.value.Value.TheVariants.{NullBulk}
 use Rattle.upstream_pipe.specs.declared.part.Owner.{Owner}
 use Rattle.proxy_history.specs.Setting.{Setting, hosts, max_steps}
-use Rattle.proxy_history.specs.History.{History, Step, epoch, handed, is_open, times, is_any_closing}
+use Rattle.proxy_history.specs.History.{History, epoch, handed, is_open, is_any_closing}
 use Rattle.proxy_history.specs.Part.{Past}
 use Rattle.proxy_history.specs.Past.{past}
-use Rattle.proxy_history.specs.Waiting.{flying, sent_to}
+use Rattle.proxy_history.specs.Waiting.{flying}
 use Rattle.proxy_history.specs.Value.{upstream_failure}
 use Rattle.proxy_history.specs.Outcome.{outcome}
-use Rattle.proxy_history.specs.Payload.{payload, payload_of, has_room}
+use Rattle.proxy_history.specs.Payload.{payload, payload_of}
 use Rattle.proxy_history.specs.Cause.{own_cause}
 use Rattle.proxy_history.specs.Legal.{IsLegal}
 use Rattle.proxy_history.specs.declared.event.Event.TheVariants.{Answered}
 use Rattle.proxy_history.proofs.PlainOutcomes.{IsPlainIfAny, outcome_is_plain}
-use Rattle.proxy_core.specs.Connections.{IsAwaited, AreAwaited, connections_of}
+use Rattle.proxy_core.specs.Connections.{AreAwaited, connections_of}
 use Rattle.proxy_core.specs.Pipelines.{PipelineState, state_of, pipeline_of, pipelines_of, next_owner, lost_owners}
-use Rattle.proxy_core.specs.Kept.{Memory, memory_of}
 use Rattle.proxy_core.specs.Machine.{setting_in, memory_in, history_in, pipeline_at, no_pipeline, connection_at, reply_in, IsKept}
 use Rattle.proxy_core.specs.declared.connection.Connection.{Connection}
 use Rattle.proxy_core.specs.declared.pipeline.Pipeline.{Pipeline}

@@ -1,17 +1,14 @@
 -- What each event comes to where it is answered.
-use Rattle.std.proofs.Common.{◌≡◌, ℕ, ◌+◌, ◌<◌, Bool, true, false, List, [], ◌∷◌, ◌++◌, map, length, Some, None, refl, sym, ap, ◌∙◌, if◌then◌else◌}
-use Rattle.resp_core.specs.Text.{text}
-use Rattle.resp_core.specs.Tree.{null_bulk}
+use Rattle.std.proofs.Common.{◌≡◌, ℕ, ◌+◌, ◌<◌, List, [], ◌∷◌, ◌++◌, map, length, Some, refl, sym, ap, ◌∙◌, if◌then◌else◌}
 use Rattle.resp_core.specs.Value.{tree_of}
 use Rattle.resp_core.specs.declared.value.Value.{Value}
 use Rattle.splitter.specs.declared.request.Request.{Request}
 use Rattle.splitter.specs.Plan.{is_last}
-use Rattle.ejector.specs.State.{State}
 use Rattle.ejector.specs.declared.mark.Mark.{Mark}
 use Rattle.ejector.specs.declared.mark.Mark.TheVariants as mark
 use Rattle.ejector.specs.Ejection.{state, trip, swept}
 use Rattle.proxy_history.specs.Setting.{Setting, hosts}
-use Rattle.proxy_history.specs.History.{History, Step, times, is_any_closing, opened, plan_for, epoch}
+use Rattle.proxy_history.specs.History.{times, is_any_closing, plan_for, epoch}
 use Rattle.proxy_history.specs.Part.{Past}
 use Rattle.proxy_history.specs.Past.{past}
 use Rattle.proxy_history.specs.Marks.{mark_by, is_excused}
@@ -19,17 +16,15 @@ use Rattle.proxy_history.specs.Waiting.{waiting, flying, sent_to}
 use Rattle.proxy_history.specs.Arrival.{parts_by}
 use Rattle.proxy_history.specs.Value.{upstream_failure}
 use Rattle.proxy_history.specs.Answer.{answer_to, counts_of, text_of_first, trip_of}
-use Rattle.proxy_history.specs.Legal.{IsLegal}
 use Rattle.proxy_history.specs.declared.answer.Answer.{Answer}
 use Rattle.proxy_history.specs.declared.answer.Answer.TheVariants as answers
-use Rattle.proxy_history.specs.declared.event.Event.{Event}
 use Rattle.proxy_history.specs.declared.event.Event.TheVariants.{Opened, Arrived, Finished, Taken, Answered, Failed, Swept, Handed, Closed}
 use Rattle.proxy_history.specs.declared.event.Kind.{Kind}
 use Rattle.proxy_history.specs.declared.event.Kind.TheVariants as kinds
 use Rattle.proxy_history.proofs.Following.{has_host}
 use Rattle.proxy_core.specs.Connections.{connections_of, fresh_connection, with_connection, finished, closing, handing, answered_parts, accepting, arrived_command}
 use Rattle.proxy_core.specs.Pipelines.{PipelineState, pipeline_of, pipelines_of, without_connection, with_pipeline, taken_from, answered_by, next_owner, failed, lost_owners, pushed_parts}
-use Rattle.proxy_core.specs.Kept.{Memory, memory_of}
+use Rattle.proxy_core.specs.Kept.{Memory}
 use Rattle.proxy_core.specs.Machine.{setting_in, memory_in, history_in, pipeline_at, text_in, fault_mark, trip_by, text_of_oldest, is_excused_in, IsKept, IsTurned}
 use Rattle.proxy_core.specs.Core.{IsMade}
 use Rattle.proxy_core.specs.declared.machine.Machine.{Machine}

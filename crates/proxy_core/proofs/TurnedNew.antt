@@ -1,17 +1,15 @@
 -- A core to which nothing has happened.
-use Rattle.std.proofs.Common.{◌≡◌, ℕ, zero, suc, ◌+◌, List, [], ◌∷◌, ◌++◌, map, replicate, Option, Some, None, Ok, IsErrOf, refl, sym, ap, ◌∙◌, subst, arith}
+use Rattle.std.proofs.Common.{◌≡◌, ℕ, zero, suc, ◌+◌, List, [], ◌∷◌, ◌++◌, map, replicate, Option, Some, None, Ok, IsErrOf, refl, sym, ap, ◌∙◌}
 use Rattle.std.specs.Prelude.{reverse, MatchOption}
 use Rattle.ejector.specs.declared.settings.Field.{Field}
 use Rattle.std.specs.List.{range_with_len}
 use Rattle.std.proofs.lemmas.List.{map-append, replicate_more}
 use Rattle.ejector.specs.Ejection.{state}
 use Rattle.ejector.specs.Settings.{first_fault}
-use Rattle.ejector.specs.declared.settings.Rules.{Rules}
 use Rattle.proxy_history.specs.Setting.{Setting, hosts}
 use Rattle.proxy_history.specs.Past.{past}
-use Rattle.proxy_core.specs.Pipelines.{PipelineState, state_of, pipeline_of, pipelines_of}
-use Rattle.proxy_core.specs.Kept.{memory_of}
-use Rattle.proxy_core.specs.Machine.{setting_in, memory_in, no_pipeline, IsKept}
+use Rattle.proxy_core.specs.Pipelines.{state_of, pipeline_of, pipelines_of}
+use Rattle.proxy_core.specs.Machine.{setting_in, no_pipeline, IsKept}
 use Rattle.proxy_core.specs.declared.machine.Machine.{Machine}
 use Rattle.proxy_core.specs.declared.pipeline.Pipeline.{Pipeline}
 use Rattle.proxy_core.proofs.PipelineStays.{same_pipeline}

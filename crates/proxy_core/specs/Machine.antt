@@ -1,5 +1,5 @@
 -- What a turn does with what the core keeps.
-use Rattle.std.specs.Prelude.{◌≡◌, ◌<◌, ◌≤◌, ◌+◌, ◌-◌, ℕ, Bool, true, false, not, ◌==◌, ◌&&◌, nat_le, if◌then◌else◌, Option, Some, None, List, [], ◌∷◌, ◌++◌, length, map, reverse, slice_get, is_some, is_none}
+use Rattle.std.specs.Prelude.{◌≡◌, ◌+◌, ◌-◌, ℕ, Bool, false, not, ◌==◌, ◌&&◌, nat_le, if◌then◌else◌, Option, Some, None, List, [], ◌∷◌, ◌++◌, length, map, reverse, slice_get, is_some, is_none}
 use Rattle.std.specs.Option.{option_and_then, unwrap_or}
 use Rattle.resp_core.specs.Tree.{Tree, is_plain_tree, null_bulk}
 use Rattle.resp_core.specs.Text.{text}
@@ -15,7 +15,7 @@ use Rattle.ejector.specs.declared.answer.Trip.{Trip}
 use Rattle.ejector.specs.declared.answer.Trip.TheVariants as trips
 use Rattle.ejector.specs.Ejection.{trip}
 use Rattle.proxy_history.specs.Setting.{Setting, hosts, max_connections, max_unwritten}
-use Rattle.proxy_history.specs.History.{History, Step}
+use Rattle.proxy_history.specs.History.{History}
 use Rattle.proxy_history.specs.Legal.{IsLegal}
 use Rattle.proxy_history.specs.Cause.{first_true}
 use Rattle.proxy_history.specs.Payload.{length_of_event}

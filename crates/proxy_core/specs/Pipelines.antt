@@ -1,5 +1,5 @@
 -- What a history determines of the pipelines to its hosts, and how an event changes it.
-use Rattle.std.specs.Prelude.{ℕ, ◌+◌, ◌==◌, if◌then◌else◌, Option, Some, None, List, [], ◌∷◌, ◌++◌, map, drop, filter, filter_map, length, is_none}
+use Rattle.std.specs.Prelude.{ℕ, ◌+◌, if◌then◌else◌, Option, Some, None, List, [], ◌∷◌, ◌++◌, map, drop, filter, filter_map, length, is_none}
 use Rattle.std.specs.List.{range_with_len}
 use Rattle.upstream_pipe.specs.declared.part.Owner.{Owner}
 use Rattle.upstream_pipe.specs.declared.part.Part.{Part as PipePart}

@@ -1,9 +1,9 @@
 -- The core's journal as a list of triples: who made a turn, of which event, and what was answered, the oldest first.
-use Rattle.std.specs.Prelude.{◌≡◌, ℕ, List, [], ◌∷◌, ◌++◌, map, reverse}
+use Rattle.std.specs.Prelude.{ℕ, List, [], ◌∷◌, ◌++◌, map, reverse}
 use Rattle.std.proofs.Common.{subst, ap, ◌∙◌}
 use Rattle.std.proofs.lemmas.List.{map-append, reverse-append}
 use Rattle.ketama.specs.Continuum.{Continuum}
-use Rattle.ejector.specs.declared.settings.Settings.{Settings}
+use Rattle.ejector.specs.declared.settings.Rules.{Rules}
 use Rattle.proxy_history.specs.Setting.{Setting}
 use Rattle.proxy_history.specs.History.{History, Step}
 use Rattle.proxy_history.specs.Legal.{IsLegal, IsCause}
@@ -25,15 +25,15 @@ journal_of k = map triple_of k.steps
 abbrev pub history_by : List (ℕ × Event × Answer) → History
 history_by journal = reverse (map step_of journal)
 
--- the ring, and the hosts and settings of outlier detection
+-- the ring, and the rules of outlier detection
 abbrev pub Made : Type 0
-Made = Continuum × ℕ × Settings
+Made = Continuum × Rules
 
 abbrev pub made_with : Kept → Made
-made_with k = (k.setting.ring, k.setting.rules.hosts, k.setting.rules.settings)
+made_with k = (k.setting.ring, k.setting.rules)
 
 abbrev pub setting_by : Made → Setting
-setting_by w = record { ring = w.0; rules = record { hosts = w.1; settings = w.2 } }
+setting_by w = record { ring = w.0; rules = w.1 }
 
 abbrev pub IsLegalJournal : Made → List (ℕ × Event × Answer) → Type 0
 IsLegalJournal w journal = IsLegal (setting_by w) (history_by journal)

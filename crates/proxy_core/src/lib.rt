@@ -27,6 +27,8 @@ pub use refused::Refused;
 pub use turns::Core;
 
 #[cfg(test)]
+mod at_gate;
+#[cfg(test)]
 mod random;
 #[cfg(test)]
 mod tests;

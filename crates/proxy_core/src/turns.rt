@@ -14,7 +14,7 @@ ghost use Rattle.proxy_core.specs.Core.{IsMade, IsLeft, IsTurn, IsRun, detected}
 use crate::machine::Machine;
 use crate::pipeline::Pipeline;
 use crate::refused::Refused;
-use ejector::{EjectError, Ejector, Settings};
+use ejector::{EjectError, Ejector, Rules, Settings};
 use journal_core::Journal;
 use ketama::Ring;
 use proxy_history::{Answer, Event, Refusal};
@@ -210,8 +210,8 @@ impl Recorded for Core {
 
     type Refusal = Refusal;
 
-    // The ring, and the hosts and settings of outlier detection.
-    type Setting = (Ring, usize, Settings);
+    // The ring, and the rules of outlier detection.
+    type Setting = (Ring, Rules);
 
     ghost journal = { journal_of };
 

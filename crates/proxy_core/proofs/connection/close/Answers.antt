@@ -1,4 +1,4 @@
-use Rattle.std.proofs.Common.{slice_set, None, sym}
+use Rattle.std.proofs.Common.{None, sym}
 use Rattle.proxy_core.proofs.Changed.{changed_at-past, slice_set-constant}
 use Rattle.proxy_core.proofs.connection.close.Goals as goal
 

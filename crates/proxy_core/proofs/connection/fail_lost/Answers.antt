@@ -1,7 +1,5 @@
-use Rattle.std.proofs.Common.{◌≡◌, filter_map, List, Option, ap, sym, ◌∙◌}
-use Rattle.upstream_pipe.specs.declared.part.Owner.{Owner}
+use Rattle.std.proofs.Common.{filter_map, sym}
 use Rattle.proxy_history.specs.Value.{upstream_failure}
-use Rattle.proxy_core.specs.Connections.{answered_parts}
 use Rattle.proxy_core.proofs.Lost.{first_awaited, later_awaited, answered_parts-append}
 use Rattle.proxy_core.proofs.connection.fail_lost.Goals as goal
 

@@ -1,7 +1,5 @@
-use Rattle.std.proofs.Common.{◌≡◌, drop, subst, refl, ap, ◌∙◌, sym}
+use Rattle.std.proofs.Common.{refl}
 use Rattle.upstream_pipe.specs.declared.part.Owner.{Owner}
-use Rattle.proxy_history.specs.Value.{upstream_failure}
-use Rattle.proxy_core.specs.Connections.{AreAwaited, answered_parts}
 use Rattle.std.proofs.lemmas.List.{drop_more}
 use Rattle.std.proofs.Math.ListN.{drop_of_length-le}
 use Rattle.proxy_core.proofs.connection.fail_parts.Goals as goal

@@ -1,4 +1,4 @@
-use Rattle.std.proofs.Common.{slice_set, length, ◌≤◌, ap, ◌∙◌, sym, arith}
+use Rattle.std.proofs.Common.{slice_set, ap, ◌∙◌, sym}
 use Rattle.std.specs.Option.{option_map}
 use Rattle.reply_queue.proofs.Changed.{slice_set-changed}
 use Rattle.proxy_core.specs.Connections.{handing}

@@ -1,5 +1,5 @@
-use Rattle.std.proofs.Common.{map, replicate, ◌+◌, refl, sym, ap, ◌∙◌, subst, arith, List}
-use Rattle.proxy_core.proofs.TurnedNew.{fresh_more, fresh_is}
+use Rattle.std.proofs.Common.{refl, arith}
+use Rattle.proxy_core.proofs.TurnedNew.{fresh_is}
 use Rattle.proxy_core.proofs.turns.fresh_pipelines.Goals as goal
 
 pub loop-preserved : goal.loop-preserved

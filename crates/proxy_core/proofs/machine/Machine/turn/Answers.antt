@@ -1,4 +1,4 @@
-use Rattle.proxy_core.proofs.TurnedResults.{if_made, if_left, both, all_three, if_ok}
+use Rattle.proxy_core.proofs.TurnedResults.{if_made, if_left, all_three, if_ok}
 use Rattle.proxy_core.proofs.TurnedEvents.{taken-made, answered-made, failed-made, arrived-made, opened-made, finished-made, closed-made, swept-made, handed-made}
 use Rattle.resp_core.specs.Value.{tree_of}
 use Rattle.proxy_core.proofs.TurnedAsked.{asked_hosts, asked_closed, asked_taken, asked_epochs, asked_answer, asked_fault, asked_reply}

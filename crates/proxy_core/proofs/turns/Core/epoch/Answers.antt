@@ -1,4 +1,4 @@
-use Rattle.std.proofs.Common.{◌≡◌, ◌<◌, ◌∙◌, ap, sym, subst, arith}
+use Rattle.std.proofs.Common.{◌<◌, ◌∙◌, ap, sym, subst, arith}
 use Rattle.proxy_history.specs.Setting.{hosts}
 use Rattle.proxy_history.specs.Reference.{Kept, history_in}
 use Rattle.proxy_history.specs.History.{epoch}

@@ -1,4 +1,4 @@
-use Rattle.std.proofs.Common.{◌≡◌, ◌≤◌, ◌∙◌, ap, arith}
+use Rattle.std.proofs.Common.{◌≡◌, ◌∙◌, ap, arith}
 use Rattle.ejector.proofs.InRange.{in_range}
 use Rattle.proxy_history.specs.Setting.{hosts}
 use Rattle.proxy_history.specs.Reference.{Kept}

@@ -1,9 +1,7 @@
 use Rattle.std.proofs.Common.{refl, sym, ap, ◌∙◌, replicate}
 use Rattle.ketama.specs.Continuum.{Continuum}
-use Rattle.ejector.specs.Ejection.{state}
 use Rattle.ejector.specs.Settings.{first_fault}
 use Rattle.ejector.specs.declared.settings.Rules.{Rules}
-use Rattle.ejector.specs.declared.error.EjectError.{EjectError}
 use Rattle.ejector.specs.declared.error.EjectError.TheVariants.{BadSettings}
 use Rattle.proxy_core.specs.Machine.{no_pipeline}
 use Rattle.proxy_core.proofs.TurnedNew.{fresh_kept, no_fault}

@@ -1,5 +1,4 @@
-use Rattle.std.proofs.Common.{◌≡◌, ap}
-use Rattle.proxy_history.specs.Reference.{Kept}
+use Rattle.std.proofs.Common.{ap}
 use Rattle.proxy_core.specs.Recorded.{journal_of}
 use Rattle.proxy_core.proofs.TurnedRecorded.{journal_more, journal_legal, journal_cause}
 use Rattle.proxy_core.proofs.turns.CoreRecorded.turn.Goals as goal
