@@ -2,34 +2,49 @@
 ghost use Rattle.std.specs.Prelude.{◌≡◌, ◌≤◌, [], IfOk};
 ghost use Rattle.ticket_gate.specs.Gate.{IsPassOf, IsSpareOf};
 
-use crate::{Answer, Core, Event, Settings};
+use crate::{Core, Event, Refusal, Settings};
 use ketama::Ring;
 use std::alloc::Global;
 use std::sync::Wait;
 use std::test::Fail;
 use std::thread;
-use ticket_gate::{Gate, Pass, Spare};
+use ticket_gate::{Gate, Pass, Spare, TurnRefusal};
 
 const SWEEPS: u64 = 200;
 
-fn core(alloc: Global) -> Result<Core, Fail>
+fn made(alloc: Global) -> Result<Core, Refusal>
     ensures { IfOk result (λ core. core.steps ≡ []) }
 {
-    let Ok(ring) = Ring::of_points(alloc, 1, &[(1000, 0)]) else {
-        return Err(Fail::from("no memory for a ring"));
-    };
-    match Core::new(alloc, ring, Settings::default()) {
-        Ok(core) => Ok(core),
-        Err(_) => Err(Fail::from("no memory for a core")),
+    match Ring::of_points(alloc, 1, &[(1000, 0)]) {
+        Ok(ring) => Core::new(alloc, ring, Settings::default()),
+        Err(_) => Err(Refusal::NoMemory),
     }
 }
 
+// A core with one host, made again where there was no memory.
+fn core(alloc: Global) -> Result<Core, Fail>
+    ensures { IfOk result (λ core. core.steps ≡ []) }
+{
+    if let Ok(core) = made(alloc) {
+        return Ok(core);
+    }
+    match made(alloc) {
+        Ok(core) => Ok(core),
+        Err(_) => Err(Fail::from("no memory for a core twice")),
+    }
+}
+
+// A gate round a core, made again where there was no memory.
 fn open(alloc: Global) -> Result<(Gate<Core>, Spare<Core>), Fail>
     ensures { IfOk result (λ made. IsSpareOf made.0 made.1) }
 {
-    match Gate::new(alloc, core(alloc)?) {
+    let core = match Gate::new(alloc, core(alloc)?) {
+        Ok(made) => return Ok(made),
+        Err((_, core)) => core,
+    };
+    match Gate::new(alloc, core) {
         Ok(made) => Ok(made),
-        Err(_) => Err(Fail::from("no memory for a gate")),
+        Err(_) => Err(Fail::from("no memory for a gate twice")),
     }
 }
 
@@ -43,6 +58,18 @@ fn enrol<R: Wait>(rt: &R, gate: &Gate<Core>, spare: Spare<Core>) -> Result<Pass<
     }
 }
 
+// One sweep, made again where there was no memory: whether it was answered.
+fn sweeps_at<R: Wait>(rt: &R, gate: &Gate<Core>, pass: &mut Pass<Core>, t: u64) -> bool
+    requires { IsPassOf gate.now pass.old }
+    ensures { IsPassOf gate.now pass.new }
+{
+    match gate.take_turn(rt, pass, Event::Swept { t }) {
+        Ok(_) => true,
+        Err(TurnRefusal::State { event, .. }) => gate.take_turn(rt, pass, event).is_ok(),
+        Err(_) => false,
+    }
+}
+
 // Sweeps at 0, 1, 2 and so on milliseconds. Counts the answered turns.
 fn sweep<R: Wait>(rt: &R, gate: &Gate<Core>, pass: Pass<Core>) -> (Pass<Core>, u64)
     requires { IsPassOf gate.now pass }
@@ -51,7 +78,7 @@ fn sweep<R: Wait>(rt: &R, gate: &Gate<Core>, pass: Pass<Core>) -> (Pass<Core>, u
     let mut pass = pass;
     let mut answered = 0u64;
     for t in 0..SWEEPS {
-        if gate.take_turn(rt, &mut pass, Event::Swept { t }).is_ok() {
+        if sweeps_at(rt, gate, &mut pass, t) {
             answered += 1;
         }
     }
