@@ -1,5 +1,5 @@
 //! The core behind the gate: two passes in two threads.
-ghost use Rattle.std.specs.Prelude.{◌≡◌, ◌≤◌, [], IfOk};
+ghost use Rattle.std.specs.Prelude.{◌≡◌, [], IfOk};
 ghost use Rattle.ticket_gate.specs.Gate.{IsPassOf, IsSpareOf};
 
 use crate::{Core, Event, Refusal, Settings};
