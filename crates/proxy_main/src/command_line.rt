@@ -51,3 +51,38 @@ pub fn read(alloc: Global, words: &[String]) -> Result<Asked, Refused> {
     command(alloc)?.try_get_matches_from(words)?;
     Ok(Asked::Local)
 }
+
+#[cfg(test)]
+mod tests {
+    use super::*;
+    use std::test::Fail;
+
+    // The status of the parser's answer to the words, if it is one.
+    fn said(alloc: Global, words: &[&str]) -> Result<Option<i32>, Fail> {
+        let mut owned = Vec::new(alloc);
+        for word in words {
+            owned.push(String::from_str(alloc, word)?)?;
+        }
+        match read(alloc, &owned) {
+            Ok(Asked::Local) => Ok(None),
+            Err(Refused::Memory) => Ok(Some(6)),
+            Err(Refused::ByParser(error)) => Ok(Some(error.exit_code())),
+        }
+    }
+
+    #[test]
+    fn command_lines_are_read(rt: HostRuntime) -> Result<(), Fail> {
+        let rows: [(&[&str], Option<i32>); 6] = [
+            (&["redproxy", "local"], None),
+            (&["redproxy"], Some(2)),
+            (&["redproxy", "serve"], Some(2)),
+            (&["redproxy", "local", "x"], Some(2)),
+            (&["redproxy", "--help"], Some(0)),
+            (&["redproxy", "help", "local"], Some(0)),
+        ];
+        for (words, status) in rows {
+            assert_eq!(rt; said(rt.alloc(), words)?, status);
+        }
+        Ok(())
+    }
+}

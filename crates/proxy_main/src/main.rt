@@ -2,15 +2,9 @@
 #![tactic(auto)]
 
 mod command_line;
-mod ending;
-mod host;
-mod local;
-mod reply;
-#[cfg(test)]
-mod tests;
 
 use command_line::{Asked, Refused};
-use ending::Ending;
+use proxy_run::{Ending, local_run};
 use std::process::ExitCode;
 use std::rt::Runtime;
 use std::{env, io};
@@ -20,7 +14,7 @@ const BAD_COMMAND_LINE: u8 = 2;
 
 // Serves the one client on standard input and output, and gives the status.
 fn run_local<R: Runtime + AllocGlobal>(rt: &R) -> u8 {
-    match local::local_run(rt.alloc(), &mut rt.reader(), &mut io::writer(rt)) {
+    match local_run(rt.alloc(), &mut rt.reader(), &mut io::writer(rt)) {
         Ok(()) => 0,
         Err(ending) => ended(rt, ending),
     }

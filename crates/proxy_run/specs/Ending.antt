@@ -1,0 +1,10 @@
+-- The program's exit status.
+use Rattle.std.specs.Prelude.{ℕ}
+use Rattle.proxy_run.specs.declared.ending.Ending.{Ending}
+use Rattle.proxy_run.specs.declared.ending.Ending.TheVariants as endings
+
+abbrev pub status_of : Ending → ℕ
+status_of endings.JournalFull = 4
+status_of endings.Socket = 5
+status_of endings.Memory = 6
+status_of endings.Spent = 7
