@@ -3,3 +3,4 @@ pub mod Tags
 pub mod Least
 pub mod Owners
 pub mod Pairs
+pub mod CallerLemmas

@@ -13,7 +13,7 @@ use Rattle.splitter.specs.declared.plans.Join.{Join}
 use Rattle.splitter.specs.declared.plans.PartPlan.{PartPlan}
 use Rattle.splitter.specs.declared.request.Request.{Request}
 use Rattle.splitter.specs.declared.request.Request.TheVariants as requests'
-use Rattle.splitter.proofs.PartLaws.{parts_are_commands}
+use Rattle.splitter.proofs.CallerLemmas.{parts_are_commands}
 use Rattle.proxy_history.specs.Setting.{Setting}
 use Rattle.proxy_history.specs.History.{History, Step, plan_for, accepted, requests, request_by, is_arrival}
 use Rattle.proxy_history.specs.Part.{Past, Part}

@@ -7,14 +7,14 @@ use Rattle.resp_core.specs.Tree.{Tree}
 use Rattle.resp_core.specs.Command.{is_bulk, is_command, are_words, payload_of, word, IsArrayOf}
 use Rattle.command_table.specs.Names.{one_key_names}
 use Rattle.command_table.specs.Table.{Row, rows, row_named}
-use Rattle.command_table.proofs.Rows.{found_stands_in_table}
+use Rattle.command_table.proofs.CallerLemmas.{found_stands_in_table}
 use Rattle.command_table.specs.declared.Kind.{Kind}
 use Rattle.command_table.specs.declared.Kind.TheVariants.{Ping, Echo, Quit, One, SplitGet, SplitSet, SplitSum}
 use Rattle.splitter.specs.Request.{read}
 use Rattle.splitter.specs.Plan.{takes, plan_by, plan_by_row, plan_of, is_last}
 use Rattle.splitter.specs.Split.{Words}
 use Rattle.proxy_history.specs.Scan.{is_quit_kind, is_quit_row}
-use Rattle.splitter.proofs.PlanLemmas.{plan_of-command}
+use Rattle.splitter.proofs.CallerLemmas.{plan_of-command}
 
 -- each QUIT of the table takes one word: tried here over the table
 abbrev takes_one_word : Kind → Row → Bool

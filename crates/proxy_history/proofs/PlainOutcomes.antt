@@ -15,7 +15,7 @@ use Rattle.splitter.specs.Request.{request_of}
 use Rattle.splitter.specs.Plan.{Plan, here, leave, parts}
 use Rattle.splitter.specs.Join.{join_of}
 use Rattle.splitter.specs.Laws.{has_plain_value}
-use Rattle.splitter.proofs.PlainLaws.{plan_texts_are_plain, joins_of_plain_values_are_plain}
+use Rattle.splitter.proofs.CallerLemmas.{plan_texts_are_plain, joins_of_plain_values_are_plain}
 use Rattle.proxy_history.specs.Setting.{Setting}
 use Rattle.proxy_history.specs.History.{History, Step, plan_for, requests, epoch}
 use Rattle.proxy_history.specs.Replies.{came, reply_by}

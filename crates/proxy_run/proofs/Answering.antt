@@ -6,7 +6,7 @@ use Rattle.std.proofs.lemmas.Bool.{cases_Bool}
 use Rattle.std.proofs.lemmas.List.{map-append, length-append}
 use Rattle.resp_core.specs.Tree.{Tree}
 use Rattle.resp_core.specs.Stream.{ReaderState, Stands, Splits, HasNoRefusal}
-use Rattle.resp_core.proofs.StreamLaws.{each_stream_holds, one_holding, refusal_stays, values_stay}
+use Rattle.resp_core.proofs.CallerLemmas.{each_stream_holds, one_holding, refusal_stays, values_stay}
 use Rattle.splitter.specs.Request.{Request, read, broken}
 use Rattle.proxy_run.specs.Request.{client_limit, end_of, AreRequests}
 use Rattle.proxy_run.specs.Stream.{accepted, AreFirst, IsNext, IsAnswered, AnswersWhole, AnswersLast, AnswersAll}

@@ -18,8 +18,7 @@ use Rattle.splitter.specs.Plan.{parts, takes, plan_of}
 use Rattle.splitter.specs.Split.{Words, pairs, split_by, command_of, part_at}
 use Rattle.splitter.specs.Commands.{commands_by_row, commands_of}
 use Rattle.splitter.specs.Join.{MayJoin}
-use Rattle.splitter.proofs.CommandLaws.{parts_are_of_commands, commands_keep_limits}
-use Rattle.splitter.proofs.PartLaws.{all_made, plain_command, parts_are_commands}
+use Rattle.splitter.proofs.CallerLemmas.{parts_are_of_commands, commands_keep_limits, all_made, plain_command, parts_are_commands}
 use Rattle.proxy_run.specs.Request.{client_limit}
 use Rattle.proxy_run.specs.Sendable.{IsSendable, IsRead, AreTextsOf, AreSendable}
 use Rattle.proxy_run.specs.Reply.{asked}

@@ -7,7 +7,7 @@ use Rattle.resp_core.specs.Command.{is_command, words_of, word}
 use Rattle.splitter.specs.Request.{Request}
 use Rattle.splitter.specs.Plan.{Plan, here, leave, parts, plan_of}
 use Rattle.splitter.specs.Laws.{has_plain_value}
-use Rattle.splitter.proofs.PlainLaws.{plan_texts_are_plain, joins_of_plain_values_are_plain}
+use Rattle.splitter.proofs.CallerLemmas.{plan_texts_are_plain, joins_of_plain_values_are_plain}
 use Rattle.proxy_run.specs.Reply as replies
 use Rattle.stub_server.specs.Map.{Map, value_at}
 use Rattle.stub_server.specs.Number.{one_more}

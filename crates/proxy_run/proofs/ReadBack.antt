@@ -5,8 +5,7 @@ use Rattle.resp_core.specs.Text.{text}
 use Rattle.resp_core.specs.Laws.{Holds}
 use Rattle.resp_core.specs.Stream.{Splits, IsFront, HasNoRefusal, HasRefusal}
 use Rattle.resp_core.specs.Grammar.{max_depth}
-use Rattle.resp_core.proofs.Spelling.{spelling_is_shortest, read_values_are_plain}
-use Rattle.resp_core.proofs.StreamLaws.{each_stream_holds, values_stay, text_is_read_back}
+use Rattle.resp_core.proofs.CallerLemmas.{spelling_is_shortest, read_values_are_plain, each_stream_holds, values_stay, text_is_read_back}
 use Rattle.proxy_run.specs.Request.{client_limit}
 use Rattle.proxy_run.specs.Sendable.{IsSendable}
 

@@ -16,3 +16,4 @@ pub mod FitsReading
 pub mod Numbers
 pub mod Examples
 pub mod Lengths
+pub mod CallerLemmas

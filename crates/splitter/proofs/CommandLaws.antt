@@ -12,7 +12,7 @@ use Rattle.resp_core.specs.Command.{is_command, words_of, word}
 use Rattle.command_table.specs.Table.{Row, rows, row_named}
 use Rattle.command_table.specs.declared.Kind.{Kind}
 use Rattle.command_table.specs.declared.Kind.TheVariants.{Ping, Echo, Quit, One, SplitGet, SplitSet, SplitSum}
-use Rattle.command_table.proofs.Rows.{found_stands_in_table}
+use Rattle.command_table.proofs.CallerLemmas.{found_stands_in_table}
 use Rattle.splitter.specs.declared.plans.Join.{Join}
 use Rattle.splitter.specs.declared.plans.PartPlan.{PartPlan}
 use Rattle.splitter.specs.Request.{read, broken}

@@ -5,3 +5,4 @@ pub mod PlanLemmas
 pub mod PlainLaws
 pub mod PartLaws
 pub mod CommandLaws
+pub mod CallerLemmas

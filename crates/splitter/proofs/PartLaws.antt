@@ -13,13 +13,11 @@ use Rattle.resp_core.specs.Grammar.{max_bulk, max_text, max_depth}
 use Rattle.resp_core.specs.Within.{IsWithin, AreWithin}
 use Rattle.resp_core.specs.Laws.{Holds}
 use Rattle.resp_core.specs.Command.{is_bulk, is_command, payload_of, words_of, word}
-use Rattle.resp_core.proofs.TreeLemmas.{length_members}
-use Rattle.resp_core.proofs.StreamLaws.{text_is_read_back}
-use Rattle.resp_core.proofs.Words.{is_command-list}
+use Rattle.resp_core.proofs.CallerLemmas.{length_members, text_is_read_back, is_command-list}
 use Rattle.command_table.specs.Table.{Row, rows, row_named}
 use Rattle.command_table.specs.declared.Kind.{Kind}
 use Rattle.command_table.specs.declared.Kind.TheVariants.{Ping, Echo, Quit, One, SplitGet, SplitSet, SplitSum}
-use Rattle.command_table.proofs.Rows.{found_stands_in_table}
+use Rattle.command_table.proofs.CallerLemmas.{found_stands_in_table}
 use Rattle.splitter.specs.declared.plans.Join.{Join}
 use Rattle.splitter.specs.declared.plans.Join.TheVariants.{Same, Get, Set, Sum}
 use Rattle.splitter.specs.declared.plans.PartPlan.{PartPlan}

@@ -4,7 +4,7 @@ use Rattle.std.specs.Str.{str_to_ascii_uppercase}
 use Rattle.std.proofs.lemmas.Bool.{eqb-true, leb-true}
 use Rattle.resp_core.specs.Tree.{Tree}
 use Rattle.resp_core.specs.Command.{payload_of, is_command, words_of, word, IsArrayOf}
-use Rattle.resp_core.proofs.Words.{words_of-list}
+use Rattle.resp_core.proofs.CallerLemmas.{words_of-list}
 use Rattle.command_table.specs.Table.{Row, rows, row_named}
 use Rattle.command_table.specs.declared.Kind.{Kind}
 use Rattle.command_table.specs.declared.Kind.TheVariants.{Echo, One, SplitGet, SplitSet, SplitSum}

@@ -2,7 +2,7 @@
 use Rattle.std.proofs.Common.{◌≡◌, true, List, map, ap, ◌∙◌}
 use Rattle.resp_core.specs.Tree.{Tree}
 use Rattle.resp_core.specs.Command.{payload_of, is_command, words_of, IsArrayOf}
-use Rattle.resp_core.proofs.Words.{words_of-list}
+use Rattle.resp_core.proofs.CallerLemmas.{words_of-list}
 use Rattle.stub_server.specs.Map.{Map}
 use Rattle.stub_server.specs.Table.{outcome_of, outcome_of_words}
 

@@ -1,4 +1,4 @@
-use Rattle.ejector.proofs.Few.{state_out}
+use Rattle.ejector.proofs.CallerLemmas.{state_out}
 use Rattle.proxy_history.specs.Past.{past}
 use Rattle.proxy_history.proofs.laws.few_are_out.Goals as goal
 

@@ -1,4 +1,4 @@
-use Rattle.ketama.proofs.Owners.{first_choice_stands}
+use Rattle.ketama.proofs.CallerLemmas.{first_choice_stands}
 use Rattle.proxy_history.specs.Setting.{point_for}
 use Rattle.proxy_history.specs.Arrival.{usable}
 use Rattle.proxy_history.proofs.laws.owners_stay.Goals as goal

@@ -1,0 +1,13 @@
+-- What a crate above cites of plans and joins.
+
+-- the plan of a command
+pub use Rattle.splitter.proofs.PlanLemmas.{plan_of-command}
+
+-- what is planned and joined can be written
+pub use Rattle.splitter.proofs.PlainLaws.{plan_texts_are_plain, joins_of_plain_values_are_plain}
+
+-- parts are commands, each with its key
+pub use Rattle.splitter.proofs.PartLaws.{all_made, plain_command, parts_are_commands}
+
+-- parts keep a client's limits
+pub use Rattle.splitter.proofs.CommandLaws.{parts_are_of_commands, commands_keep_limits}
