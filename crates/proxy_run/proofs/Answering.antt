@@ -6,11 +6,13 @@ use Rattle.std.proofs.lemmas.Bool.{cases_Bool}
 use Rattle.std.proofs.lemmas.List.{map-append, length-append}
 use Rattle.resp_core.specs.Tree.{Tree}
 use Rattle.resp_core.specs.Stream.{ReaderState, Stands, Splits, HasNoRefusal}
-use Rattle.resp_core.proofs.CallerLemmas.{each_stream_holds, one_holding, refusal_stays, values_stay}
+use Rattle.resp_core.proofs.CallerLemmas.{splits-Stands, each_stream_holds, one_holding, refusal_stays, values_stay}
 use Rattle.splitter.specs.Request.{Request, read, broken}
-use Rattle.proxy_run.specs.Request.{client_limit, end_of, AreRequests}
-use Rattle.proxy_run.specs.Stream.{accepted, AreFirst, IsNext, IsAnswered, AnswersWhole, AnswersLast, AnswersAll}
-use Rattle.proxy_run.specs.Reply.{finishes, reply_text, reply_texts, map_after, map_after_all}
+use Rattle.splitter.specs.Requests.{end_of, AreRequests, AreFirst, finishes, up_to_last}
+use Rattle.splitter.proofs.CallerLemmas.{none_finishes-one, none_finishes-append, up_to_last-none, up_to_last-first}
+use Rattle.resp_core.specs.declared.reader.TheConstants.{CLIENT_MEMBERS}
+use Rattle.proxy_run.specs.Stream.{IsNext, IsAnswered, AnswersWhole, AnswersLast, AnswersAll}
+use Rattle.proxy_run.specs.Reply.{reply_text, reply_texts, map_after, map_after_all}
 use Rattle.stub_server.specs.Map.{Map}
 use Rattle.proxy_run.proofs.Known.{appends_then}
 
@@ -26,40 +28,6 @@ reply_texts-one m r = append-nil (reply_text m r)
 pub map_after_all-append : (m : Map) (xs ys : List Request) → map_after_all m (xs ++ ys) ≡ map_after_all (map_after_all m xs) ys
 map_after_all-append m [] ys = refl
 map_after_all-append m (x ∷ xs) ys = map_after_all-append (map_after m x) xs ys
-
-none_more : (xs : List Request) (r : Request) → list_any finishes xs ≡ false → finishes r ≡ false → list_any finishes (xs ++ r ∷ []) ≡ false
-none_more [] r h e = rw e refl
-none_more (x ∷ xs) r h e =
-    elim (cases_Bool (finishes x)) [
-      | inl f ↦ let g : true ≡ false = rw f at h in cc
-      | inr f ↦ let g : list_any finishes xs ≡ false = rw f at h in rw f (none_more xs r g e)
-    ]
-
-pub none_both : (xs ys : List Request) → list_any finishes xs ≡ false → list_any finishes ys ≡ false → list_any finishes (xs ++ ys) ≡ false
-none_both [] ys h e = e
-none_both (x ∷ xs) ys h e =
-    elim (cases_Bool (finishes x)) [
-      | inl f ↦ let g : true ≡ false = rw f at h in cc
-      | inr f ↦ let g : list_any finishes xs ≡ false = rw f at h in rw f (none_both xs ys g e)
-    ]
-
--- where none finishes all are accepted
-accepted-none : (xs : List Request) → list_any finishes xs ≡ false → accepted xs ≡ xs
-accepted-none [] h = refl
-accepted-none (x ∷ xs) h =
-    elim (cases_Bool (finishes x)) [
-      | inl f ↦ let g : true ≡ false = rw f at h in cc
-      | inr f ↦ let g : list_any finishes xs ≡ false = rw f at h in rw f (ap (λ z. x ∷ z) (accepted-none xs g))
-    ]
-
--- and else those up to the first that does
-accepted-last : (xs : List Request) (r : Request) (others : List Request) → list_any finishes xs ≡ false → finishes r ≡ true → accepted ((xs ++ r ∷ []) ++ others) ≡ xs ++ r ∷ []
-accepted-last [] r others h e = rw e refl
-accepted-last (x ∷ xs) r others h e =
-    elim (cases_Bool (finishes x)) [
-      | inl f ↦ let g : true ≡ false = rw f at h in cc
-      | inr f ↦ let g : list_any finishes xs ≡ false = rw f at h in rw f (ap (λ z. x ∷ z) (accepted-last xs r others g e))
-    ]
 
 -- the requests answered so far, none of which finishes
 abbrev pub Answered : ReaderState → ReaderState → Map → Map → List ℕ → List ℕ → Type 0
@@ -85,13 +53,13 @@ module _ (r s s' : ReaderState) (m m' m'' : Map) (out mid out' : List ℕ) (q : 
           let f = so_far b ts h in (
             f.0 ++ t ∷ [],
             subst (λ (z : List Tree). Stands s' b z) (append_assoc ts f.0 (t ∷ [])) (next.1 b (ts ++ f.0) f.1),
-            ap (list_any finishes) (map-append read f.0 (t ∷ [])) ∙ none_more (map read f.0) (read t) f.2 e,
+            ap (list_any finishes) (map-append read f.0 (t ∷ [])) ∙ none_finishes-one (map read f.0) (read t) f.2 e,
             texts_more m m' out mid out' (map read f.0) (read t) f.3 f.4 grown ∙ ap (λ z. out ++ reply_texts m z) (sym (map-append read f.0 (t ∷ []))),
             moved ∙ ap (λ z. map_after z (read t)) f.4 ∙ sym (map_after_all-append m (map read f.0) (read t ∷ [])) ∙ ap (map_after_all m) (sym (map-append read f.0 (t ∷ []))),
           )
 
   -- and the one that finishes
-  pub answered_last : s'.most ≡ client_limit → finishes q ≡ true → AnswersLast r m out out'
+  pub answered_last : s'.most ≡ CLIENT_MEMBERS → finishes q ≡ true → AnswersLast r m out out'
   answered_last most e b ts h =
       let f = so_far b ts h in
       (map read f.0, q, first q next b ts f.0 f.1, f.2, e, texts_more m m' out mid out' (map read f.0) q f.3 f.4 grown)
@@ -104,11 +72,12 @@ module _ (r s s' : ReaderState) (m m' m'' : Map) (out mid out' : List ℕ) (q : 
       first : (q : Request) → IsNext s s' q → (b : List ℕ) (ts us : List Tree) → Stands s b (ts ++ us) → AreFirst b (map read ts ++ map read us ++ q ∷ [])
       first (read t) next b ts us h more all (vs, refused, holds, is) =
           let g = next.1 b (ts ++ us) h in
-          let k = values_stay client_limit b more s'.held ((ts ++ us) ++ t ∷ []) vs refused (subst (λ (z : ℕ). Splits z b ((ts ++ us) ++ t ∷ []) s'.held) most g.splits) holds in
+          let (rest, split) = splits-Stands s' b ((ts ++ us) ++ t ∷ []) g in
+          let k = values_stay CLIENT_MEMBERS b more rest ((ts ++ us) ++ t ∷ []) vs refused (subst (λ (z : ℕ). Splits z b ((ts ++ us) ++ t ∷ []) rest) most split) holds in
           (map read k.0 ++ end_of refused, is ∙ ap (λ z. map read z ++ end_of refused) k.1 ∙ values ts us t k.0 (end_of refused))
       first broken next b ts us h more all (vs, refused, holds, is) =
           let g = next b (ts ++ us) h in
-          let k = one_holding client_limit (b ++ more) vs (ts ++ us) refused true holds (g.0, g.1, refusal_stays client_limit b more (ts ++ us) g.0 g.1 g.2) in
+          let k = one_holding CLIENT_MEMBERS (b ++ more) vs (ts ++ us) refused true holds (g.0, g.1, refusal_stays CLIENT_MEMBERS b more (ts ++ us) g.0 g.1 g.2) in
           ([], is ∙ ap (λ z. map read z ++ end_of refused) k.0 ∙ ap (λ z. map read (ts ++ us) ++ end_of z) k.1 ∙ ap (λ z. z ++ broken ∷ []) (map-append read ts us) ∙ sym (append-nil _))
 
 -- the reader has given all that came
@@ -118,7 +87,7 @@ answered_whole r s s' m m' out mid so_far end b ts h =
     (f.0, subst (λ (z : ReaderState). Stands z b (ts ++ f.0)) (sym end.0) f.1, end.1 b (ts ++ f.0) f.1, f.2, f.3, f.4)
 
 -- nothing came, so nothing is refused
-pub nothing_refused : HasNoRefusal client_limit [] []
+pub nothing_refused : HasNoRefusal CLIENT_MEMBERS [] []
 nothing_refused = record {
   rest = [];
   values = record { splits = refl; longest = λ others left h. omega arith };
@@ -126,24 +95,24 @@ nothing_refused = record {
 }
 
 -- the input's end came
-pub answers_ended : (came came' came'' held holds : Option (List ℕ)) (b : List ℕ) (ts : List Tree) → Consumes came came' b → Consumes came' came'' [] → IsAtEnd came'' → HasNoRefusal client_limit b ts → list_any finishes (map read ts) ≡ false → Appends held holds (reply_texts [] (map read ts)) → AnswersAll came held holds
+pub answers_ended : (came came' came'' held holds : Option (List ℕ)) (b : List ℕ) (ts : List Tree) → Consumes came came' b → Consumes came' came'' [] → IsAtEnd came'' → HasNoRefusal CLIENT_MEMBERS b ts → list_any finishes (map read ts) ≡ false → Appends held holds (reply_texts [] (map read ts)) → AnswersAll came held holds
 answers_ended None came' came'' held holds b ts c d e h n a = tt
 answers_ended (Some xs) None came'' held holds b ts c d e h n a = absurd c
 answers_ended (Some xs) (Some ys) None held holds b ts c d e h n a = absurd d
 answers_ended (Some xs) (Some ys) (Some zs) held holds b ts c d e h n a =
     let all : xs ≡ b = c ∙ ap (λ z. b ++ z) (d ∙ e) ∙ append-nil b in
-    (map read ts, (ts, false, subst (λ (z : List ℕ). HasNoRefusal client_limit z ts) (sym all) h, sym (append-nil (map read ts))), subst (λ (z : List Request). Appends held holds (reply_texts [] z)) (sym (accepted-none (map read ts) n)) a)
+    (map read ts, (ts, false, subst (λ (z : List ℕ). HasNoRefusal CLIENT_MEMBERS z ts) (sym all) h, sym (append-nil (map read ts))), subst (λ (z : List Request). Appends held holds (reply_texts [] z)) (sym (up_to_last-none (map read ts) n)) a)
 
 -- a request finished
 pub answers_finished : (came came' held mid holds : Option (List ℕ)) (b : List ℕ) (ts : List Tree) (front : List Request) (last : Request) → Consumes came came' b → AreFirst b (map read ts ++ front ++ last ∷ []) → list_any finishes (map read ts) ≡ false → list_any finishes front ≡ false → finishes last ≡ true → Appends held mid (reply_texts [] (map read ts)) → Appends mid holds (reply_texts (map_after_all [] (map read ts)) (front ++ last ∷ [])) → AnswersAll came held holds
 answers_finished None came' held mid holds b ts front last c f n m e a d = tt
 answers_finished (Some xs) None held mid holds b ts front last c f n m e a d = absurd c
 answers_finished (Some xs) (Some ys) held mid holds b ts front last c f n m e a d =
-    let (vs, refused, h) = each_stream_holds client_limit (b ++ ys) in
+    let (vs, refused, h) = each_stream_holds CLIENT_MEMBERS (b ++ ys) in
     let asked : AreRequests (b ++ ys) (map read vs ++ end_of refused) = (vs, refused, h, refl) in
     let k = f ys (map read vs ++ end_of refused) asked in
-    let is : accepted (map read vs ++ end_of refused) ≡ map read ts ++ front ++ last ∷ [] =
-    ap accepted k.1 ∙ accepted-last (map read ts ++ front) last k.0 (none_both (map read ts) front n m) e in (
+    let is : up_to_last (map read vs ++ end_of refused) ≡ map read ts ++ front ++ last ∷ [] =
+    ap up_to_last k.1 ∙ up_to_last-first (map read ts ++ front) last k.0 (none_finishes-append (map read ts) front n m) e in (
       map read vs ++ end_of refused,
       subst (λ (z : List ℕ). AreRequests z (map read vs ++ end_of refused)) (sym c) asked,
       subst (λ (z : List ℕ). Appends held holds z) (sym (ap (reply_texts []) (is ∙ append_assoc (map read ts) front (last ∷ [])) ∙ reply_texts-append [] (map read ts) (front ++ last ∷ [])))

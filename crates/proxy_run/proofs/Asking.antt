@@ -19,7 +19,7 @@ use Rattle.splitter.specs.Split.{Words, pairs, split_by, command_of, part_at}
 use Rattle.splitter.specs.Commands.{commands_by_row, commands_of}
 use Rattle.splitter.specs.Join.{MayJoin}
 use Rattle.splitter.proofs.CallerLemmas.{parts_are_of_commands, commands_keep_limits, all_made, plain_command, parts_are_commands}
-use Rattle.proxy_run.specs.Request.{client_limit}
+use Rattle.resp_core.specs.declared.reader.TheConstants.{CLIENT_MEMBERS}
 use Rattle.proxy_run.specs.Sendable.{IsSendable, IsRead, AreTextsOf, AreSendable}
 use Rattle.proxy_run.specs.Reply.{asked}
 
@@ -72,7 +72,7 @@ few_by_row : (o : Option Row) (ws : Words) → length (commands_by_row o ws) ≤
 few_by_row None ws = omega arith
 few_by_row (Some r) ws = elim (cases_Bool (takes r.kind r.least (length ws))) [ inl h ↦ rw h (few_split r.kind r.name ws) | inr h ↦ rw h (omega arith) ]
 
-few_words : (t : Tree) → IsWithin client_limit max_depth t → length (words_of t) ≤ client_limit
+few_words : (t : Tree) → IsWithin CLIENT_MEMBERS max_depth t → length (words_of t) ≤ CLIENT_MEMBERS
 few_words (simple s) h = omega arith
 few_words (fault s) h = omega arith
 few_words (whole n) h = omega arith
@@ -81,7 +81,7 @@ few_words null_bulk h = omega arith
 few_words (list ts) h = omega (arith, h.0, length-map (members ts) payload_of)
 few_words null_list h = omega arith
 
-few_commands : (t : Tree) → IsWithin client_limit max_depth t → length (commands_of (read t)) ≤ client_limit + 1
+few_commands : (t : Tree) → IsWithin CLIENT_MEMBERS max_depth t → length (commands_of (read t)) ≤ CLIENT_MEMBERS + 1
 few_commands t h = elim (cases_Bool (is_command t)) [
   | inl f ↦ rw f (omega (arith, few_by_row (row_named (word (words_of t) 0)) (words_of t), few_words t h))
   | inr f ↦ rw f (omega arith)

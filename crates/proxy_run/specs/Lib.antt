@@ -1,5 +1,4 @@
 pub mod Ending
-pub mod Request
 pub mod Sendable
 pub mod Flow
 pub mod Reply

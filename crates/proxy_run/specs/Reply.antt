@@ -1,10 +1,10 @@
 -- The reply to a request, and the host's map after it.
-use Rattle.std.specs.Prelude.{ℕ, Bool, List, [], ◌∷◌, ◌++◌, map}
+use Rattle.std.specs.Prelude.{ℕ, List, [], ◌∷◌, ◌++◌, map}
 use Rattle.resp_core.specs.Tree.{Tree}
 use Rattle.resp_core.specs.Text.{text}
 use Rattle.splitter.specs.Request.{Request}
 use Rattle.splitter.specs.Split.{command_of}
-use Rattle.splitter.specs.Plan.{Plan, here, leave, parts, plan_of, is_last}
+use Rattle.splitter.specs.Plan.{Plan, here, leave, parts, plan_of}
 use Rattle.splitter.specs.Commands.{commands_of}
 use Rattle.splitter.specs.Join.{join_of}
 use Rattle.stub_server.specs.Map.{Map}
@@ -23,9 +23,6 @@ outcome_by m ts (parts how ps) = gives (join_of how (answers_of m ts)) (map_afte
 
 abbrev pub outcome : Map → Request → Outcome
 outcome m r = outcome_by m (asked r) (plan_of r)
-
-abbrev pub finishes : Request → Bool
-finishes r = is_last (plan_of r)
 
 -- the text of the reply to a request
 abbrev pub reply_text : Map → Request → List ℕ

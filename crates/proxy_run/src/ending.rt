@@ -1,5 +1,7 @@
 //! How the program ends where it can't go on.
 ghost use Rattle.std.specs.Prelude.{◌≡◌};
+ghost use Rattle.proxy_run.specs.Ending.{ending_of_reader, ending_of_queue};
+ghost use Rattle.proxy_run.specs.declared.ending.Ending.TheVariants.{Memory};
 
 use reply_queue::QueueRefusal;
 use resp_core::RespError;
@@ -42,18 +44,24 @@ impl Ending {
 }
 
 impl From<AllocError> for Ending {
+    ghost from_gives = { λ _ e. e ≡ Memory };
+
     fn from(_error: AllocError) -> Ending {
         Ending::Memory
     }
 }
 
 impl<T: Drop> From<AllocFailed<T>> for Ending {
+    ghost from_gives = { λ _ e. e ≡ Memory };
+
     fn from(_error: AllocFailed<T>) -> Ending {
         Ending::Memory
     }
 }
 
 impl From<RespError> for Ending {
+    ghost from_gives = { λ error e. e ≡ ending_of_reader error };
+
     fn from(error: RespError) -> Ending {
         match error {
             RespError::NoMemory => Ending::Memory,
@@ -63,18 +71,24 @@ impl From<RespError> for Ending {
 }
 
 impl From<StubError> for Ending {
+    ghost from_gives = { λ _ e. e ≡ Memory };
+
     fn from(_error: StubError) -> Ending {
         Ending::Memory
     }
 }
 
 impl From<SplitError> for Ending {
+    ghost from_gives = { λ _ e. e ≡ Memory };
+
     fn from(_error: SplitError) -> Ending {
         Ending::Memory
     }
 }
 
 impl From<QueueRefusal> for Ending {
+    ghost from_gives = { λ refusal e. e ≡ ending_of_queue refusal };
+
     fn from(error: QueueRefusal) -> Ending {
         match error {
             QueueRefusal::NoMemory => Ending::Memory,

@@ -1,5 +1,6 @@
 //! One host behind its pipe.
-ghost use Rattle.std.specs.Prelude.{◌≡◌, [], List, ℕ, IfOk, OnOk};
+ghost use Rattle.std.specs.Prelude.{◌≡◌, [], List, ℕ, IfOk, IfErr, OnOk};
+ghost use Rattle.proxy_run.specs.declared.ending.Ending.TheVariants.{Memory};
 ghost use Rattle.resp_core.specs.Tree.{Tree};
 ghost use Rattle.resp_core.specs.Text.{text as spelling};
 ghost use Rattle.resp_core.specs.Value.{tree_of};
@@ -55,6 +56,7 @@ impl Host {
         ensures owner { IfOk result (λ r. r.0 ≡ owner) }
         ensures reply { IfOk result (λ r. (t : Tree) → text ≡ spelling t → IsSendable t → tree_of r.1 ≡ answer_of self.old t) }
         ensures map { OnOk result ((t : Tree) → text ≡ spelling t → IsSendable t → self.new ≡ map_after self.old t) }
+        ensures err { IfErr result (λ e. e ≡ Memory) }
     {
         if self.pipe.push(Part { owner, text }).is_err() {
             return Err(Ending::Memory);
@@ -75,6 +77,7 @@ fn answer_text(alloc: Global, stub: &mut Stub, text: &[u8]) -> Result<Value, End
     requires { IsSendableText text.now }
     ensures reply { IfOk result (λ reply. (t : Tree) → text.now ≡ spelling t → IsSendable t → tree_of reply ≡ answer_of stub.old t) }
     ensures map { OnOk result ((t : Tree) → text.now ≡ spelling t → IsSendable t → stub.new ≡ map_after stub.old t) }
+    ensures err { IfErr result (λ e. e ≡ Memory) }
 {
     let request = read_back(alloc, text)?;
     Ok(stub.answer(&request)?)
@@ -83,7 +86,8 @@ fn answer_text(alloc: Global, stub: &mut Stub, text: &[u8]) -> Result<Value, End
 // The value whose one spelling this is.
 fn read_back(alloc: Global, text: &[u8]) -> Result<Value, Ending>
     requires { IsSendableText text.now }
-    ensures { IfOk result (λ value. (t : Tree) → text.now ≡ spelling t → IsSendable t → tree_of value ≡ t) }
+    ensures value { IfOk result (λ value. (t : Tree) → text.now ≡ spelling t → IsSendable t → tree_of value ≡ t) }
+    ensures err { IfErr result (λ e. e ≡ Memory) }
 {
     let mut reader = Reader::new(alloc, Limits::CLIENT);
     reader.feed(text)?;

@@ -1,11 +1,14 @@
 //! One client, answered from a reader to a writer, with one host behind it.
-ghost use Rattle.std.specs.Prelude.{◌≡◌, ◌++◌, [], OnOk, IfOk, IfSome, IfNone};
+ghost use Rattle.std.specs.Prelude.{◌≡◌, ◌++◌, [], OnOk, IfOk, IfErr, IfSome, IfNone};
 ghost use Rattle.std.specs.Io.KnownBytes.{Appends};
 ghost use Rattle.splitter.specs.Request.{request_of};
-ghost use Rattle.proxy_run.specs.Request.{client_limit};
+ghost use Rattle.splitter.specs.Requests.{finishes};
+ghost use Rattle.resp_core.specs.declared.reader.TheConstants.{CLIENT_MEMBERS};
+ghost use Rattle.proxy_run.specs.Ending.{IsShort, IsEndOfRun};
+ghost use Rattle.proxy_run.specs.declared.ending.Ending.TheVariants.{Socket};
 ghost use Rattle.proxy_run.specs.Flow.{is_finish};
 ghost use Rattle.proxy_run.specs.Sendable.{IsRead};
-ghost use Rattle.proxy_run.specs.Reply.{reply_text, map_after, finishes};
+ghost use Rattle.proxy_run.specs.Reply.{reply_text, map_after};
 ghost use Rattle.proxy_run.specs.Stream.{AnswersAll, AnswersWhole, AnswersLast, IsNext, IsAnswered};
 
 use crate::ending::Ending;
@@ -34,7 +37,8 @@ pub fn local_run<R: Read, W: Write>(
     input: &mut R,
     output: &mut W,
 ) -> Result<(), Ending>
-    ensures { OnOk result (AnswersAll (R.remaining input.old) (W.contents output.old) (W.contents output.new)) }
+    ensures answers { OnOk result (AnswersAll (R.remaining input.old) (W.contents output.old) (W.contents output.new)) }
+    ensures err { IfErr result IsEndOfRun }
 {
     let mut reader = Reader::new(alloc, Limits::CLIENT);
     let mut queue = Queue::new(alloc);
@@ -61,7 +65,8 @@ pub fn local_run<R: Read, W: Write>(
 
 // Writes the answers, and forgets them.
 fn write_out<W: Write>(output: &mut W, answers: &mut Vec<u8>) -> Result<(), Ending>
-    ensures { OnOk result (Appends (W.contents output.old) (W.contents output.new) answers.old.items × (answers.new.items ≡ [])) }
+    ensures written { OnOk result (Appends (W.contents output.old) (W.contents output.new) answers.old.items × (answers.new.items ≡ [])) }
+    ensures err { IfErr result (λ e. e ≡ Socket) }
 {
     output
         .write_all(answers.as_slice())
@@ -78,12 +83,13 @@ fn answer_requests(
     host: &mut Host,
     answers: &mut Vec<u8>,
 ) -> Result<Flow, Ending>
-    requires most { reader.old.most ≡ client_limit }
+    requires most { reader.old.most ≡ CLIENT_MEMBERS }
     requires empty { queue.old.commands ≡ [] }
     ensures empty { OnOk result (queue.new.commands ≡ []) }
     ensures most { reader.new.most ≡ reader.old.most }
     ensures goes_on { IfOk result (λ flow. flow ≡ Flow.GoesOn → AnswersWhole reader.old reader.new host.old host.new answers.old.items answers.new.items) }
     ensures finishes { IfOk result (λ flow. flow ≡ Flow.Finishes → AnswersLast reader.old host.old answers.old.items answers.new.items) }
+    ensures err { IfErr result IsShort }
 {
     while let Some(request) = next_request(reader)? {
         match append_answer(alloc, request, queue, host, answers)? {
@@ -96,11 +102,12 @@ fn answer_requests(
 
 // The next request of the stream, if it came whole.
 fn next_request(reader: &mut Reader) -> Result<Option<Request>, Ending>
-    requires { reader.old.most ≡ client_limit }
+    requires { reader.old.most ≡ CLIENT_MEMBERS }
     ensures most { reader.new.most ≡ reader.old.most }
     ensures read { IfOk result (λ o. IfSome o (λ r. IsRead (request_of r))) }
     ensures next { IfOk result (λ o. IfSome o (λ r. IsNext reader.old reader.new (request_of r))) }
     ensures none { IfOk result (λ o. IfNone o (IsAnswered reader.old reader.new)) }
+    ensures err { IfErr result IsShort }
 {
     match reader.next_value() {
         Ok(Some(value)) => Ok(Some(Request::Read(value))),
@@ -124,6 +131,7 @@ fn append_answer(
     ensures text { OnOk result (answers.new.items ≡ answers.old.items ++ reply_text host.old (request_of request)) }
     ensures map { OnOk result (host.new ≡ map_after host.old (request_of request)) }
     ensures flow { IfOk result (λ flow. is_finish flow ≡ finishes (request_of request)) }
+    ensures err { IfErr result IsShort }
 {
     let (reply, flow) = reply_to(alloc, &request, queue, host)?;
     put_text(alloc, &reply, answers)?;

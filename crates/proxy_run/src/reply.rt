@@ -1,15 +1,17 @@
 //! The reply to a request: the proxy's own answer, or the join of the answers to its parts.
-ghost use Rattle.std.specs.Prelude.{◌≡◌, ◌<◌, ◌^◌, [], ◌∷◌, Some, List, ℕ, IfOk, OnOk, map, length, slice_get, None};
+ghost use Rattle.std.specs.Prelude.{◌≡◌, ◌<◌, ◌^◌, [], ◌∷◌, Some, List, ℕ, IfOk, IfErr, OnOk, map, length, slice_get, None};
 ghost use Rattle.resp_core.specs.Tree.{Tree};
 ghost use Rattle.resp_core.specs.Text.{text as spelling};
 ghost use Rattle.resp_core.specs.Value.{tree_of};
 ghost use Rattle.splitter.specs.Request.{request_of};
+ghost use Rattle.splitter.specs.Requests.{finishes};
 ghost use Rattle.splitter.specs.Join.{MayJoin, join_of};
 ghost use Rattle.reply_queue.specs.Command.{AwaitedCommand, with_value, reply_to as awaited_reply};
 ghost use Rattle.stub_server.specs.Table.{answer_of, answers_of, map_after as map_after_command, map_after_all};
+ghost use Rattle.proxy_run.specs.Ending.{IsShort};
 ghost use Rattle.proxy_run.specs.Flow.{is_finish};
 ghost use Rattle.proxy_run.specs.Sendable.{IsSendable, IsSendableText, IsRead, AreTextsOf, AreSendable, AreSendableTexts};
-ghost use Rattle.proxy_run.specs.Reply.{outcome, map_after, finishes};
+ghost use Rattle.proxy_run.specs.Reply.{outcome, map_after};
 
 use crate::ending::Ending;
 use crate::host::Host;
@@ -45,6 +47,7 @@ pub fn reply_to(
     ensures reply { IfOk result (λ r. tree_of r.0 ≡ (outcome host.old (request_of request.now)).answer) }
     ensures map { OnOk result (host.new ≡ map_after host.old (request_of request.now)) }
     ensures flow { IfOk result (λ r. is_finish r.1 ≡ finishes (request_of request.now)) }
+    ensures err { IfErr result IsShort }
 {
     match plan(alloc, request)? {
         Plan::Here(_, value) => Ok((own_reply(queue, value)?, Flow::GoesOn)),
@@ -58,6 +61,7 @@ fn own_reply(queue: &mut Queue, value: Value) -> Result<Value, Ending>
     requires { queue.old.commands ≡ [] }
     ensures empty { OnOk result (queue.new.commands ≡ []) }
     ensures reply { IfOk result (λ reply. tree_of reply ≡ tree_of value) }
+    ensures err { IfErr result IsShort }
 {
     let command = queue.accept(Join::Same, 1)?;
     queue.set_part(command, 0, value);
@@ -78,6 +82,7 @@ fn joined_reply(
     ensures empty { OnOk result (queue.new.commands ≡ []) }
     ensures reply { IfOk result (λ reply. (ts : List Tree) → AreTextsOf parts.now ts → AreSendable ts → tree_of reply ≡ join_of how (answers_of host.old ts)) }
     ensures map { OnOk result ((ts : List Tree) → AreTextsOf parts.now ts → AreSendable ts → host.new ≡ map_after_all host.old ts) }
+    ensures err { IfErr result IsShort }
 {
     let command = queue.accept(how, parts.0.len())?;
     for (number, part) in parts.0.iter().enumerate() {
@@ -101,6 +106,7 @@ fn answer_part(
     ensures reply { OnOk result ((t : Tree) (c : AwaitedCommand) → text ≡ spelling t → IsSendable t → queue.old.commands ≡ c ∷ []
         → queue.new.commands ≡ with_value part (answer_of host.old t) c ∷ []) }
     ensures map { OnOk result ((t : Tree) → text ≡ spelling t → IsSendable t → host.new ≡ map_after_command host.old t) }
+    ensures err { IfErr result IsShort }
 {
     let owner = Owner {
         conn: 0,
@@ -117,6 +123,7 @@ fn pop_reply(queue: &mut Queue) -> Result<Value, Ending>
     requires { (c : AwaitedCommand) × (t : Tree) × (queue.old.commands ≡ c ∷ []) × (awaited_reply c ≡ Some t) }
     ensures empty { OnOk result (queue.new.commands ≡ []) }
     ensures reply { IfOk result (λ reply. (c : AwaitedCommand) → queue.old.commands ≡ c ∷ [] → awaited_reply c ≡ Some (tree_of reply)) }
+    ensures err { IfErr result IsShort }
 {
     match queue.pop()? {
         Some(reply) => Ok(reply),

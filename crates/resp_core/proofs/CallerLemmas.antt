@@ -9,5 +9,8 @@ pub use Rattle.resp_core.proofs.TreeLemmas.{length_members}
 -- the laws of texts
 pub use Rattle.resp_core.proofs.Spelling.{spelling_is_shortest, read_values_are_plain}
 
+-- what a reader stands after
+pub use Rattle.resp_core.proofs.Streams.{splits-Stands}
+
 -- the laws of streams
 pub use Rattle.resp_core.proofs.StreamLaws.{each_stream_holds, one_holding, refusal_stays, values_stay, text_is_read_back}

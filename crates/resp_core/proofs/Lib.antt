@@ -17,3 +17,4 @@ pub mod Numbers
 pub mod Examples
 pub mod Lengths
 pub mod CallerLemmas
+pub mod Readable

@@ -119,3 +119,7 @@ begins_with most b (t ∷ ts) (u ∷ us) rest left g h l =
 
 pub one_reading : OneReading
 one_reading most b ts us rest left g h = begins_with most b ts us rest left g.splits h (g.longest us left h)
+
+-- the values that a reader has given stand at the front of what it was fed
+pub splits-Stands : (r : ReaderState) (b : List ℕ) (ts : List Tree) → Stands r b ts → (rest : List ℕ) × Splits r.most b ts rest
+splits-Stands r b ts h = (r.held, h.splits)

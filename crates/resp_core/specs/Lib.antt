@@ -13,3 +13,4 @@ pub mod Front
 pub mod Within
 pub mod Command
 pub mod Laws
+pub mod Readable

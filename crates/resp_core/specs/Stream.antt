@@ -11,10 +11,6 @@ abbrev pub Splits : ℕ → List ℕ → List Tree → List ℕ → Type 0
 Splits most b [] rest = b ≡ rest
 Splits most b (t ∷ ts) rest = (x y : List ℕ) × (b ≡ x ++ y) × IsText most max_depth x t × (length x ≤ max_text) × Splits most y ts rest
 
--- the bytes are a text of the value, of at most so many bytes, and then these bytes
-abbrev pub IsFront : ℕ → List ℕ → Tree → List ℕ → Type 0
-IsFront most b t rest = (x : List ℕ) × (b ≡ x ++ rest) × IsText most max_depth x t × (length x ≤ max_text)
-
 -- a whole value, of at most so many bytes, stands at the front
 abbrev pub HasWhole : ℕ → List ℕ → Type 0
 HasWhole most b = (t : Tree) × (x y : List ℕ) × (b ≡ x ++ y) × IsText most max_depth x t × (length x ≤ max_text)
@@ -66,6 +62,10 @@ pub record ReaderState : Type 0 where
   pub consumed : ℕ
   pub held : List ℕ
   pub refusal : Option RespError
+
+-- how many bytes behind the values given a reader has been fed
+abbrev pub unread : ReaderState → ℕ
+unread r = length r.held
 
 -- a reader that was fed these bytes and has given these values
 pub record Stands (r : ReaderState) (b : List ℕ) (ts : List Tree) : Type 0 where

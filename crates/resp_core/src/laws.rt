@@ -1,5 +1,8 @@
 //! Laws of texts and streams, each the contract of a function that does nothing: whoever stands on them calls it.
+ghost use Rattle.std.specs.Prelude.{◌≡◌};
 ghost use Rattle.resp_core.specs.Laws.{NoTextBeginsAnother, TextIsRead, SpellingIsShortest, ReadValuesArePlain, CommandsArePlain, OneReading, EachStreamHolds, OneHolding, RefusalStays, OneRefusedByte, OneNumber, OneRefusal, ValuesStay, TextIsReadBack, TextIsReadNext};
+
+use crate::reader::{CLIENT_MEMBERS, HOST_MEMBERS, Limits};
 
 /// No text begins another, so a stream can be read from its front with no look ahead.
 pub fn no_text_begins_another()
@@ -63,4 +66,10 @@ pub fn refusal_stays()
 /// A stream that goes on keeps the values that it had.
 pub fn values_stay()
     ensures { ValuesStay }
+{}
+
+/// The most members of an array: 1,024 from a client, 65,536 from a host.
+pub fn members_are_limited()
+    ensures client { (CLIENT_MEMBERS ≡ 1024) × (Limits.CLIENT.array ≡ CLIENT_MEMBERS) }
+    ensures host { (HOST_MEMBERS ≡ 65536) × (Limits.HOST.array ≡ HOST_MEMBERS) }
 {}

@@ -1,7 +1,8 @@
 //! A reader of a stream that comes in pieces.
 ghost use Rattle.std.specs.Prelude.{◌≡◌, ◌≢◌, ◌⊎◌, ◌∷◌, ◌++◌, [], Ok, Err, Some, None, OnOk, OnErr, IfOk, IfErr, IfSome, IfNone, IsErrOf, ◌<◌, ◌^◌, length, List, ℕ};
 ghost use Rattle.resp_core.specs.Tree.{Tree};
-ghost use Rattle.resp_core.specs.Stream.{Stands, IsFront, HasRefusal, HasNoRefusal};
+ghost use Rattle.resp_core.specs.Stream.{Stands, HasRefusal, HasNoRefusal, unread};
+ghost use Rattle.resp_core.specs.Readable.{IsReadable};
 ghost use Rattle.resp_core.specs.Offset.{offset_of, number_of};
 ghost use Rattle.resp_core.specs.Value.{tree_of};
 ghost use Rattle.resp_core.specs.Front.{IsFirstValue, IsUnfinished, IsHaltOf};
@@ -25,12 +26,22 @@ pub struct Limits {
     pub array: u32,
 }
 
+/// The most members of an array that a client may send.
+pub const CLIENT_MEMBERS: u32 = 1_024;
+
+/// The most members of an array that a host may answer.
+pub const HOST_MEMBERS: u32 = 65_536;
+
 impl Limits {
     /// What a client may send: arrays of at most 1,024 members.
-    pub const CLIENT: Limits = Limits { array: 1_024 };
+    pub const CLIENT: Limits = Limits {
+        array: CLIENT_MEMBERS,
+    };
 
     /// What a host may answer: arrays of at most 65,536 members.
-    pub const HOST: Limits = Limits { array: 65_536 };
+    pub const HOST: Limits = Limits {
+        array: HOST_MEMBERS,
+    };
 }
 
 // Bytes in the text of one outermost value.
@@ -70,6 +81,7 @@ impl Reader {
     pub fn new(alloc: Global, limits: Limits) -> Reader
         ensures most { result.most ≡ limits.array }
         ensures stands { Stands result [] [] }
+        ensures refusal { result.refusal ≡ None }
     {
         Reader {
             bytes: Vec::new(alloc),
@@ -126,8 +138,8 @@ impl Reader {
     pub fn next_value(&mut self) -> Result<Option<Value>, RespError>
         ensures value { IfOk result (λ o. IfSome o (λ v. (b : List ℕ) (ts : List Tree) → Stands self.old b ts
             → Stands self.new b (ts ++ tree_of v ∷ []))) }
-        ensures front { IfOk result (λ o. IfSome o (λ v. IsFront self.old.most self.old.held (tree_of v) self.new.held)) }
-        ensures shorter { IfOk result (λ o. IfSome o (λ _. length self.new.held < length self.old.held)) }
+        ensures given { IfOk result (λ o. IfSome o (λ v. IsReadable self.old.most (tree_of v))) }
+        ensures falls { IfOk result (λ o. IfSome o (λ _. unread self.new < unread self.old)) }
         ensures none { IfOk result (λ o. IfNone o ((b : List ℕ) (ts : List Tree) → Stands self.old b ts
             → HasNoRefusal self.old.most b ts)) }
         ensures none_same { IfOk result (λ o. IfNone o (self.new ≡ self.old)) }

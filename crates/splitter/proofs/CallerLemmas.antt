@@ -11,3 +11,6 @@ pub use Rattle.splitter.proofs.PartLaws.{all_made, plain_command, parts_are_comm
 
 -- parts keep a client's limits
 pub use Rattle.splitter.proofs.CommandLaws.{parts_are_of_commands, commands_keep_limits}
+
+-- requests, and where they finish
+pub use Rattle.splitter.proofs.RequestLemmas.{none_finishes-one, none_finishes-append, up_to_last-none, up_to_last-first, each_stream_asks, one_asking}

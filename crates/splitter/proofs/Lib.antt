@@ -5,4 +5,5 @@ pub mod PlanLemmas
 pub mod PlainLaws
 pub mod PartLaws
 pub mod CommandLaws
+pub mod RequestLemmas
 pub mod CallerLemmas

@@ -7,6 +7,7 @@ use Rattle.resp_core.specs.Grammar.{max_text, max_depth}
 use Rattle.resp_core.specs.Within.{IsWithin}
 use Rattle.resp_core.specs.Command.{is_command}
 use Rattle.resp_core.specs.Laws.{Holds}
+use Rattle.resp_core.specs.declared.reader.TheConstants.{CLIENT_MEMBERS}
 use Rattle.splitter.specs.declared.plans.Join.{Join}
 use Rattle.splitter.specs.declared.plans.PartPlan.{PartPlan}
 use Rattle.splitter.specs.Request.{Request, read}
@@ -14,6 +15,7 @@ use Rattle.splitter.specs.Plan.{Plan, here, leave, parts, plan_of}
 use Rattle.splitter.specs.Split.{Words, command_of, part_at}
 use Rattle.splitter.specs.Commands.{commands_of}
 use Rattle.splitter.specs.Join.{MayJoin, join_of}
+use Rattle.splitter.specs.Requests.{AreRequests}
 
 -- the part of a command of these words: its text is that command's, and its key is one of them, behind the name
 pub record IsPart (p : PartPlan) (words : Words) : Type 0 where
@@ -27,13 +29,9 @@ pub record IsPart (p : PartPlan) (words : Words) : Type 0 where
 abbrev pub PartsAreCommands : Type 0
 PartsAreCommands = (t : Tree) (how : Join) (ps : List PartPlan) → plan_of (read t) ≡ parts how ps → MayJoin how (length ps) × All (λ p. (words : Words) × IsPart p words) ps
 
--- the members of an array that a client may send
-abbrev pub client_members : ℕ
-client_members = 1024
-
 -- The parts of a command that keeps a client's limits keep them too, and none has a longer text than the command.
 abbrev pub PartsKeepLimits : Type 0
-PartsKeepLimits = (t : Tree) (how : Join) (ps : List PartPlan) → plan_of (read t) ≡ parts how ps → IsWithin client_members max_depth t → All (λ p. (words : Words) × IsPart p words × IsWithin client_members max_depth (command_of words) × (length p.text ≤ length (text t))) ps
+PartsKeepLimits = (t : Tree) (how : Join) (ps : List PartPlan) → plan_of (read t) ≡ parts how ps → IsWithin CLIENT_MEMBERS max_depth t → All (λ p. (words : Words) × IsPart p words × IsWithin CLIENT_MEMBERS max_depth (command_of words) × (length p.text ≤ length (text t))) ps
 
 -- Parts are those of the commands that hosts are asked for a request.
 abbrev pub PartsAreOfCommands : Type 0
@@ -41,15 +39,15 @@ PartsAreOfCommands = (r : Request) (how : Join) (ps : List PartPlan) → plan_of
 
 -- The commands that hosts are asked for a command that keeps a client's limits keep them too, and none is longer than it.
 abbrev pub CommandsKeepLimits : Type 0
-CommandsKeepLimits = (t : Tree) → IsWithin client_members max_depth t → All (λ words. IsWithin client_members max_depth (command_of words) × (length (text (command_of words)) ≤ length (text t))) (commands_of (read t))
+CommandsKeepLimits = (t : Tree) → IsWithin CLIENT_MEMBERS max_depth t → All (λ words. IsWithin CLIENT_MEMBERS max_depth (command_of words) × (length (text (command_of words)) ≤ length (text t))) (commands_of (read t))
 
 -- whatever follows these bytes in a stream, under a client's limits its first value is this one
 abbrev pub IsReadFirst : List ℕ → Tree → Type 0
-IsReadFirst b t = (more : List ℕ) (ts : List Tree) (refused : Bool) → Holds client_members (b ++ more) ts refused → (others : List Tree) × (ts ≡ t ∷ others)
+IsReadFirst b t = (more : List ℕ) (ts : List Tree) (refused : Bool) → Holds CLIENT_MEMBERS (b ++ more) ts refused → (others : List Tree) × (ts ≡ t ∷ others)
 
 -- A host that reads with a client's limits reads the text of a part as the part's command.
 abbrev pub PartsAreReadBack : Type 0
-PartsAreReadBack = (t : Tree) (how : Join) (ps : List PartPlan) → plan_of (read t) ≡ parts how ps → IsWithin client_members max_depth t → length (text t) ≤ max_text → All (λ p. (words : Words) × IsPart p words × IsReadFirst p.text (command_of words)) ps
+PartsAreReadBack = (t : Tree) (how : Join) (ps : List PartPlan) → plan_of (read t) ≡ parts how ps → IsWithin CLIENT_MEMBERS max_depth t → length (text t) ≤ max_text → All (λ p. (words : Words) × IsPart p words × IsReadFirst p.text (command_of words)) ps
 
 -- the value of a plan, if it has one, can be written
 abbrev pub has_plain_value : Plan → Bool
@@ -64,3 +62,10 @@ PlanTextsArePlain = (r : Request) → has_plain_value (plan_of r) ≡ true
 -- A join of values that can be written can be.
 abbrev pub JoinsOfPlainValuesArePlain : Type 0
 JoinsOfPlainValuesArePlain = (how : Join) (ts : List Tree) → list_all is_plain_tree ts ≡ true → is_plain_tree (join_of how ts) ≡ true
+
+-- Each stream asks something, and one thing.
+abbrev pub EachStreamAsks : Type 0
+EachStreamAsks = (b : List ℕ) → (rs : List Request) × AreRequests b rs
+
+abbrev pub OneAsking : Type 0
+OneAsking = (b : List ℕ) (rs qs : List Request) → AreRequests b rs → AreRequests b qs → rs ≡ qs

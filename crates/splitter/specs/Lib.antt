@@ -7,3 +7,4 @@ pub mod Part
 pub mod Join
 pub mod Refusal
 pub mod Laws
+pub mod Requests

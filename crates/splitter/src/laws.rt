@@ -1,5 +1,5 @@
 //! Laws of plans and joins, each the contract of a function that does nothing: whoever stands on them calls it.
-ghost use Rattle.splitter.specs.Laws.{CommandsKeepLimits, PartsAreCommands, PartsAreOfCommands, PartsKeepLimits, PartsAreReadBack, PlanTextsArePlain, JoinsOfPlainValuesArePlain};
+ghost use Rattle.splitter.specs.Laws.{CommandsKeepLimits, PartsAreCommands, PartsAreOfCommands, PartsKeepLimits, PartsAreReadBack, PlanTextsArePlain, JoinsOfPlainValuesArePlain, EachStreamAsks, OneAsking};
 
 /// The parts of a command are as many as their join asks for, and the text of each is that of a command of words, among
 /// which its key is, behind the name.
@@ -38,4 +38,11 @@ pub fn plan_texts_are_plain()
 /// The join of values that can be written can be written.
 pub fn joins_of_plain_values_are_plain()
     ensures { JoinsOfPlainValuesArePlain }
+{}
+
+/// The bytes of a client's stream ask one list of requests: its values in order, and then a broken one where a byte behind
+/// them is refused.
+pub fn streams_ask_one_list()
+    ensures some { EachStreamAsks }
+    ensures one { OneAsking }
 {}

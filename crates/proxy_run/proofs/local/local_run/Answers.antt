@@ -1,11 +1,13 @@
 use Rattle.std.proofs.Common.{rules, ◌++◌, ◌<◌, ◌∷◌, ℕ, List, [], map, length, take, refl, sym, ap, ◌∙◌, subst, arith}
 use Rattle.std.specs.Io.KnownBytes.{Consumes, Appends}
 use Rattle.splitter.specs.Request.{read}
-use Rattle.proxy_run.specs.Reply.{finishes, reply_texts, map_after_all}
+use Rattle.splitter.specs.Requests.{finishes}
+use Rattle.proxy_run.specs.Reply.{reply_texts, map_after_all}
 use Rattle.std.specs.List.{list_any}
 use Rattle.std.proofs.lemmas.List.{map-append}
+use Rattle.splitter.proofs.CallerLemmas.{none_finishes-append}
 use Rattle.proxy_run.proofs.Known.{consumes_none, appends_none, consumes_then, consumes_kept, appends_then}
-use Rattle.proxy_run.proofs.Answering.{nothing_refused, answers_ended, answers_finished, none_both, reply_texts-append, map_after_all-append}
+use Rattle.proxy_run.proofs.Answering.{nothing_refused, answers_ended, answers_finished, reply_texts-append, map_after_all-append}
 use Rattle.proxy_run.proofs.local.local_run.Goals as goal
 
 pub loop-init : goal.loop-init
@@ -17,8 +19,8 @@ loop-init g c = record {
   answered = ([], [], consumes_none (g.R.Read.remaining c.args.input.now), c.new-reader.ensures.stands, nothing_refused, refl, appends_none (g.W.Write.contents c.args.output.now), c.new-host.ensures);
 }
 
-pub returns-in-Ok-eq0 : goal.returns-in-Ok-eq0
-returns-in-Ok-eq0 g c =
+pub returns-in-Ok-eq0-clause-answers : goal.returns-in-Ok-eq0-clause-answers
+returns-in-Ok-eq0-clause-answers g c =
     let (b, ts, consumed, stands, none, goes_on, appended, hosts) = c.loop.invariant.answered in
     let f = rw c.in-Ok-eq0.is at c.read.ensures.bytes in
     let auto = c.read.auto.buf in
@@ -43,14 +45,14 @@ answer_requests-answered-requires-clause-most g c = c.in_ok-feed.ensures.most �
 pub answer_requests-answered-requires-clause-empty : goal.answer_requests-answered-requires-clause-empty
 answer_requests-answered-requires-clause-empty g c = c.loop.invariant.empty
 
-pub returns-in-Finishes : goal.returns-in-Finishes
-returns-in-Finishes g c =
+pub returns-in-Finishes-clause-answers : goal.returns-in-Finishes-clause-answers
+returns-in-Finishes-clause-answers g c =
     let (b, ts, consumed, stands, none, goes_on, appended, hosts) = c.loop.invariant.answered in
     let (front, last, first, before, finish, gave) = c.in_ok-answered.ensures.finishes c.in-Finishes.is _ ts (c.in_ok-feed.ensures.ok b ts stands) in
     let out = gave ∙ ap (λ z. z ++ reply_texts c.loop.host (front ++ last ∷ [])) c.loop.invariant.written ∙ ap (λ z. reply_texts z (front ++ last ∷ [])) hosts in
     answers_finished (g.R.Read.remaining c.args.input.now) (g.R.Read.remaining c.read.new.self) (g.W.Write.contents c.args.output.now) (g.W.Write.contents c.loop.output) (g.W.Write.contents c.write_out.new.output) (b ++ take c.in-Ok.len c.read.new.buf) ts front last
     (consumes_then (g.R.Read.remaining c.args.input.now) (g.R.Read.remaining c.loop.input) (g.R.Read.remaining c.read.new.self) b (take c.in-Ok.len c.read.new.buf) consumed c.in-Ok.ensures.bytes.0) first goes_on before finish appended
-    (subst (λ (z : List ℕ). Appends (g.W.Write.contents c.loop.output) (g.W.Write.contents c.write_out.new.output) z) out c.in_ok-write_out.ensures.0)
+    (subst (λ (z : List ℕ). Appends (g.W.Write.contents c.loop.output) (g.W.Write.contents c.write_out.new.output) z) out c.in_ok-write_out.ensures.written.0)
 
 pub loop-preserved : goal.loop-preserved
 loop-preserved g c =
@@ -60,7 +62,7 @@ loop-preserved g c =
     record {
       most = c.answer_requests-answered.ensures.most ∙ c.in_ok-feed.ensures.most ∙ c.loop.invariant.most;
       empty = c.in_ok-answered.ensures.empty;
-      written = c.in_ok-write_out.ensures.1;
+      written = c.in_ok-write_out.ensures.written.1;
       size = c.read.auto.buf ∙ c.loop.invariant.size;
       answered = (
         b ++ take c.in-Ok.len c.read.new.buf,
@@ -68,10 +70,10 @@ loop-preserved g c =
         consumes_then (g.R.Read.remaining c.args.input.now) (g.R.Read.remaining c.loop.input) (g.R.Read.remaining c.read.new.self) b (take c.in-Ok.len c.read.new.buf) consumed c.in-Ok.ensures.bytes.0,
         stands',
         none',
-        ap (list_any finishes) (map-append read ts us) ∙ none_both (map read ts) (map read us) goes_on goes_on',
+        ap (list_any finishes) (map-append read ts us) ∙ none_finishes-append (map read ts) (map read us) goes_on goes_on',
         subst (λ (z : List ℕ). Appends (g.W.Write.contents c.args.output.now) (g.W.Write.contents c.write_out.new.output) z) (sym (ap (reply_texts []) (map-append read ts us) ∙ reply_texts-append [] (map read ts) (map read us)))
             (appends_then (g.W.Write.contents c.args.output.now) (g.W.Write.contents c.loop.output) (g.W.Write.contents c.write_out.new.output) (reply_texts [] (map read ts)) (reply_texts (map_after_all [] (map read ts)) (map read us)) appended
-            (subst (λ (z : List ℕ). Appends (g.W.Write.contents c.loop.output) (g.W.Write.contents c.write_out.new.output) z) out c.in_ok-write_out.ensures.0)),
+            (subst (λ (z : List ℕ). Appends (g.W.Write.contents c.loop.output) (g.W.Write.contents c.write_out.new.output) z) out c.in_ok-write_out.ensures.written.0)),
         moved ∙ ap (λ z. map_after_all z (map read us)) hosts ∙ sym (map_after_all-append [] (map read ts) (map read us)) ∙ ap (map_after_all []) (sym (map-append read ts us)),
       );
     }

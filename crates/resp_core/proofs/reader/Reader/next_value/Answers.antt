@@ -4,6 +4,7 @@ use Rattle.resp_core.specs.Value.{tree_of}
 use Rattle.resp_core.specs.Front.{IsFirstValue, IsUnfinished, IsFault}
 use Rattle.resp_core.specs.Offset.{offset_of, number_of, refusal_number}
 use Rattle.resp_core.specs.Stream.{told_offset}
+use Rattle.resp_core.proofs.Readable.{first_readable}
 use Rattle.resp_core.proofs.Streams.{first_value_some, stands_given, stands_told, no_refusal, has_refusal}
 use Rattle.resp_core.proofs.reader.Reader.next_value.Goals as goal
 
@@ -25,26 +26,21 @@ returns-in-Ok-Some-clause-value c =
     stands_given c.args.self.now b ts (tree_of c.in-Ok-Some.value) c.in-Ok-Some.len h (sym (ap (λ z. z.refusal) v) ∙ none) f _ (ap (λ z. z.most) v)
     (c.saturating_add-self-inside.ensures ∙ ap (λ z. told_offset (z.consumed + c.in-Ok-Some.len)) v) (sym (drop-drop c.in-Ok-Some.len i.start i.bytes.items) ∙ ap (λ z. drop c.in-Ok-Some.len z.held) v) none
 
-pub returns-in-Ok-Some-clause-shorter : goal.returns-in-Ok-Some-clause-shorter
-returns-in-Ok-Some-clause-shorter c =
+pub returns-in-Ok-Some-clause-falls : goal.returns-in-Ok-Some-clause-falls
+returns-in-Ok-Some-clause-falls c =
     let i = c.self.inside in
     let v = c.self.view_is in
     let e = tail_is c.deref.result.now i.bytes.items i.start c.deref.ensures.value ∙ ap (λ z. z.held) v in
     let f = moved (λ m h. IsFirstValue m h (tree_of c.in-Ok-Some.value) c.in-Ok-Some.len) (ap (λ z. z.most) v) e (rw c.in-Ok-Some.field-0-is at c.in-Ok-Some.ensures.found) in
     omega (arith, length-drop (i.start + c.in-Ok-Some.len) i.bytes.items, length-drop i.start i.bytes.items, ap (λ z. length z.held) v, f.inside, first_value_some c.args.self.now.most c.args.self.now.held (tree_of c.in-Ok-Some.value) c.in-Ok-Some.len f)
 
-pub returns-in-Ok-Some-clause-front : goal.returns-in-Ok-Some-clause-front
-returns-in-Ok-Some-clause-front c =
+pub returns-in-Ok-Some-clause-given : goal.returns-in-Ok-Some-clause-given
+returns-in-Ok-Some-clause-given c =
     let i = c.self.inside in
     let v = c.self.view_is in
     let e = tail_is c.deref.result.now i.bytes.items i.start c.deref.ensures.value ∙ ap (λ z. z.held) v in
     let f = moved (λ m h. IsFirstValue m h (tree_of c.in-Ok-Some.value) c.in-Ok-Some.len) (ap (λ z. z.most) v) e (rw c.in-Ok-Some.field-0-is at c.in-Ok-Some.ensures.found) in
-    let rest : drop c.in-Ok-Some.len c.args.self.now.held ≡ drop (i.start + c.in-Ok-Some.len) i.bytes.items = sym (ap (λ z. drop c.in-Ok-Some.len z.held) v) ∙ drop-drop c.in-Ok-Some.len i.start i.bytes.items in (
-      take c.in-Ok-Some.len c.args.self.now.held,
-      sym (take-append-drop c.in-Ok-Some.len c.args.self.now.held) ∙ ap (λ z. take c.in-Ok-Some.len c.args.self.now.held ++ z) rest,
-      f.text,
-      omega (arith, f.few, length-take-le c.in-Ok-Some.len c.args.self.now.held f.inside),
-    )
+    first_readable c.args.self.now.most c.args.self.now.held (tree_of c.in-Ok-Some.value) c.in-Ok-Some.len f
 
 pub returns-in-Ok-None-clause-none : goal.returns-in-Ok-None-clause-none
 returns-in-Ok-None-clause-none c =
