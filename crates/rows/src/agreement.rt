@@ -13,10 +13,19 @@ pub struct Answers {
 }
 
 impl Answers {
+    /// Whether there are two answers, which aren't the same.
+    pub fn differ(&self) -> bool {
+        match (&self.core, &self.plain) {
+            (Some(core), Some(plain)) => core.as_str() != plain.as_str(),
+            _ => false,
+        }
+    }
+
     /// The one answer, or both where they differ.
     pub fn text(self, alloc: Global) -> Result<String> {
+        let differ = self.differ();
         match (self.core, self.plain) {
-            (Some(core), Some(plain)) if core.as_str() != plain.as_str() => {
+            (Some(core), Some(plain)) if differ => {
                 Ok(format!(in alloc; "DIFFER: core {core}, plain {plain}")?)
             }
             (Some(core), _) => Ok(core),

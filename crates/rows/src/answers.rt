@@ -2,7 +2,7 @@
 
 use crate::text::put_escaped;
 use anyhow::Result;
-use proxy_core::{Answer, Local, Refusal, Trip};
+use proxy_core::{Answer, Field, Local, Refusal, Trip};
 use std::alloc::Global;
 
 /// The answer in words: its name, and its fields in their order.
@@ -92,6 +92,35 @@ pub fn refusal_text(alloc: Global, refusal: Refusal) -> Result<String> {
         Refusal::NotReady { left } => write!(text, " left {left}")?,
         Refusal::BadSettings { field } => write!(text, " {field}")?,
         _ => {}
+    }
+    Ok(text)
+}
+
+/// Each refusal in words, in the order of their numbers.
+pub fn all_refusals(alloc: Global) -> Result<String> {
+    let refusals = [
+        Refusal::NoMemory,
+        Refusal::JournalFull,
+        Refusal::NoSuchConnection,
+        Refusal::Crowded,
+        Refusal::NothingWaiting,
+        Refusal::Stale { current: 3 },
+        Refusal::Unasked,
+        Refusal::NotReady { left: 3 },
+        Refusal::Finishing,
+        Refusal::TooManyConnections,
+        Refusal::BadSettings {
+            field: Field::Hosts,
+        },
+        Refusal::NoSuchHost,
+        Refusal::NotPlain,
+    ];
+    let mut text = String::new(alloc);
+    for refusal in refusals {
+        if !text.is_empty() {
+            text.push_str("; ")?;
+        }
+        text.push_str(refusal_text(alloc, refusal)?.as_str())?;
     }
     Ok(text)
 }

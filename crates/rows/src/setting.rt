@@ -49,13 +49,27 @@ impl Setting {
         Ok(())
     }
 
-    /// A core on this setting.
+    /// A core on this setting, made again where there was no memory.
     pub fn core(&self, alloc: Global) -> Result<Core, Refusal> {
+        match self.one_core(alloc) {
+            Err(Refusal::NoMemory) => self.one_core(alloc),
+            made => made,
+        }
+    }
+
+    fn one_core(&self, alloc: Global) -> Result<Core, Refusal> {
         Core::new(alloc, self.ring(alloc)?, self.settings)
     }
 
-    /// A plain program on this setting.
+    /// A plain program on this setting, made again where there was no memory.
     pub fn plain(&self, alloc: Global) -> Result<Reference, Refusal> {
+        match self.one_plain(alloc) {
+            Err(Refusal::NoMemory) => self.one_plain(alloc),
+            made => made,
+        }
+    }
+
+    fn one_plain(&self, alloc: Global) -> Result<Reference, Refusal> {
         Reference::new(alloc, self.ring(alloc)?, self.settings)
     }
 
