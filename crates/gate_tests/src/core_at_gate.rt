@@ -1,73 +1,24 @@
-//! The core behind the gate: two passes in two threads.
+//! The gate round the core: two passes in two threads.
 ghost use Rattle.std.specs.Prelude.{◌≡◌, [], IfOk};
-ghost use Rattle.ticket_gate.specs.Gate.{IsPassOf, IsSpareOf};
+ghost use Rattle.ticket_gate.specs.Gate.{IsPassOf};
 
-use crate::{Core, Event, Refusal, Settings};
+use crate::gate::{enrol, open};
 use ketama::Ring;
+use proxy_core::{Core, Event, Settings};
 use std::alloc::Global;
 use std::sync::Wait;
 use std::test::Fail;
 use std::thread;
-use ticket_gate::{Gate, Pass, Spare, TurnRefusal};
+use ticket_gate::{Gate, Pass};
 
 const SWEEPS: u64 = 200;
 
-fn made(alloc: Global) -> Result<Core, Refusal>
-    ensures { IfOk result (λ core. core.steps ≡ []) }
-{
-    match Ring::of_points(alloc, 1, &[(1000, 0)]) {
-        Ok(ring) => Core::new(alloc, ring, Settings::default()),
-        Err(_) => Err(Refusal::NoMemory),
-    }
-}
-
-// A core with one host, made again where there was no memory.
+// A core with one host.
 fn core(alloc: Global) -> Result<Core, Fail>
     ensures { IfOk result (λ core. core.steps ≡ []) }
 {
-    if let Ok(core) = made(alloc) {
-        return Ok(core);
-    }
-    match made(alloc) {
-        Ok(core) => Ok(core),
-        Err(_) => Err(Fail::from("no memory for a core twice")),
-    }
-}
-
-// A gate round a core, made again where there was no memory.
-fn open(alloc: Global) -> Result<(Gate<Core>, Spare<Core>), Fail>
-    ensures { IfOk result (λ made. IsSpareOf made.0 made.1) }
-{
-    let core = match Gate::new(alloc, core(alloc)?) {
-        Ok(made) => return Ok(made),
-        Err((_, core)) => core,
-    };
-    match Gate::new(alloc, core) {
-        Ok(made) => Ok(made),
-        Err(_) => Err(Fail::from("no memory for a gate twice")),
-    }
-}
-
-fn enrol<R: Wait>(rt: &R, gate: &Gate<Core>, spare: Spare<Core>) -> Result<Pass<Core>, Fail>
-    requires { IsSpareOf gate.now spare }
-    ensures { IfOk result (IsPassOf gate.now) }
-{
-    match gate.enrol(rt, spare) {
-        Ok(pass) => Ok(pass),
-        Err(_) => Err(Fail::from("no place for a pass")),
-    }
-}
-
-// One sweep, made again where there was no memory: whether it was answered.
-fn sweeps_at<R: Wait>(rt: &R, gate: &Gate<Core>, pass: &mut Pass<Core>, t: u64) -> bool
-    requires { IsPassOf gate.now pass.old }
-    ensures { IsPassOf gate.now pass.new }
-{
-    match gate.take_turn(rt, pass, Event::Swept { t }) {
-        Ok(_) => true,
-        Err(TurnRefusal::State { event, .. }) => gate.take_turn(rt, pass, event).is_ok(),
-        Err(_) => false,
-    }
+    let ring = Ring::of_points(alloc, 1, &[(1000, 0)])?;
+    Ok(Core::new(alloc, ring, Settings::default())?)
 }
 
 // Sweeps at 0, 1, 2 and so on milliseconds. Counts the answered turns.
@@ -78,7 +29,7 @@ fn sweep<R: Wait>(rt: &R, gate: &Gate<Core>, pass: Pass<Core>) -> (Pass<Core>, u
     let mut pass = pass;
     let mut answered = 0u64;
     for t in 0..SWEEPS {
-        if sweeps_at(rt, gate, &mut pass, t) {
+        if gate.take_turn(rt, &mut pass, Event::Swept { t }).is_ok() {
             answered += 1;
         }
     }
@@ -104,7 +55,7 @@ fn sweeps_in_order(core: &Core, pass: u64) -> Option<u64> {
 
 #[test]
 fn two_passes_sweep(rt: HostRuntime) -> Result<(), Fail> {
-    let (gate, spare) = open(rt.alloc())?;
+    let (gate, spare) = open(rt.alloc(), core(rt.alloc())?)?;
     let (one, other) = gate.split(spare);
     let one = enrol(&rt, &gate, one)?;
     let other = enrol(&rt, &gate, other)?;

@@ -1,18 +1,19 @@
+//! The gate round a running total.
 ghost use Rattle.std.specs.Prelude.{◌≡◌, ◌≤◌, [], IfOk, IfSome};
 ghost use Rattle.ticket_gate.specs.Gate.{IsPassOf, IsSpareOf};
 ghost use Rattle.ticket_gate.specs.Totals.{AreTotals, totals_at_first, totals_before};
 ghost use Rattle.ticket_gate.specs.RunningTotal.{journal_of, limit_of};
 
-use crate::{
-    Addition, AdditionRefusal, Alone, Gate, GateRefusal, Pass, Recorded, RunningTotal, Seated,
-    Spare, TurnRefusal, Turns,
-};
 use std::alloc::Global;
 use std::sync::atomic::AtomicBool;
 use std::sync::atomic::Ordering::SeqCst;
 use std::sync::{Arc, Wait};
 use std::test::Fail;
 use std::thread;
+use ticket_gate::{
+    Addition, AdditionRefusal, Alone, Gate, GateRefusal, Pass, Recorded, RunningTotal, Seated,
+    Spare, TurnRefusal, Turns,
+};
 
 const MOST_LOOKS: u32 = 1_000_000;
 
@@ -74,7 +75,7 @@ impl Recorded for HeldTotal {
     ghost legal_before = { totals_before };
 }
 
-fn open<S: Recorded + Drop>(alloc: Global, state: S) -> Result<(Gate<S>, Spare<S>), Fail>
+pub(crate) fn open<S: Recorded + Drop>(alloc: Global, state: S) -> Result<(Gate<S>, Spare<S>), Fail>
     requires { S.journal state ≡ [] }
     ensures { IfOk result (λ made. IsSpareOf made.0 made.1) }
 {
@@ -84,7 +85,7 @@ fn open<S: Recorded + Drop>(alloc: Global, state: S) -> Result<(Gate<S>, Spare<S
     }
 }
 
-fn enrol<S: Recorded + Drop, R: Wait>(
+pub(crate) fn enrol<S: Recorded + Drop, R: Wait>(
     rt: &R,
     gate: &Gate<S>,
     spare: Spare<S>,
