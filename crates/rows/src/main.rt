@@ -5,19 +5,9 @@
 //! and lines that begin with `#` are copied.
 #![tactic(auto)]
 
-mod agreement;
-mod answers;
-mod events;
-mod outcome;
 mod proxies;
-mod proxy;
-mod questions;
-mod random;
-mod random_runs;
-mod run;
 mod script;
 mod series;
-mod setting;
 mod subject;
 mod text;
 mod values;

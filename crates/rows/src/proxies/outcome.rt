@@ -1,7 +1,7 @@
 //! What comes of an event, in words.
 
-use crate::answers::{answer_text, refusal_text};
-use crate::proxy::Proxy;
+use super::answers::{answer_text, refusal_text};
+use super::proxy::Proxy;
 use anyhow::Result;
 use proxy_core::{Answer, Event, Refusal};
 use std::alloc::Global;

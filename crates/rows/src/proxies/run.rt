@@ -1,8 +1,8 @@
 //! A list of events that are taken by one call.
 
-use crate::answers::{answer_text, refusal_text};
-use crate::events::event_of;
-use crate::outcome::outcome;
+use super::answers::{answer_text, refusal_text};
+use super::events::event_of;
+use super::outcome::outcome;
 use anyhow::Result;
 use proxy_core::{Answer, Core, Event, Refusal};
 use proxy_history::Reference;

@@ -1,9 +1,9 @@
 //! Runs of random events, on the core and on the plain program side by side.
 
-use crate::agreement::Answers;
-use crate::outcome::outcome;
-use crate::random::Numbers;
-use crate::setting::Setting;
+use super::agreement::Answers;
+use super::outcome::outcome;
+use super::random::Numbers;
+use super::setting::Setting;
 use anyhow::Result;
 use proxy_core::{Core, Event};
 use proxy_history::Reference;

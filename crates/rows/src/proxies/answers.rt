@@ -7,18 +7,14 @@ use std::alloc::Global;
 
 /// The answer in words: its name, and its fields in their order.
 pub fn answer_text(alloc: Global, answer: &Answer) -> Result<String> {
+    let mut words = String::new(alloc);
+    put_answer(&mut words, answer)?;
+    Ok(words)
+}
+
+fn put_answer(words: &mut String, answer: &Answer) -> Result<()> {
     match answer {
-        Answer::Opened { conn } => Ok(format!(in alloc; "Opened {conn}")?),
-        Answer::Accepted {
-            index,
-            local: Some(local),
-            parts: 0,
-            no_host: 0,
-            busy: 0,
-        } => {
-            let name = local_name(*local);
-            Ok(format!(in alloc; "Accepted {index}, local {name}")?)
-        }
+        Answer::Opened { conn } => write!(words, "Opened {conn}")?,
         Answer::Accepted {
             index,
             local,
@@ -26,40 +22,45 @@ pub fn answer_text(alloc: Global, answer: &Answer) -> Result<String> {
             no_host,
             busy,
         } => {
-            let mut text = format!(in alloc; "Accepted {index}")?;
-            if let Some(local) = local {
-                let name = local_name(*local);
-                write!(text, ", local {name}")?;
-            }
-            write!(text, ", parts {parts}, no_host {no_host}, busy {busy}")?;
-            Ok(text)
+            write!(words, "Accepted {index}, ")?;
+            put_plan(words, *local, [*parts, *no_host, *busy])?;
         }
-        Answer::Finishing => Ok(String::from_str(alloc, "Finishing")?),
+        Answer::Finishing => words.push_str("Finishing")?,
         Answer::Sent { epoch, place, text } => {
-            let mut words = format!(in alloc; "Sent epoch {epoch}, place {place}, ")?;
-            put_escaped(&mut words, text.as_slice())?;
-            Ok(words)
+            write!(words, "Sent epoch {epoch}, place {place}, ")?;
+            put_escaped(words, text.as_slice())?;
         }
-        Answer::Matched { trip } => {
-            let name = trip_name(*trip);
-            Ok(format!(in alloc; "Matched {name}")?)
-        }
-        Answer::Lost { parts, trip } => {
-            let name = trip_name(*trip);
-            Ok(format!(in alloc; "Lost {parts}, {name}")?)
-        }
+        Answer::Matched { trip } => write!(words, "Matched {}", trip_name(*trip))?,
+        Answer::Lost { parts, trip } => write!(words, "Lost {parts}, {}", trip_name(*trip))?,
         Answer::Swept {
             returned,
             ejected,
             kept,
-        } => Ok(format!(in alloc; "Swept returned {returned}, ejected {ejected}, kept {kept}")?),
+        } => write!(
+            words,
+            "Swept returned {returned}, ejected {ejected}, kept {kept}"
+        )?,
         Answer::Bytes { text } => {
-            let mut words = String::from_str(alloc, "Bytes ")?;
-            put_escaped(&mut words, text.as_slice())?;
-            Ok(words)
+            words.push_str("Bytes ")?;
+            put_escaped(words, text.as_slice())?;
         }
-        Answer::Closed => Ok(String::from_str(alloc, "Closed")?),
+        Answer::Closed => words.push_str("Closed")?,
     }
+    Ok(())
+}
+
+// The answer that the proxy gives itself, or how many parts there are, without a host and busy.
+fn put_plan(words: &mut String, local: Option<Local>, counts: [u64; 3]) -> Result<()> {
+    if let Some(local) = local {
+        write!(words, "local {}", local_name(local))?;
+        if counts == [0; 3] {
+            return Ok(());
+        }
+        words.push_str(", ")?;
+    }
+    let [parts, no_host, busy] = counts;
+    write!(words, "parts {parts}, no_host {no_host}, busy {busy}")?;
+    Ok(())
 }
 
 fn local_name(local: Local) -> &'static str {

@@ -1,6 +1,6 @@
 //! What is asked of the core beside events.
 
-use crate::proxy::Proxy;
+use super::proxy::Proxy;
 use crate::text::{first_word, number};
 use anyhow::{Result, bail};
 use proxy_core::Core;
