@@ -5,7 +5,7 @@ use ejector::Trip;
 use splitter::Local;
 
 /// The answer to an event that was accepted.
-#[derive(Drop)]
+#[derive(PartialEq, Eq, Drop)]
 pub enum Answer {
     /// The connection is open.
     Opened {

@@ -1,0 +1,113 @@
+//! On what a row's proxies stand: the ring and the settings.
+
+use crate::text::number;
+use anyhow::{Result, bail};
+use ketama::Ring;
+use proxy_core::{Core, Refusal, Settings};
+use proxy_history::Reference;
+use std::alloc::Global;
+
+// On this ring the key `abc` belongs to host 0, `a` to host 1 and the empty key to host 2.
+const POINTS: &[(u32, usize)] = &[(2_555_380_112, 0), (3_111_502_092, 1), (3_649_838_548, 2)];
+
+/// The ring's hosts and points, and the settings.
+#[derive(Drop)]
+pub struct Setting {
+    hosts: usize,
+    points: Vec<(u32, usize)>,
+    settings: Settings,
+}
+
+impl Setting {
+    /// Three hosts with a point each, and these settings.
+    pub fn of(alloc: Global, settings: Settings) -> Result<Setting> {
+        Ok(Setting {
+            hosts: 3,
+            points: POINTS.to_vec(alloc)?,
+            settings,
+        })
+    }
+
+    /// The setting of a row's arguments, of which each is `tags`, `hosts=N`, `points=POINT:HOST,..` (`points=none` for
+    /// none) or `KEY=N` with a key of the settings. What isn't given is as in `of` and as in the default settings.
+    pub fn read(alloc: Global, arguments: &str) -> Result<Setting> {
+        let mut setting = Setting::of(alloc, Settings::default())?;
+        for argument in arguments.split_whitespace() {
+            setting.set(alloc, argument)?;
+        }
+        Ok(setting)
+    }
+
+    fn set(&mut self, alloc: Global, argument: &str) -> Result<()> {
+        match argument.split_once('=') {
+            Some(("hosts", hosts)) => self.hosts = number(hosts)?,
+            Some(("points", points)) => self.points = points_of(alloc, points)?,
+            Some((key, text)) => set_field(&mut self.settings, key, number(text)?)?,
+            None if argument == "tags" => self.settings.tags = true,
+            None => bail!("{argument:?} is no argument"),
+        }
+        Ok(())
+    }
+
+    /// A core on this setting, made again where there was no memory.
+    pub fn core(&self, alloc: Global) -> Result<Core, Refusal> {
+        match self.one_core(alloc) {
+            Err(Refusal::NoMemory) => self.one_core(alloc),
+            made => made,
+        }
+    }
+
+    fn one_core(&self, alloc: Global) -> Result<Core, Refusal> {
+        Core::new(alloc, self.ring(alloc)?, self.settings)
+    }
+
+    /// A plain program on this setting, made again where there was no memory.
+    pub fn plain(&self, alloc: Global) -> Result<Reference, Refusal> {
+        match self.one_plain(alloc) {
+            Err(Refusal::NoMemory) => self.one_plain(alloc),
+            made => made,
+        }
+    }
+
+    fn one_plain(&self, alloc: Global) -> Result<Reference, Refusal> {
+        Reference::new(alloc, self.ring(alloc)?, self.settings)
+    }
+
+    // The script's rings fit their hosts, so that only memory can be missing.
+    fn ring(&self, alloc: Global) -> Result<Ring, Refusal> {
+        match Ring::of_points(alloc, self.hosts, self.points.as_slice()) {
+            Ok(ring) => Ok(ring),
+            Err(_) => Err(Refusal::NoMemory),
+        }
+    }
+}
+
+fn points_of(alloc: Global, text: &str) -> Result<Vec<(u32, usize)>> {
+    let mut points = Vec::new(alloc);
+    if text == "none" {
+        return Ok(points);
+    }
+    for pair in text.split(',') {
+        match pair.split_once(':') {
+            Some((point, host)) => points.push((number(point)?, number(host)?))?,
+            None => bail!("{pair:?} is no point"),
+        }
+    }
+    Ok(points)
+}
+
+fn set_field(settings: &mut Settings, key: &str, n: u32) -> Result<()> {
+    match key {
+        "interval_ms" => settings.interval_ms = n,
+        "base_ms" => settings.base_ms = n,
+        "max_ms" => settings.max_ms = n,
+        "max_percent" => settings.max_percent = n,
+        "consecutive" => settings.consecutive = n,
+        "success_hosts" => settings.success_hosts = n,
+        "request_volume" => settings.request_volume = n,
+        "factor" => settings.factor = n,
+        "panic_percent" => settings.panic_percent = n,
+        _ => bail!("no setting is named {key:?}"),
+    }
+    Ok(())
+}

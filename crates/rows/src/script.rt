@@ -1,0 +1,63 @@
+//! The script: rows, their actions, and what is printed beside them.
+
+use crate::series::Series;
+use crate::subject::Subject;
+use crate::text::{first_word, number};
+use anyhow::{Context, Result, bail};
+use std::alloc::Global;
+
+/// Prints each line of the script, and behind an action ` => ` and its answer.
+pub fn play(rt: &impl Print, alloc: Global, text: &str) -> Result<()> {
+    let mut subject = None;
+    let mut line_number = 0u64;
+    for line in text.lines() {
+        line_number = line_number.saturating_add(1);
+        let answer = read_line(alloc, &mut subject, line).context(format_args!(
+            "line {line_number} of the script"
+        ))?;
+        if answer.is_empty() {
+            println!(rt; "{line}")?;
+        } else {
+            println!(rt; "{line} => {answer}")?;
+        }
+    }
+    Ok(())
+}
+
+// The answer to the line; none to a line that begins a row, and to one that asks nothing.
+fn read_line(alloc: Global, subject: &mut Option<Subject>, line: &str) -> Result<String> {
+    if line.is_empty() || line.starts_with('#') {
+        return Ok(String::new(alloc));
+    }
+    if let Some(row) = line.strip_prefix("row ") {
+        let (_, words) = first_word(row);
+        *subject = Some(opened(alloc, words)?);
+        return Ok(String::new(alloc));
+    }
+    let Some(subject) = subject else {
+        bail!("no row has begun");
+    };
+    match line.strip_prefix("repeat ") {
+        Some(words) => repeated(alloc, subject, words),
+        None => subject.act(alloc, line),
+    }
+}
+
+// What the row is about, made again where it failed, since memory may have been refused.
+fn opened(alloc: Global, words: &str) -> Result<Subject> {
+    match Subject::open(alloc, words) {
+        Ok(subject) => Ok(subject),
+        Err(_) => Subject::open(alloc, words),
+    }
+}
+
+// Makes an action so many times: the words are how often, and the action.
+fn repeated(alloc: Global, subject: &mut Subject, words: &str) -> Result<String> {
+    let (times, action) = first_word(words);
+    let times: u64 = number(times)?;
+    let mut series = Series::new(alloc);
+    for _ in 0..times {
+        series.add(subject.act(alloc, action)?)?;
+    }
+    series.text()
+}

@@ -1,0 +1,146 @@
+//! The answers to an action that is made many times.
+
+use anyhow::Result;
+use std::alloc::Global;
+use std::mem;
+
+/// Answers in their order, told by runs: how many are equal, or differ in that their first number counts up.
+#[derive(Drop)]
+pub struct Series {
+    alloc: Global,
+    // The runs that have ended.
+    ended: String,
+    run: Option<Run>,
+}
+
+// Answers that are equal, or that count up.
+#[derive(Drop)]
+struct Run {
+    first: String,
+    last: String,
+    count: u64,
+    counts_up: bool,
+}
+
+impl Series {
+    /// No answers.
+    pub fn new(alloc: Global) -> Series {
+        Series {
+            alloc,
+            ended: String::new(alloc),
+            run: None,
+        }
+    }
+
+    /// Adds an answer.
+    pub fn add(&mut self, answer: String) -> Result<()> {
+        match &mut self.run {
+            Some(run) if run.goes_on_with(answer.as_str()) => run.add(answer),
+            run => {
+                let fresh = Run::of(self.alloc, answer)?;
+                if let Some(run) = mem::replace(run, Some(fresh)) {
+                    run.tell(&mut self.ended)?;
+                }
+            }
+        }
+        Ok(())
+    }
+
+    /// Each run as its length and its answers, the first and the last where they count up.
+    pub fn text(self) -> Result<String> {
+        let Series { ended, run, .. } = self;
+        let mut text = ended;
+        if let Some(run) = run {
+            run.tell(&mut text)?;
+        }
+        Ok(text)
+    }
+}
+
+impl Run {
+    fn of(alloc: Global, answer: String) -> Result<Run> {
+        Ok(Run {
+            first: String::from_str(alloc, answer.as_str())?,
+            last: answer,
+            count: 1,
+            counts_up: false,
+        })
+    }
+
+    // Whether the answer is one more of the run.
+    fn goes_on_with(&self, answer: &str) -> bool {
+        let last = self.last.as_str();
+        if self.count > 1 && self.counts_up {
+            is_next(last, answer)
+        } else {
+            last == answer || self.count == 1 && is_next(last, answer)
+        }
+    }
+
+    fn add(&mut self, answer: String) {
+        self.counts_up = self.last.as_str() != answer.as_str();
+        self.last = answer;
+        self.count = self.count.saturating_add(1);
+    }
+
+    fn tell(&self, text: &mut String) -> Result<()> {
+        if !text.is_empty() {
+            text.push_str("; ")?;
+        }
+        let count = self.count;
+        let first = &self.first;
+        write!(text, "{count} times {first}")?;
+        if self.counts_up {
+            let last = &self.last;
+            write!(text, " to {last}")?;
+        }
+        Ok(())
+    }
+}
+
+// Whether the answers differ in their first numbers alone, and the second's is the first's and one.
+fn is_next(one: &str, other: &str) -> bool {
+    match (Numbered::of(one), Numbered::of(other)) {
+        (Some(one), Some(other)) => {
+            one.before == other.before
+                && one.number.checked_add(1) == Some(other.number)
+                && one.behind == other.behind
+        }
+        _ => false,
+    }
+}
+
+// A text, taken apart round its first number.
+#[derive(Clone, Copy)]
+struct Numbered<'a> {
+    before: &'a [u8],
+    number: u64,
+    behind: &'a [u8],
+}
+
+impl<'a> Numbered<'a> {
+    fn of(text: &'a str) -> Option<Numbered<'a>> {
+        let bytes = text.as_bytes();
+        let start = bytes.iter().position(|byte| byte.is_ascii_digit())?;
+        let (before, rest) = bytes.split_at_checked(start)?;
+        let digits = rest
+            .iter()
+            .position(|byte| !byte.is_ascii_digit())
+            .unwrap_or(rest.len());
+        let (number, behind) = rest.split_at_checked(digits)?;
+        Some(Numbered {
+            before,
+            number: number_of(number),
+            behind,
+        })
+    }
+}
+
+// The number that the digits are; the greatest where it has no room.
+fn number_of(digits: &[u8]) -> u64 {
+    digits.iter().fold(0u64, |number, digit| {
+        number
+            .saturating_mul(10)
+            .saturating_add(u64::from(digit.saturating_sub(b'0')))
+    })
+}

@@ -1,0 +1,33 @@
+//! What a row is about.
+
+use crate::proxies::Proxies;
+use crate::text::first_word;
+use anyhow::{Result, bail};
+use std::alloc::Global;
+
+/// What the actions of a row are made on.
+#[derive(Drop)]
+pub enum Subject {
+    /// The core, the plain program, or both.
+    Proxies(Proxies),
+}
+
+impl Subject {
+    /// Begins a row, by the words behind its name: the subject and its arguments.
+    pub fn open(alloc: Global, words: &str) -> Result<Subject> {
+        let (name, arguments) = first_word(words);
+        match name {
+            "core" | "plain" | "both" => Ok(Subject::Proxies(Proxies::open(
+                alloc, name, arguments,
+            )?)),
+            _ => bail!("no subject is named {name:?}"),
+        }
+    }
+
+    /// Makes one action, and gives its answer in words.
+    pub fn act(&mut self, alloc: Global, line: &str) -> Result<String> {
+        match self {
+            Subject::Proxies(proxies) => proxies.act(alloc, line),
+        }
+    }
+}
