@@ -28,3 +28,9 @@ pub mod Replayed
 pub mod Telling
 pub mod Following
 pub mod Adding
+pub mod HandedOut
+pub mod Sending
+pub mod Joins
+pub mod Limits
+pub mod InWaiting
+pub mod LeftAlone
