@@ -28,9 +28,9 @@ pub mod Replayed
 pub mod Telling
 pub mod Following
 pub mod Adding
-pub mod HandedOut
-pub mod Sending
-pub mod Joins
-pub mod Limits
-pub mod InWaiting
-pub mod LeftAlone
+pub mod HandingLemmas
+pub mod SendingLemmas
+pub mod OutcomeLemmas
+pub mod LimitLemmas
+pub mod UnsentLemmas
+pub mod EjectionLemmas

@@ -10,9 +10,9 @@ use Rattle.proxy_history.specs.Replies.{came}
 use Rattle.proxy_history.specs.Part.{Past, Part, is_of, is_same}
 use Rattle.proxy_history.specs.Past.{past}
 use Rattle.proxy_history.specs.Waiting.{sent_to}
-use Rattle.proxy_history.specs.Value.{replies, reply_to, or_lost, value_at, value_of, upstream_failure}
+use Rattle.proxy_history.specs.Value.{replies, reply_to, or_lost, value_at, value_or, value_of, upstream_failure}
 use Rattle.proxy_history.specs.Legal.{IsLegal}
-use Rattle.proxy_history.specs.Laws.{AreApart, IsReply, IsLost}
+use Rattle.proxy_history.specs.Laws.{AreApart, IsReply, IsLost, IsOwnValue}
 use Rattle.proxy_history.proofs.Faults.{epochs_end_by_faults}
 use Rattle.proxy_history.proofs.SentOnce.{is_same_sym, is_same_trans, none_twice}
 use Rattle.proxy_history.proofs.Waiting.{apart_filter}
@@ -121,8 +121,13 @@ value_is_own S H p h v legal here =
       )
     ]
 
-pub values_are_own : (S : Setting) (H : History) (p : Part) (h : ℕ) (v : Tree) → IsLegal S H → p.local ≡ None → p.host ≡ Some h
-    → (value_of (past S H) p ≡ Some v) ↔ (IsReply (past S H) h p v ⊎ ((v ≡ upstream_failure) × IsLost S H h p))
-values_are_own S H p h v legal l o =
-    let at : value_of (past S H) p ≡ value_at (past S H) p (Some h) = rw (l, o) refl in
-    (λ e. value_is_own S H p h v legal (sym at ∙ e), λ a. at ∙ own_is_value S H p h v legal a)
+-- by what the part got at its arrival, and its host
+own_by : (S : Setting) (H : History) (p : Part) (v : Tree) → IsLegal S H → (local : Option Tree) (host : Option ℕ)
+    → (value_or local (value_at (past S H) p host) ≡ Some v) ↔ IsOwnValue S H p local host v
+own_by S H p v legal (Some w) host = ((λ e. let is : w ≡ v = cc in sym is), λ e. ap (λ z. Some z) (sym e))
+own_by S H p v legal None None = ((λ e. absurd cc), λ none. absurd none)
+own_by S H p v legal None (Some h) = (value_is_own S H p h v legal, own_is_value S H p h v legal)
+
+pub values_are_own : (S : Setting) (H : History) (p : Part) (v : Tree) → IsLegal S H
+    → (value_of (past S H) p ≡ Some v) ↔ IsOwnValue S H p p.local p.host v
+values_are_own S H p v legal = own_by S H p v legal p.local p.host

@@ -15,6 +15,11 @@ pub mod Answer
 pub mod Legal
 pub mod Output
 pub mod Laws
+pub mod HandingLaws
+pub mod CommandLaws
+pub mod SendingLaws
+pub mod EjectionLaws
+pub mod LimitLaws
 pub mod Scan
 pub mod Reference
 pub mod Hosts

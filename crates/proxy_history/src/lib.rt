@@ -32,8 +32,9 @@ pub use laws::{
     beginnings_are_legal, closed_gets_nothing, commands_have_their_parts, each_taken_sends,
     ejections_choose_hosts_alone, epochs_end_by_faults, faults_raise_epochs, few_are_out,
     handed_is_its_outcome, limits_hold, none_is_sent_twice, nothing_else_is_sent,
-    outcomes_are_joins, outcomes_stay, owners_stay, parts_have_arrived, replies_are_in_order,
-    replies_were_asked, sent_parts_arrived, upstream_is_sent, values_are_own, waiting_is,
+    outcomes_are_as_planned, outcomes_stay, owners_stay, parts_have_arrived, replies_are_in_order,
+    replies_go_out_once, replies_were_asked, sent_parts_arrived, unsent_parts_wait,
+    upstream_is_what_was_sent, values_are_own,
 };
 pub use reference::Reference;
 pub use refusal::Refusal;

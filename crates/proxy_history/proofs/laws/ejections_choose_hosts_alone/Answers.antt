@@ -1,4 +1,4 @@
-use Rattle.proxy_history.proofs.LeftAlone.{ejections_choose_hosts_alone as law}
+use Rattle.proxy_history.proofs.EjectionLemmas.{ejections_choose_hosts_alone as law}
 use Rattle.proxy_history.proofs.laws.ejections_choose_hosts_alone.Goals as goal
 
 pub returns : goal.returns

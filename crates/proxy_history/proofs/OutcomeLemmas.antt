@@ -14,7 +14,7 @@ use Rattle.proxy_history.specs.Part.{Part, Past}
 use Rattle.proxy_history.specs.Past.{past}
 use Rattle.proxy_history.specs.Value.{value_of}
 use Rattle.proxy_history.specs.Outcome.{with_value, values_of, parts_of, outcome_by, outcome}
-use Rattle.proxy_history.specs.Laws.{IsJoin, IsPlanned, IsOutcome}
+use Rattle.proxy_history.specs.CommandLaws.{IsJoin, IsPlanned, IsOutcome}
 
 -- VALUES OF ALL PARTS
 
@@ -63,5 +63,5 @@ is_outcome x c i v (Some request) q e = record { request = request; asked = q; p
 outcome_is : (x : Past) (c i : ℕ) (v : Tree) → IsOutcome x c i v → outcome c i x ≡ Some v
 outcome_is x c i v a = rw (a.asked) (as_planned x c i v (plan_for a.request) a.planned)
 
-pub outcomes_are_joins : (S : Setting) (H : History) (c i : ℕ) (v : Tree) → (outcome c i (past S H) ≡ Some v) ↔ IsOutcome (past S H) c i v
-outcomes_are_joins S H c i v = (is_outcome (past S H) c i v (slice_get (requests c H) i) refl, outcome_is (past S H) c i v)
+pub outcomes_are_as_planned : (S : Setting) (H : History) (c i : ℕ) (v : Tree) → (outcome c i (past S H) ≡ Some v) ↔ IsOutcome (past S H) c i v
+outcomes_are_as_planned S H c i v = (is_outcome (past S H) c i v (slice_get (requests c H) i) refl, outcome_is (past S H) c i v)

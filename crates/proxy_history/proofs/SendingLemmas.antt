@@ -14,7 +14,7 @@ use Rattle.proxy_history.specs.Cause.{own_cause, causes}
 use Rattle.proxy_history.specs.Legal.{IsLegal, MayFollow}
 use Rattle.proxy_history.specs.Answer.{answer_to, text_of_first}
 use Rattle.proxy_history.specs.Output.{sent_text, upstream}
-use Rattle.proxy_history.specs.Laws.{Sends}
+use Rattle.proxy_history.specs.SendingLaws.{Sends}
 use Rattle.proxy_history.specs.declared.answer.Answer.TheVariants as answer
 use Rattle.proxy_history.specs.declared.event.Event.{Event}
 use Rattle.proxy_history.specs.declared.event.Event.TheVariants.{Opened, Arrived, Finished, Taken, Answered, Failed, Swept, Handed, Closed}
@@ -53,7 +53,8 @@ taken_sends S before s h (p ∷ ps) m e w n =
       part = p;
       rest = ps;
       is_first = w;
-      is_sent = sent_to_next S before s h (epoch h before)
+      is_sent = ap (λ z. x.sent ++ sent_by x z) e ∙ ap (λ z. x.sent ++ z) front;
+      is_last = sent_to_next S before s h (epoch h before)
           ∙ ap (λ z. sent_to h (epoch h before) x ++ filter (is_of h (epoch h before)) (sent_by x z)) e
           ∙ ap (λ z. sent_to h (epoch h before) x ++ z) (of_present h x (waiting h x) (filter_is_good (waits h x) x.parts) ∙ front);
       goes_out = m.is_answered ∙ ap (answer_to S x) e ∙ ap (λ z. answer.Sent (epoch h before) (length (sent_to h (epoch h before) x)) (text_of_first z)) w;
@@ -117,11 +118,11 @@ text_by S x (Swept t) h e = refl
 text_by S x (Handed conn) h e = refl
 text_by S x (Closed conn) h e = refl
 
-pub upstream_is_sent : (S : Setting) (H : History) (h e : ℕ) → IsLegal S H → upstream h e H ≡ flat_map (λ (p : Part). p.text) (sent_to h e (past S H))
-upstream_is_sent S [] h e legal = refl
-upstream_is_sent S (s ∷ before) h e legal =
+pub upstream_is_what_was_sent : (S : Setting) (H : History) (h e : ℕ) → IsLegal S H → upstream h e H ≡ flat_map (λ (p : Part). p.text) (sent_to h e (past S H))
+upstream_is_what_was_sent S [] h e legal = refl
+upstream_is_what_was_sent S (s ∷ before) h e legal =
     let x = past S before in
     ap (λ z. upstream h e before ++ sent_text h e s.event z) legal.1.is_answered
     ∙ ap (λ z. upstream h e before ++ z) (text_by S x s.event h e)
-    ∙ ap (λ z. z ++ texts (filter (is_of h e) (sent_by x s.event))) (upstream_is_sent S before h e legal.0)
+    ∙ ap (λ z. z ++ texts (filter (is_of h e) (sent_by x s.event))) (upstream_is_what_was_sent S before h e legal.0)
     ∙ sym (ap texts (sent_to_next S before s h e) ∙ flat_map-append (λ (p : Part). p.text) (sent_to h e x) (filter (is_of h e) (sent_by x s.event)))

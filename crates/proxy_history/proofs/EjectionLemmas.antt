@@ -5,6 +5,7 @@ use Rattle.ketama.specs.Owner.{owner_of}
 use Rattle.ejector.specs.declared.mark.Mark.{Mark}
 use Rattle.splitter.specs.Plan.{Plan, here, leave, parts}
 use Rattle.splitter.specs.declared.plans.PartPlan.{PartPlan}
+use Rattle.splitter.specs.declared.plans.Local.{Local}
 use Rattle.proxy_history.specs.Setting.{Setting, point_for}
 use Rattle.proxy_history.specs.History.{accepted, plan_for}
 use Rattle.proxy_history.specs.Part.{Past, Part}
@@ -12,7 +13,8 @@ use Rattle.proxy_history.specs.Waiting.{sent_by}
 use Rattle.proxy_history.specs.Arrival.{usable, host_for, hostless, with_host, placed_part, placing, placed_by, parts_by}
 use Rattle.proxy_history.specs.Cause.{own_cause}
 use Rattle.proxy_history.specs.Answer.{answer_to, accepts, local_of}
-use Rattle.proxy_history.specs.Laws.{is_told, unplaced, IsLeftAlone}
+use Rattle.proxy_history.specs.EjectionLaws.{without_host, without_trips, without_hosts, IsLeftAlone}
+use Rattle.proxy_history.specs.declared.answer.Answer.TheVariants as answer
 use Rattle.proxy_history.specs.declared.event.Event.{Event}
 use Rattle.proxy_history.specs.declared.event.Event.TheVariants.{Opened, Arrived, Finished, Taken, Answered, Failed, Swept, Handed, Closed}
 
@@ -75,32 +77,32 @@ module _ (S : Setting) (x : Past) (marks : List Mark) where
   same_parts (Closed conn) e = refl
 
   -- whichever hosts are usable, the parts are the same but for their hosts
-  bare_is : (z : Past) (placed : List Part) (o : Option ℕ) (p : Part) → unplaced (with_host z placed o p) ≡ unplaced p
+  bare_is : (z : Past) (placed : List Part) (o : Option ℕ) (p : Part) → without_host (with_host z placed o p) ≡ without_host p
   bare_is z placed None p = refl
   bare_is z placed (Some h) p = refl
 
-  bare_place : (conn command : ℕ) (ps qs : List Part) (q : PartPlan) → map unplaced ps ≡ map unplaced qs → unplaced (placed_part S y conn command ps q) ≡ unplaced (placed_part S x conn command qs q)
+  bare_place : (conn command : ℕ) (ps qs : List Part) (q : PartPlan) → map without_host ps ≡ map without_host qs → without_host (placed_part S y conn command ps q) ≡ without_host (placed_part S x conn command qs q)
   bare_place conn command ps qs q e =
-      let count : length ps ≡ length qs = sym (length-map ps unplaced) ∙ ap length e ∙ length-map qs unplaced in
+      let count : length ps ≡ length qs = sym (length-map ps without_host) ∙ ap length e ∙ length-map qs without_host in
       bare_is y ps (host_for S y q.key) (hostless conn command (length ps) q)
-      ∙ ap (λ n. unplaced (hostless conn command n q)) count
+      ∙ ap (λ n. without_host (hostless conn command n q)) count
       ∙ sym (bare_is x qs (host_for S x q.key) (hostless conn command (length qs) q))
 
-  bare_placing : (conn command : ℕ) (ps qs : List Part) (plans : List PartPlan) → map unplaced ps ≡ map unplaced qs
-      → map unplaced (placing S y conn command ps plans) ≡ map unplaced (placing S x conn command qs plans)
+  bare_placing : (conn command : ℕ) (ps qs : List Part) (plans : List PartPlan) → map without_host ps ≡ map without_host qs
+      → map without_host (placing S y conn command ps plans) ≡ map without_host (placing S x conn command qs plans)
   bare_placing conn command ps qs [] e = e
   bare_placing conn command ps qs (q ∷ plans) e =
       let p = placed_part S y conn command ps q in
       let r = placed_part S x conn command qs q in
       bare_placing conn command (ps ++ p ∷ []) (qs ++ r ∷ []) plans
-      (map-append unplaced ps (p ∷ []) ∙ ap (λ z. z ++ unplaced p ∷ []) e ∙ ap (λ z. map unplaced qs ++ z ∷ []) (bare_place conn command ps qs q e) ∙ sym (map-append unplaced qs (r ∷ [])))
+      (map-append without_host ps (p ∷ []) ∙ ap (λ z. z ++ without_host p ∷ []) e ∙ ap (λ z. map without_host qs ++ z ∷ []) (bare_place conn command ps qs q e) ∙ sym (map-append without_host qs (r ∷ [])))
 
-  bare_placed : (conn : ℕ) (p : Plan) → map unplaced (placed_by S y conn p) ≡ map unplaced (placed_by S x conn p)
+  bare_placed : (conn : ℕ) (p : Plan) → map without_host (placed_by S y conn p) ≡ map without_host (placed_by S x conn p)
   bare_placed conn (parts how list) = bare_placing conn (accepted conn x.steps) [] [] list refl
   bare_placed conn (here name value) = refl
   bare_placed conn (leave name value) = refl
 
-  same_but_hosts : (event : Event) → map unplaced (parts_by S y event) ≡ map unplaced (parts_by S x event)
+  same_but_hosts : (event : Event) → map without_host (parts_by S y event) ≡ map without_host (parts_by S x event)
   same_but_hosts (Arrived conn request) = bare_placed conn (plan_for request)
   same_but_hosts Opened = refl
   same_but_hosts (Finished conn) = refl
@@ -111,16 +113,34 @@ module _ (S : Setting) (x : Past) (marks : List Mark) where
   same_but_hosts (Handed conn) = refl
   same_but_hosts (Closed conn) = refl
 
-  same_answer : (event : Event) → is_told event ≡ false → usable S y ≡ usable S x → answer_to S y event ≡ answer_to S x event
-  same_answer (Arrived conn request) f e = ap (accepts (accepted conn x.steps) (local_of (plan_for request))) (same_parts (Arrived conn request) e)
-  same_answer Opened f e = refl
-  same_answer (Finished conn) f e = refl
-  same_answer (Taken host) f e = refl
-  same_answer (Answered host ep value t) f e = absurd cc
-  same_answer (Failed host ep kind t) f e = absurd cc
-  same_answer (Swept t) f e = absurd cc
-  same_answer (Handed conn) f e = refl
-  same_answer (Closed conn) f e = refl
+  -- what an arrival tells of its parts, but for their hosts
+  same_accepted : (index : ℕ) (o : Option Local) (ps qs : List Part) → map without_host ps ≡ map without_host qs → without_hosts (accepts index o ps) ≡ without_hosts (accepts index o qs)
+  same_accepted index o ps qs e =
+      let count : length ps ≡ length qs = sym (length-map ps without_host) ∙ ap length e ∙ length-map qs without_host in
+      ap (λ n. answer.Accepted index o n 0 0) count
+
+  same_answer : (event : Event) → without_hosts (without_trips (answer_to S y event)) ≡ without_hosts (without_trips (answer_to S x event))
+  same_answer (Arrived conn request) =
+      same_accepted (accepted conn x.steps) (local_of (plan_for request)) (parts_by S y (Arrived conn request)) (parts_by S x (Arrived conn request)) (same_but_hosts (Arrived conn request))
+  same_answer Opened = refl
+  same_answer (Finished conn) = refl
+  same_answer (Taken host) = refl
+  same_answer (Answered host ep value t) = refl
+  same_answer (Failed host ep kind t) = refl
+  same_answer (Swept t) = refl
+  same_answer (Handed conn) = refl
+  same_answer (Closed conn) = refl
+
+  same_arrival : (event : Event) → usable S y ≡ usable S x → without_trips (answer_to S y event) ≡ without_trips (answer_to S x event)
+  same_arrival (Arrived conn request) e = ap (accepts (accepted conn x.steps) (local_of (plan_for request))) (same_parts (Arrived conn request) e)
+  same_arrival Opened e = refl
+  same_arrival (Finished conn) e = refl
+  same_arrival (Taken host) e = refl
+  same_arrival (Answered host ep value t) e = refl
+  same_arrival (Failed host ep kind t) e = refl
+  same_arrival (Swept t) e = refl
+  same_arrival (Handed conn) e = refl
+  same_arrival (Closed conn) e = refl
 
   left_alone : (event : Event) → IsLeftAlone S x y event
   left_alone event = record {
@@ -128,8 +148,9 @@ module _ (S : Setting) (x : Past) (marks : List Mark) where
     same_sent = same_sent event;
     same_outcomes = λ c i. refl;
     same_but_hosts = same_but_hosts event;
-    same_parts = same_parts event;
     same_answer = same_answer event;
+    same_parts = same_parts event;
+    same_arrival = same_arrival event;
   }
 
 pub ejections_choose_hosts_alone : (S : Setting) (x : Past) (marks : List Mark) (event : Event) → IsLeftAlone S x (record x { marks = marks }) event

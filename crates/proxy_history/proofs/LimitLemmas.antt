@@ -16,7 +16,7 @@ use Rattle.proxy_history.specs.Arrival.{proxy_busy, before_it, parts_by, placed_
 use Rattle.proxy_history.specs.Cause.{own_cause, causes, left, is_ready}
 use Rattle.proxy_history.specs.Payload.{payload, payload_of}
 use Rattle.proxy_history.specs.Legal.{IsLegal}
-use Rattle.proxy_history.specs.Laws.{IsWithinLimits}
+use Rattle.proxy_history.specs.LimitLaws.{IsWithinLimits}
 use Rattle.proxy_history.specs.declared.event.Event.{Event}
 use Rattle.proxy_history.specs.declared.event.Event.TheVariants.{Opened, Arrived, Finished, Taken, Answered, Failed, Swept, Handed, Closed}
 use Rattle.proxy_history.proofs.NoCause.{are_false}
@@ -274,7 +274,7 @@ limits_hold S H legal = record {
   were_opened = omega (arith, closings_are_closed S H legal, no_more_than (λ c. is_closed c H) (opened H));
   few_are_open = few_open S H legal;
   were_accepted = λ c. (few_left S H c legal).0;
-  few_are_left = λ c. (few_left S H c legal).1;
+  few_are_unwritten = λ c. (few_left S H c legal).1;
   few_wait = few_are_waiting S H;
   few_steps = (fits S H legal).0;
   few_bytes = (fits S H legal).1;

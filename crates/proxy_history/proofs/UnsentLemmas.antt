@@ -9,7 +9,8 @@ use Rattle.proxy_history.specs.Part.{Part, is_of, is_host, is_same}
 use Rattle.proxy_history.specs.Past.{past, parts_in}
 use Rattle.proxy_history.specs.Waiting.{waiting, waits}
 use Rattle.proxy_history.specs.Arrival.{parts_by}
-use Rattle.proxy_history.specs.Laws.{AreApart, IsPlaced, HasArrived, IsInWaiting}
+use Rattle.proxy_history.specs.Laws.{AreApart, IsPlaced, HasArrived}
+use Rattle.proxy_history.specs.SendingLaws.{IsUnsent}
 use Rattle.proxy_history.proofs.Apart.{parts_are_in_order}
 use Rattle.proxy_history.proofs.Arrived.{none_in_nothing, parts_have_arrived, sent_parts_arrived, in_filter}
 use Rattle.proxy_history.proofs.Faults.{faults_raise_epochs}
@@ -94,7 +95,7 @@ has_no_value : {X : Type 0} (o : Option X) → is_none o ≡ true → o ≡ None
 has_no_value None e = refl
 has_no_value (Some v) e = absurd cc
 
-is_waiting : (S : Setting) (H : History) (h : ℕ) (p : Part) → Contains (waiting h (past S H)) p → IsInWaiting S H h p
+is_waiting : (S : Setting) (H : History) (h : ℕ) (p : Part) → Contains (waiting h (past S H)) p → IsUnsent S H h p
 is_waiting S H h p c =
     let x = past S H in
     let a = parts_have_arrived S H p (in_filter (waits h x) x.parts p c) in
@@ -125,7 +126,7 @@ arrived_is_part S H p a =
     let placed : Contains (parts_by S (past S a.before) a.step.event) p = subst (λ z. Contains z p) (sym a.placed_is) here in
     subst (λ z. Contains (past S z).parts p) (sym a.split) (is_part S a.later a.step a.before p placed)
 
-in_waiting : (S : Setting) (H : History) (h : ℕ) (p : Part) → IsInWaiting S H h p → Contains (waiting h (past S H)) p
+in_waiting : (S : Setting) (H : History) (h : ℕ) (p : Part) → IsUnsent S H h p → Contains (waiting h (past S H)) p
 in_waiting S H h p w =
     let x = past S H in
     let a = w.arrival in
@@ -139,5 +140,5 @@ in_waiting S H h p w =
     w.not_sent (subst (Contains x.sent) (sym is) q.1)) in
     stays_in (waits h x) x.parts p part (rw (of_host, unsent, w.not_closed) refl)
 
-pub waiting_is : (S : Setting) (H : History) (h : ℕ) (p : Part) → Contains (waiting h (past S H)) p ↔ IsInWaiting S H h p
-waiting_is S H h p = (is_waiting S H h p, in_waiting S H h p)
+pub unsent_parts_wait : (S : Setting) (H : History) (h : ℕ) (p : Part) → Contains (waiting h (past S H)) p ↔ IsUnsent S H h p
+unsent_parts_wait S H h p = (is_waiting S H h p, in_waiting S H h p)
