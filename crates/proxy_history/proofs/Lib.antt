@@ -34,3 +34,7 @@ pub mod OutcomeLemmas
 pub mod LimitLemmas
 pub mod UnsentLemmas
 pub mod EjectionLemmas
+pub mod ReadingLemmas
+pub mod OwnLemmas
+pub mod SeenLemmas
+pub mod StepLemmas

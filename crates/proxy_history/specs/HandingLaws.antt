@@ -1,5 +1,5 @@
 -- What is handed out to a connection: each reply once, in its turn, and none after the close.
-use Rattle.std.specs.Prelude.{◌≡◌, ◌↔◌, ◌<◌, ◌==◌, ℕ, Bool, true, false, ◌∷◌, ◌++◌, Some}
+use Rattle.std.specs.Prelude.{◌≡◌, ◌↔◌, ◌<◌, ℕ, true, false, ◌∷◌, ◌++◌, Some}
 use Rattle.resp_core.specs.Tree.{Tree}
 use Rattle.resp_core.specs.Text.{text}
 use Rattle.proxy_history.specs.Setting.{Setting}
@@ -8,17 +8,9 @@ use Rattle.proxy_history.specs.Past.{past}
 use Rattle.proxy_history.specs.Outcome.{outcome}
 use Rattle.proxy_history.specs.Legal.{IsLegal}
 use Rattle.proxy_history.specs.Output.{transcript}
-use Rattle.proxy_history.specs.declared.event.Event.{Event}
-use Rattle.proxy_history.specs.declared.event.Event.TheVariants.{Arrived, Finished, Handed, Closed}
+use Rattle.proxy_history.specs.Own.{is_of_connection}
+use Rattle.proxy_history.specs.declared.event.Event.TheVariants.{Handed}
 use Rattle.proxy_history.specs.declared.answer.Answer.TheVariants as answer
-
--- an event of a connection: a request of it arrives, its input ends, a reply is handed out to it, or it is closed
-abbrev pub is_of_connection : ℕ → Event → Bool
-is_of_connection c (Arrived conn request) = conn == c
-is_of_connection c (Finished conn) = conn == c
-is_of_connection c (Handed conn) = conn == c
-is_of_connection c (Closed conn) = conn == c
-is_of_connection c _ = false
 
 -- after the close of a connection no event of it stands, and it gets nothing more
 abbrev pub ClosedGetsNothing : Type 0

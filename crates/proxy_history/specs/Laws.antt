@@ -1,5 +1,5 @@
 -- What holds of every legal history: beginnings, outcomes and parts. What else holds stands in the modules named for it.
-use Rattle.std.specs.Prelude.{◌≡◌, ◌↔◌, ◌+◌, ◌<◌, ◌≤◌, ◌==◌, ◌&&◌, ℕ, zero, suc, Bool, true, false, List, [], ◌∷◌, ◌++◌, Some, is_some, None, Option, ◌⊎◌, length, Contains}
+use Rattle.std.specs.Prelude.{◌≡◌, ◌↔◌, ◌<◌, ◌≤◌, ◌==◌, ◌&&◌, ℕ, zero, suc, Bool, true, false, List, [], ◌∷◌, ◌++◌, Some, is_some, None, Option, ◌⊎◌, length, Contains}
 use Rattle.std.specs.List.{list_any, slice_get}
 use Rattle.std.specs.Option.{unwrap_or}
 use Rattle.resp_core.specs.Tree.{Tree, null_bulk}

@@ -4,11 +4,27 @@ ghost use Rattle.proxy_history.specs.CommandLaws.{CommandsHaveTheirParts, Outcom
 ghost use Rattle.proxy_history.specs.EjectionLaws.{EjectionsChooseHostsAlone};
 ghost use Rattle.proxy_history.specs.HandingLaws.{ClosedGetsNothing, HandedIsItsOutcome, RepliesGoOutOnce};
 ghost use Rattle.proxy_history.specs.LimitLaws.{LimitsHold};
+ghost use Rattle.proxy_history.specs.StepLaws.{AnswersFit, OpeningsComeFirst, UnopenedHaveNoSteps};
 ghost use Rattle.proxy_history.specs.SendingLaws.{EachTakenSends, NothingElseIsSent, UnsentPartsWait, UpstreamIsWhatWasSent};
 
 /// Each beginning of a legal history is legal.
 pub fn beginnings_are_legal()
     ensures { BeginningsAreLegal }
+{}
+
+/// Each event has an answer of its kind. The proxy's own answer to a request tells whether the connection finishes with it.
+pub fn answers_fit()
+    ensures { AnswersFit }
+{}
+
+/// No step of a connection stands before its opening.
+pub fn openings_come_first()
+    ensures { OpeningsComeFirst }
+{}
+
+/// A connection that was not opened has no steps.
+pub fn unopened_have_no_steps()
+    ensures { UnopenedHaveNoSteps }
 {}
 
 /// The outcome of a command stays as it is.
