@@ -38,3 +38,4 @@ pub mod ReadingLemmas
 pub mod OwnLemmas
 pub mod SeenLemmas
 pub mod StepLemmas
+pub mod CallerLemmas
