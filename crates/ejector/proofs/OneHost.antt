@@ -1,6 +1,6 @@
 -- What a mark does to one host.
 use Rattle.std.proofs.Common.{◌≡◌, ℕ, ◌-◌, ◌*◌, ◌<◌, ◌≤◌, min, max, Bool, true, false, not, ◌&&◌, List, ◌∷◌, length, refl, sym, ap, ◌∙◌, subst, inl, inr, arith, nat_lt, ◌+◌, ◌==◌, Option, if◌then◌else◌}
-use Rattle.std.proofs.lemmas.Bool.{cases_Bool, cases_eq, cases_lt, and_parts, leb-true, false≢true}
+use Rattle.std.proofs.lemmas.Bool.{cases_Bool, cases_eq, cases_lt, and_parts, leb-true, le-leb, false≢true}
 use Rattle.std.proofs.lemmas.List.{get_or_past}
 use Rattle.ejector.specs.declared.mark.Mark.{Mark}
 use Rattle.ejector.specs.declared.mark.Mark.TheVariants.{Good, Bad, Sweep}
@@ -14,7 +14,7 @@ use Rattle.ejector.specs.Sweeps.{comes_back, is_time_over, trips_by, trips_in_sw
 use Rattle.ejector.specs.Ejection.{state, deed_by, nothing_by}
 use Rattle.ejector.specs.Next.{host_with}
 use Rattle.ejector.specs.Counting.{tripped, with_return, in_new_interval}
-use Rattle.ejector.specs.Laws.{OutUntilTimeIsOver, GoodEndsStreak, OthersChangeNothing, FindsTheSame, OthersMatterByLimitAndRates}
+use Rattle.ejector.specs.Laws.{IsTimeOver, BringsBack, BackOnceTimeIsOver, OutUntilTimeIsOver, GoodEndsStreak, OthersChangeNothing, FindsTheSame, OthersMatterByLimitAndRates}
 use Rattle.ejector.proofs.Ranges.{among_filter}
 use Rattle.ejector.proofs.Step.{next_is, host_at}
 use Rattle.ejector.proofs.Few.{state_length}
@@ -92,6 +92,30 @@ pub out_until : OutUntilTimeIsOver
 out_until R m marks h out back = elim (cases_lt h R.hosts) [
   | inl l ↦ out_until_at R m marks h l out back
   | inr g ↦ absurd (false≢true (sym back ∙ ap (λ (s : HostState). s.is_out) (outside R m marks h g) ∙ out))
+]
+
+-- a host that a sweep returns is out afterwards exactly if the sweep ejects it
+out_if_ejected : (ejected back out : Bool) → back ≡ true → (if ejected then true else (if back then false else out)) ≡ ejected
+out_if_ejected true back out e = refl
+out_if_ejected false true out e = refl
+out_if_ejected false false out e = absurd (false≢true e)
+
+back_once_at : (R : Rules) (marks : List Mark) (h t : ℕ) → h < R.hosts → is_out (state R marks) h ≡ true → IsTimeOver R (state R marks) h t → BringsBack R marks h t
+back_once_at R marks h t l out over =
+    let x = at_moment t (state R marks) in
+    let d = deed_by R x (Sweep t) in
+    let is_over : is_time_over R x.clock (host_of x h) ≡ true = le-leb _ _ over in
+    let comes : comes_back R x h ≡ true = rw (out, is_over) refl in
+    let back : returns h d ≡ true = among_filter (comes_back R x) h 0 R.hosts (omega arith) (omega (arith, l)) ∙ comes in
+    let new = ap (λ (s : HostState). s.is_out) (host_next R (Sweep t) marks h l) in
+    record { returned = back; out_again = new ∙ out_if_ejected (ejects h d) (returns h d) (is_out (state R marks) h) back }
+
+pub back_once : BackOnceTimeIsOver
+back_once R marks h t out over = elim (cases_lt h R.hosts) [
+  | inl l ↦ back_once_at R marks h t l out over
+  | inr g ↦
+      let fresh = ap (λ (s : HostState). s.is_out) (past R (state R marks) h (state_length R marks) g) in
+      absurd (false≢true (sym fresh ∙ out))
 ]
 
 -- WHAT OTHERS ARE TO A HOST

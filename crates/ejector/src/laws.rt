@@ -1,5 +1,5 @@
 // What holds of every list of marks.
-ghost use Rattle.ejector.specs.Laws.{FewAreOut, GoodEndsStreak, OthersChangeNothing, OthersMatterByLimitAndRates, OutUntilTimeIsOver, StateDecidesNext};
+ghost use Rattle.ejector.specs.Laws.{BackOnceTimeIsOver, FewAreOut, GoodEndsStreak, OthersChangeNothing, OthersMatterByLimitAndRates, OutUntilTimeIsOver, StateDecidesNext};
 
 /// At every beginning of every list of marks no more hosts are out than the limit allows:
 /// `max_percent` of them, rounded up, but at least one.
@@ -15,6 +15,12 @@ pub fn state_decides_next()
 /// A host that is out comes back only at a sweep at which its time is over.
 pub fn out_until_time_is_over()
     ensures { OutUntilTimeIsOver }
+{}
+
+/// A sweep at which the time of a host that is out is over brings it back. The host is out after that sweep exactly if
+/// the same sweep ejected it again.
+pub fn back_once_time_is_over()
+    ensures { BackOnceTimeIsOver }
 {}
 
 /// One good result puts a host's streak to 0.

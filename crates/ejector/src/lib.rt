@@ -20,8 +20,8 @@ pub use answer::{Swept, Trip};
 pub use ejector::Ejector;
 pub use error::EjectError;
 pub use laws::{
-    few_are_out, good_ends_streak, others_change_nothing, others_matter_by_limit_and_rates,
-    out_until_time_is_over, state_decides_next,
+    back_once_time_is_over, few_are_out, good_ends_streak, others_change_nothing,
+    others_matter_by_limit_and_rates, out_until_time_is_over, state_decides_next,
 };
 pub use settings::{Field, Rules, Settings};
 

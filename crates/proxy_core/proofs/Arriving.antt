@@ -17,9 +17,7 @@ use Rattle.proxy_history.specs.Answer.{accepts, local_of, is_hostless, is_busy}
 use Rattle.proxy_history.specs.Payload.{length_of_request}
 use Rattle.proxy_history.specs.Cause.{causes, own_cause}
 use Rattle.proxy_history.specs.declared.event.Event.TheVariants.{Arrived}
-use Rattle.proxy_history.proofs.Fresh.{AreOf}
-use Rattle.proxy_history.proofs.CommandParts.{are_placed, plan_may_join}
-use Rattle.proxy_history.proofs.NoCause.{are_false}
+use Rattle.proxy_history.proofs.CallerLemmas.{AreOf, AreOf-placing_first as are_placed, MayJoin-plan_for as plan_may_join, first_true-none as are_false}
 use Rattle.proxy_core.specs.Pipelines.{PipelineState, state_of, pushed_part, pushed_parts}
 use Rattle.proxy_core.specs.Kept.{Memory}
 use Rattle.proxy_core.specs.Machine.{connection_at, pipeline_at, setting_in, memory_in, history_in, own_cause_in, IsKept, IsReady}

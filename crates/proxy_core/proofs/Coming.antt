@@ -12,8 +12,7 @@ use Rattle.proxy_history.specs.Past.{past}
 use Rattle.proxy_history.specs.Value.{value_of}
 use Rattle.proxy_history.specs.Legal.{IsLegal}
 use Rattle.proxy_history.specs.Laws.{AreApart}
-use Rattle.proxy_history.proofs.Waiting.{apart_filter}
-use Rattle.proxy_history.proofs.Arrived.{in_filter}
+use Rattle.proxy_history.proofs.CallerLemmas.{AreApart-filter as apart_filter, Contains-filter as in_filter}
 use Rattle.proxy_core.specs.Connections.{connections_of, answered_parts, AreAwaited}
 use Rattle.proxy_core.specs.Pipelines.{owner_of_part, place_of}
 use Rattle.proxy_core.specs.declared.connection.Connection.{Connection}

@@ -19,7 +19,7 @@ use Rattle.proxy_history.specs.Waiting.{sent_by}
 use Rattle.proxy_history.specs.Value.{value_of, value_at, value_or}
 use Rattle.proxy_history.specs.Outcome.{outcome, outcome_by, parts_of, values_of, with_value}
 use Rattle.proxy_history.specs.declared.event.Event.{Event}
-use Rattle.proxy_history.proofs.Fresh.{length-requests, parts_stay}
+use Rattle.proxy_history.proofs.CallerLemmas.{length-requests, parts_of-after as parts_stay}
 use Rattle.proxy_core.specs.Connections.{awaited_by, awaited_from}
 
 -- the commands of a connection, also those that are handed out

@@ -21,7 +21,7 @@ use Rattle.proxy_history.specs.Payload.{payload_of}
 use Rattle.proxy_history.specs.Legal.{IsLegal}
 use Rattle.proxy_history.specs.declared.event.Event.TheVariants.{Opened, Arrived, Finished, Handed, Closed}
 use Rattle.proxy_history.specs.declared.refusal.Refusal.TheVariants as refusal
-use Rattle.proxy_history.proofs.Fresh.{length-requests}
+use Rattle.proxy_history.proofs.CallerLemmas.{length-requests}
 use Rattle.proxy_core.specs.Connections.{queue_of, connection_of, connections_of}
 use Rattle.proxy_core.specs.Kept.{memory_of}
 use Rattle.proxy_core.specs.Machine.{connection_at, own_cause_in, text_in, payload_in}

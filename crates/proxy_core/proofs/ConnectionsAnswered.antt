@@ -13,8 +13,7 @@ use Rattle.proxy_history.specs.Cause.{own_cause}
 use Rattle.proxy_history.specs.Legal.{IsLegal}
 use Rattle.proxy_history.specs.declared.answer.Answer.{Answer}
 use Rattle.proxy_history.specs.declared.event.Event.TheVariants.{Answered}
-use Rattle.proxy_history.proofs.Arrived.{none_in_nothing}
-use Rattle.proxy_history.proofs.SentOnce.{none_twice}
+use Rattle.proxy_history.proofs.CallerLemmas.{Contains-nil as none_in_nothing, AreApart-sent as none_twice}
 use Rattle.proxy_core.specs.Connections.{connections_of, answered_parts, AreAwaited}
 use Rattle.proxy_core.specs.Pipelines.{pipeline_of, place_of, owner_of_part, next_owner}
 use Rattle.proxy_core.proofs.Tabled.{same_range}

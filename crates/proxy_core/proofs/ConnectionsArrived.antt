@@ -16,8 +16,7 @@ use Rattle.proxy_history.specs.Arrival.{parts_by, placed_by, placing}
 use Rattle.proxy_history.specs.Legal.{IsLegal}
 use Rattle.proxy_history.specs.declared.answer.Answer.{Answer}
 use Rattle.proxy_history.specs.declared.event.Event.TheVariants.{Arrived}
-use Rattle.proxy_history.proofs.Fresh.{length-requests}
-use Rattle.proxy_history.proofs.CommandParts.{length-placing, plan_may_join}
+use Rattle.proxy_history.proofs.CallerLemmas.{length-requests, length-placing, MayJoin-plan_for as plan_may_join}
 use Rattle.proxy_core.specs.Connections.{awaited_by, awaited_from, connection_of, connections_of, with_connection, accepting, arrived_command}
 use Rattle.proxy_core.proofs.Tabled.{changed-table}
 use Rattle.proxy_core.proofs.CommandRows.{IsQuiet, row, length-row, awaited_from-more, quiet_before, quiet_value, same_values}

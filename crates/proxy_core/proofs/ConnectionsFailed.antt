@@ -14,9 +14,7 @@ use Rattle.proxy_history.specs.Legal.{IsLegal}
 use Rattle.proxy_history.specs.declared.answer.Answer.{Answer}
 use Rattle.proxy_history.specs.declared.event.Kind.{Kind}
 use Rattle.proxy_history.specs.declared.event.Event.TheVariants.{Failed}
-use Rattle.proxy_history.proofs.SentOnce.{none_twice}
-use Rattle.proxy_history.proofs.Good.{waits_parts}
-use Rattle.proxy_history.proofs.Apart.{parts_are_in_order}
+use Rattle.proxy_history.proofs.CallerLemmas.{AreApart-sent as none_twice, waits-true as waits_parts, AreInOrder-parts as parts_are_in_order}
 use Rattle.proxy_core.specs.Connections.{connections_of, answered_parts, AreAwaited}
 use Rattle.proxy_core.specs.Pipelines.{pipeline_of, piped, owner_of_part, lost_owners}
 use Rattle.proxy_core.proofs.Tabled.{same_range}

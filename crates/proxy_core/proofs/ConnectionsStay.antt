@@ -14,7 +14,7 @@ use Rattle.proxy_history.specs.Value.{reply_to, or_lost, value_at, value_or, val
 use Rattle.proxy_history.specs.Legal.{IsLegal}
 use Rattle.proxy_history.specs.declared.answer.Answer.{Answer}
 use Rattle.proxy_history.specs.declared.event.Event.TheVariants.{Taken, Swept}
-use Rattle.proxy_history.proofs.Asked.{replies_were_asked}
+use Rattle.proxy_history.proofs.CallerLemmas.{length-came as replies_were_asked}
 use Rattle.proxy_core.specs.Connections.{connection_of, connections_of}
 use Rattle.proxy_core.proofs.Tabled.{same_map}
 use Rattle.proxy_core.proofs.CommandRows.{IsQuiet, steady_row}

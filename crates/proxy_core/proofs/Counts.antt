@@ -13,9 +13,7 @@ use Rattle.std.specs.Prelude.{is_some}
 use Rattle.proxy_history.specs.Legal.{IsLegal}
 use Rattle.proxy_history.specs.declared.event.Event.{Event}
 use Rattle.proxy_history.specs.declared.event.Event.TheVariants.{Opened, Arrived, Finished, Taken, Answered, Failed, Swept, Handed, Closed}
-use Rattle.proxy_history.proofs.NoCause.{are_false}
-use Rattle.proxy_history.proofs.Growing.{times_grows}
-use Rattle.proxy_history.proofs.Fresh.{length-requests}
+use Rattle.proxy_history.proofs.CallerLemmas.{first_true-none as are_false, times-cons as times_grows, length-requests}
 
 -- OPEN CONNECTIONS
 

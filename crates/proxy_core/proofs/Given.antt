@@ -11,7 +11,7 @@ use Rattle.reply_queue.specs.Queue.{IsOpen}
 use Rattle.proxy_history.specs.History.{History, plan_for, opened, handed, requests, is_finishing}
 use Rattle.proxy_history.specs.Part.{Part, is_same}
 use Rattle.proxy_history.specs.Laws.{AreApart}
-use Rattle.proxy_history.proofs.SentOnce.{is_other_sym}
+use Rattle.proxy_history.proofs.CallerLemmas.{is_same-sym_false as is_other_sym}
 use Rattle.proxy_core.specs.Connections.{answered_parts, IsAwaited, AreAwaited}
 use Rattle.proxy_core.specs.Pipelines.{owner_of_part}
 use Rattle.proxy_core.specs.declared.connection.Connection.{Connection}

@@ -7,8 +7,7 @@ use Rattle.std.proofs.lemmas.List.Folds.{list_any-append}
 use Rattle.std.proofs.lemmas.Option.{slice_get-get_or}
 use Rattle.proxy_history.specs.Part.{Part, is_same}
 use Rattle.proxy_history.specs.Laws.{AreApart}
-use Rattle.proxy_history.proofs.Arrived.{none_in_nothing}
-use Rattle.proxy_history.proofs.SentOnce.{is_same_sym, is_other_sym}
+use Rattle.proxy_history.proofs.CallerLemmas.{Contains-nil as none_in_nothing, is_same-sym as is_same_sym, is_same-sym_false as is_other_sym}
 
 -- MEMBERS
 

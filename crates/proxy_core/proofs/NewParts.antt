@@ -17,10 +17,7 @@ use Rattle.proxy_history.specs.Value.{reply_to, value_at, value_of, value_or}
 use Rattle.proxy_history.specs.Outcome.{parts_of, is_part_of}
 use Rattle.proxy_history.specs.declared.event.Event.{Event}
 use Rattle.proxy_history.specs.declared.event.Event.TheVariants.{Opened, Arrived, Finished, Taken, Answered, Failed, Swept, Handed, Closed}
-use Rattle.proxy_history.proofs.Fresh.{AreOf}
-use Rattle.proxy_history.proofs.Apart.{AreEarlier, earlier_grows, earlier_both, parts_are_in_order}
-use Rattle.proxy_history.proofs.Waiting.{any_less}
-use Rattle.proxy_history.proofs.CommandParts.{all_of, are_placed, not_yet}
+use Rattle.proxy_history.proofs.CallerLemmas.{AreOf, AreEarlier, AreEarlier-cons as earlier_grows, AreEarlier-append as earlier_both, AreInOrder-parts as parts_are_in_order, list_any-filter as any_less, filter-AreOf as all_of, AreOf-placing_first as are_placed, parts_of-not_yet as not_yet}
 
 -- WHAT WAS SENT IS OF COMMANDS THAT HAD ARRIVED
 

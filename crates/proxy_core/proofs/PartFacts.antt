@@ -19,14 +19,7 @@ use Rattle.proxy_history.specs.Outcome.{parts_of, is_part_of, values_of, with_va
 use Rattle.proxy_history.specs.Legal.{IsLegal}
 use Rattle.proxy_history.specs.declared.event.Event.{Event}
 use Rattle.proxy_history.specs.declared.event.Event.TheVariants.{Opened, Arrived, Finished, Taken, Answered, Failed, Swept, Handed, Closed}
-use Rattle.proxy_history.proofs.Growing.{slice_get_stays, times_grows}
-use Rattle.proxy_history.proofs.NoCause.{are_false}
-use Rattle.proxy_history.proofs.Fresh.{AreOf, length-requests, placing_are_of, parts_stay}
-use Rattle.proxy_history.proofs.Apart.{host_keeps_number}
-use Rattle.proxy_history.proofs.Arrived.{none_in_nothing, parts_have_arrived}
-use Rattle.proxy_history.proofs.Beginnings.{beginning}
-use Rattle.proxy_history.proofs.CommandParts.{none_of, all_of, not_yet}
-use Rattle.proxy_history.proofs.Order.{in_order}
+use Rattle.proxy_history.proofs.CallerLemmas.{slice_get-append as slice_get_stays, times-cons as times_grows, first_true-none as are_false, AreOf, length-requests, AreOf-placing as placing_are_of, parts_of-after as parts_stay, number-with_host as host_keeps_number, Contains-nil as none_in_nothing, HasArrived-parts as parts_have_arrived, IsLegal-append as beginning, filter-AreOf_other as none_of, filter-AreOf as all_of, parts_of-not_yet as not_yet, transcript-first_outcomes as in_order}
 use Rattle.proxy_core.proofs.Members.{in_cases, in_filter_too, place_of_member}
 
 -- NUMBERS ARE PLACES

@@ -11,7 +11,7 @@ use Rattle.proxy_history.specs.Part.{Part, Past, is_of}
 use Rattle.proxy_history.specs.Past.{after}
 use Rattle.proxy_history.specs.Waiting.{waiting, waits, sent_by, sent_to}
 use Rattle.proxy_history.specs.Arrival.{parts_by}
-use Rattle.proxy_history.proofs.Waiting.{same_filter}
+use Rattle.proxy_history.proofs.CallerLemmas.{filter-same as same_filter}
 use Rattle.proxy_core.specs.Pipelines.{PipelineState, piped, place_of, pipeline_of}
 use Rattle.proxy_core.proofs.CommandRows.{same_values}
 

@@ -16,8 +16,7 @@ use Rattle.proxy_history.specs.Arrival.{parts_by, placed_by}
 use Rattle.proxy_history.specs.Cause.{own_cause}
 use Rattle.proxy_history.specs.declared.answer.Answer.{Answer}
 use Rattle.proxy_history.specs.declared.event.Event.TheVariants.{Arrived}
-use Rattle.proxy_history.proofs.Fresh.{AreOf}
-use Rattle.proxy_history.proofs.CommandParts.{are_placed}
+use Rattle.proxy_history.proofs.CallerLemmas.{AreOf, AreOf-placing_first as are_placed}
 use Rattle.proxy_core.specs.Pipelines.{PipelineState, piped, place_of, pipeline_of, pipelines_of, with_pipeline, pushed_part, pushed_parts}
 use Rattle.proxy_core.proofs.Tabled.{same_map, changed-table}
 use Rattle.proxy_core.proofs.Counts.{arrived_open, open_parts}

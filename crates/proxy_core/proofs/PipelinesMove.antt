@@ -21,11 +21,7 @@ use Rattle.proxy_history.specs.declared.answer.Answer.{Answer}
 use Rattle.proxy_history.specs.declared.event.Kind.{Kind}
 use Rattle.proxy_history.specs.declared.event.Event.{Event}
 use Rattle.proxy_history.specs.declared.event.Event.TheVariants.{Opened, Arrived, Finished, Taken, Answered, Failed, Swept, Handed, Closed}
-use Rattle.proxy_history.proofs.NoCause.{is_current}
-use Rattle.proxy_history.proofs.SentOnce.{eqb_sym}
-use Rattle.proxy_history.proofs.Values.{is_of_parts}
-use Rattle.proxy_history.proofs.Waiting.{AreOfPast, none_of_next, after_closed}
-use Rattle.proxy_history.proofs.OfPast.{of_past_grows, of_past_both, are_of_past, fault_empties}
+use Rattle.proxy_history.proofs.CallerLemmas.{own_cause-answered as is_current, eq-sym as eqb_sym, is_of-true as is_of_parts, AreOfPast, filter-none_of_next as none_of_next, waiting-closed as after_closed, AreOfPast-cons as of_past_grows, AreOfPast-append as of_past_both, AreOfPast-parts as are_of_past, waiting-failed as fault_empties}
 use Rattle.proxy_core.specs.Pipelines.{owner_of_part, piped, place_of, pipeline_of, pipelines_of, with_pipeline, answered_by, failed, without_connection}
 use Rattle.proxy_core.proofs.Tabled.{same_map, changed-table}
 use Rattle.proxy_core.proofs.CommandRows.{IsQuiet, same_values}

@@ -14,12 +14,7 @@ use Rattle.proxy_history.specs.Legal.{IsLegal}
 use Rattle.proxy_history.specs.Laws.{AreApart}
 use Rattle.proxy_history.specs.declared.answer.Answer.{Answer}
 use Rattle.proxy_history.specs.declared.event.Event.TheVariants.{Taken}
-use Rattle.proxy_history.proofs.NoCause.{are_false}
-use Rattle.proxy_history.proofs.Good.{AreGood, filter_is_good, waits_parts}
-use Rattle.proxy_history.proofs.Values.{is_of_parts, same_host}
-use Rattle.proxy_history.proofs.Waiting.{same_filter, filter_both, any_less, all_stay, taken_waits, after_taken}
-use Rattle.proxy_history.proofs.Apart.{parts_are_in_order}
-use Rattle.proxy_history.proofs.Asked.{replies_were_asked}
+use Rattle.proxy_history.proofs.CallerLemmas.{first_true-none as are_false, AreGood, AreGood-filter as filter_is_good, waits-true as waits_parts, is_of-true as is_of_parts, is_host-same as same_host, filter-same as same_filter, filter-both as filter_both, list_any-filter as any_less, filter-others as all_stay, waits-taken as taken_waits, waiting-taken as after_taken, AreInOrder-parts as parts_are_in_order, length-came as replies_were_asked}
 use Rattle.proxy_core.specs.Pipelines.{owner_of_part, piped, place_of, pipeline_of, pipelines_of, with_pipeline, flying_of, taken_from}
 use Rattle.proxy_core.proofs.Tabled.{changed-table}
 use Rattle.proxy_core.proofs.PipelineStays.{same_pipeline, same_places, sent_to_later, pipeline_stays}

@@ -19,7 +19,7 @@ use Rattle.proxy_history.specs.declared.event.Event.{Event}
 use Rattle.proxy_history.specs.declared.event.Event.TheVariants.{Opened, Arrived, Finished, Taken, Answered, Failed, Swept, Handed, Closed}
 use Rattle.proxy_history.specs.declared.refusal.Refusal.{Refusal}
 use Rattle.proxy_history.specs.declared.refusal.Refusal.TheVariants as refusal
-use Rattle.proxy_history.proofs.NoCause.{are_false}
+use Rattle.proxy_history.proofs.CallerLemmas.{first_true-none as are_false}
 use Rattle.proxy_core.specs.Connections.{connections_of}
 use Rattle.proxy_core.specs.Pipelines.{PipelineState, pipelines_of}
 use Rattle.proxy_core.specs.Kept.{Memory, memory_of}

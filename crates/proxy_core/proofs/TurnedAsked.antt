@@ -18,7 +18,7 @@ use Rattle.proxy_history.specs.Payload.{payload, payload_of}
 use Rattle.proxy_history.specs.Cause.{own_cause}
 use Rattle.proxy_history.specs.Legal.{IsLegal}
 use Rattle.proxy_history.specs.declared.event.Event.TheVariants.{Answered}
-use Rattle.proxy_history.proofs.PlainOutcomes.{IsPlainIfAny, outcome_is_plain}
+use Rattle.proxy_history.proofs.CallerLemmas.{IsPlainIfAny, IsPlainIfAny-outcome as outcome_is_plain}
 use Rattle.proxy_core.specs.Connections.{AreAwaited, connections_of}
 use Rattle.proxy_core.specs.Pipelines.{PipelineState, state_of, pipeline_of, pipelines_of, next_owner, lost_owners}
 use Rattle.proxy_core.specs.Machine.{setting_in, memory_in, history_in, pipeline_at, no_pipeline, connection_at, reply_in, IsKept}

@@ -21,7 +21,7 @@ use Rattle.proxy_history.specs.declared.answer.Answer.TheVariants as answers
 use Rattle.proxy_history.specs.declared.event.Event.TheVariants.{Opened, Arrived, Finished, Taken, Answered, Failed, Swept, Handed, Closed}
 use Rattle.proxy_history.specs.declared.event.Kind.{Kind}
 use Rattle.proxy_history.specs.declared.event.Kind.TheVariants as kinds
-use Rattle.proxy_history.proofs.Following.{has_host}
+use Rattle.proxy_history.proofs.CallerLemmas.{HasHost-own_cause as has_host}
 use Rattle.proxy_core.specs.Connections.{connections_of, fresh_connection, with_connection, finished, closing, handing, answered_parts, accepting, arrived_command}
 use Rattle.proxy_core.specs.Pipelines.{PipelineState, pipeline_of, pipelines_of, without_connection, with_pipeline, taken_from, answered_by, next_owner, failed, lost_owners, pushed_parts}
 use Rattle.proxy_core.specs.Kept.{Memory}

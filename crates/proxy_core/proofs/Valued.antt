@@ -14,7 +14,7 @@ use Rattle.proxy_history.specs.History.{History, plan_for, opened, handed, reque
 use Rattle.proxy_history.specs.Part.{Part, Past, is_same}
 use Rattle.proxy_history.specs.Value.{value_of}
 use Rattle.proxy_history.specs.Outcome.{is_part_of}
-use Rattle.proxy_history.proofs.Arrived.{in_filter}
+use Rattle.proxy_history.proofs.CallerLemmas.{Contains-filter as in_filter}
 use Rattle.proxy_core.specs.Connections.{awaited_by, awaited_from, connection_of, connections_of, answered_part}
 use Rattle.proxy_core.specs.Pipelines.{owner_of_part}
 use Rattle.proxy_core.specs.declared.connection.Connection.{Connection}

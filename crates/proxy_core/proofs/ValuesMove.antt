@@ -21,14 +21,7 @@ use Rattle.proxy_history.specs.Laws.{AreApart}
 use Rattle.proxy_history.specs.declared.answer.Answer.{Answer}
 use Rattle.proxy_history.specs.declared.event.Kind.{Kind}
 use Rattle.proxy_history.specs.declared.event.Event.TheVariants.{Answered, Failed}
-use Rattle.proxy_history.proofs.NoCause.{is_current}
-use Rattle.proxy_history.proofs.SentOnce.{none_twice, is_other_sym}
-use Rattle.proxy_history.proofs.Good.{waits_parts}
-use Rattle.proxy_history.proofs.Waiting.{AreOfPast, apart_filter, any_less, is_same_self}
-use Rattle.proxy_history.proofs.OfPast.{are_of_past}
-use Rattle.proxy_history.proofs.Apart.{parts_are_in_order}
-use Rattle.proxy_history.proofs.Asked.{some_fly}
-use Rattle.proxy_history.proofs.Arrived.{none_in_nothing, in_filter, sent_parts_arrived}
+use Rattle.proxy_history.proofs.CallerLemmas.{own_cause-answered as is_current, AreApart-sent as none_twice, is_same-sym_false as is_other_sym, waits-true as waits_parts, AreOfPast, AreApart-filter as apart_filter, list_any-filter as any_less, is_same-self as is_same_self, AreOfPast-parts as are_of_past, AreInOrder-parts as parts_are_in_order, flying-answered as some_fly, Contains-nil as none_in_nothing, Contains-filter as in_filter, Contains-sent as sent_parts_arrived}
 use Rattle.proxy_core.proofs.Members.{first_in, in_cases, in_drop, in_filter_too, filter_passes, any_of, any_from, none_of_them, one_part, apart_drop, apart_append, none_found, unfound, behind_unfound}
 
 -- WHO HAS NO REPLY YET

@@ -82,7 +82,7 @@ host_is : (x : Past) (placed : List Part) (o : Option ℕ) (p : Part) → p.host
 host_is x placed None p n = n
 host_is x placed (Some h) p n = refl
 
-text_is : (x : Past) (placed : List Part) (o : Option ℕ) (p : Part) → (with_host x placed o p).text ≡ p.text
+pub text_is : (x : Past) (placed : List Part) (o : Option ℕ) (p : Part) → (with_host x placed o p).text ≡ p.text
 text_is x placed None p = refl
 text_is x placed (Some h) p = refl
 

@@ -1,8 +1,8 @@
--- The parts of a command are as many as its plan has, and so are their values.
+-- The parts of a command are those of its plan, and as many are their values.
 use Rattle.std.proofs.Common.{◌≡◌, ℕ, zero, suc, ◌+◌, ◌<◌, ◌≤◌, ◌==◌, ◌&&◌, ◌-◌, nat_lt, Bool, true, false, List, [], ◌∷◌, ◌++◌, length, map, filter, Option, Some, None, refl, sym, ap, ◌∙◌, subst, inl, inr, arith, if◌then◌else◌}
 use Rattle.std.specs.Prelude.{option_map, slice_get, IfSome}
 use Rattle.std.proofs.lemmas.Bool.{cases_Bool, eqb-true, eq-eqb, ltb-true, ltb-false}
-use Rattle.std.proofs.lemmas.List.{length-append, length-map}
+use Rattle.std.proofs.lemmas.List.{append-nil, append_assoc, length-append, length-map, map-append}
 use Rattle.std.proofs.lemmas.List.Elements.{filter-append}
 use Rattle.resp_core.specs.Tree.{Tree}
 use Rattle.resp_core.specs.Value.{tree_of}
@@ -19,11 +19,14 @@ use Rattle.proxy_history.specs.History.{History, Step, plan_for, accepted, reque
 use Rattle.proxy_history.specs.Part.{Past, Part}
 use Rattle.proxy_history.specs.Past.{past, parts_in}
 use Rattle.proxy_history.specs.Value.{value_of}
-use Rattle.proxy_history.specs.Arrival.{placing, placed_part, placed_by, parts_by}
+use Rattle.proxy_history.specs.Arrival.{placing, placed_part, placed_by, parts_by, host_for, hostless}
 use Rattle.proxy_history.specs.Outcome.{parts_of, is_part_of, values_of, with_value}
+use Rattle.proxy_history.specs.CommandLaws.{parts_in_plan, HasItsParts}
 use Rattle.proxy_history.specs.declared.event.Event.{Event}
 use Rattle.proxy_history.specs.declared.event.Event.TheVariants.{Opened, Arrived, Finished, Taken, Answered, Failed, Swept, Handed, Closed}
 use Rattle.proxy_history.proofs.Fresh.{length-requests, AreOf, placing_are_of, parts_stay}
+use Rattle.proxy_history.proofs.Apart.{host_keeps_number}
+use Rattle.proxy_history.proofs.Arrived.{text_is}
 
 -- AS MANY AS THE PLAN HAS
 
@@ -89,35 +92,37 @@ not_yet S (s ∷ H) c i l =
     filter-append (is_part_of c i) (parts_in S H) (parts_by S (past S H) s.event)
     ∙ rw (not_yet S H c i (fewer (is_arrival c s.event) (accepted c H) i l), not_yet_by S (past S H) c i s.event (counted_once (is_arrival c s.event) (accepted c H) i l)) refl
 
--- A COMMAND HAS AS MANY PARTS AS ITS PLAN
+-- A COMMAND HAS THE PARTS OF ITS PLAN
 
-own_parts : (S : Setting) (x : Past) (c : ℕ) (plan : Plan) (how : Join) (list : List PartPlan) → plan ≡ parts how list → length (filter (is_part_of c (accepted c x.steps)) (placed_by S x c plan)) ≡ length list
-own_parts S x c plan how list e =
-    rw e (ap length (all_of c (accepted c x.steps) _ (are_placed S x c list)) ∙ length-placing S x c (accepted c x.steps) [] list ∙ omega arith)
+own_parts : (S : Setting) (x : Past) (c : ℕ) (plan : Plan)
+    → filter (is_part_of c (accepted c x.steps)) (placed_by S x c plan) ≡ placing S x c (accepted c x.steps) [] (parts_in_plan plan)
+own_parts S x c (parts how list) = all_of c (accepted c x.steps) _ (are_placed S x c list)
+own_parts S x c (here name value) = refl
+own_parts S x c (leave name value) = refl
 
 -- the one request that an arrival brings is that of the next command
-parts_of_arrival : (S : Setting) (x : Past) (c conn : ℕ) (asked request : Request) (how : Join) (list : List PartPlan) (k : ℕ) → conn ≡ c
-    → slice_get (asked ∷ []) k ≡ Some request → plan_for request ≡ parts how list → length (filter (is_part_of c (accepted c x.steps + k)) (placed_by S x conn (plan_for asked))) ≡ length list
-parts_of_arrival S x c conn asked request how list zero e f g =
+parts_of_arrival : (S : Setting) (x : Past) (c conn : ℕ) (asked request : Request) (k : ℕ) → conn ≡ c → slice_get (asked ∷ []) k ≡ Some request
+    → filter (is_part_of c (accepted c x.steps + k)) (placed_by S x conn (plan_for asked)) ≡ placing S x c (accepted c x.steps + k) [] (parts_in_plan (plan_for request))
+parts_of_arrival S x c conn asked request zero e f =
     let same : asked ≡ request = cc in
     let none : accepted c x.steps + 0 ≡ accepted c x.steps = omega arith in
-    rw (none, e) (own_parts S x c (plan_for asked) how list (ap plan_for same ∙ g))
-parts_of_arrival S x c conn asked request how list (suc k) e f g = absurd (cc f)
+    rw (none, e) (own_parts S x c (plan_for asked) ∙ ap (λ (r : Request). placing S x c (accepted c x.steps) [] (parts_in_plan (plan_for r))) same)
+parts_of_arrival S x c conn asked request (suc k) e f = absurd (cc f)
 
-new_parts : (S : Setting) (x : Past) (c : ℕ) (event : Event) (request : Request) (how : Join) (list : List PartPlan) (k : ℕ)
-    → slice_get (request_by c event) k ≡ Some request → plan_for request ≡ parts how list → length (filter (is_part_of c (accepted c x.steps + k)) (parts_by S x event)) ≡ length list
-new_parts S x c (Arrived conn asked) request how list k e f = elim (cases_Bool (conn == c)) [
-  | inl t ↦ parts_of_arrival S x c conn asked request how list k (eqb-true conn c t) (rw t at e) f
+new_parts : (S : Setting) (x : Past) (c : ℕ) (event : Event) (request : Request) (k : ℕ) → slice_get (request_by c event) k ≡ Some request
+    → filter (is_part_of c (accepted c x.steps + k)) (parts_by S x event) ≡ placing S x c (accepted c x.steps + k) [] (parts_in_plan (plan_for request))
+new_parts S x c (Arrived conn asked) request k e = elim (cases_Bool (conn == c)) [
+  | inl t ↦ parts_of_arrival S x c conn asked request k (eqb-true conn c t) (rw t at e)
   | inr t ↦ let g = rw t at e in absurd (cc g)
 ]
-new_parts S x c Opened request how list k e f = absurd (cc e)
-new_parts S x c (Finished conn) request how list k e f = absurd (cc e)
-new_parts S x c (Taken host) request how list k e f = absurd (cc e)
-new_parts S x c (Answered host ep value t) request how list k e f = absurd (cc e)
-new_parts S x c (Failed host ep kind t) request how list k e f = absurd (cc e)
-new_parts S x c (Swept t) request how list k e f = absurd (cc e)
-new_parts S x c (Handed conn) request how list k e f = absurd (cc e)
-new_parts S x c (Closed conn) request how list k e f = absurd (cc e)
+new_parts S x c Opened request k e = absurd (cc e)
+new_parts S x c (Finished conn) request k e = absurd (cc e)
+new_parts S x c (Taken host) request k e = absurd (cc e)
+new_parts S x c (Answered host ep value t) request k e = absurd (cc e)
+new_parts S x c (Failed host ep kind t) request k e = absurd (cc e)
+new_parts S x c (Swept t) request k e = absurd (cc e)
+new_parts S x c (Handed conn) request k e = absurd (cc e)
+new_parts S x c (Closed conn) request k e = absurd (cc e)
 
 slice_get-left : {X : Type 0} (xs ys : List X) (i : ℕ) → i < length xs → slice_get (xs ++ ys) i ≡ slice_get xs i
 slice_get-left [] ys i l = absurd (omega (arith, l))
@@ -130,23 +135,79 @@ slice_get-right (x ∷ xs) ys k =
     let e : length (x ∷ xs) + k ≡ suc (length xs + k) = omega arith in
     ap (λ z. slice_get (x ∷ (xs ++ ys)) z) e ∙ slice_get-right xs ys k
 
--- a command has as many parts as its plan
-pub length-parts_of : (S : Setting) (H : History) (c i : ℕ) (request : Request) (how : Join) (list : List PartPlan) → slice_get (requests c H) i ≡ Some request → plan_for request ≡ parts how list → length (parts_of c i (past S H)) ≡ length list
-length-parts_of S [] c i request how list e f = absurd (cc e)
-length-parts_of S (s ∷ H) c i request how list e f = elim (cases_Bool (nat_lt i (accepted c H))) [
+-- the parts of a command are those that were placed at its arrival
+parts_were_placed : (S : Setting) (H : History) (c i : ℕ) (request : Request) → slice_get (requests c H) i ≡ Some request
+    → (x : Past) × (parts_of c i (past S H) ≡ placing S x c i [] (parts_in_plan (plan_for request)))
+parts_were_placed S [] c i request e = absurd (cc e)
+parts_were_placed S (s ∷ H) c i request e = elim (cases_Bool (nat_lt i (accepted c H))) [
   | inl t ↦
       let l : i < accepted c H = ltb-true i (accepted c H) t in
-      ap length (parts_stay S (past S H) c i s l)
-      ∙ length-parts_of S H c i request how list (sym (slice_get-left (requests c H) (request_by c s.event) i (omega (arith, l, length-requests c H))) ∙ e) f
+      let a = parts_were_placed S H c i request (sym (slice_get-left (requests c H) (request_by c s.event) i (omega (arith, l, length-requests c H))) ∙ e) in
+      (a.0, parts_stay S (past S H) c i s l ∙ a.1)
   | inr t ↦
       let l : accepted c H ≤ i = ltb-false i (accepted c H) t in
       let k : ℕ = i - accepted c H in
       let at : accepted c H + k ≡ i = omega (arith, l) in
       let place : length (requests c H) + k ≡ i = omega (arith, l, length-requests c H) in
       let brought : slice_get (request_by c s.event) k ≡ Some request = sym (slice_get-right (requests c H) (request_by c s.event) k) ∙ ap (λ z. slice_get (requests c H ++ request_by c s.event) z) place ∙ e in
-      ap length (filter-append (is_part_of c i) (parts_in S H) (parts_by S (past S H) s.event))
-      ∙ rw (not_yet S H c i l) (subst (λ (z : ℕ). length (filter (is_part_of c z) (parts_by S (past S H) s.event)) ≡ length list) at (new_parts S (past S H) c s.event request how list k brought f))
+      let now : filter (is_part_of c i) (parts_by S (past S H) s.event) ≡ placing S (past S H) c i [] (parts_in_plan (plan_for request)) =
+      subst (λ (z : ℕ). filter (is_part_of c z) (parts_by S (past S H) s.event) ≡ placing S (past S H) c z [] (parts_in_plan (plan_for request))) at (new_parts S (past S H) c s.event request k brought) in
+      (past S H, filter-append (is_part_of c i) (parts_in S H) (parts_by S (past S H) s.event) ∙ rw (not_yet S H c i l) now)
 ]
+
+-- so they are as many as the plan has
+pub length-parts_of : (S : Setting) (H : History) (c i : ℕ) (request : Request) (how : Join) (list : List PartPlan) → slice_get (requests c H) i ≡ Some request → plan_for request ≡ parts how list → length (parts_of c i (past S H)) ≡ length list
+length-parts_of S H c i request how list e f =
+    let a = parts_were_placed S H c i request e in
+    let plans = parts_in_plan (plan_for request) in
+    ap length a.1 ∙ length-placing S a.0 c i [] plans ∙ omega (arith, ap (λ z. length (parts_in_plan z)) f)
+
+-- they have the plan's texts, in its order
+placed_text : (S : Setting) (x : Past) (conn command : ℕ) (placed : List Part) (q : PartPlan) → (placed_part S x conn command placed q).text ≡ q.text
+placed_text S x conn command placed q = text_is x placed (host_for S x q.key) (hostless conn command (length placed) q)
+
+texts_of_placing : (S : Setting) (x : Past) (conn command : ℕ) (placed : List Part) (ps : List PartPlan)
+    → map (λ (p : Part). p.text) (placing S x conn command placed ps) ≡ map (λ (p : Part). p.text) placed ++ map (λ (q : PartPlan). q.text) ps
+texts_of_placing S x conn command placed [] = sym (append-nil _)
+texts_of_placing S x conn command placed (q ∷ ps) =
+    let p = placed_part S x conn command placed q in
+    texts_of_placing S x conn command (placed ++ p ∷ []) ps
+    ∙ ap (λ z. z ++ map (λ (q : PartPlan). q.text) ps) (map-append (λ (p : Part). p.text) placed (p ∷ []))
+    ∙ append_assoc (map (λ (p : Part). p.text) placed) (p.text ∷ []) (map (λ (q : PartPlan). q.text) ps)
+    ∙ ap (λ z. map (λ (p : Part). p.text) placed ++ z ∷ map (λ (q : PartPlan). q.text) ps) (placed_text S x conn command placed q)
+
+-- and are numbered by their places
+abbrev AreNumbered : ℕ → List Part → Type 0
+AreNumbered n [] = Unit {0}
+AreNumbered n (p ∷ ps) = (p.number ≡ n) × AreNumbered (n + 1) ps
+
+numbered_with : (n : ℕ) (ps : List Part) (q : Part) → AreNumbered n ps → q.number ≡ n + length ps → AreNumbered n (ps ++ q ∷ [])
+numbered_with n [] q a e = (omega (arith, e), tt)
+numbered_with n (p ∷ ps) q a e = (a.0, numbered_with (n + 1) ps q a.1 (omega (arith, e)))
+
+placing_is_numbered : (S : Setting) (x : Past) (conn command : ℕ) (placed : List Part) (ps : List PartPlan) → AreNumbered 0 placed → AreNumbered 0 (placing S x conn command placed ps)
+placing_is_numbered S x conn command placed [] a = a
+placing_is_numbered S x conn command placed (q ∷ ps) a =
+    let number = host_keeps_number x placed (host_for S x q.key) (hostless conn command (length placed) q) in
+    placing_is_numbered S x conn command (placed ++ placed_part S x conn command placed q ∷ []) ps
+    (numbered_with 0 placed (placed_part S x conn command placed q) a (omega (arith, number)))
+
+numbered_at : (n : ℕ) (ps : List Part) (k : ℕ) (p : Part) → AreNumbered n ps → slice_get ps k ≡ Some p → p.number ≡ n + k
+numbered_at n [] k p a e = absurd cc
+numbered_at n (q ∷ ps) zero p a e =
+    let same : q ≡ p = cc in
+    omega (arith, a.0, ap (λ (r : Part). r.number) same)
+numbered_at n (q ∷ ps) (suc k) p a e = omega (arith, numbered_at (n + 1) ps k p a.1 e)
+
+pub commands_have_their_parts : (S : Setting) (H : History) (c i : ℕ) (request : Request) → slice_get (requests c H) i ≡ Some request
+    → HasItsParts (parts_of c i (past S H)) (parts_in_plan (plan_for request))
+commands_have_their_parts S H c i request e =
+    let a = parts_were_placed S H c i request e in
+    let plans = parts_in_plan (plan_for request) in
+    record {
+      texts = ap (map (λ (p : Part). p.text)) a.1 ∙ texts_of_placing S a.0 c i [] plans;
+      numbers = λ k p g. omega (arith, numbered_at 0 (placing S a.0 c i [] plans) k p (placing_is_numbered S a.0 c i [] plans tt) (sym (ap (λ z. slice_get z k) a.1) ∙ g));
+    }
 
 -- WHAT A JOIN IS ASKED
 

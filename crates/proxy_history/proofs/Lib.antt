@@ -28,3 +28,14 @@ pub mod Replayed
 pub mod Telling
 pub mod Following
 pub mod Adding
+pub mod HandingLemmas
+pub mod SendingLemmas
+pub mod OutcomeLemmas
+pub mod LimitLemmas
+pub mod UnsentLemmas
+pub mod EjectionLemmas
+pub mod ReadingLemmas
+pub mod OwnLemmas
+pub mod SeenLemmas
+pub mod StepLemmas
+pub mod CallerLemmas

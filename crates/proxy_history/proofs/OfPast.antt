@@ -41,7 +41,7 @@ placed_of_past S x conn (parts how list) = placing_of_past S x conn (accepted co
 placed_of_past S x conn (here name value) = tt
 placed_of_past S x conn (leave name value) = tt
 
-new_of_past : (S : Setting) (x : Past) (event : Event) → AreOfPast x.steps (parts_by S x event)
+pub new_of_past : (S : Setting) (x : Past) (event : Event) → AreOfPast x.steps (parts_by S x event)
 new_of_past S x (Arrived conn request) = placed_of_past S x conn (plan_for request)
 new_of_past S x Opened = tt
 new_of_past S x (Finished conn) = tt

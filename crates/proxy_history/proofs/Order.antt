@@ -43,7 +43,7 @@ one_more x c n h e = record { each = λ i l. elim (cases_lt i n) [ inl b ↦ h.e
     is_n i l b = omega (arith, l, b)
 
 -- who is handed something has an outcome
-has_outcome : (S : Setting) (x : Past) (c : ℕ) → own_cause S x (Handed c) ≡ None → is_some (outcome c (handed c x.steps) x) ≡ true
+pub has_outcome : (S : Setting) (x : Past) (c : ℕ) → own_cause S x (Handed c) ≡ None → is_some (outcome c (handed c x.steps) x) ≡ true
 has_outcome S x c n =
     let a = are_false (causes S x (Handed c)) n in
     (and_parts (nat_lt 0 (left c x)) (is_some (outcome c (handed c x.steps) x)) (not-false (is_ready c x) a.1.0)).1

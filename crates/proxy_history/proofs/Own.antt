@@ -1,19 +1,21 @@
 -- Whose value a part gets.
-use Rattle.std.proofs.Common.{◌≡◌, ◌⊎◌, ℕ, zero, suc, Bool, true, false, nat_lt, List, [], ◌∷◌, Option, Some, None, refl, sym, ap, ◌∙◌, inl, inr}
-use Rattle.std.specs.List.{find, zip, slice_get}
+use Rattle.std.proofs.Common.{◌≡◌, ◌⊎◌, ◌↔◌, ℕ, zero, suc, Bool, true, false, nat_lt, List, [], ◌∷◌, Option, Some, None, refl, sym, ap, ◌∙◌, inl, inr}
+use Rattle.std.specs.List.{find, list_any, zip, slice_get}
 use Rattle.std.specs.Prelude.{option_map}
-use Rattle.std.proofs.lemmas.Bool.{cases_Bool, ltb-true}
+use Rattle.std.proofs.lemmas.Bool.{cases_Bool, ltb-true, lt-ltb, or_left, or_right, both_ways}
 use Rattle.resp_core.specs.Tree.{Tree}
 use Rattle.proxy_history.specs.Setting.{Setting}
 use Rattle.proxy_history.specs.History.{History, epoch}
 use Rattle.proxy_history.specs.Replies.{came}
-use Rattle.proxy_history.specs.Part.{Past, Part, is_same}
+use Rattle.proxy_history.specs.Part.{Past, Part, is_of, is_same}
 use Rattle.proxy_history.specs.Past.{past}
 use Rattle.proxy_history.specs.Waiting.{sent_to}
-use Rattle.proxy_history.specs.Value.{replies, reply_to, or_lost, value_at, value_of, upstream_failure}
+use Rattle.proxy_history.specs.Value.{replies, reply_to, or_lost, value_at, value_or, value_of, upstream_failure}
 use Rattle.proxy_history.specs.Legal.{IsLegal}
-use Rattle.proxy_history.specs.Laws.{IsReply, IsLost}
+use Rattle.proxy_history.specs.Laws.{AreApart, IsReply, IsLost, IsOwnValue}
 use Rattle.proxy_history.proofs.Faults.{epochs_end_by_faults}
+use Rattle.proxy_history.proofs.SentOnce.{is_same_sym, is_same_trans, none_twice}
+use Rattle.proxy_history.proofs.Waiting.{apart_filter}
 
 -- a pair that is found stands in one place of both lists
 record IsAt {A B : Type 0} (t : A × B → Bool) (xs : List A) (ys : List B) (r : A × B) : Type 0 where
@@ -65,10 +67,49 @@ by_reply x h p v b (Some w) q e = inl (has_reply x h p v (find (λ r. is_same p 
 by_reply x h p v true None q e = let is : upstream_failure ≡ v = cc in inr (sym is, refl, q)
 by_reply x h p v false None q e = absurd cc
 
-pub values_are_own : (S : Setting) (H : History) (p : Part) (h : ℕ) (v : Tree) → IsLegal S H → p.local ≡ None → p.host ≡ Some h → value_of (past S H) p ≡ Some v
-    → IsReply (past S H) h p v ⊎ ((v ≡ upstream_failure) × IsLost S H h p)
-values_are_own S H p h v legal l o e =
-    let here : value_at (past S H) p (Some h) ≡ Some v = rw (l, o) at e in
+-- AND THE OTHER WAY
+
+-- a part that stands among these is found there
+any_at : (p : Part) (ps : List Part) (place : ℕ) (q : Part) → slice_get ps place ≡ Some q → is_same p q ≡ true → list_any (is_same p) ps ≡ true
+any_at p [] place q e i = absurd cc
+any_at p (x ∷ ps) zero q e i =
+    let is : x ≡ q = cc in
+    or_left (is_same p x) (list_any (is_same p) ps) (ap (is_same p) is ∙ i)
+any_at p (x ∷ ps) (suc place) q e i = or_right (is_same p x) (list_any (is_same p) ps) (any_at p ps place q e i)
+
+-- each part was sent in one place, so the value of that place is found
+reply_at_place : (p q : Part) (v : Tree) (xs : List Part) (ys : List Tree) (place : ℕ) → AreApart xs → slice_get xs place ≡ Some q → is_same p q ≡ true → slice_get ys place ≡ Some v
+    → option_map (λ r. r.1) (find (λ r. is_same p r.0) (zip xs ys)) ≡ Some v
+reply_at_place p q v [] ys place a l i r = absurd cc
+reply_at_place p q v (x ∷ xs) [] place a l i r = absurd cc
+reply_at_place p q v (x ∷ xs) (y ∷ ys) zero a l i r =
+    let is : x ≡ q = cc in
+    let found : is_same p x ≡ true = ap (is_same p) is ∙ i in
+    let value : y ≡ v = cc in
+    rw found (ap (λ z. Some z) value)
+reply_at_place p q v (x ∷ xs) (y ∷ ys) (suc place) a l i r = elim (cases_Bool (is_same p x)) [
+  | inl t ↦ absurd (both_ways (list_any (is_same x) xs) a.0 (any_at x xs place q l (is_same_trans x p q (is_same_sym p x t) i)))
+  | inr f ↦ rw f (reply_at_place p q v xs ys place a.1 l i r)
+]
+
+reply_is_value : (S : Setting) (H : History) (p : Part) (h : ℕ) (v : Tree) → IsReply (past S H) h p v → reply_to p h (past S H) ≡ Some v
+reply_is_value S H p h v a =
+    reply_at_place p a.sent v (sent_to h p.epoch (past S H)) (came h p.epoch H) a.place
+    (apart_filter (is_of h p.epoch) (past S H).sent (none_twice S H)) a.is_sent a.is_same a.came
+
+no_reply_to : (S : Setting) (H : History) (p : Part) (h : ℕ) (o : Option Tree) → ((v : Tree) → IsReply (past S H) h p v → ⊥) → reply_to p h (past S H) ≡ o → o ≡ None
+no_reply_to S H p h None f q = refl
+no_reply_to S H p h (Some v) f q = absurd (f v (has_reply (past S H) h p v (find (λ r. is_same p r.0) (replies h p.epoch (past S H))) refl q))
+
+own_is_value : (S : Setting) (H : History) (p : Part) (h : ℕ) (v : Tree) → IsLegal S H → IsReply (past S H) h p v ⊎ ((v ≡ upstream_failure) × IsLost S H h p) → value_at (past S H) p (Some h) ≡ Some v
+own_is_value S H p h v legal (inl reply) = rw (reply_is_value S H p h v reply) refl
+own_is_value S H p h v legal (inr lost) =
+    let none : reply_to p h (past S H) ≡ None = no_reply_to S H p h (reply_to p h (past S H)) (lost.1.unanswered) refl in
+    let over : nat_lt p.epoch (epoch h H) ≡ true = lt-ltb p.epoch (epoch h H) ((epochs_end_by_faults S H h p.epoch legal).0 lost.1.fault) in
+    rw (none, over) (ap (λ z. Some z) (sym lost.0))
+
+value_is_own : (S : Setting) (H : History) (p : Part) (h : ℕ) (v : Tree) → IsLegal S H → value_at (past S H) p (Some h) ≡ Some v → IsReply (past S H) h p v ⊎ ((v ≡ upstream_failure) × IsLost S H h p)
+value_is_own S H p h v legal here =
     elim (by_reply (past S H) h p v (nat_lt p.epoch (epoch h H)) (reply_to p h (past S H)) refl here) [
       | inl reply ↦ inl reply
       | inr lost ↦ inr (
@@ -79,3 +120,14 @@ values_are_own S H p h v legal l o e =
         },
       )
     ]
+
+-- by what the part got at its arrival, and its host
+own_by : (S : Setting) (H : History) (p : Part) (v : Tree) → IsLegal S H → (local : Option Tree) (host : Option ℕ)
+    → (value_or local (value_at (past S H) p host) ≡ Some v) ↔ IsOwnValue S H p local host v
+own_by S H p v legal (Some w) host = ((λ e. let is : w ≡ v = cc in sym is), λ e. ap (λ z. Some z) (sym e))
+own_by S H p v legal None None = ((λ e. absurd cc), λ none. absurd none)
+own_by S H p v legal None (Some h) = (value_is_own S H p h v legal, own_is_value S H p h v legal)
+
+pub values_are_own : (S : Setting) (H : History) (p : Part) (v : Tree) → IsLegal S H
+    → (value_of (past S H) p ≡ Some v) ↔ IsOwnValue S H p p.local p.host v
+values_are_own S H p v legal = own_by S H p v legal p.local p.host

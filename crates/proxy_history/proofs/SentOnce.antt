@@ -23,6 +23,12 @@ is_same_sym p q e =
     let y = and_parts (p.conn == q.conn) (p.command == q.command) x.0 in
     rw (eqb_sym p.conn q.conn y.0, eqb_sym p.command q.command y.1, eqb_sym p.number q.number x.1) refl
 
+pub is_same_trans : (p q r : Part) → is_same p q ≡ true → is_same q r ≡ true → is_same p r ≡ true
+is_same_trans p q r e f =
+    let x = and_parts ((p.conn == q.conn) && (p.command == q.command)) (p.number == q.number) e in
+    let y = and_parts (p.conn == q.conn) (p.command == q.command) x.0 in
+    rw (eqb-true p.conn q.conn y.0, eqb-true p.command q.command y.1, eqb-true p.number q.number x.1) f
+
 pub is_other_sym : (p q : Part) → is_same p q ≡ false → is_same q p ≡ false
 is_other_sym p q e = elim (cases_Bool (is_same q p)) [ inl t ↦ absurd (both_ways (is_same p q) e (is_same_sym q p t)) | inr f ↦ f ]
 

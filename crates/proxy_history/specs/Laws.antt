@@ -1,4 +1,4 @@
--- What holds of every legal history.
+-- What holds of every legal history: beginnings, outcomes and parts. What else holds stands in the modules named for it.
 use Rattle.std.specs.Prelude.{◌≡◌, ◌↔◌, ◌<◌, ◌≤◌, ◌==◌, ◌&&◌, ℕ, zero, suc, Bool, true, false, List, [], ◌∷◌, ◌++◌, Some, is_some, None, Option, ◌⊎◌, length, Contains}
 use Rattle.std.specs.List.{list_any, slice_get}
 use Rattle.std.specs.Option.{unwrap_or}
@@ -14,7 +14,7 @@ use Rattle.splitter.specs.declared.plans.Join.{Join}
 use Rattle.splitter.specs.declared.plans.PartPlan.{PartPlan}
 use Rattle.splitter.specs.declared.request.Request.{Request}
 use Rattle.proxy_history.specs.Setting.{Setting, point_for, max_waiting}
-use Rattle.proxy_history.specs.History.{History, Step, plan_for, accepted, handed, is_closed, epoch, has, is_fault}
+use Rattle.proxy_history.specs.History.{History, Step, plan_for, accepted, handed, epoch, has, is_fault}
 use Rattle.proxy_history.specs.Replies.{came}
 use Rattle.proxy_history.specs.Part.{Part, Past, is_same}
 use Rattle.proxy_history.specs.Waiting.{sent_to}
@@ -29,12 +29,14 @@ use Rattle.proxy_history.specs.declared.event.Event.TheVariants.{Arrived, Failed
 
 -- each beginning of a legal history is legal
 abbrev pub BeginningsAreLegal : Type 0
-BeginningsAreLegal = (S : Setting) (later before : History) → IsLegal S (later ++ before) → IsLegal S before
+BeginningsAreLegal = (S : Setting) (later before : History)
+    → IsLegal S (later ++ before) → IsLegal S before
 
 -- an outcome stays as it is, whatever comes later
 abbrev pub OutcomesStay : Type 0
-OutcomesStay = (S : Setting) (later before : History) (c i : ℕ) (v : Tree) → IsLegal S (later ++ before)
-    → outcome c i (past S before) ≡ Some v → outcome c i (past S (later ++ before)) ≡ Some v
+OutcomesStay = (S : Setting) (later before : History) (c i : ℕ) (v : Tree)
+    → IsLegal S (later ++ before) → outcome c i (past S before) ≡ Some v
+    → outcome c i (past S (later ++ before)) ≡ Some v
 
 -- none of these parts stands twice among them
 abbrev pub AreApart : List Part → Type 0
@@ -48,7 +50,8 @@ NoneIsSentTwice = (S : Setting) (H : History) → AreApart (past S H).sent
 -- the texts of a connection's first n outcomes, one after the other
 abbrev pub first_outcomes : Past → ℕ → ℕ → List ℕ
 first_outcomes past c zero = []
-first_outcomes past c (suc n) = first_outcomes past c n ++ text (unwrap_or (outcome c n past) null_bulk)
+first_outcomes past c (suc n) =
+    first_outcomes past c n ++ text (unwrap_or (outcome c n past) null_bulk)
 
 -- the first n have come
 pub record HaveCome (past : Past) (c n : ℕ) : Type 0 where
@@ -57,29 +60,29 @@ pub record HaveCome (past : Past) (c n : ℕ) : Type 0 where
 -- what was handed out is the outcomes in the order of the commands, none missing
 abbrev pub RepliesAreInOrder : Type 0
 RepliesAreInOrder = (S : Setting) (H : History) (c : ℕ) → IsLegal S H
-    → (transcript c H ≡ first_outcomes (past S H) c (handed c H)) × HaveCome (past S H) c (handed c H)
-
--- a closed connection gets nothing more
-abbrev pub ClosedGetsNothing : Type 0
-ClosedGetsNothing = (S : Setting) (later before : History) (c : ℕ) → IsLegal S (later ++ before) → is_closed c before ≡ true
-    → transcript c (later ++ before) ≡ transcript c before
+    → (transcript c H ≡ first_outcomes (past S H) c (handed c H))
+    × HaveCome (past S H) c (handed c H)
 
 -- no more hosts are out than the limit allows, at each beginning
 abbrev pub FewAreOut : Type 0
-FewAreOut = (S : Setting) (H : History) → out_count (state S.rules (past S H).marks) ≤ most_out S.rules
+FewAreOut = (S : Setting) (H : History)
+    → out_count (state S.rules (past S H).marks) ≤ most_out S.rules
 
 -- a key whose owner among all hosts is usable goes to that owner, whatever else is out
 abbrev pub OwnersStay : Type 0
-OwnersStay = (S : Setting) (x : Past) (key : List ℕ) (h : ℕ) → owner_of S.ring.pairs (point_for S key) (all_usable (usable S x)) ≡ Some h
+OwnersStay = (S : Setting) (x : Past) (key : List ℕ) (h : ℕ)
+    → owner_of S.ring.pairs (point_for S key) (all_usable (usable S x)) ≡ Some h
     → is_usable (usable S x) h ≡ true → host_for S x key ≡ Some h
 
 -- each part that was sent is a part that arrived
 abbrev pub SentPartsArrived : Type 0
-SentPartsArrived = (S : Setting) (H : History) (p : Part) → Contains (past S H).sent p → Contains (past S H).parts p
+SentPartsArrived = (S : Setting) (H : History) (p : Part)
+    → Contains (past S H).sent p → Contains (past S H).parts p
 
 -- of each host and epoch no more replies came than parts were sent
 abbrev pub RepliesWereAsked : Type 0
-RepliesWereAsked = (S : Setting) (H : History) (h e : ℕ) → IsLegal S H → length (came h e H) ≤ length (sent_to h e (past S H))
+RepliesWereAsked = (S : Setting) (H : History) (h e : ℕ) → IsLegal S H
+    → length (came h e H) ≤ length (sent_to h e (past S H))
 
 -- a fault of this host in this epoch
 abbrev pub is_fault_in : ℕ → ℕ → Event → Bool
@@ -88,18 +91,21 @@ is_fault_in h e _ = false
 
 -- an epoch is over exactly if a fault of its host in that epoch stands in the history
 abbrev pub EpochsEndByFaults : Type 0
-EpochsEndByFaults = (S : Setting) (H : History) (h e : ℕ) → IsLegal S H → (has (is_fault_in h e) H ≡ true) ↔ (e < epoch h H)
+EpochsEndByFaults = (S : Setting) (H : History) (h e : ℕ) → IsLegal S H
+    → (has (is_fault_in h e) H ≡ true) ↔ (e < epoch h H)
 
 -- the epoch of a host stays the same exactly if no fault of it comes
 abbrev pub FaultsRaiseEpochs : Type 0
-FaultsRaiseEpochs = (later before : History) (h : ℕ) → (has (is_fault h) later ≡ false) ↔ (epoch h (later ++ before) ≡ epoch h before)
+FaultsRaiseEpochs = (later before : History) (h : ℕ)
+    → (has (is_fault h) later ≡ false) ↔ (epoch h (later ++ before) ≡ epoch h before)
 
 -- What a part gets at its arrival: `no upstream host` without a host, else the host's epoch, and `proxy busy` exactly if
 -- as many as may wait do when its turn within its command comes.
 abbrev pub IsPlaced : Past → List Part → Option ℕ → ℕ → Option Tree → Type 0
 IsPlaced x placed None e local = local ≡ Some no_upstream_host
 IsPlaced x placed (Some h) e local = (e ≡ epoch h x.steps)
-    × (((before_it h x placed < max_waiting) × (local ≡ None)) ⊎ ((max_waiting ≤ before_it h x placed) × (local ≡ Some proxy_busy)))
+    × (((before_it h x placed < max_waiting) × (local ≡ None))
+    ⊎ ((max_waiting ≤ before_it h x placed) × (local ≡ Some proxy_busy)))
 
 -- The part arrived at some step: it is the part of its number of the plan of a request, has the text and the host of that
 -- plan, by what stood before the step, and got what it gets there.
@@ -125,8 +131,10 @@ pub record HasArrived (S : Setting) (H : History) (p : Part) : Type 0 where
   pub number_is : p.number ≡ length placed
   pub got : IsPlaced (past S before) placed p.host p.epoch p.local
 
+-- each part is the part of its number of a command that arrived
 abbrev pub PartsHaveArrived : Type 0
-PartsHaveArrived = (S : Setting) (H : History) (p : Part) → Contains (past S H).parts p → HasArrived S H p
+PartsHaveArrived = (S : Setting) (H : History) (p : Part)
+    → Contains (past S H).parts p → HasArrived S H p
 
 -- the part was sent in some place, and this value came in that place
 pub record IsReply (past : Past) (h : ℕ) (p : Part) (v : Tree) : Type 0 where
@@ -141,8 +149,16 @@ pub record IsLost (S : Setting) (H : History) (h : ℕ) (p : Part) : Type 0 wher
   pub fault : has (is_fault_in h p.epoch) H ≡ true
   pub unanswered : (v : Tree) → IsReply (past S H) h p v → ⊥
 
--- A part that got no value at once has its own host's reply, which came in the part's own place, or `upstream failure`
--- where it is lost.
+-- Which value is a part's own: the one that it got at its arrival; else the reply that came from its host in its place, or
+-- `upstream failure` where it is lost.
+abbrev pub IsOwnValue : Setting → History → Part → Option Tree → Option ℕ → Tree
+    → Type 0
+IsOwnValue S H p (Some local) host v = v ≡ local
+IsOwnValue S H p None None v = ⊥
+IsOwnValue S H p None (Some h) v =
+    IsReply (past S H) h p v ⊎ ((v ≡ upstream_failure) × IsLost S H h p)
+
+-- A part has exactly its own value, and none as long as there is none of its own.
 abbrev pub ValuesAreOwn : Type 0
-ValuesAreOwn = (S : Setting) (H : History) (p : Part) (h : ℕ) (v : Tree) → IsLegal S H → p.local ≡ None → p.host ≡ Some h → value_of (past S H) p ≡ Some v
-    → IsReply (past S H) h p v ⊎ ((v ≡ upstream_failure) × IsLost S H h p)
+ValuesAreOwn = (S : Setting) (H : History) (p : Part) (v : Tree) → IsLegal S H
+    → (value_of (past S H) p ≡ Some v) ↔ IsOwnValue S H p p.local p.host v

@@ -14,7 +14,17 @@ pub mod Payload
 pub mod Answer
 pub mod Legal
 pub mod Output
+pub mod Own
+pub mod Seen
 pub mod Laws
+pub mod StepLaws
+pub mod HandingLaws
+pub mod CommandLaws
+pub mod SendingLaws
+pub mod EjectionLaws
+pub mod LimitLaws
+pub mod OwnLaws
+pub mod SeenLaws
 pub mod Scan
 pub mod Reference
 pub mod Hosts

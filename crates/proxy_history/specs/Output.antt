@@ -1,4 +1,4 @@
--- What goes out, and whose steps are whose.
+-- What goes out.
 use Rattle.std.specs.Prelude.{ℕ, List, [], ◌∷◌, ◌++◌, ◌==◌, if◌then◌else◌}
 use Rattle.proxy_history.specs.History.{History}
 use Rattle.proxy_history.specs.declared.event.Event.{Event}
@@ -23,8 +23,3 @@ sent_text h e _ _ = []
 abbrev pub upstream : ℕ → ℕ → History → List ℕ
 upstream h e [] = []
 upstream h e (s ∷ before) = upstream h e before ++ sent_text h e s.event s.answer
-
--- the steps of one caller
-abbrev pub of : ℕ → History → History
-of pass [] = []
-of pass (s ∷ before) = if s.pass == pass then s ∷ of pass before else of pass before

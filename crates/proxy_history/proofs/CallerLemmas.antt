@@ -1,0 +1,166 @@
+-- What crates above may cite of the proofs about histories. They name this module and no other of this folder.
+
+-- LAWS OF LEGAL HISTORIES
+
+-- a beginning of a legal history is legal
+pub use Rattle.proxy_history.proofs.Beginnings.{beginning as IsLegal-append}
+-- what was handed out is the first outcomes, all of which have come
+pub use Rattle.proxy_history.proofs.Order.{in_order as transcript-first_outcomes}
+-- no part is sent twice
+pub use Rattle.proxy_history.proofs.SentOnce.{none_twice as AreApart-sent}
+-- each part arrived with a command
+pub use Rattle.proxy_history.proofs.Arrived.{parts_have_arrived as HasArrived-parts}
+-- each part that was sent is one that arrived
+pub use Rattle.proxy_history.proofs.Arrived.{sent_parts_arrived as Contains-sent}
+-- no more replies came from a host than parts were sent to it
+pub use Rattle.proxy_history.proofs.Asked.{replies_were_asked as length-came}
+-- each outcome can be written
+pub use Rattle.proxy_history.proofs.PlainOutcomes.{outcome_is_plain as IsPlainIfAny-outcome}
+-- whether a value, if there is one, can be written
+pub use Rattle.proxy_history.proofs.PlainOutcomes.{IsPlainIfAny}
+-- a legal history keeps the limits
+pub use Rattle.proxy_history.proofs.LimitLemmas.{limits_hold as IsWithinLimits-IsLegal}
+-- after the close of a connection no event of it stands
+pub use Rattle.proxy_history.proofs.AfterClose.{closed_gets_nothing as has-closed}
+-- each Handed step hands out the next outcome
+pub use Rattle.proxy_history.proofs.HandingLemmas.{handed_is_its_outcome as HandsOut-handed}
+-- each Taken step sends the first part that waits
+pub use Rattle.proxy_history.proofs.SendingLemmas.{each_taken_sends as Sends-taken}
+-- no other step changes what was sent
+pub use Rattle.proxy_history.proofs.SendingLemmas.{nothing_else_is_sent as sent_to-others}
+-- what went out to a host is the texts of the parts sent
+pub use Rattle.proxy_history.proofs.SendingLemmas.{upstream_is_what_was_sent as upstream-sent_to}
+-- each event has an answer of its kind
+pub use Rattle.proxy_history.proofs.StepLemmas.{answers_fit as IsAnswerTo-IsLegal}
+-- no step of a connection stands before its opening
+pub use Rattle.proxy_history.proofs.StepLemmas.{openings_come_first as connection_steps-opened}
+-- a connection that was not opened has no steps
+pub use Rattle.proxy_history.proofs.StepLemmas.{unopened_have_no_steps as connection_steps-unopened}
+-- WHAT NO CAUSE OF REFUSAL MEANS
+
+-- where a row of causes gives no refusal each of them is false
+pub use Rattle.proxy_history.proofs.NoCause.{are_false as first_true-none}
+-- a reply that is accepted is of the present epoch
+pub use Rattle.proxy_history.proofs.NoCause.{is_current as own_cause-answered}
+-- and some part flies
+pub use Rattle.proxy_history.proofs.Asked.{some_fly as flying-answered}
+-- an event without a cause is of a host that there is
+pub use Rattle.proxy_history.proofs.Following.{has_host as HasHost-own_cause}
+-- THE PARTS OF COMMANDS
+
+-- all these parts are of the command
+pub use Rattle.proxy_history.proofs.Fresh.{AreOf}
+-- those that are placed for a command are of it
+pub use Rattle.proxy_history.proofs.Fresh.{placing_are_of as AreOf-placing}
+-- and so are all that an arrival places
+pub use Rattle.proxy_history.proofs.CommandParts.{are_placed as AreOf-placing_first}
+-- as many are placed as there are plans
+pub use Rattle.proxy_history.proofs.CommandParts.{length-placing}
+-- of the parts of one command all are of it
+pub use Rattle.proxy_history.proofs.CommandParts.{all_of as filter-AreOf}
+-- and none is of another
+pub use Rattle.proxy_history.proofs.CommandParts.{none_of as filter-AreOf_other}
+-- a command that has not arrived has no parts
+pub use Rattle.proxy_history.proofs.CommandParts.{not_yet as parts_of-not_yet}
+-- the parts of a command that arrived stay the same
+pub use Rattle.proxy_history.proofs.Fresh.{parts_stay as parts_of-after}
+-- as many requests as arrivals
+pub use Rattle.proxy_history.proofs.Fresh.{length-requests}
+-- a join of a plan may be asked for its parts
+pub use Rattle.proxy_history.proofs.CommandParts.{plan_may_join as MayJoin-plan_for}
+-- a command has the parts of its plan
+pub use Rattle.proxy_history.proofs.CommandParts.{commands_have_their_parts as HasItsParts-parts_of}
+-- the parts are apart, and of commands that arrived
+pub use Rattle.proxy_history.proofs.Apart.{parts_are_in_order as AreInOrder-parts}
+-- these parts are of commands that arrived
+pub use Rattle.proxy_history.proofs.Apart.{AreEarlier}
+-- they are so one step later
+pub use Rattle.proxy_history.proofs.Apart.{earlier_grows as AreEarlier-cons}
+-- and so are all of two lists
+pub use Rattle.proxy_history.proofs.Apart.{earlier_both as AreEarlier-append}
+-- a part keeps its number when it gets its host
+pub use Rattle.proxy_history.proofs.Apart.{host_keeps_number as number-with_host}
+-- WHAT WAITS
+
+-- who waits is of the present epoch, was not sent, and its connection is open
+pub use Rattle.proxy_history.proofs.Good.{waits_parts as waits-true}
+-- a part of a pipe has its host and epoch
+pub use Rattle.proxy_history.proofs.Values.{is_of_parts as is_of-true}
+-- a part has one host
+pub use Rattle.proxy_history.proofs.Values.{same_host as is_host-same}
+-- after a part was sent the others wait on
+pub use Rattle.proxy_history.proofs.Waiting.{taken_waits as waits-taken}
+-- a Taken step takes the first that waits
+pub use Rattle.proxy_history.proofs.Waiting.{after_taken as waiting-taken}
+-- a Closed step takes those of its connection
+pub use Rattle.proxy_history.proofs.Waiting.{after_closed as waiting-closed}
+-- after a fault nothing waits
+pub use Rattle.proxy_history.proofs.OfPast.{fault_empties as waiting-failed}
+-- none of these parts is of an epoch to come
+pub use Rattle.proxy_history.proofs.Waiting.{AreOfPast}
+-- so it is with all parts of a history
+pub use Rattle.proxy_history.proofs.OfPast.{are_of_past as AreOfPast-parts}
+-- and one step later
+pub use Rattle.proxy_history.proofs.OfPast.{of_past_grows as AreOfPast-cons}
+-- and of two lists
+pub use Rattle.proxy_history.proofs.OfPast.{of_past_both as AreOfPast-append}
+-- a test that only the next epoch passes keeps none of them
+pub use Rattle.proxy_history.proofs.Waiting.{none_of_next as filter-none_of_next}
+-- who waits is unsent, and the other way round
+pub use Rattle.proxy_history.proofs.UnsentLemmas.{unsent_parts_wait as Contains-waiting}
+-- PARTS THAT ARE THE SAME
+
+-- a part is the same as itself
+pub use Rattle.proxy_history.proofs.Waiting.{is_same_self as is_same-self}
+-- the same in either order
+pub use Rattle.proxy_history.proofs.SentOnce.{is_same_sym as is_same-sym}
+-- and so with others
+pub use Rattle.proxy_history.proofs.SentOnce.{is_other_sym as is_same-sym_false}
+-- parts that are apart stay so in a filter
+pub use Rattle.proxy_history.proofs.Waiting.{apart_filter as AreApart-filter}
+-- who is none of these takes none of them
+pub use Rattle.proxy_history.proofs.Waiting.{all_stay as filter-others}
+-- OWN STEPS, AND THE ORDER IN WHICH A PASS SEES THEM
+
+-- own steps tell all of a connection
+pub use Rattle.proxy_history.proofs.OwnLemmas.{connection_steps_tell_all as SameOfConnection-connection_steps}
+-- steps of others leave it as it is
+pub use Rattle.proxy_history.proofs.OwnLemmas.{others_leave_connections as SameOfConnection-append}
+-- own steps tell all of a host
+pub use Rattle.proxy_history.proofs.OwnLemmas.{host_steps_tell_all as SameOfHost-host_steps}
+-- steps of others leave it as it is
+pub use Rattle.proxy_history.proofs.OwnLemmas.{others_leave_hosts as SameOfHost-append}
+-- later steps stand in front of a history
+pub use Rattle.proxy_history.proofs.SeenLemmas.{history_of_seen-append}
+-- and so does one more step
+pub use Rattle.proxy_history.proofs.SeenLemmas.{history_of_seen-push}
+-- each order gives the other
+pub use Rattle.proxy_history.proofs.SeenLemmas.{orders_hold_the_same as OrdersAgree-seen}
+-- what is seen is legal with one more step that may follow
+pub use Rattle.proxy_history.proofs.SeenLemmas.{seen_steps_follow as IsLegal-history_of_seen-push}
+-- each beginning of a legal journal is legal
+pub use Rattle.proxy_history.proofs.SeenLemmas.{seen_beginnings_are_legal as IsLegal-history_of_seen-append}
+-- what a history tells, in the order in which a pass sees it
+pub use Rattle.proxy_history.proofs.SeenLemmas.{seen_is_read_in_order as IsReadInOrder-seen}
+-- LISTS
+
+-- what a list has at a place it has there when it has grown
+pub use Rattle.proxy_history.proofs.Growing.{slice_get_stays as slice_get-append}
+-- no count falls
+pub use Rattle.proxy_history.proofs.Growing.{times_grows as times-cons}
+-- each of these parts passes the test
+pub use Rattle.proxy_history.proofs.Good.{AreGood}
+-- so it is with those that a filter keeps
+pub use Rattle.proxy_history.proofs.Good.{filter_is_good as AreGood-filter}
+-- tests that agree keep the same
+pub use Rattle.proxy_history.proofs.Waiting.{same_filter as filter-same}
+-- a filter by two tests is one after the other
+pub use Rattle.proxy_history.proofs.Waiting.{filter_both as filter-both}
+-- a test that none passes none passes in a filter
+pub use Rattle.proxy_history.proofs.Waiting.{any_less as list_any-filter}
+-- what a filter keeps was in the list
+pub use Rattle.proxy_history.proofs.Arrived.{in_filter as Contains-filter}
+-- nothing is in the empty list
+pub use Rattle.proxy_history.proofs.Arrived.{none_in_nothing as Contains-nil}
+-- equal numbers are equal the other way round
+pub use Rattle.proxy_history.proofs.SentOnce.{eqb_sym as eq-sym}

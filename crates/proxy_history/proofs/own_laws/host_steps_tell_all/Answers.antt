@@ -1,0 +1,5 @@
+use Rattle.proxy_history.proofs.OwnLemmas.{host_steps_tell_all as law}
+use Rattle.proxy_history.proofs.own_laws.host_steps_tell_all.Goals as goal
+
+pub returns : goal.returns
+returns c = λ H h. law h H

@@ -1,0 +1,5 @@
+use Rattle.proxy_history.proofs.SeenLemmas.{seen_steps_follow as law}
+use Rattle.proxy_history.proofs.own_laws.seen_steps_follow.Goals as goal
+
+pub returns : goal.returns
+returns c = law

@@ -1,0 +1,56 @@
+-- What waits for a host, and what is sent to it.
+use Rattle.std.specs.Prelude.{◌≡◌, ◌↔◌, ℕ, false, List, [], ◌∷◌, ◌++◌, Some, None, length, Contains}
+use Rattle.std.specs.List.{flat_map}
+use Rattle.proxy_history.specs.Setting.{Setting}
+use Rattle.proxy_history.specs.History.{History, Step, epoch, has, is_fault, is_closed}
+use Rattle.proxy_history.specs.Part.{Part}
+use Rattle.proxy_history.specs.Past.{past}
+use Rattle.proxy_history.specs.Waiting.{waiting, sent_to}
+use Rattle.proxy_history.specs.Legal.{IsLegal}
+use Rattle.proxy_history.specs.Output.{upstream}
+use Rattle.proxy_history.specs.Laws.{HasArrived}
+use Rattle.proxy_history.specs.declared.event.Event.TheVariants.{Taken}
+use Rattle.proxy_history.specs.declared.answer.Answer.TheVariants as answer
+
+-- The part arrived for the host and got no value at once; the host had no fault since, the part was not sent, and its
+-- connection is not closed.
+pub record IsUnsent (S : Setting) (H : History) (h : ℕ) (p : Part) : Type 0 where
+  pub arrival : HasArrived S H p
+  pub for_host : p.host ≡ Some h
+  pub no_value : p.local ≡ None
+  pub no_fault : has (is_fault h) arrival.later ≡ false
+  pub not_sent : Contains (past S H).sent p → ⊥
+  pub not_closed : is_closed p.conn H ≡ false
+
+-- these are the parts that wait
+abbrev pub UnsentPartsWait : Type 0
+UnsentPartsWait = (S : Setting) (H : History) (h : ℕ) (p : Part)
+    → Contains (waiting h (past S H)) p ↔ IsUnsent S H h p
+
+-- The step sends a part to the host: the first that waits. It stands behind those sent to the host in its present epoch,
+-- and the answer has this epoch, its place among them, and its text.
+pub record Sends (S : Setting) (before : History) (s : Step) (h : ℕ) : Type 0 where
+  pub part : Part
+  pub rest : List Part
+  pub is_first : waiting h (past S before) ≡ part ∷ rest
+  pub is_sent : (past S (s ∷ before)).sent ≡ (past S before).sent ++ part ∷ []
+  pub is_last : sent_to h (epoch h before) (past S (s ∷ before))
+      ≡ sent_to h (epoch h before) (past S before) ++ part ∷ []
+  pub goes_out : s.answer ≡ answer.Sent (epoch h before)
+      (length (sent_to h (epoch h before) (past S before))) part.text
+
+-- each Taken step sends a part
+abbrev pub EachTakenSends : Type 0
+EachTakenSends = (S : Setting) (before : History) (s : Step) (h : ℕ)
+    → IsLegal S (s ∷ before) → s.event ≡ Taken h → Sends S before s h
+
+-- nothing else is sent: only a Taken step of a host in an epoch changes what was sent to this host in this epoch
+abbrev pub NothingElseIsSent : Type 0
+NothingElseIsSent = (S : Setting) (before : History) (s : Step) (h e : ℕ)
+    → (s.event ≡ Taken h → epoch h before ≡ e → ⊥)
+    → sent_to h e (past S (s ∷ before)) ≡ sent_to h e (past S before)
+
+-- what went out to a host in an epoch is the texts of the parts sent to it, one after the other
+abbrev pub UpstreamIsWhatWasSent : Type 0
+UpstreamIsWhatWasSent = (S : Setting) (H : History) (h e : ℕ) → IsLegal S H
+    → upstream h e H ≡ flat_map (λ (p : Part). p.text) (sent_to h e (past S H))
