@@ -1,0 +1,36 @@
+//! Refusals in words.
+
+use anyhow::Result;
+use std::alloc::Global;
+use std::fmt::Debug;
+
+/// A refusal in words: its number, and its name and fields as they stand in the code.
+pub fn refusal_words(alloc: Global, number: u16, refusal: &impl Debug) -> Result<String> {
+    let shown = format!(in alloc; "{refusal:?}")?;
+    let mut text = format!(in alloc; "{number}")?;
+    for word in shown.split_whitespace() {
+        put_word(&mut text, word.trim_end_matches(':'))?;
+    }
+    Ok(text)
+}
+
+// Appends a word that is no brace.
+fn put_word(text: &mut String, word: &str) -> Result<()> {
+    if word != "{" && word != "}" {
+        text.push(' ')?;
+        text.push_str(word)?;
+    }
+    Ok(())
+}
+
+/// `Ok`, or the refusal in words.
+pub fn ok_or_words<E: Debug>(
+    alloc: Global,
+    answer: &Result<(), E>,
+    number: impl Fn(&E) -> u16,
+) -> Result<String> {
+    match answer {
+        Ok(()) => Ok(String::from_str(alloc, "Ok")?),
+        Err(refusal) => refusal_words(alloc, number(refusal), refusal),
+    }
+}
