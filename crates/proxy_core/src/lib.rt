@@ -25,10 +25,3 @@ pub use journal_core::{Journal, Step};
 pub use proxy_history::{Answer, Event, Kind, Local, Refusal, Request};
 pub use refused::Refused;
 pub use turns::Core;
-
-#[cfg(test)]
-mod at_gate;
-#[cfg(test)]
-mod random;
-#[cfg(test)]
-mod tests;

@@ -20,8 +20,6 @@ mod reference;
 mod refusal;
 mod replay;
 mod scan;
-#[cfg(test)]
-mod tests;
 mod value;
 
 pub use answer::Answer;

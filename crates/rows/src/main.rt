@@ -6,35 +6,11 @@
 #![tactic(auto)]
 
 mod again;
-mod agreement;
-mod answers;
-mod ejection;
-mod events;
-mod joins;
-mod journal;
-mod messages;
-mod outcome;
-mod pieces;
-mod pipe;
-mod plans;
+mod parts;
 mod proxies;
-mod proxy;
-mod questions;
-mod queue;
-mod random;
-mod random_runs;
-mod rates;
-mod reader;
-mod refusals;
-mod ring;
-mod run;
 mod script;
 mod series;
-mod setting;
-mod spelling;
-mod stub;
 mod subject;
-mod table;
 mod text;
 mod values;
 

@@ -1,14 +1,25 @@
 //! The core and the plain program side by side: each action is made on both, and their answers have to be the same.
 
-use crate::agreement::Answers;
-use crate::answers::{all_refusals, refusal_text};
-use crate::events::event_of;
-use crate::outcome::outcome;
-use crate::questions::{core_answer, plain_answer};
-use crate::random::Numbers;
-use crate::random_runs::{Randomly, run_each};
-use crate::run::Run;
-use crate::setting::Setting;
+mod agreement;
+pub mod answers;
+mod events;
+mod outcome;
+mod proxy;
+mod questions;
+mod random;
+mod random_runs;
+mod run;
+pub mod setting;
+
+use self::agreement::Answers;
+use self::answers::{all_refusals, refusal_text};
+use self::events::event_of;
+use self::outcome::outcome;
+use self::questions::{core_answer, plain_answer};
+use self::random::Numbers;
+use self::random_runs::{Randomly, run_each};
+use self::run::Run;
+use self::setting::Setting;
 use crate::text::{first_word, number};
 use anyhow::{Result, bail};
 use proxy_core::{Core, Event, Refusal};

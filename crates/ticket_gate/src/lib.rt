@@ -17,8 +17,6 @@ mod refusal;
 mod running_total;
 mod seated;
 mod steps;
-#[cfg(test)]
-mod tests;
 mod turn;
 mod turns;
 mod view;
