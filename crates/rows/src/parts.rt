@@ -1,5 +1,6 @@
 //! The parts that a proxy is made of, each on its own.
 
+mod answers;
 mod ejection;
 mod joins;
 mod journal;
@@ -10,7 +11,6 @@ mod plans;
 mod queue;
 mod rates;
 mod reader;
-mod refusals;
 mod ring;
 mod spelling;
 mod stub;

@@ -1,10 +1,10 @@
 //! Rows of outlier detection.
 
+use super::answers::{refusal_words, shown};
 use crate::again::again;
 use crate::proxies::answers::trip_name;
-use super::refusals::refusal_words;
-use crate::series::Series;
 use crate::proxies::setting::set_field;
+use crate::series::Series;
 use crate::text::{first_word, number};
 use anyhow::{Result, bail};
 use ejector::{EjectError, Ejector, Settings, Trip};
@@ -41,7 +41,7 @@ impl EjectorSubject {
         match again!(Ejector::new(alloc, hosts, settings)) {
             Ok(ejector) => {
                 self.ejector = Some(ejector);
-                Ok(again!(String::from_str(alloc, "Ok"))?)
+                shown(alloc, "Ok")
             }
             Err(error) => again!(error_text(alloc, error)),
         }
@@ -71,11 +71,11 @@ fn told(alloc: Global, ejector: &mut Ejector, verb: &str, words: &str) -> Result
         "mixed" => mixed(alloc, ejector, words),
         "sweep" => sweep(alloc, ejector, number(words)?),
         "room" => match again!(ejector.room()) {
-            Ok(()) => Ok(again!(String::from_str(alloc, "Ok"))?),
+            Ok(()) => shown(alloc, "Ok"),
             Err(error) => again!(error_text(alloc, error)),
         },
         "all_usable" => all_usable(alloc, ejector),
-        "in_panic" => truth(alloc, ejector.in_panic()),
+        "in_panic" => shown(alloc, ejector.in_panic()),
         "rules" => again!(rules_text(alloc, ejector)),
         _ => told_of(alloc, ejector, verb, number(words)?),
     }
@@ -86,18 +86,11 @@ fn told_of(alloc: Global, ejector: &Ejector, verb: &str, host: usize) -> Result<
         bail!("there is no host {host}");
     }
     match verb {
-        "is_out" => truth(alloc, ejector.is_out(host)),
-        "usable" => truth(alloc, ejector.usable(host)),
-        "multiplier" => {
-            let multiplier = ejector.multiplier(host);
-            Ok(again!(format!(in alloc; "{multiplier}"))?)
-        }
+        "is_out" => shown(alloc, ejector.is_out(host)),
+        "usable" => shown(alloc, ejector.usable(host)),
+        "multiplier" => shown(alloc, ejector.multiplier(host)),
         _ => bail!("an ejector takes no action {verb:?}"),
     }
-}
-
-fn truth(alloc: Global, is_so: bool) -> Result<String> {
-    Ok(again!(format!(in alloc; "{is_so}"))?)
 }
 
 // A result of one host, or of each from the first to the last.
@@ -133,7 +126,7 @@ fn result(
         bail!("there is no host {host}");
     }
     match again!(ejector.result(host, ok, moment)) {
-        Ok(trip) => Ok(again!(String::from_str(alloc, trip_name(trip)))?),
+        Ok(trip) => shown(alloc, trip_name(trip)),
         Err(error) => again!(error_text(alloc, error)),
     }
 }

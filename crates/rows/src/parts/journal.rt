@@ -1,7 +1,7 @@
 //! Rows of a journal, whose events and answers are numbers here.
 
+use super::answers::{refusal_words, shown};
 use crate::again::again;
-use super::refusals::refusal_words;
 use crate::text::{first_word, number};
 use anyhow::{Result, bail};
 use journal_core::{Journal, JournalError, Step};
@@ -32,8 +32,8 @@ impl JournalSubject {
             }
             "add" => self.add(alloc, rest),
             "get" => self.get(alloc, number(rest)?),
-            "len" => count(alloc, self.journal.len() as u64),
-            "bytes" => count(alloc, self.journal.bytes()),
+            "len" => shown(alloc, self.journal.len()),
+            "bytes" => shown(alloc, self.journal.bytes()),
             _ => bail!("a journal takes no action {verb:?}"),
         }
     }
@@ -61,18 +61,14 @@ impl JournalSubject {
                 let (pass, event, answer) = (step.pass, step.event, step.answer);
                 Ok(again!(format!(in alloc; "pass {pass}, event {event}, answer {answer}"))?)
             }
-            None => Ok(again!(String::from_str(alloc, "None"))?),
+            None => shown(alloc, "None"),
         }
     }
 }
 
-fn count(alloc: Global, count: u64) -> Result<String> {
-    Ok(again!(format!(in alloc; "{count}"))?)
-}
-
 fn told(alloc: Global, answer: Result<(), JournalError>) -> Result<String> {
     match answer {
-        Ok(()) => Ok(again!(String::from_str(alloc, "Ok"))?),
+        Ok(()) => shown(alloc, "Ok"),
         Err(error) => again!(refusal_words(alloc, error.number(), &error)),
     }
 }

@@ -1,7 +1,7 @@
 //! Rows of a host's pipe.
 
+use super::answers::{refusal_words, shown};
 use crate::again::again;
-use super::refusals::refusal_words;
 use crate::text::{first_word, number, put_escaped, unescaped};
 use anyhow::{Result, bail};
 use bytes::Bytes;
@@ -36,15 +36,15 @@ impl PipeSubject {
             "fault" => self.fault(alloc, number(rest)?),
             "forget" => {
                 self.pipe.forget(number(rest)?);
-                done(alloc, Ok(()))
+                shown(alloc, "Ok")
             }
             "room" => {
                 let more = number(rest)?;
                 done(alloc, again!(self.pipe.room(more)))
             }
-            "epoch" => count(alloc, self.pipe.epoch()),
-            "waiting" => count(alloc, self.pipe.waiting() as u64),
-            "flying" => count(alloc, self.pipe.flying() as u64),
+            "epoch" => shown(alloc, self.pipe.epoch()),
+            "waiting" => shown(alloc, self.pipe.waiting()),
+            "flying" => shown(alloc, self.pipe.flying()),
             "oldest" => again!(part_or_none(alloc, self.pipe.oldest())),
             _ => bail!("a pipe takes no action {verb:?}"),
         }
@@ -58,7 +58,7 @@ impl PipeSubject {
             pushed => pushed,
         };
         match pushed {
-            Ok(()) => done(alloc, Ok(())),
+            Ok(()) => shown(alloc, "Ok"),
             Err((refusal, part)) => again!(back(alloc, refusal, &part)),
         }
     }
@@ -93,13 +93,9 @@ fn part_of(alloc: Global, words: &str) -> Result<Part> {
     })
 }
 
-fn count(alloc: Global, count: u64) -> Result<String> {
-    Ok(again!(format!(in alloc; "{count}"))?)
-}
-
 fn done(alloc: Global, answer: Result<(), PipeRefusal>) -> Result<String> {
     match answer {
-        Ok(()) => Ok(again!(String::from_str(alloc, "Ok"))?),
+        Ok(()) => shown(alloc, "Ok"),
         Err(refusal) => again!(refusal_words(alloc, refusal.number(), &refusal)),
     }
 }

@@ -1,9 +1,9 @@
 //! Rows of plans and joins.
 
-use crate::again::again;
 use super::joins::{join_of, may_join};
 use super::pieces::repeated;
 use super::spelling::{spelling, values_of};
+use crate::again::again;
 use crate::text::{first_word, put_escaped, word_bytes};
 use crate::values::request_of;
 use anyhow::{Result, bail};

@@ -1,9 +1,9 @@
 //! Rows of a connection's queue.
 
-use crate::again::again;
+use super::answers::{refusal_words, shown};
 use super::joins::{join_of, may_join};
-use super::refusals::refusal_words;
 use super::spelling::spelling;
+use crate::again::again;
 use crate::text::{first_word, number};
 use crate::values::value_of;
 use anyhow::{Result, bail};
@@ -36,8 +36,8 @@ impl QueueSubject {
             "is_open" => self.is_open(alloc, rest),
             "set" => self.set(alloc, rest),
             "set_all" => self.set_all(alloc, rest),
-            "ready" => truth(alloc, self.queue.ready()),
-            "left" => count(alloc, self.queue.left()),
+            "ready" => shown(alloc, self.queue.ready()),
+            "left" => shown(alloc, self.queue.left()),
             "front" => told(alloc, &again!(self.queue.front())),
             "pop" => told(alloc, &again!(self.queue.pop())),
             "drop" => self.drop_front(alloc),
@@ -55,14 +55,14 @@ impl QueueSubject {
             bail!("no join of so many parts");
         }
         match again!(self.queue.accept(how, parts)) {
-            Ok(index) => Ok(again!(format!(in alloc; "{index}"))?),
+            Ok(index) => shown(alloc, index),
             Err(refusal) => again!(refusal_words(alloc, refusal.number(), &refusal)),
         }
     }
 
     fn is_open(&self, alloc: Global, words: &str) -> Result<String> {
         let (command, part) = first_word(words);
-        truth(alloc, self.queue.is_open(number(command)?, number(part)?))
+        shown(alloc, self.queue.is_open(number(command)?, number(part)?))
     }
 
     fn set(&mut self, alloc: Global, words: &str) -> Result<String> {
@@ -70,9 +70,9 @@ impl QueueSubject {
         let (part, text) = first_word(rest);
         let value = again!(value_of(alloc, text))?;
         if self.give(number(command)?, number(part)?, value) {
-            word(alloc, "set")
+            shown(alloc, "set")
         } else {
-            word(alloc, "not open")
+            shown(alloc, "not open")
         }
     }
 
@@ -104,40 +104,28 @@ impl QueueSubject {
 
     fn drop_front(&mut self, alloc: Global) -> Result<String> {
         if !self.queue.ready() {
-            return word(alloc, "not ready");
+            return shown(alloc, "not ready");
         }
         self.queue.drop_front();
-        word(alloc, "dropped")
+        shown(alloc, "dropped")
     }
 
     fn past(&mut self, alloc: Global) -> Result<String> {
         let Ok(index) = again!(self.queue.accept(Join::Same, 1)) else {
-            return word(alloc, "refused");
+            return shown(alloc, "refused");
         };
         if !self.give(index, 0, Value::NullBulk) || again!(self.queue.pop()).is_err() {
-            return word(alloc, "not popped");
+            return shown(alloc, "not popped");
         }
-        Ok(again!(format!(in alloc; "{index}"))?)
+        shown(alloc, index)
     }
-}
-
-fn word(alloc: Global, word: &str) -> Result<String> {
-    Ok(again!(String::from_str(alloc, word))?)
-}
-
-fn truth(alloc: Global, is_so: bool) -> Result<String> {
-    Ok(again!(format!(in alloc; "{is_so}"))?)
-}
-
-fn count(alloc: Global, count: usize) -> Result<String> {
-    Ok(again!(format!(in alloc; "{count}"))?)
 }
 
 // A reply in its one spelling, or that there is none.
 fn told(alloc: Global, answer: &Result<Option<Value>, QueueRefusal>) -> Result<String> {
     match answer {
         Ok(Some(reply)) => again!(spelling(alloc, reply)),
-        Ok(None) => word(alloc, "nothing"),
+        Ok(None) => shown(alloc, "nothing"),
         Err(refusal) => again!(refusal_words(alloc, refusal.number(), refusal)),
     }
 }

@@ -2,6 +2,7 @@
 ghost use Rattle.std.specs.Prelude.{◌≤◌, All, IsTrue};
 ghost use Rattle.std.specs.Option.{ForSome};
 
+use super::answers::shown;
 use crate::again::again;
 use crate::text::{first_word, number};
 use anyhow::{Result, bail};
@@ -25,8 +26,8 @@ fn share(alloc: Global, words: &str) -> Result<String> {
         bail!("more good results than results");
     }
     match rate(good, total) {
-        Some(share) => Ok(again!(format!(in alloc; "{share}"))?),
-        None => Ok(again!(String::from_str(alloc, "None"))?),
+        Some(share) => shown(alloc, share),
+        None => shown(alloc, "None"),
     }
 }
 
@@ -44,7 +45,7 @@ fn outlier(alloc: Global, words: &str) -> Result<String> {
         bail!("no such rates");
     }
     let is_outlier = is_outlier(rates.as_slice(), host, factor);
-    Ok(again!(format!(in alloc; "{is_outlier}"))?)
+    shown(alloc, is_outlier)
 }
 
 fn rates_of(alloc: Global, words: &str) -> Result<Vec<Option<u32>>> {
@@ -62,12 +63,8 @@ fn rates_of(alloc: Global, words: &str) -> Result<Vec<Option<u32>>> {
 fn are_shares(rates: &[Option<u32>]) -> bool
     ensures { IsTrue result → All (λ rate. ForSome rate (λ share. share ≤ 1000000)) rates.now }
 {
-    for rate in rates {
-        if let Some(share) = *rate {
-            if share > 1_000_000 {
-                return false;
-            }
-        }
-    }
-    true
+    rates.iter().all(|rate| match *rate {
+        Some(share) => share <= 1_000_000,
+        None => true,
+    })
 }

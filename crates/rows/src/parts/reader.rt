@@ -1,9 +1,9 @@
 //! Rows of a reader: what it gives of a stream, however the stream is cut, and what is told of values.
 
-use crate::again::again;
+use super::answers::{refusal_words, shown};
 use super::pieces::stream_of;
-use super::refusals::refusal_words;
 use super::spelling::spelling;
+use crate::again::again;
 use crate::text::{first_word, put_escaped, unescaped};
 use crate::values::value_of;
 use anyhow::{Result, bail};
@@ -46,7 +46,10 @@ impl ReaderSubject {
             "measure" => measured(alloc, &again!(value_of(alloc, rest))?),
             "simple" => measured(alloc, &Value::Simple(again!(line_of(alloc, rest))?)),
             "error" => measured(alloc, &Value::Fault(again!(line_of(alloc, rest))?)),
-            "words" => told_words(alloc, &again!(value_of(alloc, rest))?),
+            "words" => {
+                let value = again!(value_of(alloc, rest))?;
+                again!(words_text(alloc, &value))
+            }
             _ => bail!("a reader takes no action {verb:?}"),
         }
     }
@@ -54,7 +57,7 @@ impl ReaderSubject {
     fn feed(&mut self, alloc: Global, text: &str) -> Result<String> {
         let piece = again!(unescaped(alloc, text))?;
         match again!(self.reader.feed(piece.as_slice())) {
-            Ok(()) => Ok(again!(String::from_str(alloc, "Ok"))?),
+            Ok(()) => shown(alloc, "Ok"),
             Err(refusal) => again!(refusal_words(alloc, refusal.number(), &refusal)),
         }
     }
@@ -62,7 +65,7 @@ impl ReaderSubject {
     fn next(&mut self, alloc: Global) -> Result<String> {
         match again!(self.reader.next_value()) {
             Ok(Some(value)) => again!(spelling(alloc, &value)),
-            Ok(None) => Ok(again!(String::from_str(alloc, "nothing"))?),
+            Ok(None) => shown(alloc, "nothing"),
             Err(refusal) => again!(refusal_words(alloc, refusal.number(), &refusal)),
         }
     }
@@ -177,10 +180,6 @@ fn measured(alloc: Global, value: &Value) -> Result<String> {
     };
     let length = value.text_len();
     Ok(again!(format!(in alloc; "{kind}, {length} bytes"))?)
-}
-
-fn told_words(alloc: Global, value: &Value) -> Result<String> {
-    again!(words_text(alloc, value))
 }
 
 // The words of a command, each in quotes.

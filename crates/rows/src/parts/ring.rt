@@ -1,7 +1,7 @@
 //! Rows of the ring: hosts' names, keys' points, and owners.
 
+use super::answers::{refusal_words, shown};
 use crate::again::again;
-use super::refusals::refusal_words;
 use crate::proxies::setting::points_of;
 use crate::text::{first_word, number, put_escaped, word_bytes};
 use anyhow::{Result, bail};
@@ -53,7 +53,7 @@ impl RingSubject {
     fn owner(&self, alloc: Global, words: &str) -> Result<String> {
         let (point, out) = first_word(words);
         let owner = self.owner_without(alloc, number(point)?, out)?;
-        Ok(again!(owner_text(alloc, owner))?)
+        again!(owner_text(alloc, owner))
     }
 
     fn key(&self, alloc: Global, word: &str) -> Result<String> {
@@ -98,12 +98,12 @@ fn owner_text(alloc: Global, owner: Option<usize>) -> Result<String> {
 fn name_text(alloc: Global, word: &str) -> Result<String> {
     let bytes = again!(word_bytes(alloc, word))?;
     match again!(HostName::read(alloc, bytes.as_slice())) {
-        Ok(name) => again!(shown(alloc, name.as_bytes())),
+        Ok(name) => again!(escaped(alloc, name.as_bytes())),
         Err(error) => again!(refusal_words(alloc, error.number(), &error)),
     }
 }
 
-fn shown(alloc: Global, bytes: &[u8]) -> Result<String> {
+fn escaped(alloc: Global, bytes: &[u8]) -> Result<String> {
     let mut text = String::new(alloc);
     put_escaped(&mut text, bytes)?;
     Ok(text)
@@ -112,7 +112,7 @@ fn shown(alloc: Global, bytes: &[u8]) -> Result<String> {
 fn point_text(alloc: Global, word: &str, tags: bool) -> Result<String> {
     let key = again!(word_bytes(alloc, word))?;
     let point = point_of_key(key.as_slice(), tags);
-    Ok(again!(format!(in alloc; "{point}"))?)
+    shown(alloc, point)
 }
 
 fn ring_of_points(alloc: Global, words: &str) -> Result<Result<Ring, RingError>> {

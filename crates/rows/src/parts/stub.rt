@@ -1,8 +1,8 @@
 //! Rows of the host in memory.
 
-use crate::again::again;
-use super::refusals::refusal_words;
+use super::answers::refusal_words;
 use super::spelling::spelling;
+use crate::again::again;
 use crate::text::first_word;
 use crate::values::{command, request_of};
 use anyhow::{Result, bail};

@@ -1,8 +1,14 @@
-//! Refusals in words.
+//! Answers in words.
 
+use crate::again::again;
 use anyhow::Result;
 use std::alloc::Global;
-use std::fmt::Debug;
+use std::fmt::{Debug, Display};
+
+/// What is printed of an answer.
+pub fn shown(alloc: Global, answer: impl Display + Drop) -> Result<String> {
+    Ok(again!(answer.to_string(alloc))?)
+}
 
 /// A refusal in words: its number, and its name and fields as they stand in the code.
 pub fn refusal_words(alloc: Global, number: u16, refusal: &impl Debug) -> Result<String> {
