@@ -62,6 +62,3 @@ pub fn look(name: &[u8]) -> Option<Entry>
 {
     own_entry(name).or_else(|| one_key_entry(name))
 }
-
-#[cfg(test)]
-mod tests;

@@ -56,7 +56,7 @@ fn ejected(rules: &Rules, now: u64, host: HostState) -> HostState
 }
 
 /// The host after a trip, where `may` says whether one more host may be out.
-pub fn tripped(rules: &Rules, now: u64, may: bool, host: HostState) -> HostState
+pub(crate) fn tripped(rules: &Rules, now: u64, may: bool, host: HostState) -> HostState
     requires { IsInRange rules.now }
     ensures { result ≡ tripped rules.now now may host }
 {
@@ -68,7 +68,7 @@ pub fn tripped(rules: &Rules, now: u64, may: bool, host: HostState) -> HostState
 }
 
 /// Whether one more host may be put aside where `out` hosts are out.
-pub fn may_eject(rules: &Rules, out: usize) -> bool
+pub(crate) fn may_eject(rules: &Rules, out: usize) -> bool
     requires range { IsInRange rules.now }
     requires few { out ≤ 128 }
     ensures { result ≡ may_eject rules.now out }
@@ -77,7 +77,7 @@ pub fn may_eject(rules: &Rules, out: usize) -> bool
 }
 
 /// Whether all hosts are used where `out` of them are out.
-pub fn is_panic(rules: &Rules, out: usize) -> bool
+pub(crate) fn is_panic(rules: &Rules, out: usize) -> bool
     requires range { IsInRange rules.now }
     requires within { out ≤ rules.now.hosts }
     ensures { result ≡ nat_lt (100 * (rules.now.hosts - out)) (rules.now.settings.panic_percent * rules.now.hosts) }
@@ -86,7 +86,7 @@ pub fn is_panic(rules: &Rules, out: usize) -> bool
 }
 
 /// Writes for each host, in its place, whether it may be used: it isn't out, or all are used in panic.
-pub fn set_usable(panic: bool, hosts: &[HostState], usable: &mut [bool])
+pub(crate) fn set_usable(panic: bool, hosts: &[HostState], usable: &mut [bool])
     requires { length usable.old ≡ length hosts.now }
     ensures { usable.new ≡ map (usable_then panic) hosts.now }
 {
@@ -96,7 +96,7 @@ pub fn set_usable(panic: bool, hosts: &[HostState], usable: &mut [bool])
 }
 
 /// How many hosts are out.
-pub fn out_count(hosts: &[HostState]) -> usize
+pub(crate) fn out_count(hosts: &[HostState]) -> usize
     ensures count { result ≡ outs hosts.now }
     ensures within { result ≤ length hosts.now }
 {
@@ -131,7 +131,7 @@ fn with_bad(rules: &Rules, host: HostState) -> HostState
 }
 
 /// Counts a good result of a host.
-pub fn take_good(hosts: &mut [HostState], host: usize)
+pub(crate) fn take_good(hosts: &mut [HostState], host: usize)
     requires among { host < length hosts.old }
     requires share { (slice_index_or hosts.old host fresh_host).good_results ≤ (slice_index_or hosts.old host fresh_host).results }
     ensures { hosts.new ≡ with_good_result host hosts.old }
@@ -141,7 +141,7 @@ pub fn take_good(hosts: &mut [HostState], host: usize)
 }
 
 /// Counts a bad result of a host at the clock `now`, and says whether the host trips.
-pub fn take_bad(rules: &Rules, now: u64, hosts: &mut [HostState], host: usize) -> Trip
+pub(crate) fn take_bad(rules: &Rules, now: u64, hosts: &mut [HostState], host: usize) -> Trip
     requires range { IsInRange rules.now }
     requires all { length hosts.old ≡ rules.now.hosts }
     requires among { host < length hosts.old }

@@ -23,9 +23,5 @@ pub use laws::{
     back_once_time_is_over, few_are_out, good_ends_streak, others_change_nothing,
     others_matter_by_limit_and_rates, out_until_time_is_over, state_decides_next,
 };
+pub use mark::Mark;
 pub use settings::{Field, Rules, Settings};
-
-#[cfg(test)]
-mod bench;
-#[cfg(test)]
-mod tests;

@@ -33,7 +33,7 @@ fn take(rules: &Rules, now: u64, hosts: &mut [HostState], mark: Mark)
 }
 
 /// Counts marks, the oldest first, in fresh hosts, and gives the clock after them.
-pub fn count_marks(rules: &Rules, marks: &[Mark], hosts: &mut [HostState]) -> u64
+pub(crate) fn count_marks(rules: &Rules, marks: &[Mark], hosts: &mut [HostState]) -> u64
     requires range { IsInRange rules.now }
     requires among { All (IsAmong rules.now.hosts) marks.now }
     requires fresh { hosts.old ≡ replicate rules.now.hosts fresh_host }

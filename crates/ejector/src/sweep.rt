@@ -163,7 +163,7 @@ fn clear_tallies(hosts: &mut [HostState])
 }
 
 /// Counts a sweep at the clock `now`: hosts come back, then outliers trip, and then a new interval begins.
-pub fn take_sweep(rules: &Rules, now: u64, hosts: &mut [HostState]) -> Swept
+pub(crate) fn take_sweep(rules: &Rules, now: u64, hosts: &mut [HostState]) -> Swept
     requires range { IsInRange rules.now }
     requires all { length hosts.old ≡ rules.now.hosts }
     requires share { All (λ host. host.good_results ≤ host.results) hosts.old }

@@ -12,6 +12,3 @@ mod step;
 pub use error::JournalError;
 pub use journal::{Journal, MAX_BYTES, MAX_STEPS};
 pub use step::Step;
-
-#[cfg(test)]
-mod tests;

@@ -24,5 +24,3 @@ mod name;
 mod owner;
 mod point;
 mod ring;
-#[cfg(test)]
-mod tests;

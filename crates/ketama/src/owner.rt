@@ -5,7 +5,7 @@ ghost use Rattle.ketama.specs.Owner.{IsLeastIfAny, IsUsablePairFrom, IsOwner, le
 pub type Pair = (u32, usize);
 
 /// The usable host that owns the point, by the ring's pairs.
-pub fn owner(pairs: &[Pair], point: u32, usable: &[bool]) -> Option<usize>
+pub(crate) fn owner(pairs: &[Pair], point: u32, usable: &[bool]) -> Option<usize>
     requires { All (λ pair. pair.1 < length usable.now) pairs.now }
     ensures { IsOwner pairs.now point usable.now result }
 {

@@ -16,7 +16,7 @@ pub const DIGESTS_OF_HOST: u32 = 40;
 const POINTS_OF_DIGEST: usize = 4;
 
 /// Point `index` of an MD5 digest, from its bytes `4 * index` on, the least significant first.
-pub fn point_at(digest: &[u8; DIGEST_LEN], index: usize) -> u32
+pub(crate) fn point_at(digest: &[u8; DIGEST_LEN], index: usize) -> u32
     requires { index < 4 }
     ensures { result ≡ point_in digest.now index }
 {
@@ -30,7 +30,7 @@ pub fn point_at(digest: &[u8; DIGEST_LEN], index: usize) -> u32
 }
 
 /// The points of all hosts, with the numbers of their hosts.
-pub fn pairs_of(alloc: Global, names: &[HostName]) -> Result<Vec<Pair>, AllocError>
+pub(crate) fn pairs_of(alloc: Global, names: &[HostName]) -> Result<Vec<Pair>, AllocError>
     requires { length names.now < 2 ^ 32 }
     ensures { IfOk result (λ pairs. pairs.items ≡ ring_pairs names.now (length names.now)) }
 {

@@ -11,6 +11,3 @@ mod share;
 pub use laws::{far_below_is_by_deviation, spread_is_variance};
 pub use outlier::is_outlier;
 pub use share::rate;
-
-#[cfg(test)]
-mod tests;

@@ -12,6 +12,3 @@ mod refusal;
 pub use laws::{indices_stay, one_part_changes};
 pub use queue::{MAX_COMMANDS, Queue};
 pub use refusal::QueueRefusal;
-
-#[cfg(test)]
-mod tests;

@@ -56,16 +56,6 @@ impl Queue {
         }
     }
 
-    // A queue of no commands, of which so many were popped.
-    #[cfg(test)]
-    pub(crate) fn starting_at(alloc: Global, popped: u64) -> Queue {
-        Queue {
-            alloc,
-            popped,
-            commands: VecDeque::new(alloc),
-        }
-    }
-
     /// Accepts a command of so many parts, whose values will be joined in this way, and gives its index: the number of
     /// commands accepted before it. It makes a place for each value. There have to be from 1 to 4,294,967,295 parts, and
     /// just one for `Same`.

@@ -23,6 +23,3 @@ pub use laws::{
 pub use reader::{CLIENT_MEMBERS, HOST_MEMBERS, Limits, Reader};
 pub use text::put_text;
 pub use value::{Value, Values};
-
-#[cfg(test)]
-mod tests;

@@ -5,6 +5,8 @@
 //! and lines that begin with `#` are copied.
 #![tactic(auto)]
 
+mod again;
+mod parts;
 mod proxies;
 mod script;
 mod series;

@@ -1,7 +1,7 @@
 //! The core and the plain program side by side: each action is made on both, and their answers have to be the same.
 
 mod agreement;
-mod answers;
+pub mod answers;
 mod events;
 mod outcome;
 mod proxy;
@@ -9,7 +9,7 @@ mod questions;
 mod random;
 mod random_runs;
 mod run;
-mod setting;
+pub mod setting;
 
 use self::agreement::Answers;
 use self::answers::{all_refusals, refusal_text};

@@ -1,8 +1,9 @@
 //! What a row is about.
 
+use crate::parts::Part;
 use crate::proxies::Proxies;
 use crate::text::first_word;
-use anyhow::{Result, bail};
+use anyhow::Result;
 use std::alloc::Global;
 
 /// What the actions of a row are made on.
@@ -10,6 +11,8 @@ use std::alloc::Global;
 pub enum Subject {
     /// The core, the plain program, or both.
     Proxies(Proxies),
+    /// A part of a proxy.
+    Part(Part),
 }
 
 impl Subject {
@@ -20,7 +23,7 @@ impl Subject {
             "core" | "plain" | "both" => Ok(Subject::Proxies(Proxies::open(
                 alloc, name, arguments,
             )?)),
-            _ => bail!("no subject is named {name:?}"),
+            _ => Ok(Subject::Part(Part::open(alloc, name, arguments)?)),
         }
     }
 
@@ -28,6 +31,7 @@ impl Subject {
     pub fn act(&mut self, alloc: Global, line: &str) -> Result<String> {
         match self {
             Subject::Proxies(proxies) => proxies.act(alloc, line),
+            Subject::Part(part) => part.act(alloc, line),
         }
     }
 }

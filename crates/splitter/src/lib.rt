@@ -23,6 +23,3 @@ pub use laws::{
 pub use planning::plan;
 pub use plans::{Join, Local, PartPlan, PartPlans, Plan};
 pub use request::Request;
-
-#[cfg(test)]
-mod tests;

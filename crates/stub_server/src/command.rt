@@ -60,7 +60,7 @@ const NAMED: [NamedCommand; 7] = [
 ];
 
 /// The command of this name, compared without ASCII case, or `None` where the stub has none.
-pub fn command_named(name: &[u8]) -> Option<Command>
+pub(crate) fn command_named(name: &[u8]) -> Option<Command>
     ensures { result ≡ command_named name.now }
 {
     command_among(all_named(), name)
@@ -89,7 +89,7 @@ impl Command {
     ghost use Rattle.stub_server.specs.Command.{takes};
 
     /// Whether the command may have so many words, its name among them.
-    pub fn takes(self, words: usize) -> bool
+    pub(crate) fn takes(self, words: usize) -> bool
         ensures { result ≡ takes self words }
     {
         match self {

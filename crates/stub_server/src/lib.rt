@@ -19,6 +19,3 @@ pub use laws::{
     keys_stay_distinct,
 };
 pub use stub::Stub;
-
-#[cfg(test)]
-mod tests;

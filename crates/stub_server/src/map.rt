@@ -20,7 +20,7 @@ pub struct Entry {
 }
 
 /// The value at the key, if the map has one.
-pub fn value_at<'a>(entries: &'a [Entry], key: &[u8]) -> Option<&'a Bytes>
+pub(crate) fn value_at<'a>(entries: &'a [Entry], key: &[u8]) -> Option<&'a Bytes>
     ensures found { IfSome result (λ value. value_at key.now entries.now ≡ Some value.now) }
     ensures missing { IfNone result (value_at key.now entries.now ≡ None) }
 {
@@ -35,7 +35,7 @@ pub fn value_at<'a>(entries: &'a [Entry], key: &[u8]) -> Option<&'a Bytes>
 /// Puts the value at the key: in the place of the value that the key has, or behind all others.
 ///
 /// Refused 1501 (no memory), and then the map is as it was.
-pub fn put(entries: &mut Vec<Entry>, key: Bytes, value: Bytes) -> Result<(), StubError>
+pub(crate) fn put(entries: &mut Vec<Entry>, key: Bytes, value: Bytes) -> Result<(), StubError>
     ensures ok { OnOk result (entries.new.items ≡ with_value key value entries.old.items) }
     ensures err { OnErr result (entries.new.items ≡ entries.old.items) }
     ensures memory { IfErr result (λ e. e ≡ StubError.NoMemory) }
@@ -48,7 +48,7 @@ pub fn put(entries: &mut Vec<Entry>, key: Bytes, value: Bytes) -> Result<(), Stu
 }
 
 /// How many entries have one of these keys.
-pub fn count_among(entries: &[Entry], keys: &[Value]) -> usize
+pub(crate) fn count_among(entries: &[Entry], keys: &[Value]) -> usize
     ensures { result ≡ count_among (map payload_of (map tree_of keys.now)) entries.now }
 {
     entries
@@ -58,7 +58,7 @@ pub fn count_among(entries: &[Entry], keys: &[Value]) -> usize
 }
 
 /// Takes out the entries of these keys. It takes no memory.
-pub fn take_out(entries: &mut Vec<Entry>, keys: &[Value])
+pub(crate) fn take_out(entries: &mut Vec<Entry>, keys: &[Value])
     ensures { entries.new.items ≡ without (map payload_of (map tree_of keys.now)) entries.old.items }
 {
     entries.retain(|entry| !is_among(keys, entry.key.as_slice()));
@@ -66,7 +66,7 @@ pub fn take_out(entries: &mut Vec<Entry>, keys: &[Value])
 
 /// How many of these words are keys of the map, repeats counted.
 #[tactic(auto, using(crate::proofs::MapLemmas::count_by_map))]
-pub fn count_keys(entries: &[Entry], words: &[Value]) -> usize
+pub(crate) fn count_keys(entries: &[Entry], words: &[Value]) -> usize
     ensures { result ≡ count_keys entries.now (map payload_of (map tree_of words.now)) }
 {
     words

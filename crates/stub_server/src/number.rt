@@ -11,7 +11,7 @@ use std::alloc::Global;
 ///
 /// The one spelling is decimal, with `-` before a number below zero, without a plus sign and without leading zeros, and
 /// zero is `0`. Refused 1501 (no memory).
-pub fn number_in(alloc: Global, bytes: &[u8]) -> Result<Option<i64>, StubError>
+pub(crate) fn number_in(alloc: Global, bytes: &[u8]) -> Result<Option<i64>, StubError>
     ensures number { IfOk result (λ number. number ≡ number_in bytes.now) }
     ensures memory { IfErr result (λ e. e ≡ StubError.NoMemory) }
 {
@@ -31,7 +31,7 @@ pub fn number_in(alloc: Global, bytes: &[u8]) -> Result<Option<i64>, StubError>
 /// The one spelling of the number.
 ///
 /// Refused 1501 (no memory).
-pub fn spelling(alloc: Global, number: i64) -> Result<Bytes, StubError>
+pub(crate) fn spelling(alloc: Global, number: i64) -> Result<Bytes, StubError>
     ensures bytes { IfOk result (λ bytes. bytes ≡ signed_decimal number) }
     ensures memory { IfErr result (λ e. e ≡ StubError.NoMemory) }
 {

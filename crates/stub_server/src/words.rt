@@ -6,7 +6,7 @@ ghost use Rattle.resp_core.specs.Command.{are_words, payload_of};
 use resp_core::{Value, Values};
 
 /// The words behind the first.
-pub fn keys_of(words: &Values) -> &[Value]
+pub(crate) fn keys_of(words: &Values) -> &[Value]
     requires { are_words words.now ≡ true }
     ensures { map tree_of result.now ≡ drop 1 words.now }
 {
@@ -14,7 +14,7 @@ pub fn keys_of(words: &Values) -> &[Value]
 }
 
 /// The bytes of a bulk string, and no bytes for any other value.
-pub fn payload(value: &Value) -> &[u8]
+pub(crate) fn payload(value: &Value) -> &[u8]
     ensures { result.now ≡ payload_of (tree_of value.now) }
 {
     match value {

@@ -14,6 +14,3 @@ pub use lost::Lost;
 pub use part::{Owner, Part};
 pub use pipe::{MAX_WAITING, Pipe};
 pub use refusal::PipeRefusal;
-
-#[cfg(test)]
-mod tests;

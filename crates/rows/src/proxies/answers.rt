@@ -75,7 +75,8 @@ fn local_name(local: Local) -> &'static str {
     }
 }
 
-fn trip_name(trip: Trip) -> &'static str {
+/// The name of what a result did.
+pub fn trip_name(trip: Trip) -> &'static str {
     match trip {
         Trip::None => "None",
         Trip::Ejected => "Ejected",

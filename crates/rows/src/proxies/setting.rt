@@ -82,7 +82,8 @@ impl Setting {
     }
 }
 
-fn points_of(alloc: Global, text: &str) -> Result<Vec<(u32, usize)>> {
+/// The points of a list `POINT:HOST,..`, or of `none`.
+pub fn points_of(alloc: Global, text: &str) -> Result<Vec<(u32, usize)>> {
     let mut points = Vec::new(alloc);
     if text == "none" {
         return Ok(points);
@@ -96,7 +97,8 @@ fn points_of(alloc: Global, text: &str) -> Result<Vec<(u32, usize)>> {
     Ok(points)
 }
 
-fn set_field(settings: &mut Settings, key: &str, n: u32) -> Result<()> {
+/// Sets the field of this key of the settings.
+pub fn set_field(settings: &mut Settings, key: &str, n: u32) -> Result<()> {
     match key {
         "interval_ms" => settings.interval_ms = n,
         "base_ms" => settings.base_ms = n,

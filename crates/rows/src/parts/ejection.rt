@@ -1,0 +1,177 @@
+//! Rows of outlier detection.
+
+use super::answers::{refusal_words, shown};
+use crate::again::again;
+use crate::proxies::answers::trip_name;
+use crate::proxies::setting::set_field;
+use crate::series::Series;
+use crate::text::{first_word, number};
+use anyhow::{Result, bail};
+use ejector::{EjectError, Ejector, Settings, Trip};
+use std::alloc::Global;
+
+/// The ejector that a row made last.
+#[derive(Drop)]
+pub struct EjectorSubject {
+    ejector: Option<Ejector>,
+}
+
+impl EjectorSubject {
+    /// Begins a row.
+    pub fn open() -> EjectorSubject {
+        EjectorSubject { ejector: None }
+    }
+
+    /// Makes one action: `new HOSTS KEY=N ..`, or what `told` takes.
+    pub fn act(&mut self, alloc: Global, line: &str) -> Result<String> {
+        let (verb, rest) = first_word(line);
+        if verb == "new" {
+            return self.make(alloc, rest);
+        }
+        match &mut self.ejector {
+            Some(ejector) => told(alloc, ejector, verb, rest),
+            None => bail!("no ejector is made"),
+        }
+    }
+
+    fn make(&mut self, alloc: Global, words: &str) -> Result<String> {
+        let (hosts, fields) = first_word(words);
+        let hosts = number(hosts)?;
+        let settings = settings_of(fields)?;
+        match again!(Ejector::new(alloc, hosts, settings)) {
+            Ok(ejector) => {
+                self.ejector = Some(ejector);
+                shown(alloc, "Ok")
+            }
+            Err(error) => again!(error_text(alloc, error)),
+        }
+    }
+}
+
+// The default settings but for these fields.
+fn settings_of(fields: &str) -> Result<Settings> {
+    let mut settings = Settings::default();
+    for field in fields.split_whitespace() {
+        match field.split_once('=') {
+            Some((key, text)) => set_field(&mut settings, key, number(text)?)?,
+            None if field == "tags" => settings.tags = true,
+            None => bail!("{field:?} is no field"),
+        }
+    }
+    Ok(settings)
+}
+
+// What the ejector answers: to `good HOSTS MOMENT`, `bad HOSTS MOMENT` (`HOSTS` is one or the first and the last),
+// `mixed HOST MOMENT` (a good and a bad result), `sweep MOMENT`, `room`, `is_out HOST`, `usable HOST`,
+// `multiplier HOST`, `all_usable`, `in_panic`, `rules`.
+fn told(alloc: Global, ejector: &mut Ejector, verb: &str, words: &str) -> Result<String> {
+    match verb {
+        "good" => results(alloc, ejector, true, words),
+        "bad" => results(alloc, ejector, false, words),
+        "mixed" => mixed(alloc, ejector, words),
+        "sweep" => sweep(alloc, ejector, number(words)?),
+        "room" => match again!(ejector.room()) {
+            Ok(()) => shown(alloc, "Ok"),
+            Err(error) => again!(error_text(alloc, error)),
+        },
+        "all_usable" => all_usable(alloc, ejector),
+        "in_panic" => shown(alloc, ejector.in_panic()),
+        "rules" => again!(rules_text(alloc, ejector)),
+        _ => told_of(alloc, ejector, verb, number(words)?),
+    }
+}
+
+fn told_of(alloc: Global, ejector: &Ejector, verb: &str, host: usize) -> Result<String> {
+    if host >= ejector.rules().hosts {
+        bail!("there is no host {host}");
+    }
+    match verb {
+        "is_out" => shown(alloc, ejector.is_out(host)),
+        "usable" => shown(alloc, ejector.usable(host)),
+        "multiplier" => shown(alloc, ejector.multiplier(host)),
+        _ => bail!("an ejector takes no action {verb:?}"),
+    }
+}
+
+// A result of one host, or of each from the first to the last.
+fn results(alloc: Global, ejector: &mut Ejector, ok: bool, words: &str) -> Result<String> {
+    let (hosts, moment) = first_word(words);
+    let moment = number(moment)?;
+    let Some((first, last)) = hosts.split_once('-') else {
+        return result(alloc, ejector, number(hosts)?, ok, moment);
+    };
+    let mut series = Series::new(alloc);
+    for host in number(first)?..=number(last)? {
+        series.add(result(alloc, ejector, host, ok, moment)?)?;
+    }
+    series.text()
+}
+
+fn mixed(alloc: Global, ejector: &mut Ejector, words: &str) -> Result<String> {
+    let (host, moment) = first_word(words);
+    let (host, moment) = (number(host)?, number(moment)?);
+    let good = result(alloc, ejector, host, true, moment)?;
+    let bad = result(alloc, ejector, host, false, moment)?;
+    Ok(again!(format!(in alloc; "{good} {bad}"))?)
+}
+
+fn result(
+    alloc: Global,
+    ejector: &mut Ejector,
+    host: usize,
+    ok: bool,
+    moment: u64,
+) -> Result<String> {
+    if host >= ejector.rules().hosts {
+        bail!("there is no host {host}");
+    }
+    match again!(ejector.result(host, ok, moment)) {
+        Ok(trip) => shown(alloc, trip_name(trip)),
+        Err(error) => again!(error_text(alloc, error)),
+    }
+}
+
+fn sweep(alloc: Global, ejector: &mut Ejector, moment: u64) -> Result<String> {
+    match again!(ejector.sweep(moment)) {
+        Ok(swept) => {
+            let (returned, ejected, kept) = (swept.returned, swept.ejected, swept.kept);
+            Ok(again!(format!(in alloc; "returned {returned}, ejected {ejected}, kept {kept}"))?)
+        }
+        Err(error) => again!(error_text(alloc, error)),
+    }
+}
+
+fn all_usable(alloc: Global, ejector: &Ejector) -> Result<String> {
+    let mut usable = again!(vec![in alloc; false; ejector.rules().hosts])?;
+    ejector.all_usable(usable.as_mut_slice());
+    again!(listed(alloc, usable.as_slice()))
+}
+
+fn listed(alloc: Global, truths: &[bool]) -> Result<String> {
+    let mut text = String::new(alloc);
+    for is_so in truths {
+        if !text.is_empty() {
+            text.push(' ')?;
+        }
+        write!(text, "{is_so}")?;
+    }
+    Ok(text)
+}
+
+// The number of hosts, and the settings in their order.
+fn rules_text(alloc: Global, ejector: &Ejector) -> Result<String> {
+    let rules = ejector.rules();
+    let fault = rules.first_fault();
+    Ok(format!(in alloc; "{rules:?}, fault {fault:?}")?)
+}
+
+// The error's number and name, and the field by its key.
+fn error_text(alloc: Global, error: EjectError) -> Result<String> {
+    match error {
+        EjectError::BadSettings { field } => {
+            let number = error.number();
+            Ok(format!(in alloc; "{number} BadSettings {field}")?)
+        }
+        EjectError::NoMemory => refusal_words(alloc, error.number(), &error),
+    }
+}

@@ -1,0 +1,27 @@
+//! Joins by their names.
+ghost use Rattle.std.specs.Prelude.{IsTrue};
+ghost use Rattle.splitter.specs.Join.{MayJoin};
+
+use anyhow::{Result, bail};
+use splitter::Join;
+
+/// The join of this name.
+pub fn join_of(name: &str) -> Result<Join> {
+    match name {
+        "Same" => Ok(Join::Same),
+        "Get" => Ok(Join::Get),
+        "Set" => Ok(Join::Set),
+        "Sum" => Ok(Join::Sum),
+        _ => bail!("no join is named {name:?}"),
+    }
+}
+
+/// Whether so many values may be joined.
+pub fn may_join(how: Join, values: usize) -> bool
+    ensures { IsTrue result → MayJoin how values }
+{
+    match how {
+        Join::Same => values == 1,
+        Join::Get | Join::Set | Join::Sum => values > 0,
+    }
+}

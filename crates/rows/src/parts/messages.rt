@@ -1,0 +1,110 @@
+//! Rows of refusals: each by its number, with its text.
+
+use crate::again::again;
+use anyhow::{Result, bail};
+use ejector::{EjectError, Field};
+use journal_core::JournalError;
+use ketama::RingError;
+use reply_queue::QueueRefusal;
+use resp_core::RespError;
+use splitter::SplitError;
+use std::alloc::Global;
+use stub_server::StubError;
+use upstream_pipe::PipeRefusal;
+
+macro_rules! messages {
+    ($alloc:expr, $($refusal:expr),+) => {{
+        let mut text = String::new($alloc);
+        $(
+            let refusal = $refusal;
+            let number = refusal.number();
+            if !text.is_empty() {
+                text.push_str("; ")?;
+            }
+            write!(text, "{number} {refusal}")?;
+        )+
+        Ok(text)
+    }};
+}
+
+/// Gives the refusals of what the line names: `reader`, `ring`, `ejector`, `pipe`, `splitter`, `queue`, `journal`, `stub`.
+pub fn act(alloc: Global, line: &str) -> Result<String> {
+    match line {
+        "reader" => again!(of_reader(alloc)),
+        "ring" => again!(of_ring(alloc)),
+        "ejector" => again!(of_ejector(alloc)),
+        "pipe" => again!(of_pipe(alloc)),
+        "splitter" => again!(of_splitter(alloc)),
+        "queue" => again!(of_queue(alloc)),
+        "journal" => again!(of_journal(alloc)),
+        "stub" => again!(of_stub(alloc)),
+        _ => bail!("nothing named {line:?} refuses"),
+    }
+}
+
+fn of_reader(alloc: Global) -> Result<String> {
+    messages!(
+        alloc,
+        RespError::NoMemory,
+        RespError::BadType { at: 3 },
+        RespError::BadLength { at: 0 },
+        RespError::BadNumber { at: 1 },
+        RespError::BadLineEnd { at: 2 },
+        RespError::TooLong { at: 4 },
+        RespError::TooDeep { at: 5 }
+    )
+}
+
+fn of_ring(alloc: Global) -> Result<String> {
+    messages!(
+        alloc,
+        RingError::NoMemory,
+        RingError::SameName,
+        RingError::TooManyHosts,
+        RingError::BadWeights,
+        RingError::BadName,
+        RingError::BadPoint
+    )
+}
+
+fn of_ejector(alloc: Global) -> Result<String> {
+    messages!(
+        alloc,
+        EjectError::NoMemory,
+        EjectError::BadSettings {
+            field: Field::MaxPercent
+        }
+    )
+}
+
+fn of_pipe(alloc: Global) -> Result<String> {
+    messages!(
+        alloc,
+        PipeRefusal::NoMemory,
+        PipeRefusal::Full,
+        PipeRefusal::Stale { current: 9 },
+        PipeRefusal::Unasked,
+        PipeRefusal::EpochsSpent
+    )
+}
+
+fn of_splitter(alloc: Global) -> Result<String> {
+    messages!(alloc, SplitError::NoMemory)
+}
+
+fn of_queue(alloc: Global) -> Result<String> {
+    messages!(
+        alloc,
+        QueueRefusal::NoMemory,
+        QueueRefusal::Crowded,
+        QueueRefusal::Spent
+    )
+}
+
+fn of_journal(alloc: Global) -> Result<String> {
+    messages!(alloc, JournalError::NoMemory, JournalError::JournalFull)
+}
+
+fn of_stub(alloc: Global) -> Result<String> {
+    messages!(alloc, StubError::NoMemory)
+}

@@ -1,0 +1,104 @@
+//! Rows of plans and joins.
+
+use super::joins::{join_of, may_join};
+use super::pieces::repeated;
+use super::spelling::{spelling, values_of};
+use crate::again::again;
+use crate::text::{first_word, put_escaped, word_bytes};
+use crate::values::request_of;
+use anyhow::{Result, bail};
+use bytes::Bytes;
+use resp_core::{Value, Values};
+use splitter::{Join, Local, PartPlan, Plan, Request, join, plan};
+use std::alloc::Global;
+
+// Of a command with more parts only the first and the last are told.
+const SHOWN: usize = 8;
+
+/// Makes one action: `plan WORDS`, where `7*a` is seven words `a`; `value VALUE` or `broken`, the plan of that request;
+/// or `join HOW VALUES`.
+pub fn act(alloc: Global, line: &str) -> Result<String> {
+    let (verb, rest) = first_word(line);
+    let request = match verb {
+        "plan" => again!(command_of(alloc, rest))?,
+        "value" | "broken" => again!(request_of(alloc, line))?,
+        "join" => return joined(alloc, rest),
+        _ => bail!("plans take no action {verb:?}"),
+    };
+    let plan = again!(plan(alloc, &request))?;
+    again!(plan_text(alloc, &plan))
+}
+
+// The command of these words.
+fn command_of(alloc: Global, words: &str) -> Result<Request> {
+    let mut members = Vec::new(alloc);
+    for word in words.split(' ') {
+        put_words(alloc, &mut members, word)?;
+    }
+    Ok(Request::Read(Value::List(Values(members))))
+}
+
+fn put_words(alloc: Global, members: &mut Vec<Value>, word: &str) -> Result<()> {
+    let (count, word) = repeated(word);
+    let bytes = Bytes::from_vec(word_bytes(alloc, word)?)?;
+    for _ in 0..count {
+        members.push(Value::Bulk(bytes.clone()?))?;
+    }
+    Ok(())
+}
+
+fn plan_text(alloc: Global, plan: &Plan) -> Result<String> {
+    match plan {
+        Plan::Here(local, value) => own_answer(alloc, "Here", *local, value),
+        Plan::Leave(local, value) => own_answer(alloc, "Leave", *local, value),
+        Plan::Parts { how, list } => parts_text(alloc, *how, list.0.as_slice()),
+    }
+}
+
+fn own_answer(alloc: Global, plan: &str, local: Local, value: &Value) -> Result<String> {
+    let text = spelling(alloc, value)?;
+    Ok(format!(in alloc; "{plan} {local:?} {text}")?)
+}
+
+// The join, and the key and the text of each part.
+fn parts_text(alloc: Global, how: Join, parts: &[PartPlan]) -> Result<String> {
+    let mut text = format!(in alloc; "Parts {how:?}")?;
+    match parts {
+        [first, .., last] if parts.len() > SHOWN => {
+            let count = parts.len();
+            write!(text, ", {count} parts, the first")?;
+            put_part(&mut text, first)?;
+            text.push_str(", the last")?;
+            put_part(&mut text, last)?;
+        }
+        _ => put_parts(&mut text, parts)?,
+    }
+    Ok(text)
+}
+
+fn put_parts(text: &mut String, parts: &[PartPlan]) -> Result<()> {
+    for part in parts {
+        text.push(',')?;
+        put_part(text, part)?;
+    }
+    Ok(())
+}
+
+fn put_part(text: &mut String, part: &PartPlan) -> Result<()> {
+    text.push_str(" '")?;
+    put_escaped(text, part.key.as_slice())?;
+    text.push_str("' ")?;
+    put_escaped(text, part.text.as_slice())
+}
+
+// The join of the values of a text.
+fn joined(alloc: Global, words: &str) -> Result<String> {
+    let (how, text) = first_word(words);
+    let how = join_of(how)?;
+    let values = again!(values_of(alloc, text))?;
+    if !may_join(how, values.len()) {
+        bail!("no join of so many values");
+    }
+    let value = again!(join(alloc, how, values.as_slice()))?;
+    again!(spelling(alloc, &value))
+}

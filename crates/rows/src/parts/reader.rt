@@ -1,0 +1,198 @@
+//! Rows of a reader: what it gives of a stream, however the stream is cut, and what is told of values.
+
+use super::answers::{refusal_words, shown};
+use super::pieces::stream_of;
+use super::spelling::spelling;
+use crate::again::again;
+use crate::text::{first_word, put_escaped, unescaped};
+use crate::values::value_of;
+use anyhow::{Result, bail};
+use bytes::Bytes;
+use resp_core::{Limits, Reader, RespError, Value, put_text};
+use std::alloc::Global;
+
+// What has more bytes is told by its length.
+const SHOWN: usize = 200;
+
+/// A reader to which a row feeds pieces, and the limits of the row's streams.
+#[derive(Drop)]
+pub struct ReaderSubject {
+    limits: Limits,
+    reader: Reader,
+}
+
+impl ReaderSubject {
+    /// Begins a row, with the limits of a `client` or of a `host`.
+    pub fn open(alloc: Global, arguments: &str) -> Result<ReaderSubject> {
+        let limits = match arguments {
+            "client" => Limits::CLIENT,
+            "host" => Limits::HOST,
+            _ => bail!("no limits are those of {arguments:?}"),
+        };
+        Ok(ReaderSubject {
+            limits,
+            reader: Reader::new(alloc, limits),
+        })
+    }
+
+    /// Makes one action: `feed BYTES`, `next`, `read PIECES` (a stream of its own), `measure VALUE`, `simple BYTES`,
+    /// `error BYTES`, `words VALUE`.
+    pub fn act(&mut self, alloc: Global, line: &str) -> Result<String> {
+        let (verb, rest) = first_word(line);
+        match verb {
+            "feed" => self.feed(alloc, rest),
+            "next" => self.next(alloc),
+            "read" => self.read(alloc, rest),
+            "measure" => measured(alloc, &again!(value_of(alloc, rest))?),
+            "simple" => measured(alloc, &Value::Simple(again!(line_of(alloc, rest))?)),
+            "error" => measured(alloc, &Value::Fault(again!(line_of(alloc, rest))?)),
+            "words" => {
+                let value = again!(value_of(alloc, rest))?;
+                again!(words_text(alloc, &value))
+            }
+            _ => bail!("a reader takes no action {verb:?}"),
+        }
+    }
+
+    fn feed(&mut self, alloc: Global, text: &str) -> Result<String> {
+        let piece = again!(unescaped(alloc, text))?;
+        match again!(self.reader.feed(piece.as_slice())) {
+            Ok(()) => shown(alloc, "Ok"),
+            Err(refusal) => again!(refusal_words(alloc, refusal.number(), &refusal)),
+        }
+    }
+
+    fn next(&mut self, alloc: Global) -> Result<String> {
+        match again!(self.reader.next_value()) {
+            Ok(Some(value)) => again!(spelling(alloc, &value)),
+            Ok(None) => shown(alloc, "nothing"),
+            Err(refusal) => again!(refusal_words(alloc, refusal.number(), &refusal)),
+        }
+    }
+
+    // Reads a stream in pieces of several lengths, which all have to give the same.
+    fn read(&self, alloc: Global, words: &str) -> Result<String> {
+        let stream = again!(stream_of(alloc, words))?;
+        let mut told = String::new(alloc);
+        for length in piece_lengths(stream.len()) {
+            let reading = Reading::of(alloc, self.limits, stream.as_slice(), *length)?;
+            let text = again!(reading.text(alloc, stream.as_slice()))?;
+            if !told.is_empty() && told.as_str() != text.as_str() {
+                return Ok(again!(format!(in alloc;
+                    "DIFFER: {told}, in pieces of {length}: {text}"
+                ))?);
+            }
+            told = text;
+        }
+        Ok(told)
+    }
+}
+
+// The lengths of the pieces in which a stream of so many bytes is read: a long one is cut in few pieces.
+fn piece_lengths(bytes: usize) -> &'static [usize] {
+    match bytes {
+        0..=1_000 => &[1, 2, 7, 1_000],
+        1_001..=1_000_000 => &[20_000, 100_000, 1_000_000],
+        _ => &[3_000_000, 10_000_000],
+    }
+}
+
+// What a reader gives of a stream: the values, written one behind the other, and then the refusal, if one comes.
+#[derive(Drop)]
+struct Reading {
+    written: Vec<u8>,
+    refusal: Option<RespError>,
+}
+
+impl Reading {
+    // Reads a stream in pieces of this length.
+    fn of(alloc: Global, limits: Limits, stream: &[u8], length: usize) -> Result<Reading> {
+        let mut reader = Reader::new(alloc, limits);
+        let mut reading = Reading {
+            written: Vec::new(alloc),
+            refusal: None,
+        };
+        for piece in stream.chunks(length.max(1)) {
+            if again!(reader.feed(piece)).is_ok() {
+                reading.take_values(alloc, &mut reader, piece.len())?;
+            }
+        }
+        Ok(reading)
+    }
+
+    // Takes the values that have come, which are no more than the bytes of the piece and one.
+    fn take_values(&mut self, alloc: Global, reader: &mut Reader, most: usize) -> Result<()> {
+        for _ in 0..=most {
+            match again!(reader.next_value()) {
+                Ok(Some(value)) => self.write(alloc, &value)?,
+                Ok(None) => break,
+                Err(refusal) => {
+                    self.refusal = Some(refusal);
+                    break;
+                }
+            }
+        }
+        Ok(())
+    }
+
+    // Writes a value that shares its bytes with this one.
+    fn write(&mut self, alloc: Global, value: &Value) -> Result<()> {
+        let shared = again!(value.share(alloc))?;
+        if shared.is_plain() {
+            again!(put_text(alloc, &shared, &mut self.written))?;
+        }
+        Ok(())
+    }
+
+    // What was written, by its length where it is long, and then the refusal.
+    fn text(&self, alloc: Global, stream: &[u8]) -> Result<String> {
+        let mut text = String::new(alloc);
+        match self.written.len() {
+            0..=SHOWN => put_escaped(&mut text, self.written.as_slice())?,
+            length if stream.starts_with(self.written.as_slice()) => {
+                write!(text, "{length} bytes as they came")?;
+            }
+            length => write!(text, "{length} other bytes")?,
+        }
+        if let Some(refusal) = self.refusal {
+            if !text.is_empty() {
+                text.push_str(" then ")?;
+            }
+            text.push_str(refusal_words(alloc, refusal.number(), &refusal)?.as_str())?;
+        }
+        if text.is_empty() {
+            text.push_str("nothing")?;
+        }
+        Ok(text)
+    }
+}
+
+fn line_of(alloc: Global, text: &str) -> Result<Bytes> {
+    Ok(Bytes::from_vec(unescaped(alloc, text)?)?)
+}
+
+// Whether the value can be written, and the length of its spelling.
+fn measured(alloc: Global, value: &Value) -> Result<String> {
+    let kind = if value.is_plain() {
+        "plain"
+    } else {
+        "not plain"
+    };
+    let length = value.text_len();
+    Ok(again!(format!(in alloc; "{kind}, {length} bytes"))?)
+}
+
+// The words of a command, each in quotes.
+fn words_text(alloc: Global, value: &Value) -> Result<String> {
+    let Some(words) = value.words() else {
+        return Ok(String::from_str(alloc, "no words")?);
+    };
+    let count = words.0.len();
+    let mut text = format!(in alloc; "{count} words")?;
+    for at in 0..count {
+        text.push_str(" '")?;
+        put_escaped(&mut text, words.word(at).as_slice())?;
+        text.push('\'')?;
+    }
+    Ok(text)
+}

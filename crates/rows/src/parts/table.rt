@@ -1,0 +1,50 @@
+//! Rows of the table of commands: names, and what the table knows of them.
+
+use crate::again::again;
+use crate::series::Series;
+use crate::text::{first_word, word_bytes};
+use anyhow::{Result, bail};
+use command_table::look;
+use std::alloc::Global;
+
+/// Makes one action: `look NAME`, or `alike NAMES`, which tells how many names in a row are known alike.
+pub fn act(alloc: Global, line: &str) -> Result<String> {
+    let (verb, rest) = first_word(line);
+    match verb {
+        "look" => again!(entry_text(alloc, rest)),
+        "alike" => again!(runs(alloc, rest)),
+        _ => bail!("the table takes no action {verb:?}"),
+    }
+}
+
+// What the table knows of a name: its kind, its name in the table, and its numbers.
+fn entry_text(alloc: Global, word: &str) -> Result<String> {
+    let name = word_bytes(alloc, word)?;
+    match look(name.as_slice()) {
+        None => Ok(String::from_str(alloc, "None")?),
+        Some(entry) => {
+            let (kind, name, least, key_at) = (entry.kind, entry.name, entry.least, entry.key_at);
+            Ok(format!(in alloc; "{kind:?} {name}, least {least}, key_at {key_at}")?)
+        }
+    }
+}
+
+fn runs(alloc: Global, names: &str) -> Result<String> {
+    let mut series = Series::new(alloc);
+    for name in names.split(' ') {
+        series.add(kind_text(alloc, name)?)?;
+    }
+    series.text()
+}
+
+// The same without the name, which has to be the table's but for its case.
+fn kind_text(alloc: Global, name: &str) -> Result<String> {
+    match look(name.as_bytes()) {
+        None => Ok(String::from_str(alloc, "None")?),
+        Some(entry) if !entry.name.eq_ignore_ascii_case(name) => entry_text(alloc, name),
+        Some(entry) => {
+            let (kind, least, key_at) = (entry.kind, entry.least, entry.key_at);
+            Ok(format!(in alloc; "{kind:?}, least {least}, key_at {key_at}")?)
+        }
+    }
+}
