@@ -98,7 +98,7 @@ got_is x placed (Some h) p n l = (refl, room_or_busy (before_it h x placed) (nat
 
 -- ARRIVALS
 
-record IsNew (S : Setting) (x : Past) (event : Event) (p : Part) : Type 0 where
+pub record IsNew (S : Setting) (x : Past) (event : Event) (p : Part) : Type 0 where
   conn : ℕ
   request : Request
   arrives : event ≡ Arrived conn request
@@ -115,7 +115,7 @@ new_by_plan S x conn request p (parts how list) e h = elim (placed_is_by S x con
 new_by_plan S x conn request p (here name value) e h = absurd (none_in_nothing p h)
 new_by_plan S x conn request p (leave name value) e h = absurd (none_in_nothing p h)
 
-new_is : (S : Setting) (x : Past) (event : Event) (p : Part) → Contains (parts_by S x event) p → IsNew S x event p
+pub new_is : (S : Setting) (x : Past) (event : Event) (p : Part) → Contains (parts_by S x event) p → IsNew S x event p
 new_is S x (Arrived conn request) p h = new_by_plan S x conn request p (plan_for request) refl h
 new_is S x Opened p h = absurd (none_in_nothing p h)
 new_is S x (Finished conn) p h = absurd (none_in_nothing p h)
@@ -131,7 +131,7 @@ parts_are : (S : Setting) (x : Past) (event : Event) (p : Part) (a : IsNew S x e
 parts_are S x event p a = ap (parts_by S x) a.arrives ∙ ap (placed_by S x a.conn) a.is_split
 
 -- of a part that was placed so, what its plan says
-arrived_now : (S : Setting) (H : History) (s : Step) (p : Part) → IsNew S (past S H) s.event p → HasArrived S (s ∷ H) p
+pub arrived_now : (S : Setting) (H : History) (s : Step) (p : Part) → IsNew S (past S H) s.event p → HasArrived S (s ∷ H) p
 arrived_now S H s p a =
     let x = past S H in
     let b = a.by in
@@ -161,7 +161,12 @@ arrived_now S H s p a =
       got = subst (λ (q : Part). IsPlaced x b.front q.host q.epoch q.local) (sym b.is) (got_is x b.front o bare refl refl);
     }
 
-earlier_still : (S : Setting) (s : Step) (H : History) (p : Part) → HasArrived S H p → HasArrived S (s ∷ H) p
+-- it arrived at that step
+pub before-arrived_now : (S : Setting) (H : History) (s : Step) (p : Part) (a : IsNew S (past S H) s.event p) → (arrived_now S H s p a).before ≡ H
+unfolding arrived_now
+before-arrived_now S H s p a = refl
+
+pub earlier_still : (S : Setting) (s : Step) (H : History) (p : Part) → HasArrived S H p → HasArrived S (s ∷ H) p
 earlier_still S s H p a = record {
   later = s ∷ a.later;
   step = a.step;
@@ -183,6 +188,11 @@ earlier_still S s H p a = record {
   number_is = a.number_is;
   got = a.got;
 }
+
+-- at the same step
+pub before-earlier_still : (S : Setting) (s : Step) (H : History) (p : Part) (a : HasArrived S H p) → (earlier_still S s H p a).before ≡ a.before
+unfolding earlier_still
+before-earlier_still S s H p a = refl
 
 pub parts_have_arrived : (S : Setting) (H : History) (p : Part) → Contains (past S H).parts p → HasArrived S H p
 parts_have_arrived S [] p h = absurd (none_in_nothing p h)

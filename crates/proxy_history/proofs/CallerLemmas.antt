@@ -108,6 +108,8 @@ pub use Rattle.proxy_history.proofs.OfPast.{of_past_both as AreOfPast-append}
 pub use Rattle.proxy_history.proofs.Waiting.{none_of_next as filter-none_of_next}
 -- who waits is unsent, and the other way round
 pub use Rattle.proxy_history.proofs.UnsentLemmas.{unsent_parts_wait as Contains-waiting}
+-- of two parts that wait the one in front came first
+pub use Rattle.proxy_history.proofs.WaitingLemmas.{waiting_is_in_order as waiting-split}
 -- PARTS THAT ARE THE SAME
 
 -- a part is the same as itself

@@ -177,7 +177,7 @@ texts_of_placing S x conn command placed (q ∷ ps) =
     ∙ ap (λ z. map (λ (p : Part). p.text) placed ++ z ∷ map (λ (q : PartPlan). q.text) ps) (placed_text S x conn command placed q)
 
 -- and are numbered by their places
-abbrev AreNumbered : ℕ → List Part → Type 0
+abbrev pub AreNumbered : ℕ → List Part → Type 0
 AreNumbered n [] = Unit {0}
 AreNumbered n (p ∷ ps) = (p.number ≡ n) × AreNumbered (n + 1) ps
 
@@ -185,7 +185,7 @@ numbered_with : (n : ℕ) (ps : List Part) (q : Part) → AreNumbered n ps → q
 numbered_with n [] q a e = (omega (arith, e), tt)
 numbered_with n (p ∷ ps) q a e = (a.0, numbered_with (n + 1) ps q a.1 (omega (arith, e)))
 
-placing_is_numbered : (S : Setting) (x : Past) (conn command : ℕ) (placed : List Part) (ps : List PartPlan) → AreNumbered 0 placed → AreNumbered 0 (placing S x conn command placed ps)
+pub placing_is_numbered : (S : Setting) (x : Past) (conn command : ℕ) (placed : List Part) (ps : List PartPlan) → AreNumbered 0 placed → AreNumbered 0 (placing S x conn command placed ps)
 placing_is_numbered S x conn command placed [] a = a
 placing_is_numbered S x conn command placed (q ∷ ps) a =
     let number = host_keeps_number x placed (host_for S x q.key) (hostless conn command (length placed) q) in

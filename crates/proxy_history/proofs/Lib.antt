@@ -33,6 +33,7 @@ pub mod SendingLemmas
 pub mod OutcomeLemmas
 pub mod LimitLemmas
 pub mod UnsentLemmas
+pub mod WaitingLemmas
 pub mod EjectionLemmas
 pub mod ReadingLemmas
 pub mod OwnLemmas

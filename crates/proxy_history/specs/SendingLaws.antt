@@ -1,5 +1,5 @@
 -- What waits for a host, and what is sent to it.
-use Rattle.std.specs.Prelude.{◌≡◌, ◌↔◌, ℕ, false, List, [], ◌∷◌, ◌++◌, Some, None, length, Contains}
+use Rattle.std.specs.Prelude.{◌≡◌, ◌↔◌, ◌⊎◌, ◌<◌, ℕ, false, List, [], ◌∷◌, ◌++◌, Some, None, length, Contains}
 use Rattle.std.specs.List.{flat_map}
 use Rattle.proxy_history.specs.Setting.{Setting}
 use Rattle.proxy_history.specs.History.{History, Step, epoch, has, is_fault, is_closed}
@@ -26,6 +26,19 @@ pub record IsUnsent (S : Setting) (H : History) (h : ℕ) (p : Part) : Type 0 wh
 abbrev pub UnsentPartsWait : Type 0
 UnsentPartsWait = (S : Setting) (H : History) (h : ℕ) (p : Part)
     → Contains (waiting h (past S H)) p ↔ IsUnsent S H h p
+
+-- The first part arrived before the second, or with it and under a lower number.
+pub record ComesFirst (S : Setting) (H : History) (p q : Part) : Type 0 where
+  pub first : HasArrived S H p
+  pub second : HasArrived S H q
+  pub order : (length first.before < length second.before)
+      ⊎ ((first.before ≡ second.before) × (p.number < q.number))
+
+-- of two parts that wait the one in front came first
+abbrev pub WaitingIsInOrder : Type 0
+WaitingIsInOrder = (S : Setting) (H : History) (h : ℕ) (front middle rest : List Part)
+    (p q : Part) → waiting h (past S H) ≡ front ++ p ∷ (middle ++ q ∷ rest)
+    → ComesFirst S H p q
 
 -- The step sends a part to the host: the first that waits. It stands behind those sent to the host in its present epoch,
 -- and the answer has this epoch, its place among them, and its text.

@@ -5,7 +5,7 @@ ghost use Rattle.proxy_history.specs.EjectionLaws.{EjectionsChooseHostsAlone};
 ghost use Rattle.proxy_history.specs.HandingLaws.{ClosedGetsNothing, HandedIsItsOutcome, RepliesGoOutOnce};
 ghost use Rattle.proxy_history.specs.LimitLaws.{LimitsHold};
 ghost use Rattle.proxy_history.specs.StepLaws.{AnswersFit, OpeningsComeFirst, UnopenedHaveNoSteps};
-ghost use Rattle.proxy_history.specs.SendingLaws.{EachTakenSends, NothingElseIsSent, UnsentPartsWait, UpstreamIsWhatWasSent};
+ghost use Rattle.proxy_history.specs.SendingLaws.{EachTakenSends, NothingElseIsSent, UnsentPartsWait, UpstreamIsWhatWasSent, WaitingIsInOrder};
 
 /// Each beginning of a legal history is legal.
 pub fn beginnings_are_legal()
@@ -75,6 +75,11 @@ pub fn parts_have_arrived()
 /// sent, and its connection is not closed.
 pub fn unsent_parts_wait()
     ensures { UnsentPartsWait }
+{}
+
+/// Parts wait in the order of their arrival, and those of one command in the order of its plan.
+pub fn waiting_is_in_order()
+    ensures { WaitingIsInOrder }
 {}
 
 /// Each `Taken` sends the first part that waits for its host: its text goes out, with the host's epoch, in the next place.

@@ -34,6 +34,7 @@ pub use laws::{
     openings_come_first, outcomes_are_as_planned, outcomes_stay, owners_stay, parts_have_arrived,
     replies_are_in_order, replies_go_out_once, replies_were_asked, sent_parts_arrived,
     unopened_have_no_steps, unsent_parts_wait, upstream_is_what_was_sent, values_are_own,
+    waiting_is_in_order,
 };
 pub use own_laws::{
     connection_steps_tell_all, host_steps_tell_all, orders_hold_the_same, others_leave_connections,
