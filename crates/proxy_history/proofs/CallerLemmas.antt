@@ -40,6 +40,10 @@ pub use Rattle.proxy_history.proofs.StepLemmas.{unopened_have_no_steps as connec
 
 -- where a row of causes gives no refusal each of them is false
 pub use Rattle.proxy_history.proofs.NoCause.{are_false as first_true-none}
+-- a handing out is refused as not ready exactly where nothing is ready
+pub use Rattle.proxy_history.proofs.CauseLemmas.{not_ready_means as own_cause-not_ready}
+-- an open connection that finishes takes no command more
+pub use Rattle.proxy_history.proofs.CauseLemmas.{finishing_takes_nothing as own_cause-finishing}
 -- a reply that is accepted is of the present epoch
 pub use Rattle.proxy_history.proofs.NoCause.{is_current as own_cause-answered}
 -- and some part flies
