@@ -26,8 +26,8 @@ pub use Rattle.proxy_history.proofs.AfterClose.{closed_gets_nothing as has-close
 pub use Rattle.proxy_history.proofs.HandingLemmas.{handed_is_its_outcome as HandsOut-handed}
 -- each Taken step sends the first part that waits
 pub use Rattle.proxy_history.proofs.SendingLemmas.{each_taken_sends as Sends-taken}
--- no other step changes what was sent
-pub use Rattle.proxy_history.proofs.SendingLemmas.{nothing_else_is_sent as sent_to-others}
+-- only a Taken step of a host in an epoch changes what was sent to it then
+pub use Rattle.proxy_history.proofs.SendingLemmas.{sent_to-others}
 -- what went out to a host is the texts of the parts sent
 pub use Rattle.proxy_history.proofs.SendingLemmas.{upstream_is_what_was_sent as upstream-sent_to}
 -- each event has an answer of its kind

@@ -14,7 +14,7 @@ use Rattle.proxy_history.specs.Cause.{own_cause, causes}
 use Rattle.proxy_history.specs.Legal.{IsLegal, MayFollow}
 use Rattle.proxy_history.specs.Answer.{answer_to, text_of_first}
 use Rattle.proxy_history.specs.Output.{sent_text, upstream}
-use Rattle.proxy_history.specs.SendingLaws.{Sends}
+use Rattle.proxy_history.specs.SendingLaws.{Sends, SendsNothingElse}
 use Rattle.proxy_history.specs.declared.answer.Answer.TheVariants as answer
 use Rattle.proxy_history.specs.declared.event.Event.{Event}
 use Rattle.proxy_history.specs.declared.event.Event.TheVariants.{Opened, Arrived, Finished, Taken, Answered, Failed, Swept, Handed, Closed}
@@ -90,13 +90,26 @@ none_by x (Swept t) h e f = refl
 none_by x (Handed conn) h e f = refl
 none_by x (Closed conn) h e f = refl
 
-pub nothing_else_is_sent : (S : Setting) (before : History) (s : Step) (h e : ℕ)
+-- what was sent to others, or in another epoch
+pub sent_to-others : (S : Setting) (before : History) (s : Step) (h e : ℕ)
     → (s.event ≡ Taken h → epoch h before ≡ e → ⊥)
     → sent_to h e (past S (s ∷ before)) ≡ sent_to h e (past S before)
-nothing_else_is_sent S before s h e f =
+sent_to-others S before s h e f =
     sent_to_next S before s h e
     ∙ ap (λ z. sent_to h e (past S before) ++ z) (none_by (past S before) s.event h e f)
     ∙ append-nil (sent_to h e (past S before))
+
+sends_nothing : (x : Past) (event : Event) → ((h : ℕ) → event ≡ Taken h → ⊥) → sent_by x event ≡ []
+sends_nothing x (Taken host) f = absurd (f host refl)
+sends_nothing x _ f = refl
+
+pub nothing_else_is_sent : (S : Setting) (before : History) (s : Step) → SendsNothingElse S before s
+nothing_else_is_sent S before s =
+    let x = past S before in
+    record {
+      to_others = sent_to-others S before s;
+      by_others = λ f. ap (λ z. x.sent ++ z) (sends_nothing x s.event f) ∙ append-nil x.sent;
+    }
 
 -- THE WHOLE RUN
 

@@ -99,7 +99,7 @@ pub fn each_taken_sends()
     ensures { EachTakenSends }
 {}
 
-/// What was sent to a host in an epoch changes only by a `Taken` of this host in this epoch.
+/// What was sent changes only by a `Taken`, and what was sent to a host in an epoch only by one of this host in this epoch.
 pub fn nothing_else_is_sent()
     ensures { NothingElseIsSent }
 {}
