@@ -95,18 +95,21 @@ out_until R m marks h out back = elim (cases_lt h R.hosts) [
 ]
 
 -- a host that a sweep returns is out afterwards exactly if the sweep ejects it
-out_if_ejected : (ejected back out : Bool) → back ≡ true → (if ejected then true else (if back then false else out)) ≡ ejected
+out_if_ejected : (ejected back out : Bool) → back ≡ true
+    → (if ejected then true else (if back then false else out)) ≡ ejected
 out_if_ejected true back out e = refl
 out_if_ejected false true out e = refl
 out_if_ejected false false out e = absurd (false≢true e)
 
-back_once_at : (R : Rules) (marks : List Mark) (h t : ℕ) → h < R.hosts → is_out (state R marks) h ≡ true → IsTimeOver R (state R marks) h t → BringsBack R marks h t
+back_once_at : (R : Rules) (marks : List Mark) (h t : ℕ) → h < R.hosts → is_out (state R marks) h ≡ true
+    → IsTimeOver R (state R marks) h t → BringsBack R marks h t
 back_once_at R marks h t l out over =
     let x = at_moment t (state R marks) in
     let d = deed_by R x (Sweep t) in
     let is_over : is_time_over R x.clock (host_of x h) ≡ true = le-leb _ _ over in
     let comes : comes_back R x h ≡ true = rw (out, is_over) refl in
-    let back : returns h d ≡ true = among_filter (comes_back R x) h 0 R.hosts (omega arith) (omega (arith, l)) ∙ comes in
+    let back : returns h d ≡ true =
+    among_filter (comes_back R x) h 0 R.hosts (omega arith) (omega (arith, l)) ∙ comes in
     let new = ap (λ (s : HostState). s.is_out) (host_next R (Sweep t) marks h l) in
     record { returned = back; out_again = new ∙ out_if_ejected (ejects h d) (returns h d) (is_out (state R marks) h) back }
 

@@ -11,11 +11,13 @@ use Rattle.ejector.specs.Ejection.{state, deed_after}
 
 -- at each beginning of a list of marks no more hosts are out than the limit allows
 abbrev pub FewAreOut : Type 0
-FewAreOut = (R : Rules) (later before : List Mark) (all : List Mark) → all ≡ later ++ before → out_count (state R before) ≤ most_out R
+FewAreOut = (R : Rules) (later before : List Mark) (all : List Mark) → all ≡ later ++ before
+    → out_count (state R before) ≤ most_out R
 
 -- the state before a mark decides the state after it, and nothing else of the list does
 abbrev pub StateDecidesNext : Type 0
-StateDecidesNext = (R : Rules) (m : Mark) (marks others : List Mark) → state R marks ≡ state R others → state R (m ∷ marks) ≡ state R (m ∷ others)
+StateDecidesNext = (R : Rules) (m : Mark) (marks others : List Mark)
+    → state R marks ≡ state R others → state R (m ∷ marks) ≡ state R (m ∷ others)
 
 -- a host's time is over at a sweep: an ejection lasts base_ms times the multiplier, at most max_ms, from its start on
 abbrev pub IsTimeOver : Rules → State → ℕ → ℕ → Type 0
@@ -42,12 +44,14 @@ BackOnceTimeIsOver = (R : Rules) (marks : List Mark) (h t : ℕ)
 
 -- one good result puts a streak to 0
 abbrev pub GoodEndsStreak : Type 0
-GoodEndsStreak = (R : Rules) (marks : List Mark) (h t : ℕ) → (host_of (state R (Good h t ∷ marks)) h).streak ≡ 0
+GoodEndsStreak = (R : Rules) (marks : List Mark) (h t : ℕ)
+    → (host_of (state R (Good h t ∷ marks)) h).streak ≡ 0
 
 -- a result of another host changes nothing of a host
 abbrev pub OthersChangeNothing : Type 0
 OthersChangeNothing = (R : Rules) (marks : List Mark) (h k t : ℕ) → h ≢ k
-    → (host_of (state R (Good k t ∷ marks)) h ≡ host_of (state R marks) h) × (host_of (state R (Bad k t ∷ marks)) h ≡ host_of (state R marks) h)
+    → (host_of (state R (Good k t ∷ marks)) h ≡ host_of (state R marks) h)
+    × (host_of (state R (Bad k t ∷ marks)) h ≡ host_of (state R marks) h)
 
 -- for a host, a mark finds the same after one state and after another: for a bad result the limit allows an ejection after both or neither;
 -- for a sweep all rates are the same, and at the host's turn the limit allows an ejection after both or neither
@@ -55,11 +59,13 @@ abbrev pub FindsTheSame : Rules → ℕ → Mark → State → State → Type 0
 FindsTheSame R h (Good k t) x y = Unit {0}
 FindsTheSame R h (Bad k t) x y = may_eject R (out_count x) ≡ may_eject R (out_count y)
 FindsTheSame R h (Sweep t) x y = (rates R (at_moment t x) ≡ rates R (at_moment t y))
-    × (may_eject R (out_at_turn R (at_moment t x) h) ≡ may_eject R (out_at_turn R (at_moment t y) h))
+    × (may_eject R (out_at_turn R (at_moment t x) h)
+    ≡ may_eject R (out_at_turn R (at_moment t y) h))
 
 -- what becomes of a host follows from its own state and the clock; other hosts matter through the limit and the rates of a sweep alone
 abbrev pub OthersMatterByLimitAndRates : Type 0
 OthersMatterByLimitAndRates = (R : Rules) (m : Mark) (marks others : List Mark) (h : ℕ)
-    → host_of (state R marks) h ≡ host_of (state R others) h → (state R marks).clock ≡ (state R others).clock
+    → host_of (state R marks) h ≡ host_of (state R others) h
+    → (state R marks).clock ≡ (state R others).clock
     → FindsTheSame R h m (state R marks) (state R others)
     → host_of (state R (m ∷ marks)) h ≡ host_of (state R (m ∷ others)) h

@@ -17,8 +17,8 @@ pub fn out_until_time_is_over()
     ensures { OutUntilTimeIsOver }
 {}
 
-/// A sweep at which the time of a host that is out is over brings it back. The host is out after that sweep exactly if
-/// the same sweep ejected it again.
+/// A sweep at which the time of a host that is out is over brings it back. The host is out after
+/// that sweep exactly if the same sweep ejected it again.
 pub fn back_once_time_is_over()
     ensures { BackOnceTimeIsOver }
 {}

@@ -26,8 +26,8 @@ pub use Rattle.proxy_history.proofs.AfterClose.{closed_gets_nothing as has-close
 pub use Rattle.proxy_history.proofs.HandingLemmas.{handed_is_its_outcome as HandsOut-handed}
 -- each Taken step sends the first part that waits
 pub use Rattle.proxy_history.proofs.SendingLemmas.{each_taken_sends as Sends-taken}
--- no other step changes what was sent
-pub use Rattle.proxy_history.proofs.SendingLemmas.{nothing_else_is_sent as sent_to-others}
+-- only a Taken step of a host in an epoch changes what was sent to it then
+pub use Rattle.proxy_history.proofs.SendingLemmas.{sent_to-others}
 -- what went out to a host is the texts of the parts sent
 pub use Rattle.proxy_history.proofs.SendingLemmas.{upstream_is_what_was_sent as upstream-sent_to}
 -- each event has an answer of its kind
@@ -40,6 +40,10 @@ pub use Rattle.proxy_history.proofs.StepLemmas.{unopened_have_no_steps as connec
 
 -- where a row of causes gives no refusal each of them is false
 pub use Rattle.proxy_history.proofs.NoCause.{are_false as first_true-none}
+-- a handing out is refused as not ready exactly where nothing is ready
+pub use Rattle.proxy_history.proofs.CauseLemmas.{not_ready_means as own_cause-not_ready}
+-- an open connection that finishes takes no command more
+pub use Rattle.proxy_history.proofs.CauseLemmas.{finishing_takes_nothing as own_cause-finishing}
 -- a reply that is accepted is of the present epoch
 pub use Rattle.proxy_history.proofs.NoCause.{is_current as own_cause-answered}
 -- and some part flies

@@ -49,12 +49,14 @@ module _ (S : Setting) (x : Past) (marks : List Mark) where
   same_with placed None p = refl
   same_with placed (Some h) p = refl
 
-  same_place : (conn command : ℕ) (placed : List Part) (q : PartPlan) → usable S y ≡ usable S x → placed_part S y conn command placed q ≡ placed_part S x conn command placed q
+  same_place : (conn command : ℕ) (placed : List Part) (q : PartPlan) → usable S y ≡ usable S x
+      → placed_part S y conn command placed q ≡ placed_part S x conn command placed q
   same_place conn command placed q e =
       same_with placed (host_for S y q.key) (hostless conn command (length placed) q)
       ∙ ap (λ u. with_host x placed (owner_of S.ring.pairs (point_for S q.key) u) (hostless conn command (length placed) q)) e
 
-  same_placing : (conn command : ℕ) (placed : List Part) (ps : List PartPlan) → usable S y ≡ usable S x → placing S y conn command placed ps ≡ placing S x conn command placed ps
+  same_placing : (conn command : ℕ) (placed : List Part) (ps : List PartPlan) → usable S y ≡ usable S x
+      → placing S y conn command placed ps ≡ placing S x conn command placed ps
   same_placing conn command placed [] e = refl
   same_placing conn command placed (q ∷ ps) e =
       ap (λ p. placing S y conn command (placed ++ p ∷ []) ps) (same_place conn command placed q e)
@@ -77,19 +79,24 @@ module _ (S : Setting) (x : Past) (marks : List Mark) where
   same_parts (Closed conn) e = refl
 
   -- whichever hosts are usable, the parts are the same but for their hosts
-  bare_is : (z : Past) (placed : List Part) (o : Option ℕ) (p : Part) → without_host (with_host z placed o p) ≡ without_host p
+  bare_is : (z : Past) (placed : List Part) (o : Option ℕ) (p : Part)
+      → without_host (with_host z placed o p) ≡ without_host p
   bare_is z placed None p = refl
   bare_is z placed (Some h) p = refl
 
-  bare_place : (conn command : ℕ) (ps qs : List Part) (q : PartPlan) → map without_host ps ≡ map without_host qs → without_host (placed_part S y conn command ps q) ≡ without_host (placed_part S x conn command qs q)
+  bare_place : (conn command : ℕ) (ps qs : List Part) (q : PartPlan) → map without_host ps ≡ map without_host qs
+      → without_host (placed_part S y conn command ps q) ≡ without_host (placed_part S x conn command qs q)
   bare_place conn command ps qs q e =
-      let count : length ps ≡ length qs = sym (length-map ps without_host) ∙ ap length e ∙ length-map qs without_host in
+      let count : length ps ≡ length qs =
+      sym (length-map ps without_host) ∙ ap length e ∙ length-map qs without_host in
       bare_is y ps (host_for S y q.key) (hostless conn command (length ps) q)
       ∙ ap (λ n. without_host (hostless conn command n q)) count
       ∙ sym (bare_is x qs (host_for S x q.key) (hostless conn command (length qs) q))
 
-  bare_placing : (conn command : ℕ) (ps qs : List Part) (plans : List PartPlan) → map without_host ps ≡ map without_host qs
-      → map without_host (placing S y conn command ps plans) ≡ map without_host (placing S x conn command qs plans)
+  bare_placing : (conn command : ℕ) (ps qs : List Part) (plans : List PartPlan)
+      → map without_host ps ≡ map without_host qs
+      → map without_host (placing S y conn command ps plans)
+      ≡ map without_host (placing S x conn command qs plans)
   bare_placing conn command ps qs [] e = e
   bare_placing conn command ps qs (q ∷ plans) e =
       let p = placed_part S y conn command ps q in
@@ -97,12 +104,14 @@ module _ (S : Setting) (x : Past) (marks : List Mark) where
       bare_placing conn command (ps ++ p ∷ []) (qs ++ r ∷ []) plans
       (map-append without_host ps (p ∷ []) ∙ ap (λ z. z ++ without_host p ∷ []) e ∙ ap (λ z. map without_host qs ++ z ∷ []) (bare_place conn command ps qs q e) ∙ sym (map-append without_host qs (r ∷ [])))
 
-  bare_placed : (conn : ℕ) (p : Plan) → map without_host (placed_by S y conn p) ≡ map without_host (placed_by S x conn p)
+  bare_placed : (conn : ℕ) (p : Plan)
+      → map without_host (placed_by S y conn p) ≡ map without_host (placed_by S x conn p)
   bare_placed conn (parts how list) = bare_placing conn (accepted conn x.steps) [] [] list refl
   bare_placed conn (here name value) = refl
   bare_placed conn (leave name value) = refl
 
-  same_but_hosts : (event : Event) → map without_host (parts_by S y event) ≡ map without_host (parts_by S x event)
+  same_but_hosts : (event : Event)
+      → map without_host (parts_by S y event) ≡ map without_host (parts_by S x event)
   same_but_hosts (Arrived conn request) = bare_placed conn (plan_for request)
   same_but_hosts Opened = refl
   same_but_hosts (Finished conn) = refl
@@ -114,12 +123,16 @@ module _ (S : Setting) (x : Past) (marks : List Mark) where
   same_but_hosts (Closed conn) = refl
 
   -- what an arrival tells of its parts, but for their hosts
-  same_accepted : (index : ℕ) (o : Option Local) (ps qs : List Part) → map without_host ps ≡ map without_host qs → without_hosts (accepts index o ps) ≡ without_hosts (accepts index o qs)
+  same_accepted : (index : ℕ) (o : Option Local) (ps qs : List Part) → map without_host ps ≡ map without_host qs
+      → without_hosts (accepts index o ps) ≡ without_hosts (accepts index o qs)
   same_accepted index o ps qs e =
-      let count : length ps ≡ length qs = sym (length-map ps without_host) ∙ ap length e ∙ length-map qs without_host in
+      let count : length ps ≡ length qs =
+      sym (length-map ps without_host) ∙ ap length e ∙ length-map qs without_host in
       ap (λ n. answer.Accepted index o n 0 0) count
 
-  same_answer : (event : Event) → without_hosts (without_trips (answer_to S y event)) ≡ without_hosts (without_trips (answer_to S x event))
+  same_answer : (event : Event)
+      → without_hosts (without_trips (answer_to S y event))
+      ≡ without_hosts (without_trips (answer_to S x event))
   same_answer (Arrived conn request) =
       same_accepted (accepted conn x.steps) (local_of (plan_for request)) (parts_by S y (Arrived conn request)) (parts_by S x (Arrived conn request)) (same_but_hosts (Arrived conn request))
   same_answer Opened = refl
@@ -131,7 +144,8 @@ module _ (S : Setting) (x : Past) (marks : List Mark) where
   same_answer (Handed conn) = refl
   same_answer (Closed conn) = refl
 
-  same_arrival : (event : Event) → usable S y ≡ usable S x → without_trips (answer_to S y event) ≡ without_trips (answer_to S x event)
+  same_arrival : (event : Event) → usable S y ≡ usable S x
+      → without_trips (answer_to S y event) ≡ without_trips (answer_to S x event)
   same_arrival (Arrived conn request) e = ap (accepts (accepted conn x.steps) (local_of (plan_for request))) (same_parts (Arrived conn request) e)
   same_arrival Opened e = refl
   same_arrival (Finished conn) e = refl
@@ -153,5 +167,6 @@ module _ (S : Setting) (x : Past) (marks : List Mark) where
     same_arrival = same_arrival event;
   }
 
-pub ejections_choose_hosts_alone : (S : Setting) (x : Past) (marks : List Mark) (event : Event) → IsLeftAlone S x (record x { marks = marks }) event
+pub ejections_choose_hosts_alone : (S : Setting) (x : Past) (marks : List Mark) (event : Event)
+    → IsLeftAlone S x (record x { marks = marks }) event
 ejections_choose_hosts_alone S x marks event = left_alone S x marks event

@@ -20,7 +20,8 @@ use Rattle.proxy_history.proofs.Beginnings.{beginning}
 use Rattle.proxy_history.proofs.Order.{has_outcome}
 use Rattle.proxy_history.proofs.Stays.{outcome_stays, stays}
 
-by_outcome : (S : Setting) (later before : History) (s : Step) (c : ℕ) (o : Option Tree) → IsLegal S (later ++ s ∷ before) → MayFollow S (past S before) s → s.event ≡ Handed c
+by_outcome : (S : Setting) (later before : History) (s : Step) (c : ℕ) (o : Option Tree)
+    → IsLegal S (later ++ s ∷ before) → MayFollow S (past S before) s → s.event ≡ Handed c
     → outcome c (handed c before) (past S before) ≡ o → is_some o ≡ true → HandsOut S later before s c
 by_outcome S later before s c None legal m e q i = absurd cc
 by_outcome S later before s c (Some v) legal m e q i =
@@ -29,10 +30,12 @@ by_outcome S later before s c (Some v) legal m e q i =
       reply = v;
       had_come = q;
       stays = stays S later (s ∷ before) c (handed c before) v legal next;
-      goes_out = m.is_answered ∙ ap (answer_to S (past S before)) e ∙ ap (λ o. answer.Bytes (text (unwrap_or o null_bulk))) q;
+      goes_out = m.is_answered ∙ ap (answer_to S (past S before)) e
+          ∙ ap (λ o. answer.Bytes (text (unwrap_or o null_bulk))) q;
     }
 
-pub handed_is_its_outcome : (S : Setting) (later before : History) (s : Step) (c : ℕ) → IsLegal S (later ++ s ∷ before) → s.event ≡ Handed c → HandsOut S later before s c
+pub handed_is_its_outcome : (S : Setting) (later before : History) (s : Step) (c : ℕ)
+    → IsLegal S (later ++ s ∷ before) → s.event ≡ Handed c → HandsOut S later before s c
 handed_is_its_outcome S later before s c legal e =
     let m = (beginning S later (s ∷ before) legal).1 in
     let n : own_cause S (past S before) (Handed c) ≡ None = rw e at m.has_no_cause in
@@ -51,13 +54,15 @@ is_handed c (Failed host ep kind t) e = absurd cc
 is_handed c (Swept t) e = absurd cc
 is_handed c (Closed conn) e = absurd cc
 
-one_more : (c : ℕ) (s : Step) (before : History) → s.event ≡ Handed c → handed c (s ∷ before) ≡ handed c before + 1
+one_more : (c : ℕ) (s : Step) (before : History) → s.event ≡ Handed c
+    → handed c (s ∷ before) ≡ handed c before + 1
 one_more c s before e =
     let t : is_handing c s.event ≡ true = ap (is_handing c) e ∙ eq-eqb c c refl in
     rw t refl
 
 -- more are handed out after such a step than before it
-fewer_before : (c : ℕ) (later : History) (s : Step) (before : History) → s.event ≡ Handed c → handed c before < handed c (later ++ s ∷ before)
+fewer_before : (c : ℕ) (later : History) (s : Step) (before : History) → s.event ≡ Handed c
+    → handed c before < handed c (later ++ s ∷ before)
 fewer_before c [] s before e = omega (arith, one_more c s before e)
 fewer_before c (t ∷ later) s before e = omega (arith, fewer_before c later s before e, times_grows (is_handing c) t (later ++ s ∷ before))
 
@@ -94,7 +99,8 @@ is_below : (H : History) (c i : ℕ) → Handing H c i → i < handed c H
 is_below H c i x = omega (arith, fewer_before c x.later x.step x.before x.hands_out, x.number_is, ap (handed c) x.split)
 
 -- two such steps with as many before them stand in one place
-one_place : (c : ℕ) (l : History) (s : Step) (b l' : History) (s' : Step) (b' : History) → l ++ s ∷ b ≡ l' ++ s' ∷ b'
+one_place : (c : ℕ) (l : History) (s : Step) (b l' : History) (s' : Step) (b' : History)
+    → l ++ s ∷ b ≡ l' ++ s' ∷ b'
     → s.event ≡ Handed c → s'.event ≡ Handed c → handed c b ≡ handed c b' → (s ≡ s') × (b ≡ b')
 one_place c [] s b [] s' b' e h h' n = (cc, cc)
 one_place c [] s b (t ∷ l') s' b' e h h' n =

@@ -39,4 +39,5 @@ pub mod ReadingLemmas
 pub mod OwnLemmas
 pub mod SeenLemmas
 pub mod StepLemmas
+pub mod CauseLemmas
 pub mod CallerLemmas

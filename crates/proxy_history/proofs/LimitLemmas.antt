@@ -58,7 +58,8 @@ same_below : (f : ℕ → Bool) (c n : ℕ) → n ≤ c → count_below (with_on
 same_below f c zero l = refl
 same_below f c (suc n) l = rw (with_other c f n (λ e. omega (arith, e, l)), same_below f c n (omega (arith, l))) refl
 
-one_more_below : (f : ℕ → Bool) (c n : ℕ) → c < n → f c ≡ false → count_below (with_one c f) n ≡ count_below f n + 1
+one_more_below : (f : ℕ → Bool) (c n : ℕ) → c < n → f c ≡ false
+    → count_below (with_one c f) n ≡ count_below f n + 1
 one_more_below f c zero l e = absurd (omega (arith, l))
 one_more_below f c (suc n) l e = elim (cases_eq c n) [
   | inl is ↦
@@ -81,12 +82,15 @@ suc_is : (n : ℕ) → n + 1 ≡ suc n
 suc_is n = omega arith
 
 -- an open connection has a number below those opened, and isn't closed
-open_parts : (x : Past) (c : ℕ) → not (is_open c x.steps) ≡ false → (c < opened x.steps) × (is_closed c x.steps ≡ false)
+open_parts : (x : Past) (c : ℕ) → not (is_open c x.steps) ≡ false
+    → (c < opened x.steps) × (is_closed c x.steps ≡ false)
 open_parts x c n =
-    let b = and_parts (nat_lt c (opened x.steps)) (not (is_closed c x.steps)) (not-false (is_open c x.steps) n) in
+    let b =
+    and_parts (nat_lt c (opened x.steps)) (not (is_closed c x.steps)) (not-false (is_open c x.steps) n) in
     (ltb-true c (opened x.steps) b.0, not-true (is_closed c x.steps) b.1)
 
-closings_by : (S : Setting) (x : Past) (event : Event) → own_cause S x event ≡ None → times is_any_closing x.steps ≤ closed_below x.steps (opened x.steps)
+closings_by : (S : Setting) (x : Past) (event : Event) → own_cause S x event ≡ None
+    → times is_any_closing x.steps ≤ closed_below x.steps (opened x.steps)
     → (if is_any_closing event then times is_any_closing x.steps + 1 else times is_any_closing x.steps)
     ≤ count_below (λ c. is_closing c event || is_closed c x.steps) (if is_opening event then opened x.steps + 1 else opened x.steps)
 closings_by S x (Closed conn) n l =
@@ -101,11 +105,13 @@ closings_by S x (Failed host e kind t) n l = l
 closings_by S x (Swept t) n l = l
 closings_by S x (Handed conn) n l = l
 
-closings_are_closed : (S : Setting) (H : History) → IsLegal S H → times is_any_closing H ≤ closed_below H (opened H)
+closings_are_closed : (S : Setting) (H : History) → IsLegal S H
+    → times is_any_closing H ≤ closed_below H (opened H)
 closings_are_closed S [] legal = omega arith
 closings_are_closed S (s ∷ before) legal = closings_by S (past S before) s.event legal.1.has_no_cause (closings_are_closed S before legal.0)
 
-open_by : (S : Setting) (x : Past) (event : Event) → own_cause S x event ≡ None → opened x.steps ≤ times is_any_closing x.steps + max_connections
+open_by : (S : Setting) (x : Past) (event : Event) → own_cause S x event ≡ None
+    → opened x.steps ≤ times is_any_closing x.steps + max_connections
     → (if is_opening event then opened x.steps + 1 else opened x.steps) ≤ (if is_any_closing event then times is_any_closing x.steps + 1 else times is_any_closing x.steps) + max_connections
 open_by S x Opened n l = omega (arith, leb-false max_connections (opened x.steps - times is_any_closing x.steps) (are_false (causes S x Opened) n).0)
 open_by S x (Closed conn) n l = omega (arith, l)
@@ -126,18 +132,21 @@ few_open S (s ∷ before) legal = open_by S (past S before) s.event legal.1.has_
 abbrev AreLeft : ℕ → ℕ → Type 0
 AreLeft arrived out = (out ≤ arrived) × (arrived ≤ out + max_unwritten)
 
-left_by : (S : Setting) (x : Past) (c : ℕ) (event : Event) → own_cause S x event ≡ None → AreLeft (accepted c x.steps) (handed c x.steps)
+left_by : (S : Setting) (x : Past) (c : ℕ) (event : Event) → own_cause S x event ≡ None
+    → AreLeft (accepted c x.steps) (handed c x.steps)
     → AreLeft (if is_arrival c event then accepted c x.steps + 1 else accepted c x.steps) (if is_handing c event then handed c x.steps + 1 else handed c x.steps)
 left_by S x c (Arrived conn request) n a = elim (cases_Bool (conn == c)) [
   | inl t ↦
-      let free : left conn x < max_unwritten = leb-false max_unwritten (left conn x) (are_false (causes S x (Arrived conn request)) n).1.1.0 in
+      let free : left conn x < max_unwritten =
+      leb-false max_unwritten (left conn x) (are_false (causes S x (Arrived conn request)) n).1.1.0 in
       let here : accepted c x.steps - handed c x.steps < max_unwritten = rw (eqb-true conn c t) at free in
       rw t (omega (arith, a.0), omega (arith, a.0, here))
   | inr f ↦ rw f a
 ]
 left_by S x c (Handed conn) n a = elim (cases_Bool (conn == c)) [
   | inl t ↦
-      let ready : is_ready conn x ≡ true = not-false (is_ready conn x) (are_false (causes S x (Handed conn)) n).1.0 in
+      let ready : is_ready conn x ≡ true =
+      not-false (is_ready conn x) (are_false (causes S x (Handed conn)) n).1.0 in
       let some : 0 < left conn x = ltb-true 0 (left conn x) (and_parts (nat_lt 0 (left conn x)) _ ready).0 in
       let here : 0 < accepted c x.steps - handed c x.steps = rw (eqb-true conn c t) at some in
       rw t (omega (arith, here), omega (arith, a.1))
@@ -157,7 +166,8 @@ few_left S (s ∷ before) c legal = left_by S (past S before) c s.event legal.1.
 
 -- PARTS THAT WAIT
 
-fewer : (f g : Part → Bool) → ((p : Part) → f p ≡ true → g p ≡ true) → (ps : List Part) → length (filter f ps) ≤ length (filter g ps)
+fewer : (f g : Part → Bool) → ((p : Part) → f p ≡ true → g p ≡ true) → (ps : List Part)
+    → length (filter f ps) ≤ length (filter g ps)
 fewer f g e [] = omega arith
 fewer f g e (p ∷ ps) = elim (cases_Bool (f p)) [
   | inl t ↦ rw (t, e p t) (omega (arith, fewer f g e ps))
@@ -165,17 +175,20 @@ fewer f g e (p ∷ ps) = elim (cases_Bool (f p)) [
 ]
 
 -- without a fault of the host who waits after a step waited before it, if it was there
-waited : (S : Setting) (before : History) (s : Step) (h : ℕ) → is_fault h s.event ≡ false → (p : Part) → waits h (past S (s ∷ before)) p ≡ true → waits h (past S before) p ≡ true
+waited : (S : Setting) (before : History) (s : Step) (h : ℕ) → is_fault h s.event ≡ false → (p : Part)
+    → waits h (past S (s ∷ before)) p ≡ true → waits h (past S before) p ≡ true
 waited S before s h f p w =
     let x = past S before in
     let a = waits_parts h (past S (s ∷ before)) p w in
     let now : epoch h (s ∷ before) ≡ epoch h before = rw f refl in
     let here : is_of h (epoch h before) p ≡ true = sym (ap (λ e. is_of h e p) now) ∙ a.0 in
-    let unsent = or_parts (list_any (is_same p) x.sent) (list_any (is_same p) (sent_by x s.event)) (sym (list_any-append (is_same p) x.sent (sent_by x s.event)) ∙ a.1) in
+    let unsent =
+    or_parts (list_any (is_same p) x.sent) (list_any (is_same p) (sent_by x s.event)) (sym (list_any-append (is_same p) x.sent (sent_by x s.event)) ∙ a.1) in
     let stays = or_parts (is_closing p.conn s.event) (is_closed p.conn before) a.2 in
     rw (here, unsent.0, stays.1) refl
 
-is_of_present : (S : Setting) (before : History) (s : Step) (h : ℕ) → is_fault h s.event ≡ false → (p : Part) → waits h (past S (s ∷ before)) p ≡ true → is_of h (epoch h before) p ≡ true
+is_of_present : (S : Setting) (before : History) (s : Step) (h : ℕ) → is_fault h s.event ≡ false → (p : Part)
+    → waits h (past S (s ∷ before)) p ≡ true → is_of h (epoch h before) p ≡ true
 is_of_present S before s h f p w = (waits_parts h (past S before) p (waited S before s h f p w)).0
 
 waiting_grows : (S : Setting) (before : History) (s : Step) (h : ℕ) → is_fault h s.event ≡ false
@@ -193,7 +206,8 @@ waiting_grows S before s h f =
     )
 
 -- a part that is placed waits only where there is room
-one_placed : (h : ℕ) (x : Past) (placed : List Part) (o : Option ℕ) (p : Part) → p.host ≡ None → before_it h x placed ≤ max_waiting
+one_placed : (h : ℕ) (x : Past) (placed : List Part) (o : Option ℕ) (p : Part) → p.host ≡ None
+    → before_it h x placed ≤ max_waiting
     → before_it h x placed + length (filter (is_of h (epoch h x.steps)) (with_host x placed o p ∷ [])) ≤ max_waiting
 one_placed h x placed None p n l =
     let no : is_of h (epoch h x.steps) p ≡ false = rw n refl in
@@ -202,8 +216,10 @@ one_placed h x placed (Some k) p n l = elim (cases_Bool (is_of h (epoch h x.step
   | inl t ↦
       let a = and_parts (is_host h (Some k) && (epoch k x.steps == epoch h x.steps)) _ t in
       let same : k ≡ h = eqb-true k h (and_parts (k == h) _ a.0).0 in
-      let free : nat_lt (before_it k x placed) max_waiting ≡ true = has_none (nat_lt (before_it k x placed) max_waiting) a.1 in
-      let room : before_it h x placed < max_waiting = rw same at (ltb-true (before_it k x placed) max_waiting free) in
+      let free : nat_lt (before_it k x placed) max_waiting ≡ true =
+      has_none (nat_lt (before_it k x placed) max_waiting) a.1 in
+      let room : before_it h x placed < max_waiting =
+      rw same at (ltb-true (before_it k x placed) max_waiting free) in
       rw t (omega (arith, room))
   | inr f ↦ rw f (omega (arith, l))
 ]
@@ -212,7 +228,8 @@ one_placed h x placed (Some k) p n l = elim (cases_Bool (is_of h (epoch h x.step
     has_none true e = refl
     has_none false e = absurd cc
 
-placing_fits : (S : Setting) (h : ℕ) (x : Past) (conn command : ℕ) (placed : List Part) (ps : List PartPlan) → before_it h x placed ≤ max_waiting → before_it h x (placing S x conn command placed ps) ≤ max_waiting
+placing_fits : (S : Setting) (h : ℕ) (x : Past) (conn command : ℕ) (placed : List Part) (ps : List PartPlan)
+    → before_it h x placed ≤ max_waiting → before_it h x (placing S x conn command placed ps) ≤ max_waiting
 placing_fits S h x conn command placed [] l = l
 placing_fits S h x conn command placed (q ∷ ps) l =
     let p = placed_part S x conn command placed q in
@@ -225,12 +242,14 @@ placing_fits S h x conn command placed (q ∷ ps) l =
       length-append (filter f placed) (filter f (p ∷ [])),
     ))
 
-placed_fit : (S : Setting) (h : ℕ) (x : Past) (conn : ℕ) (p : Plan) → length (waiting h x) ≤ max_waiting → before_it h x (placed_by S x conn p) ≤ max_waiting
+placed_fit : (S : Setting) (h : ℕ) (x : Past) (conn : ℕ) (p : Plan) → length (waiting h x) ≤ max_waiting
+    → before_it h x (placed_by S x conn p) ≤ max_waiting
 placed_fit S h x conn (parts how list) l = placing_fits S h x conn (accepted conn x.steps) [] list (omega (arith, l))
 placed_fit S h x conn (here name value) l = omega (arith, l)
 placed_fit S h x conn (leave name value) l = omega (arith, l)
 
-parts_fit : (S : Setting) (h : ℕ) (x : Past) (event : Event) → length (waiting h x) ≤ max_waiting → before_it h x (parts_by S x event) ≤ max_waiting
+parts_fit : (S : Setting) (h : ℕ) (x : Past) (event : Event) → length (waiting h x) ≤ max_waiting
+    → before_it h x (parts_by S x event) ≤ max_waiting
 parts_fit S h x (Arrived conn request) l = placed_fit S h x conn (plan_for request) l
 parts_fit S h x Opened l = omega (arith, l)
 parts_fit S h x (Finished conn) l = omega (arith, l)
@@ -242,7 +261,8 @@ parts_fit S h x (Handed conn) l = omega (arith, l)
 parts_fit S h x (Closed conn) l = omega (arith, l)
 
 -- after a fault nothing of its host waits
-none_after : (S : Setting) (before : History) (s : Step) (h : ℕ) → is_fault h s.event ≡ true → waiting h (past S (s ∷ before)) ≡ []
+none_after : (S : Setting) (before : History) (s : Step) (h : ℕ) → is_fault h s.event ≡ true
+    → waiting h (past S (s ∷ before)) ≡ []
 none_after S before s h t =
     let x = past S before in
     let y = past S (s ∷ before) in
@@ -266,7 +286,8 @@ Fits H = (length H ≤ max_steps) × (payload H ≤ max_payload)
 fits : (S : Setting) (H : History) → IsLegal S H → Fits H
 fits S [] legal = (omega arith, omega arith)
 fits S (s ∷ before) legal =
-    let a = and_parts (nat_lt (length before) max_steps) (nat_le (payload before + payload_of s.event s.answer) max_payload) legal.1.has_room in
+    let a =
+    and_parts (nat_lt (length before) max_steps) (nat_le (payload before + payload_of s.event s.answer) max_payload) legal.1.has_room in
     (omega (arith, ltb-true (length before) max_steps a.0), leb-true (payload before + payload_of s.event s.answer) max_payload a.1)
 
 pub limits_hold : (S : Setting) (H : History) → IsLegal S H → IsWithinLimits S H

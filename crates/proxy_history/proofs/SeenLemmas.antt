@@ -15,18 +15,23 @@ use Rattle.proxy_history.specs.Seen.{SeenStep, seen_step, step_of, history_of_se
 use Rattle.proxy_history.specs.SeenLaws.{OrdersAgree, IsReadInOrder}
 use Rattle.proxy_history.specs.declared.event.Event.{Event}
 use Rattle.proxy_history.proofs.Beginnings.{beginning}
-use Rattle.proxy_history.proofs.ReadingLemmas.{gathered, text_handed, text_sent, transcript-gathered, requests-gathered, upstream-gathered, came-gathered, gathered-append, times-append, has-append}
+use Rattle.proxy_history.proofs.ReadingLemmas.{yield_of, handed_text_of, sent_text_of, transcript-yield_of, requests-yield_of, upstream-yield_of, came-yield_of, yield_of-append, times-append, has-append}
 
 -- TWO ORDERS
 
-pub history_of_seen-append : (seen more : List SeenStep) → history_of_seen (seen ++ more) ≡ history_of_seen more ++ history_of_seen seen
-history_of_seen-append seen more = ap reverse (map-append step_of seen more) ∙ reverse-append (map step_of seen) (map step_of more)
+pub history_of_seen-append : (seen more : List SeenStep)
+    → history_of_seen (seen ++ more) ≡ history_of_seen more ++ history_of_seen seen
+history_of_seen-append seen more =
+    ap reverse (map-append step_of seen more)
+    ∙ reverse-append (map step_of seen) (map step_of more)
 
-pub history_of_seen-push : (seen : List SeenStep) (s : SeenStep) → history_of_seen (seen ++ s ∷ []) ≡ step_of s ∷ history_of_seen seen
+pub history_of_seen-push : (seen : List SeenStep) (s : SeenStep)
+    → history_of_seen (seen ++ s ∷ []) ≡ step_of s ∷ history_of_seen seen
 history_of_seen-push seen s = history_of_seen-append seen (s ∷ [])
 
 -- the oldest step stands last in the history
-history_of_seen-cons : (s : SeenStep) (seen : List SeenStep) → history_of_seen (s ∷ seen) ≡ history_of_seen seen ++ step_of s ∷ []
+history_of_seen-cons : (s : SeenStep) (seen : List SeenStep)
+    → history_of_seen (s ∷ seen) ≡ history_of_seen seen ++ step_of s ∷ []
 history_of_seen-cons s seen = history_of_seen-append (s ∷ []) seen
 
 same_steps : (steps : List Step) → map step_of (map seen_step steps) ≡ steps
@@ -54,19 +59,22 @@ seen_steps_follow S seen s =
     let e = history_of_seen-push seen s in
     (λ legal. subst (IsLegal S) e legal, λ both. subst (IsLegal S) (sym e) both)
 
-pub seen_beginnings_are_legal : (S : Setting) (seen more : List SeenStep) → IsLegal S (history_of_seen (seen ++ more)) → IsLegal S (history_of_seen seen)
+pub seen_beginnings_are_legal : (S : Setting) (seen more : List SeenStep)
+    → IsLegal S (history_of_seen (seen ++ more)) → IsLegal S (history_of_seen seen)
 seen_beginnings_are_legal S seen more legal =
     beginning S (history_of_seen more) (history_of_seen seen) (subst (IsLegal S) (history_of_seen-append seen more) legal)
 
 -- READ IN ORDER
 
-gathered-history_of_seen : {X : Type 0} (f : Step → List X) (seen : List SeenStep) → gathered f (history_of_seen seen) ≡ flat_map (λ (s : SeenStep). f (step_of s)) seen
-gathered-history_of_seen f [] = refl
-gathered-history_of_seen f (s ∷ seen) =
-    ap (gathered f) (history_of_seen-cons s seen) ∙ gathered-append f (history_of_seen seen) (step_of s ∷ [])
-    ∙ ap (λ z. f (step_of s) ++ z) (gathered-history_of_seen f seen)
+yield_of-history_of_seen : {X : Type 0} (f : Step → List X) (seen : List SeenStep)
+    → yield_of f (history_of_seen seen) ≡ flat_map (λ (s : SeenStep). f (step_of s)) seen
+yield_of-history_of_seen f [] = refl
+yield_of-history_of_seen f (s ∷ seen) =
+    ap (yield_of f) (history_of_seen-cons s seen) ∙ yield_of-append f (history_of_seen seen) (step_of s ∷ [])
+    ∙ ap (λ z. f (step_of s) ++ z) (yield_of-history_of_seen f seen)
 
-times-history_of_seen : (is : Event → Bool) (seen : List SeenStep) → times is (history_of_seen seen) ≡ count_by (λ (s : SeenStep). is s.1) seen
+times-history_of_seen : (is : Event → Bool) (seen : List SeenStep)
+    → times is (history_of_seen seen) ≡ count_by (λ (s : SeenStep). is s.1) seen
 times-history_of_seen is [] = refl
 times-history_of_seen is (s ∷ seen) =
     let first : times is (step_of s ∷ []) ≡ cond (is s.1) 1 0 = one (is s.1) in
@@ -76,11 +84,13 @@ times-history_of_seen is (s ∷ seen) =
     one true = refl
     one false = refl
 
-has-history_of_seen : (is : Event → Bool) (seen : List SeenStep) → has is (history_of_seen seen) ≡ list_any (λ (s : SeenStep). is s.1) seen
+has-history_of_seen : (is : Event → Bool) (seen : List SeenStep)
+    → has is (history_of_seen seen) ≡ list_any (λ (s : SeenStep). is s.1) seen
 has-history_of_seen is [] = refl
 has-history_of_seen is (s ∷ seen) =
     ap (has is) (history_of_seen-cons s seen) ∙ has-append is (history_of_seen seen) (step_of s ∷ [])
-    ∙ ap (λ z. z || (is s.1 || false)) (has-history_of_seen is seen) ∙ other_way (list_any (λ (t : SeenStep). is t.1) seen) (is s.1)
+    ∙ ap (λ z. z || (is s.1 || false)) (has-history_of_seen is seen)
+    ∙ other_way (list_any (λ (t : SeenStep). is t.1) seen) (is s.1)
   where
     other_way : (a b : Bool) → (a || (b || false)) ≡ (b || a)
     other_way true true = refl
@@ -88,10 +98,13 @@ has-history_of_seen is (s ∷ seen) =
     other_way false true = refl
     other_way false false = refl
 
-filter-history_of_seen : (own : Step → Bool) (seen : List SeenStep) → filter own (history_of_seen seen) ≡ history_of_seen (filter (λ (s : SeenStep). own (step_of s)) seen)
+filter-history_of_seen : (own : Step → Bool) (seen : List SeenStep)
+    → filter own (history_of_seen seen) ≡ history_of_seen (filter (λ (s : SeenStep). own (step_of s)) seen)
 filter-history_of_seen own [] = refl
 filter-history_of_seen own (s ∷ seen) =
-    let both = ap (filter own) (history_of_seen-cons s seen) ∙ filter-append own (history_of_seen seen) (step_of s ∷ [])
+    let both =
+    ap (filter own) (history_of_seen-cons s seen)
+    ∙ filter-append own (history_of_seen seen) (step_of s ∷ [])
     ∙ ap (λ z. z ++ filter own (step_of s ∷ [])) (filter-history_of_seen own seen) in
     let rest = filter (λ (t : SeenStep). own (step_of t)) seen in
     both ∙ elim (cases_Bool (own (step_of s))) [
@@ -101,10 +114,14 @@ filter-history_of_seen own (s ∷ seen) =
 
 pub seen_is_read_in_order : (seen : List SeenStep) → IsReadInOrder seen
 seen_is_read_in_order seen = record {
-  transcript_is = λ c. transcript-gathered c (history_of_seen seen) ∙ gathered-history_of_seen (text_handed c) seen;
-  requests_are = λ c. requests-gathered c (history_of_seen seen) ∙ gathered-history_of_seen (λ (s : Step). request_by c s.event) seen;
-  upstream_is = λ h e. upstream-gathered h e (history_of_seen seen) ∙ gathered-history_of_seen (text_sent h e) seen;
-  replies_are = λ h e. came-gathered h e (history_of_seen seen) ∙ gathered-history_of_seen (λ (s : Step). reply_by h e s.event) seen;
+  transcript_is = λ c. transcript-yield_of c (history_of_seen seen)
+      ∙ yield_of-history_of_seen (handed_text_of c) seen;
+  requests_are = λ c. requests-yield_of c (history_of_seen seen)
+      ∙ yield_of-history_of_seen (λ (s : Step). request_by c s.event) seen;
+  upstream_is = λ h e. upstream-yield_of h e (history_of_seen seen)
+      ∙ yield_of-history_of_seen (sent_text_of h e) seen;
+  replies_are = λ h e. came-yield_of h e (history_of_seen seen)
+      ∙ yield_of-history_of_seen (λ (s : Step). reply_by h e s.event) seen;
   times_are = λ is. times-history_of_seen is seen;
   has_is = λ is. has-history_of_seen is seen;
   connection_steps_are = λ c. filter-history_of_seen (λ (s : Step). is_connection_step c s.event s.answer) seen;

@@ -14,7 +14,7 @@ use Rattle.proxy_history.specs.Cause.{own_cause, causes}
 use Rattle.proxy_history.specs.Legal.{IsLegal, MayFollow}
 use Rattle.proxy_history.specs.Answer.{answer_to, text_of_first}
 use Rattle.proxy_history.specs.Output.{sent_text, upstream}
-use Rattle.proxy_history.specs.SendingLaws.{Sends}
+use Rattle.proxy_history.specs.SendingLaws.{Sends, SendsNothingElse}
 use Rattle.proxy_history.specs.declared.answer.Answer.TheVariants as answer
 use Rattle.proxy_history.specs.declared.event.Event.{Event}
 use Rattle.proxy_history.specs.declared.event.Event.TheVariants.{Opened, Arrived, Finished, Taken, Answered, Failed, Swept, Handed, Closed}
@@ -25,12 +25,14 @@ use Rattle.proxy_history.proofs.Values.{same_host, is_of_parts}
 -- THE FIRST THAT WAITS
 
 -- who waits is of the pipe of its host in the present epoch
-of_present : (h : ℕ) (x : Past) (ps : List Part) → AreGood (waits h x) ps → filter (is_of h (epoch h x.steps)) (first ps) ≡ first ps
+of_present : (h : ℕ) (x : Past) (ps : List Part) → AreGood (waits h x) ps
+    → filter (is_of h (epoch h x.steps)) (first ps) ≡ first ps
 of_present h x [] g = refl
 of_present h x (p ∷ ps) g = rw ((waits_parts h x p g.0).0) refl
 
 -- and of no other
-of_no_other : (h host e : ℕ) (x : Past) (ps : List Part) → AreGood (waits host x) ps → (host ≡ h → epoch host x.steps ≡ e → ⊥) → filter (is_of h e) (first ps) ≡ []
+of_no_other : (h host e : ℕ) (x : Past) (ps : List Part) → AreGood (waits host x) ps
+    → (host ≡ h → epoch host x.steps ≡ e → ⊥) → filter (is_of h e) (first ps) ≡ []
 of_no_other h host e x [] g f = refl
 of_no_other h host e x (p ∷ ps) g f =
     let no : is_of h e p ≡ false = false_from_ne_true (is_of h e p) (λ t.
@@ -39,12 +41,16 @@ of_no_other h host e x (p ∷ ps) g f =
     f (same_host host h p.host a.0 b.0) (sym a.1 ∙ b.1)) in
     rw no refl
 
-sent_to_next : (S : Setting) (before : History) (s : Step) (h e : ℕ) → sent_to h e (past S (s ∷ before)) ≡ sent_to h e (past S before) ++ filter (is_of h e) (sent_by (past S before) s.event)
+sent_to_next : (S : Setting) (before : History) (s : Step) (h e : ℕ)
+    → sent_to h e (past S (s ∷ before))
+    ≡ sent_to h e (past S before) ++ filter (is_of h e) (sent_by (past S before) s.event)
 sent_to_next S before s h e = filter-append (is_of h e) (past S before).sent (sent_by (past S before) s.event)
 
 -- EACH TAKEN STEP
 
-taken_sends : (S : Setting) (before : History) (s : Step) (h : ℕ) (ps : List Part) → MayFollow S (past S before) s → s.event ≡ Taken h → waiting h (past S before) ≡ ps → (length ps == 0) ≡ false → Sends S before s h
+taken_sends : (S : Setting) (before : History) (s : Step) (h : ℕ) (ps : List Part)
+    → MayFollow S (past S before) s → s.event ≡ Taken h → waiting h (past S before) ≡ ps
+    → (length ps == 0) ≡ false → Sends S before s h
 taken_sends S before s h [] m e w n = absurd cc
 taken_sends S before s h (p ∷ ps) m e w n =
     let x = past S before in
@@ -57,10 +63,12 @@ taken_sends S before s h (p ∷ ps) m e w n =
       is_last = sent_to_next S before s h (epoch h before)
           ∙ ap (λ z. sent_to h (epoch h before) x ++ filter (is_of h (epoch h before)) (sent_by x z)) e
           ∙ ap (λ z. sent_to h (epoch h before) x ++ z) (of_present h x (waiting h x) (filter_is_good (waits h x) x.parts) ∙ front);
-      goes_out = m.is_answered ∙ ap (answer_to S x) e ∙ ap (λ z. answer.Sent (epoch h before) (length (sent_to h (epoch h before) x)) (text_of_first z)) w;
+      goes_out = m.is_answered ∙ ap (answer_to S x) e
+          ∙ ap (λ z. answer.Sent (epoch h before) (length (sent_to h (epoch h before) x)) (text_of_first z)) w;
     }
 
-pub each_taken_sends : (S : Setting) (before : History) (s : Step) (h : ℕ) → IsLegal S (s ∷ before) → s.event ≡ Taken h → Sends S before s h
+pub each_taken_sends : (S : Setting) (before : History) (s : Step) (h : ℕ) → IsLegal S (s ∷ before)
+    → s.event ≡ Taken h → Sends S before s h
 each_taken_sends S before s h legal e =
     let n : own_cause S (past S before) (Taken h) ≡ None = rw e at legal.1.has_no_cause in
     let a = are_false (causes S (past S before) (Taken h)) n in
@@ -68,7 +76,8 @@ each_taken_sends S before s h legal e =
 
 -- NOTHING ELSE
 
-none_by : (x : Past) (event : Event) (h e : ℕ) → (event ≡ Taken h → epoch h x.steps ≡ e → ⊥) → filter (is_of h e) (sent_by x event) ≡ []
+none_by : (x : Past) (event : Event) (h e : ℕ) → (event ≡ Taken h → epoch h x.steps ≡ e → ⊥)
+    → filter (is_of h e) (sent_by x event) ≡ []
 none_by x (Taken host) h e f =
     of_no_other h host e x (waiting host x) (filter_is_good (waits host x) x.parts)
     (λ same now. f (ap (λ k. Taken k) same) (ap (λ k. epoch k x.steps) (sym same) ∙ now))
@@ -81,9 +90,26 @@ none_by x (Swept t) h e f = refl
 none_by x (Handed conn) h e f = refl
 none_by x (Closed conn) h e f = refl
 
-pub nothing_else_is_sent : (S : Setting) (before : History) (s : Step) (h e : ℕ) → (s.event ≡ Taken h → epoch h before ≡ e → ⊥) → sent_to h e (past S (s ∷ before)) ≡ sent_to h e (past S before)
-nothing_else_is_sent S before s h e f =
-    sent_to_next S before s h e ∙ ap (λ z. sent_to h e (past S before) ++ z) (none_by (past S before) s.event h e f) ∙ append-nil (sent_to h e (past S before))
+-- what was sent to others, or in another epoch
+pub sent_to-others : (S : Setting) (before : History) (s : Step) (h e : ℕ)
+    → (s.event ≡ Taken h → epoch h before ≡ e → ⊥)
+    → sent_to h e (past S (s ∷ before)) ≡ sent_to h e (past S before)
+sent_to-others S before s h e f =
+    sent_to_next S before s h e
+    ∙ ap (λ z. sent_to h e (past S before) ++ z) (none_by (past S before) s.event h e f)
+    ∙ append-nil (sent_to h e (past S before))
+
+sends_nothing : (x : Past) (event : Event) → ((h : ℕ) → event ≡ Taken h → ⊥) → sent_by x event ≡ []
+sends_nothing x (Taken host) f = absurd (f host refl)
+sends_nothing x _ f = refl
+
+pub nothing_else_is_sent : (S : Setting) (before : History) (s : Step) → SendsNothingElse S before s
+nothing_else_is_sent S before s =
+    let x = past S before in
+    record {
+      to_others = sent_to-others S before s;
+      by_others = λ f. ap (λ z. x.sent ++ z) (sends_nothing x s.event f) ∙ append-nil x.sent;
+    }
 
 -- THE WHOLE RUN
 
@@ -94,7 +120,8 @@ text_of_one : (ps : List Part) → text_of_first ps ≡ texts (first ps)
 text_of_one [] = refl
 text_of_one (p ∷ ps) = sym (append-nil p.text)
 
-text_by : (S : Setting) (x : Past) (event : Event) (h e : ℕ) → sent_text h e event (answer_to S x event) ≡ texts (filter (is_of h e) (sent_by x event))
+text_by : (S : Setting) (x : Past) (event : Event) (h e : ℕ)
+    → sent_text h e event (answer_to S x event) ≡ texts (filter (is_of h e) (sent_by x event))
 text_by S x (Taken host) h e = elim (cases_Bool (host == h)) [
   | inl t ↦ elim (cases_Bool (epoch host x.steps == e)) [
     | inl u ↦ rw (t, u) (text_of_one (waiting host x) ∙ ap texts (sym (here t u)))
@@ -103,7 +130,8 @@ text_by S x (Taken host) h e = elim (cases_Bool (host == h)) [
   | inr f ↦ rw f (sym (ap texts (other (λ same now. eqb-false host h f same))))
 ]
   where
-    here : (host == h) ≡ true → (epoch host x.steps == e) ≡ true → filter (is_of h e) (first (waiting host x)) ≡ first (waiting host x)
+    here : (host == h) ≡ true → (epoch host x.steps == e) ≡ true
+        → filter (is_of h e) (first (waiting host x)) ≡ first (waiting host x)
     here t u =
         rw (sym (eqb-true host h t), sym (eqb-true (epoch host x.steps) e u)) (of_present host x (waiting host x) (filter_is_good (waits host x) x.parts))
 
@@ -118,7 +146,8 @@ text_by S x (Swept t) h e = refl
 text_by S x (Handed conn) h e = refl
 text_by S x (Closed conn) h e = refl
 
-pub upstream_is_what_was_sent : (S : Setting) (H : History) (h e : ℕ) → IsLegal S H → upstream h e H ≡ flat_map (λ (p : Part). p.text) (sent_to h e (past S H))
+pub upstream_is_what_was_sent : (S : Setting) (H : History) (h e : ℕ) → IsLegal S H
+    → upstream h e H ≡ flat_map (λ (p : Part). p.text) (sent_to h e (past S H))
 upstream_is_what_was_sent S [] h e legal = refl
 upstream_is_what_was_sent S (s ∷ before) h e legal =
     let x = past S before in

@@ -26,7 +26,8 @@ use Rattle.proxy_history.proofs.Growing.{times_grows}
 
 -- ANSWERS
 
-last_by : (k : Kind) (r : Row) (ws : Words) → is_last_answer (local_of (plan_by k r ws)) ≡ is_last (plan_by k r ws)
+last_by : (k : Kind) (r : Row) (ws : Words)
+    → is_last_answer (local_of (plan_by k r ws)) ≡ is_last (plan_by k r ws)
 last_by Ping r ws = refl
 last_by Echo r ws = refl
 last_by Quit r ws = refl
@@ -35,7 +36,8 @@ last_by SplitGet r ws = refl
 last_by SplitSet r ws = refl
 last_by SplitSum r ws = refl
 
-last_by_row : (o : Option Row) (ws : Words) → is_last_answer (local_of (plan_by_row o ws)) ≡ is_last (plan_by_row o ws)
+last_by_row : (o : Option Row) (ws : Words)
+    → is_last_answer (local_of (plan_by_row o ws)) ≡ is_last (plan_by_row o ws)
 last_by_row None ws = refl
 last_by_row (Some r) ws = elim (cases_Bool (takes r.kind r.least (length ws))) [ inl t ↦ rw t (last_by r.kind r ws) | inr f ↦ rw f refl ]
 
@@ -54,7 +56,8 @@ answer_fits S x (Swept t) = tt
 answer_fits S x (Handed conn) = tt
 answer_fits S x (Closed conn) = tt
 
-pub answers_fit : (S : Setting) (before : History) (s : Step) → IsLegal S (s ∷ before) → IsAnswerTo s.event s.answer
+pub answers_fit : (S : Setting) (before : History) (s : Step) → IsLegal S (s ∷ before)
+    → IsAnswerTo s.event s.answer
 answers_fit S before s legal = subst (IsAnswerTo s.event) (sym legal.1.is_answered) (answer_fits S (past S before) s.event)
 
 -- OPENINGS
@@ -62,11 +65,13 @@ answers_fit S before s legal = subst (IsAnswerTo s.event) (sym legal.1.is_answer
 -- an open connection is one of those opened
 of_opened : (c conn : ℕ) (H : History) → not (is_open conn H) ≡ false → opened H ≤ c → (conn == c) ≡ false
 of_opened c conn H e most =
-    let below = ltb-true conn (opened H) (and_parts (nat_lt conn (opened H)) (not (is_closed conn H)) (not-false (is_open conn H) e)).0 in
+    let below =
+    ltb-true conn (opened H) (and_parts (nat_lt conn (opened H)) (not (is_closed conn H)) (not-false (is_open conn H) e)).0 in
     ne_eqb conn c (λ same. omega (arith, same, below, most))
 
 -- a step is of no connection that is opened later
-of_none_later : (S : Setting) (H : History) (c : ℕ) (s : Step) → MayFollow S (past S H) s → opened (s ∷ H) ≤ c → is_connection_step c s.event s.answer ≡ false
+of_none_later : (S : Setting) (H : History) (c : ℕ) (s : Step) → MayFollow S (past S H) s → opened (s ∷ H) ≤ c
+    → is_connection_step c s.event s.answer ≡ false
 of_none_later S H c s may most = subst (λ (z : Answer). is_connection_step c s.event z ≡ false) (sym may.is_answered) (by_event s.event refl)
   where
     before : opened H ≤ c
@@ -75,7 +80,8 @@ of_none_later S H c s may most = subst (λ (z : Answer). is_connection_step c s.
     one_more : s.event ≡ Opened → opened (s ∷ H) ≡ opened H + 1
     one_more is = rw is refl
 
-    by_event : (event : Event) → s.event ≡ event → is_connection_step c event (answer_to S (past S H) event) ≡ false
+    by_event : (event : Event) → s.event ≡ event
+        → is_connection_step c event (answer_to S (past S H) event) ≡ false
     by_event Opened is = or_from _ _ (ne_eqb (opened H) c (λ same. omega (arith, same, most, one_more is))) refl
     by_event (Arrived conn request) is = of_opened c conn H (are_false (causes S (past S H) (Arrived conn request)) (rw is at may.has_no_cause)).0 before
     by_event (Finished conn) is = of_opened c conn H (are_false (causes S (past S H) (Finished conn)) (rw is at may.has_no_cause)).0 before
@@ -86,14 +92,17 @@ of_none_later S H c s may most = subst (λ (z : Answer). is_connection_step c s.
     by_event (Failed host epoch kind t) is = refl
     by_event (Swept t) is = refl
 
-pub unopened_have_no_steps : (S : Setting) (H : History) (c : ℕ) → IsLegal S H → opened H ≤ c → connection_steps c H ≡ []
+pub unopened_have_no_steps : (S : Setting) (H : History) (c : ℕ) → IsLegal S H → opened H ≤ c
+    → connection_steps c H ≡ []
 unopened_have_no_steps S [] c legal most = refl
 unopened_have_no_steps S (s ∷ before) c legal most =
     rw (of_none_later S before c s legal.1 most) (unopened_have_no_steps S before c legal.0 (omega (arith, most, times_grows is_opening s before)))
 
-pub openings_come_first : (S : Setting) (before : History) (s : Step) (c : ℕ) → IsLegal S (s ∷ before) → s.event ≡ Opened → s.answer ≡ answer.Opened c
+pub openings_come_first : (S : Setting) (before : History) (s : Step) (c : ℕ) → IsLegal S (s ∷ before)
+    → s.event ≡ Opened → s.answer ≡ answer.Opened c
     → connection_steps c before ≡ []
 openings_come_first S before s c legal e a =
-    let is : answer.Opened c ≡ answer.Opened (opened before) = sym a ∙ legal.1.is_answered ∙ ap (answer_to S (past S before)) e in
+    let is : answer.Opened c ≡ answer.Opened (opened before) =
+    sym a ∙ legal.1.is_answered ∙ ap (answer_to S (past S before)) e in
     let number : c ≡ opened before = cc in
     unopened_have_no_steps S before c legal.0 (omega (arith, number))

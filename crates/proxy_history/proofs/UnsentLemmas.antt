@@ -58,7 +58,8 @@ of_any f (q ∷ ps) e = elim (or_cases (f q) (list_any f ps) e) [
 ]
 
 -- among parts that are apart the same are equal
-one_part : (ps : List Part) (p q : Part) → AreApart ps → Contains ps p → Contains ps q → is_same p q ≡ true → p ≡ q
+one_part : (ps : List Part) (p q : Part) → AreApart ps → Contains ps p → Contains ps q → is_same p q ≡ true
+    → p ≡ q
 one_part [] p q a h g e = absurd (none_in_nothing p h)
 one_part (r ∷ ps) p q a h g e = elim (first_or_rest r ps p h) [
   | inl is ↦ elim (first_or_rest r ps q g) [
@@ -74,13 +75,16 @@ one_part (r ∷ ps) p q a h g e = elim (first_or_rest r ps p h) [
 -- EPOCHS
 
 -- who arrived for a host and got no value is of the host's epoch at that moment
-epoch_is : (S : Setting) (H : History) (h : ℕ) (p : Part) (a : HasArrived S H p) → p.host ≡ Some h → p.epoch ≡ epoch h a.before
+epoch_is : (S : Setting) (H : History) (h : ℕ) (p : Part) (a : HasArrived S H p) → p.host ≡ Some h
+    → p.epoch ≡ epoch h a.before
 epoch_is S H h p a e =
-    let got : IsPlaced (past S a.before) a.placed (Some h) p.epoch p.local = subst (λ o. IsPlaced (past S a.before) a.placed o p.epoch p.local) e a.got in
+    let got : IsPlaced (past S a.before) a.placed (Some h) p.epoch p.local =
+    subst (λ o. IsPlaced (past S a.before) a.placed o p.epoch p.local) e a.got in
     got.0
 
 -- the arrival itself is no fault
-at_arrival : (S : Setting) (H : History) (h : ℕ) (p : Part) (a : HasArrived S H p) → epoch h (a.step ∷ a.before) ≡ epoch h a.before
+at_arrival : (S : Setting) (H : History) (h : ℕ) (p : Part) (a : HasArrived S H p)
+    → epoch h (a.step ∷ a.before) ≡ epoch h a.before
 at_arrival S H h p a =
     let none : is_fault h a.step.event ≡ false = ap (is_fault h) a.arrives in
     rw none refl
@@ -95,7 +99,8 @@ has_no_value : {X : Type 0} (o : Option X) → is_none o ≡ true → o ≡ None
 has_no_value None e = refl
 has_no_value (Some v) e = absurd cc
 
-is_waiting : (S : Setting) (H : History) (h : ℕ) (p : Part) → Contains (waiting h (past S H)) p → IsUnsent S H h p
+is_waiting : (S : Setting) (H : History) (h : ℕ) (p : Part) → Contains (waiting h (past S H)) p
+    → IsUnsent S H h p
 is_waiting S H h p c =
     let x = past S H in
     let a = parts_have_arrived S H p (in_filter (waits h x) x.parts p c) in
@@ -104,7 +109,8 @@ is_waiting S H h p c =
     let b = and_parts (is_host h p.host) (p.epoch == epoch h H) o.0 in
     let host : p.host ≡ Some h = is_some_host h p.host b.0 in
     let same : epoch h (a.later ++ a.step ∷ a.before) ≡ epoch h (a.step ∷ a.before) =
-    ap (epoch h) (sym a.split) ∙ sym (eqb-true p.epoch (epoch h H) b.1) ∙ epoch_is S H h p a host ∙ sym (at_arrival S H h p a) in
+    ap (epoch h) (sym a.split) ∙ sym (eqb-true p.epoch (epoch h H) b.1) ∙ epoch_is S H h p a host
+    ∙ sym (at_arrival S H h p a) in
     record {
       arrival = a;
       for_host = host;
@@ -115,30 +121,38 @@ is_waiting S H h p c =
     }
 
 -- a part that arrived is among the parts
-is_part : (S : Setting) (later : History) (s : Step) (before : History) (p : Part) → Contains (parts_by S (past S before) s.event) p → Contains (past S (later ++ s ∷ before)).parts p
+is_part : (S : Setting) (later : History) (s : Step) (before : History) (p : Part)
+    → Contains (parts_by S (past S before) s.event) p → Contains (past S (later ++ s ∷ before)).parts p
 is_part S [] s before p h = Contains-append_right (parts_in S before) (parts_by S (past S before) s.event) p h
 is_part S (t ∷ later) s before p h =
     Contains-append_left (parts_in S (later ++ s ∷ before)) (parts_by S (past S (later ++ s ∷ before)) t.event) p (is_part S later s before p h)
 
 arrived_is_part : (S : Setting) (H : History) (p : Part) → HasArrived S H p → Contains (past S H).parts p
 arrived_is_part S H p a =
-    let here : Contains (a.placed ++ p ∷ a.rest) p = Contains-append_right a.placed (p ∷ a.rest) p (Contains-append_left (p ∷ []) a.rest p (Contains-push [] p)) in
-    let placed : Contains (parts_by S (past S a.before) a.step.event) p = subst (λ z. Contains z p) (sym a.placed_is) here in
+    let here : Contains (a.placed ++ p ∷ a.rest) p =
+    Contains-append_right a.placed (p ∷ a.rest) p (Contains-append_left (p ∷ []) a.rest p (Contains-push [] p)) in
+    let placed : Contains (parts_by S (past S a.before) a.step.event) p =
+    subst (λ z. Contains z p) (sym a.placed_is) here in
     subst (λ z. Contains (past S z).parts p) (sym a.split) (is_part S a.later a.step a.before p placed)
 
-in_waiting : (S : Setting) (H : History) (h : ℕ) (p : Part) → IsUnsent S H h p → Contains (waiting h (past S H)) p
+in_waiting : (S : Setting) (H : History) (h : ℕ) (p : Part) → IsUnsent S H h p
+    → Contains (waiting h (past S H)) p
 in_waiting S H h p w =
     let x = past S H in
     let a = w.arrival in
     let part = arrived_is_part S H p a in
     let now : p.epoch ≡ epoch h H =
-    epoch_is S H h p a w.for_host ∙ sym (at_arrival S H h p a) ∙ sym ((faults_raise_epochs a.later (a.step ∷ a.before) h).0 w.no_fault) ∙ ap (epoch h) (sym a.split) in
-    let of_host : is_of h (epoch h H) p ≡ true = rw (w.for_host, eq-eqb h h refl, eq-eqb p.epoch (epoch h H) now, w.no_value) refl in
+    epoch_is S H h p a w.for_host ∙ sym (at_arrival S H h p a)
+    ∙ sym ((faults_raise_epochs a.later (a.step ∷ a.before) h).0 w.no_fault) ∙ ap (epoch h) (sym a.split) in
+    let of_host : is_of h (epoch h H) p ≡ true =
+    rw (w.for_host, eq-eqb h h refl, eq-eqb p.epoch (epoch h H) now, w.no_value) refl in
     let unsent : list_any (is_same p) x.sent ≡ false = false_from_ne_true (list_any (is_same p) x.sent) (λ t.
     let q = of_any (is_same p) x.sent t in
-    let is : p ≡ q.0 = one_part x.parts p q.0 (parts_are_in_order S H).apart part (sent_parts_arrived S H q.0 q.1) q.2 in
+    let is : p ≡ q.0 =
+    one_part x.parts p q.0 (parts_are_in_order S H).apart part (sent_parts_arrived S H q.0 q.1) q.2 in
     w.not_sent (subst (Contains x.sent) (sym is) q.1)) in
     stays_in (waits h x) x.parts p part (rw (of_host, unsent, w.not_closed) refl)
 
-pub unsent_parts_wait : (S : Setting) (H : History) (h : ℕ) (p : Part) → Contains (waiting h (past S H)) p ↔ IsUnsent S H h p
+pub unsent_parts_wait : (S : Setting) (H : History) (h : ℕ) (p : Part)
+    → Contains (waiting h (past S H)) p ↔ IsUnsent S H h p
 unsent_parts_wait S H h p = (is_waiting S H h p, in_waiting S H h p)

@@ -21,7 +21,8 @@ abbrev AreInTurn : Setting → History → List Part → Type 0
 AreInTurn S H [] = Unit {0}
 AreInTurn S H (p ∷ ps) = ((q : Part) → Contains ps q → ComesFirst S H p q) × AreInTurn S H ps
 
-in_turn-filter : (S : Setting) (H : History) (f : Part → Bool) (ps : List Part) → AreInTurn S H ps → AreInTurn S H (filter f ps)
+in_turn-filter : (S : Setting) (H : History) (f : Part → Bool) (ps : List Part) → AreInTurn S H ps
+    → AreInTurn S H (filter f ps)
 in_turn-filter S H f [] a = tt
 in_turn-filter S H f (p ∷ ps) a = elim (cases_Bool (f p)) [
   | inl t ↦ rw t (λ q h. a.0 q (in_filter f ps q h), in_turn-filter S H f ps a.1)
@@ -40,7 +41,8 @@ in_turn-append S H (p ∷ ps) qs a b f = (
 )
 
 -- and they do so later
-in_turn-cons : (S : Setting) (s : Step) (H : History) (ps : List Part) → AreInTurn S H ps → AreInTurn S (s ∷ H) ps
+in_turn-cons : (S : Setting) (s : Step) (H : History) (ps : List Part) → AreInTurn S H ps
+    → AreInTurn S (s ∷ H) ps
 in_turn-cons S s H [] a = tt
 in_turn-cons S s H (p ∷ ps) a = (
   λ q h.
@@ -67,7 +69,8 @@ number_above n (p ∷ ps) q a h = elim (Contains-append_cases (p ∷ []) ps q h)
     only : Contains (p ∷ []) q → p ≡ q
     only one = elim (Contains-push_cases [] p q one) [ inl nothing ↦ absurd (none_in_nothing q nothing) | inr is ↦ is ]
 
-new_in_turn : (S : Setting) (H : History) (s : Step) (n : ℕ) (ps : List Part) → ((q : Part) → Contains ps q → IsNew S (past S H) s.event q) → AreNumbered n ps → AreInTurn S (s ∷ H) ps
+new_in_turn : (S : Setting) (H : History) (s : Step) (n : ℕ) (ps : List Part)
+    → ((q : Part) → Contains ps q → IsNew S (past S H) s.event q) → AreNumbered n ps → AreInTurn S (s ∷ H) ps
 new_in_turn S H s n [] new a = tt
 new_in_turn S H s n (p ∷ ps) new a = (
   λ q h.
@@ -92,10 +95,12 @@ numbered_by S x _ = tt
 
 -- ALL PARTS
 
-comes_after : (S : Setting) (H : History) (s : Step) (p q : Part) → Contains (parts_in S H) p → Contains (parts_by S (past S H) s.event) q → ComesFirst S (s ∷ H) p q
+comes_after : (S : Setting) (H : History) (s : Step) (p q : Part) → Contains (parts_in S H) p
+    → Contains (parts_by S (past S H) s.event) q → ComesFirst S (s ∷ H) p q
 comes_after S H s p q h g =
     let a = parts_have_arrived S H p h in
-    let earlier : length a.before < length H = omega (arith, ap length a.split, length-append a.later (a.step ∷ a.before)) in
+    let earlier : length a.before < length H =
+    omega (arith, ap length a.split, length-append a.later (a.step ∷ a.before)) in
     let now = new_is S (past S H) s.event q g in
     record {
       first = earlier_still S s H p a;
@@ -111,7 +116,8 @@ all_in_turn S (s ∷ before) =
     (new_in_turn S before s 0 new (new_is S (past S before) s.event) (numbered_by S (past S before) s.event))
     (comes_after S before s)
 
-at_split : (S : Setting) (H : History) (front middle rest : List Part) (p q : Part) → AreInTurn S H (front ++ p ∷ (middle ++ q ∷ rest)) → ComesFirst S H p q
+at_split : (S : Setting) (H : History) (front middle rest : List Part) (p q : Part)
+    → AreInTurn S H (front ++ p ∷ (middle ++ q ∷ rest)) → ComesFirst S H p q
 at_split S H [] middle rest p q a = a.0 q (Contains-append_right middle (q ∷ rest) q (Contains-append_left (q ∷ []) rest q (Contains-push [] q)))
 at_split S H (r ∷ front) middle rest p q a = at_split S H front middle rest p q a.1
 

@@ -18,6 +18,7 @@ pub mod Own
 pub mod Seen
 pub mod Laws
 pub mod StepLaws
+pub mod CauseLaws
 pub mod HandingLaws
 pub mod CommandLaws
 pub mod SendingLaws

@@ -57,11 +57,17 @@ abbrev pub EachTakenSends : Type 0
 EachTakenSends = (S : Setting) (before : History) (s : Step) (h : ℕ)
     → IsLegal S (s ∷ before) → s.event ≡ Taken h → Sends S before s h
 
--- nothing else is sent: only a Taken step of a host in an epoch changes what was sent to this host in this epoch
+-- What the step leaves as it was sent: a Taken step of a host in an epoch all that was sent to others or in another epoch,
+-- and any other step all that was sent.
+pub record SendsNothingElse (S : Setting) (before : History) (s : Step) : Type 0 where
+  pub to_others : (h e : ℕ) → (s.event ≡ Taken h → epoch h before ≡ e → ⊥)
+      → sent_to h e (past S (s ∷ before)) ≡ sent_to h e (past S before)
+  pub by_others : ((h : ℕ) → s.event ≡ Taken h → ⊥)
+      → (past S (s ∷ before)).sent ≡ (past S before).sent
+
+-- no step sends anything but what a Taken step sends to its host
 abbrev pub NothingElseIsSent : Type 0
-NothingElseIsSent = (S : Setting) (before : History) (s : Step) (h e : ℕ)
-    → (s.event ≡ Taken h → epoch h before ≡ e → ⊥)
-    → sent_to h e (past S (s ∷ before)) ≡ sent_to h e (past S before)
+NothingElseIsSent = (S : Setting) (before : History) (s : Step) → SendsNothingElse S before s
 
 -- what went out to a host in an epoch is the texts of the parts sent to it, one after the other
 abbrev pub UpstreamIsWhatWasSent : Type 0

@@ -1,5 +1,6 @@
 //! What holds of every legal history.
 ghost use Rattle.proxy_history.specs.Laws.{BeginningsAreLegal, EpochsEndByFaults, FaultsRaiseEpochs, FewAreOut, NoneIsSentTwice, OutcomesStay, OwnersStay, PartsHaveArrived, RepliesAreInOrder, RepliesWereAsked, SentPartsArrived, ValuesAreOwn};
+ghost use Rattle.proxy_history.specs.CauseLaws.{FinishingTakesNothing, NotReadyMeans};
 ghost use Rattle.proxy_history.specs.CommandLaws.{CommandsHaveTheirParts, OutcomesAreAsPlanned};
 ghost use Rattle.proxy_history.specs.EjectionLaws.{EjectionsChooseHostsAlone};
 ghost use Rattle.proxy_history.specs.HandingLaws.{ClosedGetsNothing, HandedIsItsOutcome, RepliesGoOutOnce};
@@ -25,6 +26,17 @@ pub fn openings_come_first()
 /// A connection that was not opened has no steps.
 pub fn unopened_have_no_steps()
     ensures { UnopenedHaveNoSteps }
+{}
+
+/// A handing out is refused as not ready exactly where the connection is open and has no unwritten command, or the next of
+/// them has no outcome yet.
+pub fn not_ready_means()
+    ensures { NotReadyMeans }
+{}
+
+/// An open connection that finishes takes no command more.
+pub fn finishing_takes_nothing()
+    ensures { FinishingTakesNothing }
 {}
 
 /// The outcome of a command stays as it is.
@@ -87,7 +99,7 @@ pub fn each_taken_sends()
     ensures { EachTakenSends }
 {}
 
-/// What was sent to a host in an epoch changes only by a `Taken` of this host in this epoch.
+/// What was sent changes only by a `Taken`, and what was sent to a host in an epoch only by one of this host in this epoch.
 pub fn nothing_else_is_sent()
     ensures { NothingElseIsSent }
 {}

@@ -1,0 +1,5 @@
+use Rattle.proxy_history.proofs.CauseLemmas.{not_ready_means as law}
+use Rattle.proxy_history.proofs.laws.not_ready_means.Goals as goal
+
+pub returns : goal.returns
+returns c = law
