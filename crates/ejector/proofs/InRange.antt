@@ -1,6 +1,7 @@
 -- Where no field is out of its range.
 use Rattle.std.proofs.Common.{◌≡◌, ℕ, ◌≤◌, nat_le, Bool, true, false, None, List, [], ◌∷◌, refl}
 use Rattle.std.proofs.lemmas.Bool.{and_parts, leb-true}
+use Rattle.rate_core.specs.declared.outlier.TheConstants.{MAX_HOSTS}
 use Rattle.ejector.specs.declared.settings.Field.{Field}
 use Rattle.ejector.specs.declared.settings.Rules.{Rules}
 use Rattle.ejector.specs.Settings.{first_fault, first_failing, is_within, field_tests, IsInRange}
@@ -25,7 +26,7 @@ pub in_range : (R : Rules) → first_fault R ≡ None → IsInRange R
 in_range R e =
     let s = R.settings in
     let tests = all_pass (field_tests R) e in
-    let hosts = within 1 64 R.hosts tests.0 in
+    let hosts = within 1 MAX_HOSTS R.hosts tests.0 in
     let base = within 1 3600000 s.base_ms tests.1.1.0 in
     let longest = within s.base_ms 86400000 s.max_ms tests.1.1.1.0 in
     let percent = within 0 100 s.max_percent tests.1.1.1.1.0 in
@@ -47,5 +48,5 @@ in_range R e =
       few_panic = panic.1;
     }
 
-pub few_hosts : (R : Rules) → first_fault R ≡ None → R.hosts ≤ 64
+pub few_hosts : (R : Rules) → first_fault R ≡ None → R.hosts ≤ MAX_HOSTS
 few_hosts R e = let ranges = in_range R e in ranges.few_hosts

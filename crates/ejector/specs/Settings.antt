@@ -1,5 +1,6 @@
 -- The settings of outlier detection, and their ranges.
 use Rattle.std.specs.Prelude.{ℕ, Bool, false, ◌≤◌, ◌&&◌, nat_le, if◌then◌else◌, List, [], ◌∷◌, Option, Some, None}
+use Rattle.rate_core.specs.declared.outlier.TheConstants.{MAX_HOSTS}
 use Rattle.ejector.specs.declared.settings.Settings.{Settings}
 use Rattle.ejector.specs.declared.settings.Rules.{Rules}
 use Rattle.ejector.specs.declared.settings.Field.{Field}
@@ -30,7 +31,7 @@ settings_tests s =
     ∷ (RequestVolume, is_within 1 1000000 s.request_volume) ∷ (Factor, is_within 0 100000 s.factor) ∷ (PanicPercent, is_within 0 100 s.panic_percent) ∷ []
 
 abbrev pub field_tests : Rules → List (Field × Bool)
-field_tests R = (Hosts, is_within 1 64 R.hosts) ∷ settings_tests R.settings
+field_tests R = (Hosts, is_within 1 MAX_HOSTS R.hosts) ∷ settings_tests R.settings
 
 abbrev pub first_failing : List (Field × Bool) → Option Field
 first_failing [] = None
@@ -43,7 +44,7 @@ first_fault R = first_failing (field_tests R)
 -- what the ranges say of the numbers that are reckoned with
 pub record IsInRange (R : Rules) : Type 0 where
   pub some_hosts : 1 ≤ R.hosts
-  pub few_hosts : R.hosts ≤ 64
+  pub few_hosts : R.hosts ≤ MAX_HOSTS
   pub some_base : 1 ≤ R.settings.base_ms
   pub few_base : R.settings.base_ms ≤ 3600000
   pub some_max : R.settings.base_ms ≤ R.settings.max_ms

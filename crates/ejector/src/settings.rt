@@ -1,10 +1,8 @@
 ghost use Rattle.std.specs.Prelude.{◌≡◌};
 ghost use Rattle.ejector.specs.Settings.{default_settings, is_within, first_failing, first_fault, settings_tests};
 
+use rate_core::MAX_HOSTS;
 use std::fmt;
-
-/// The most hosts that one ejector watches.
-pub const MAX_HOSTS: usize = 64;
 
 /// The settings of outlier detection, as a settings file has them.
 #[derive(Clone, Copy, Debug, PartialEq, Eq)]

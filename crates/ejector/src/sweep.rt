@@ -8,7 +8,8 @@ ghost use Rattle.ejector.specs.Counting.{is_returning, with_return, rate_then, i
 use crate::answer::Swept;
 use crate::counting::{may_eject, out_count, tripped};
 use crate::host::HostState;
-use crate::settings::{MAX_HOSTS, Rules};
+use crate::settings::Rules;
+use rate_core::MAX_HOSTS;
 use rate_core::{is_outlier, rate};
 
 /// Whether an ejection is over at the clock `now`.
@@ -49,7 +50,7 @@ fn with_return(rules: &Rules, now: u64, host: HostState) -> HostState
 
 /// Takes back the hosts whose time is over, and says how many.
 fn return_hosts(rules: &Rules, now: u64, hosts: &mut [HostState]) -> u32
-    requires few { length hosts.old ≤ 64 }
+    requires few { length hosts.old ≤ MAX_HOSTS }
     ensures hosts { hosts.new ≡ map (with_return rules.now now) hosts.old }
     ensures count { result ≡ count_by (is_returning rules.now now) hosts.old }
 {

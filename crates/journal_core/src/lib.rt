@@ -7,8 +7,10 @@
 
 mod error;
 mod journal;
+mod laws;
 mod step;
 
 pub use error::JournalError;
 pub use journal::{Journal, MAX_BYTES, MAX_STEPS};
+pub use laws::steps_and_bytes_are_limited;
 pub use step::Step;

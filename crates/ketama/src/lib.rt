@@ -15,7 +15,8 @@
 pub use error::RingError;
 pub use key::point_of_key;
 pub use name::{HostName, MAX_NAME_LEN};
-pub use ring::{MAX_HOSTS, Ring};
+pub use rate_core::MAX_HOSTS;
+pub use ring::Ring;
 
 mod error;
 mod key;

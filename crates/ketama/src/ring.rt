@@ -7,11 +7,9 @@ use crate::error::RingError;
 use crate::name::HostName;
 use crate::owner::{Pair, owner};
 use crate::point::{DIGESTS_OF_HOST, pairs_of};
+use rate_core::MAX_HOSTS;
 use std::alloc::Global;
 use std::marker::Model;
-
-/// The most hosts that a ring has.
-pub const MAX_HOSTS: usize = 64;
 
 /// A ring: the points of some hosts, which are numbered from 0.
 ///

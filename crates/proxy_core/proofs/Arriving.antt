@@ -8,7 +8,7 @@ use Rattle.splitter.specs.Plan.{Plan, here, leave, parts, is_last}
 use Rattle.splitter.specs.declared.plans.Join.{Join}
 use Rattle.splitter.specs.declared.plans.PartPlan.{PartPlan}
 use Rattle.splitter.specs.declared.request.Request.{Request}
-use Rattle.proxy_history.specs.Setting.{Setting, hosts, max_waiting, max_unwritten}
+use Rattle.proxy_history.specs.Setting.{Setting, hosts, max_waiting, max_unwritten, max_steps, max_payload}
 use Rattle.proxy_history.specs.History.{accepted, plan_for}
 use Rattle.proxy_history.specs.Part.{Part, Past}
 use Rattle.proxy_history.specs.Past.{past}
@@ -208,19 +208,19 @@ index_told S m conn x tells may = ap next_index may.is_open ∙ tells.index_is m
 
 -- ONCE ROOM WAS MADE
 
-small_enough : (old new : Machine) (conn : ℕ) (request : Request) → IsReady old new (Arrived conn request) → (length old.journal.steps < 262144) × (length_of_request request ≤ 67108864)
+small_enough : (old new : Machine) (conn : ℕ) (request : Request) → IsReady old new (Arrived conn request) → (length old.journal.steps < max_steps) × (length_of_request request ≤ max_payload)
 small_enough old new conn request r = (
-  elim (cases_Bool (nat_lt (length old.journal.steps) 262144)) [
-    | inl t ↦ ltb-true _ 262144 t
-    | inr f ↦ absurd (r.has_room (inl (ltb-false _ 262144 f)))
+  elim (cases_Bool (nat_lt (length old.journal.steps) max_steps)) [
+    | inl t ↦ ltb-true _ max_steps t
+    | inr f ↦ absurd (r.has_room (inl (ltb-false _ max_steps f)))
   ],
-  elim (cases_Bool (nat_le (length_of_request request) 67108864)) [
-    | inl t ↦ leb-true _ 67108864 t
-    | inr f ↦ let l = leb-false (length_of_request request) 67108864 f in absurd (r.has_room (inr (omega (arith, l))))
+  elim (cases_Bool (nat_le (length_of_request request) max_payload)) [
+    | inl t ↦ leb-true _ max_payload t
+    | inr f ↦ let l = leb-false (length_of_request request) max_payload f in absurd (r.has_room (inr (omega (arith, l))))
   ],
 )
 
-join_by_plan : (plan : Plan) (request : Request) → plan ≡ plan_for request → length_of_request request ≤ 67108864 → MayJoinAll plan
+join_by_plan : (plan : Plan) (request : Request) → plan ≡ plan_for request → length_of_request request ≤ max_payload → MayJoinAll plan
 join_by_plan (here name value) request e l = tt
 join_by_plan (leave name value) request e l = tt
 join_by_plan (parts how list) request e l = (plan_may_join request how list (sym e), omega (arith, few_parts request how list (sym e), l))

@@ -72,19 +72,19 @@ own_payload_is m event kept n = ap (λ (z : Memory). payload_in z event) kept.me
 abbrev fits : ℕ → ℕ → Bool
 fits steps bytes = nat_lt steps max_steps && nat_le bytes max_payload
 
-steps_fit : (steps bytes : ℕ) → steps < 262144 → bytes ≤ 67108864 → fits steps bytes ≡ true
-steps_fit steps bytes a b = elim (cases_Bool (nat_le bytes 67108864)) [
-  | inl t ↦ rw (lt-ltb steps 262144 a, t) refl
-  | inr f ↦ absurd (omega (arith, b, leb-false bytes 67108864 f))
+steps_fit : (steps bytes : ℕ) → steps < max_steps → bytes ≤ max_payload → fits steps bytes ≡ true
+steps_fit steps bytes a b = elim (cases_Bool (nat_le bytes max_payload)) [
+  | inl t ↦ rw (lt-ltb steps max_steps a, t) refl
+  | inr f ↦ absurd (omega (arith, b, leb-false bytes max_payload f))
 ]
 
-many_steps : (steps bytes : ℕ) → 262144 ≤ steps → fits steps bytes ≡ false
-many_steps steps bytes a = rw (le-ltb steps 262144 a) refl
+many_steps : (steps bytes : ℕ) → max_steps ≤ steps → fits steps bytes ≡ false
+many_steps steps bytes a = rw (le-ltb steps max_steps a) refl
 
-many_bytes : (steps bytes : ℕ) → 67108864 < bytes → fits steps bytes ≡ false
-many_bytes steps bytes b = elim (cases_Bool (nat_le bytes 67108864)) [
-  | inl t ↦ absurd (omega (arith, b, leb-true bytes 67108864 t))
-  | inr f ↦ elim (cases_Bool (nat_lt steps 262144)) [ inl l ↦ rw (l, f) refl | inr g ↦ rw g refl ]
+many_bytes : (steps bytes : ℕ) → max_payload < bytes → fits steps bytes ≡ false
+many_bytes steps bytes b = elim (cases_Bool (nat_le bytes max_payload)) [
+  | inl t ↦ absurd (omega (arith, b, leb-true bytes max_payload t))
+  | inr f ↦ elim (cases_Bool (nat_lt steps max_steps)) [ inl l ↦ rw (l, f) refl | inr g ↦ rw g refl ]
 ]
 
 -- the journal's room is that of the history
@@ -98,12 +98,12 @@ fits-has_room m event a n kept e =
 not_full : (m : Machine) (n : ℕ) → (IsFull m.journal n → ⊥) → fits (length m.journal.steps) (m.journal.bytes + n) ≡ true
 not_full m n f' = elim (cases_Bool (fits (length m.journal.steps) (m.journal.bytes + n))) [
   | inl t ↦ t
-  | inr f ↦ elim (cases_Bool (nat_lt (length m.journal.steps) 262144)) [
-    | inl l ↦ elim (cases_Bool (nat_le (m.journal.bytes + n) 67108864)) [
-      | inl k ↦ steps_fit (length m.journal.steps) (m.journal.bytes + n) (ltb-true (length m.journal.steps) 262144 l) (leb-true (m.journal.bytes + n) 67108864 k)
-      | inr k ↦ absurd (f' (inr (leb-false (m.journal.bytes + n) 67108864 k)))
+  | inr f ↦ elim (cases_Bool (nat_lt (length m.journal.steps) max_steps)) [
+    | inl l ↦ elim (cases_Bool (nat_le (m.journal.bytes + n) max_payload)) [
+      | inl k ↦ steps_fit (length m.journal.steps) (m.journal.bytes + n) (ltb-true (length m.journal.steps) max_steps l) (leb-true (m.journal.bytes + n) max_payload k)
+      | inr k ↦ absurd (f' (inr (leb-false (m.journal.bytes + n) max_payload k)))
     ]
-    | inr l ↦ absurd (f' (inl (ltb-false (length m.journal.steps) 262144 l)))
+    | inr l ↦ absurd (f' (inl (ltb-false (length m.journal.steps) max_steps l)))
   ]
 ]
 

@@ -7,7 +7,7 @@ use Rattle.resp_core.specs.Tree.{Tree, is_plain_tree}
 use Rattle.resp_core.specs.Value.{tree_of}
 use Rattle.resp_core.specs.declared.value.Value.TheVariants.{NullBulk}
 use Rattle.upstream_pipe.specs.declared.part.Owner.{Owner}
-use Rattle.proxy_history.specs.Setting.{Setting, hosts, max_steps}
+use Rattle.proxy_history.specs.Setting.{Setting, hosts, max_steps, max_payload}
 use Rattle.proxy_history.specs.History.{History, epoch, handed, is_open, is_any_closing}
 use Rattle.proxy_history.specs.Part.{Past}
 use Rattle.proxy_history.specs.Past.{past}
@@ -36,10 +36,10 @@ use Rattle.proxy_core.proofs.TurnedEvents.{kept_connections, kept_closed, kept_p
 -- COUNTS
 
 -- a legal history has no more steps than a journal
-pub steps-at_most : (S : Setting) (H : History) → IsLegal S H → length H ≤ 262144
+pub steps-at_most : (S : Setting) (H : History) → IsLegal S H → length H ≤ max_steps
 steps-at_most S [] legal = omega arith
 steps-at_most S (s ∷ H) legal =
-    let a = and_parts (nat_lt (length H) max_steps) (nat_le (payload H + payload_of s.event s.answer) 67108864) legal.1.has_room in
+    let a = and_parts (nat_lt (length H) max_steps) (nat_le (payload H + payload_of s.event s.answer) max_payload) legal.1.has_room in
     omega (arith, ltb-true (length H) max_steps a.0)
 
 pub asked_hosts : (m : Machine) → IsKept m → vec_len m.pipelines ≡ hosts (setting_in m)

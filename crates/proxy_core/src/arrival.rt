@@ -25,15 +25,12 @@ use crate::pipeline::{make_rooms, push_all};
 use crate::place::{Accepted, Placed, next_place};
 use crate::refused::Refused;
 use journal_core::Step;
-use ketama::point_of_key;
+use ketama::{MAX_HOSTS, point_of_key};
 use proxy_history::{Answer, Event, Refusal};
 use reply_queue::MAX_COMMANDS;
 use resp_core::Value;
 use splitter::{Join, Local, PartPlan, PartPlans, Plan, Request, plan};
 use std::alloc::AllocError;
-
-// The most hosts that a ring has.
-const MAX_HOSTS: usize = 64;
 
 impl Machine {
     /// A request of a connection arrived: the command is accepted, and each of its parts gets its host for good, or a value at

@@ -11,10 +11,7 @@ use crate::machine::{Machine, make_room};
 use crate::pipeline::forget;
 use crate::refused::Refused;
 use journal_core::Step;
-use proxy_history::{Answer, Event, Refusal};
-
-/// How many connections may be open.
-const MAX_CONNECTIONS: usize = 4_096;
+use proxy_history::{Answer, Event, MAX_CONNECTIONS, Refusal};
 
 impl Machine {
     /// Opens a connection, whose number is that of the connections opened before.

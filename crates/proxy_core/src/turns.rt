@@ -16,7 +16,7 @@ use crate::pipeline::Pipeline;
 use crate::refused::Refused;
 use ejector::{EjectError, Ejector, Rules, Settings};
 use journal_core::Journal;
-use ketama::Ring;
+use ketama::{MAX_HOSTS, Ring};
 use proxy_history::{Answer, Event, Refusal};
 use std::alloc::{AllocError, Global};
 use std::marker::Model;
@@ -129,7 +129,7 @@ impl Core {
     pub fn hosts(&self) -> usize
         ensures hosts { result ≡ hosts self.now.setting }
         ensures some { 1 ≤ result }
-        ensures few { result ≤ 64 }
+        ensures few { result ≤ MAX_HOSTS }
     {
         self.machine.pipelines.len()
     }

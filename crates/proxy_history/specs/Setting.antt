@@ -1,8 +1,12 @@
 -- What stays the same as long as a proxy runs: its ring, and the rules of its outlier detection.
 use Rattle.std.specs.Prelude.{ℕ, List}
+use Rattle.upstream_pipe.specs.declared.pipe.TheConstants.{MAX_WAITING}
+use Rattle.reply_queue.specs.declared.queue.TheConstants.{MAX_COMMANDS}
+use Rattle.journal_core.specs.declared.journal.TheConstants.{MAX_STEPS, MAX_BYTES}
 use Rattle.ketama.specs.Continuum.{Continuum}
 use Rattle.ketama.specs.Key.{point_of}
 use Rattle.ejector.specs.declared.settings.Rules.{Rules}
+use Rattle.proxy_history.specs.declared.limits.TheConstants.{MAX_CONNECTIONS}
 
 pub record Setting : Type 0 where
   pub ring : Continuum
@@ -15,18 +19,21 @@ hosts S = S.rules.hosts
 abbrev pub point_for : Setting → List ℕ → ℕ
 point_for S key = point_of key S.rules.settings.tags
 
--- the most that may stand at one time
+-- the most connections that may be open at one time
 abbrev pub max_connections : ℕ
-max_connections = 4096
+max_connections = MAX_CONNECTIONS
 
+-- the most commands of a connection that may be accepted and not handed out
 abbrev pub max_unwritten : ℕ
-max_unwritten = 1024
+max_unwritten = MAX_COMMANDS
 
+-- the most parts that may wait for a host
 abbrev pub max_waiting : ℕ
-max_waiting = 1024
+max_waiting = MAX_WAITING
 
+-- the most steps, and the most bytes of payload that they may keep
 abbrev pub max_steps : ℕ
-max_steps = 262144
+max_steps = MAX_STEPS
 
 abbrev pub max_payload : ℕ
-max_payload = 67108864
+max_payload = MAX_BYTES

@@ -16,15 +16,10 @@ use crate::pipe::{is_of, waiting};
 use crate::replay::Replay;
 use crate::scan::{Turn, Wanted, times};
 use ejector::Ejector;
-use ketama::{Ring, point_of_key};
+use ketama::{MAX_HOSTS, Ring, point_of_key};
 use splitter::{PartPlan, PartPlans};
 use std::alloc::{AllocError, Global};
-
-// The most hosts that a ring has.
-const MAX_HOSTS: usize = 64;
-
-// The most parts that wait for a host.
-const MAX_WAITING: u64 = 1_024;
+use upstream_pipe::MAX_WAITING;
 
 /// The parts of a command of the connection, placed one after the other. `tags` says whether a key that has a tag is
 /// placed by its tag alone.
@@ -122,7 +117,7 @@ fn at_host(steps: &[Turn], replay: &Replay, placed: &[Part], host: usize) -> (u6
 {
     let epoch = times(steps, Wanted::Fault(host));
     let before = waiting(steps, replay, host).saturating_add(count_of(placed, host, epoch));
-    if before < MAX_WAITING {
+    if before < MAX_WAITING as u64 {
         (epoch, None)
     } else {
         (epoch, Some(AtOnce::Busy))

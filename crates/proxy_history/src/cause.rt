@@ -10,16 +10,13 @@ ghost use Rattle.proxy_history.specs.declared.event.Event.TheVariants.{Opened, A
 ghost use Rattle.proxy_history.specs.declared.event.Kind.{Kind};
 ghost use Rattle.splitter.specs.declared.request.Request.{Request};
 
+use crate::limits::MAX_CONNECTIONS;
 use crate::pipe::{flying, waiting};
 use crate::refusal::Refusal;
 use crate::replay::Replay;
 use crate::scan::{Turn, Wanted, has, times};
+use reply_queue::MAX_COMMANDS;
 use resp_core::Value;
-
-// The most that may stand at one time.
-const MAX_CONNECTIONS: u64 = 4_096;
-
-const MAX_UNWRITTEN: u64 = 1_024;
 
 /// Whether the connection is open.
 pub(crate) fn is_open(steps: &[Turn], conn: u64) -> bool
@@ -40,7 +37,7 @@ pub(crate) fn opening_cause(steps: &[Turn]) -> Option<Refusal>
     ensures { (S : Setting) (replay : Replay) → result ≡ own_cause S (seen steps.now [] replay) Opened }
 {
     let open = times(steps, Wanted::Opening).saturating_sub(times(steps, Wanted::AnyClosing));
-    if open >= MAX_CONNECTIONS {
+    if open >= MAX_CONNECTIONS as u64 {
         return Some(Refusal::TooManyConnections);
     }
     None
@@ -54,7 +51,7 @@ pub(crate) fn arrival_cause(steps: &[Turn], conn: u64) -> Option<Refusal>
         Some(Refusal::NoSuchConnection)
     } else if has(steps, Wanted::Finishing(conn)) {
         Some(Refusal::Finishing)
-    } else if left(steps, conn) >= MAX_UNWRITTEN {
+    } else if left(steps, conn) >= MAX_COMMANDS as u64 {
         Some(Refusal::Crowded)
     } else {
         None

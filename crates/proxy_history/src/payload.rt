@@ -10,12 +10,8 @@ ghost use Rattle.proxy_history.specs.Scan.{history_of};
 use crate::answer::Answer;
 use crate::event::Event;
 use crate::scan::Turn;
+use journal_core::{MAX_BYTES, MAX_STEPS};
 use splitter::Request;
-
-// How many steps a history may have, and how many bytes of payload.
-const MAX_STEPS: u64 = 262_144;
-
-const MAX_PAYLOAD: u64 = 67_108_864;
 
 /// How many bytes of payload the steps have.
 pub(crate) fn payload(steps: &[Turn]) -> u64
@@ -40,8 +36,8 @@ pub(crate) fn payload_of(event: &Event, answer: &Answer) -> u64
 pub(crate) fn has_room(steps: &[Turn], event: &Event, answer: &Answer) -> bool
     ensures { result ≡ has_room (history_of steps.now) event.now answer.now }
 {
-    (steps.len() as u64) < MAX_STEPS
-        && payload(steps).saturating_add(payload_of(event, answer)) <= MAX_PAYLOAD
+    steps.len() < MAX_STEPS
+        && payload(steps).saturating_add(payload_of(event, answer)) <= MAX_BYTES
 }
 
 fn length_of_event(event: &Event) -> u64

@@ -1,5 +1,8 @@
 // What holds of the definitions, for whoever reads a contract that cites them.
+ghost use Rattle.std.specs.Prelude.{◌≡◌};
 ghost use Rattle.rate_core.specs.Laws.{FarBelowIsByDeviation, SpreadIsVariance};
+
+use crate::outlier::MAX_HOSTS;
 
 /// `n` times the sum of squares, less the square of the sum, is `n * n` times the variance.
 pub fn spread_is_variance()
@@ -9,4 +12,9 @@ pub fn spread_is_variance()
 /// An outlier is below the mean by more than the factor times the population's standard deviation.
 pub fn far_below_is_by_deviation()
     ensures { FarBelowIsByDeviation }
+{}
+
+/// There are at most 64 hosts.
+pub fn hosts_are_limited()
+    ensures { MAX_HOSTS ≡ 64 }
 {}

@@ -8,6 +8,6 @@ mod laws;
 mod outlier;
 mod share;
 
-pub use laws::{far_below_is_by_deviation, spread_is_variance};
-pub use outlier::is_outlier;
+pub use laws::{far_below_is_by_deviation, hosts_are_limited, spread_is_variance};
+pub use outlier::{MAX_HOSTS, is_outlier};
 pub use share::rate;

@@ -2,6 +2,9 @@ ghost use Rattle.std.specs.Prelude.{◌≡◌, ◌<◌, ◌≤◌, length, sum, 
 ghost use Rattle.std.specs.Option.{ForSome};
 ghost use Rattle.rate_core.specs.Outlier.{is_outlier, known, square};
 
+/// The most hosts whose rates are compared, and so the most that a ring or an ejector has.
+pub const MAX_HOSTS: usize = 64;
+
 /// How many rates there are, their sum and the sum of their squares.
 #[derive(Clone, Copy)]
 struct Totals {
@@ -12,12 +15,12 @@ struct Totals {
 
 /// The totals of the rates that are there.
 fn totals_of(rates: &[Option<u32>]) -> Totals
-    requires few { length rates.now ≤ 64 }
+    requires few { length rates.now ≤ MAX_HOSTS }
     requires within { All (λ rate. ForSome rate (λ r. r ≤ 1000000)) rates.now }
     ensures count { result.count ≡ length (known rates.now) }
     ensures sum_is { result.sum ≡ sum (known rates.now) }
     ensures squares { result.squares ≡ sum_by square (known rates.now) }
-    ensures few { result.count ≤ 64 }
+    ensures few { result.count ≤ MAX_HOSTS }
     ensures sum_within { result.sum ≤ 64000000 }
     ensures squares_within { result.squares ≤ 64000000000000 }
 {
@@ -48,7 +51,7 @@ fn totals_of(rates: &[Option<u32>]) -> Totals
 /// `rates` has the rate of each host, in millionths: at most 64 of them, each at most 1,000,000. `factor` is at
 /// most 100,000.
 pub fn is_outlier(rates: &[Option<u32>], host: usize, factor: u32) -> bool
-    requires few { length rates.now ≤ 64 }
+    requires few { length rates.now ≤ MAX_HOSTS }
     requires within { All (λ rate. ForSome rate (λ r. r ≤ 1000000)) rates.now }
     requires among { host < length rates.now }
     requires factor_within { factor ≤ 100000 }

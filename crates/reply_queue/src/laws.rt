@@ -1,5 +1,8 @@
 //! What holds of a queue from one call to the next, as laws.
+ghost use Rattle.std.specs.Prelude.{◌≡◌};
 ghost use Rattle.reply_queue.specs.Laws.{PartHasItsValue, OtherPartsStay, NewestHasItsIndex, OthersKeepTheirIndex};
+
+use crate::queue::MAX_COMMANDS;
 
 /// A part that is given a value has it from then on, and no other part of any command changes.
 pub fn one_part_changes()
@@ -11,4 +14,9 @@ pub fn one_part_changes()
 pub fn indices_stay()
     ensures newest { NewestHasItsIndex }
     ensures others { OthersKeepTheirIndex }
+{}
+
+/// At most 1,024 commands are accepted and not popped.
+pub fn commands_are_limited()
+    ensures { MAX_COMMANDS ≡ 1024 }
 {}

@@ -9,6 +9,6 @@ mod laws;
 mod queue;
 mod refusal;
 
-pub use laws::{indices_stay, one_part_changes};
+pub use laws::{commands_are_limited, indices_stay, one_part_changes};
 pub use queue::{MAX_COMMANDS, Queue};
 pub use refusal::QueueRefusal;

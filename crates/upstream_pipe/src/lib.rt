@@ -5,11 +5,13 @@
 //! ends with a fault of the host, and what comes of an older one is refused.
 #![tactic(auto)]
 
+mod laws;
 mod lost;
 mod part;
 mod pipe;
 mod refusal;
 
+pub use laws::waiting_is_limited;
 pub use lost::Lost;
 pub use part::{Owner, Part};
 pub use pipe::{MAX_WAITING, Pipe};

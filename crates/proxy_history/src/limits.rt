@@ -1,0 +1,10 @@
+//! The limit that no lower crate has.
+ghost use Rattle.std.specs.Prelude.{◌≡◌};
+
+/// The most connections that are open at one time.
+pub const MAX_CONNECTIONS: usize = 4_096;
+
+/// At most 4,096 connections are open at one time.
+pub fn connections_are_limited()
+    ensures { MAX_CONNECTIONS ≡ 4096 }
+{}
