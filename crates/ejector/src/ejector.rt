@@ -17,8 +17,8 @@ use crate::host::{FRESH, HostState};
 use crate::mark::Mark;
 use crate::replay::count_marks;
 use crate::settings::{Rules, Settings};
-use rate_core::MAX_HOSTS;
 use crate::sweep::take_sweep;
+use rate_core::MAX_HOSTS;
 use std::alloc::Global;
 use std::marker::Model;
 

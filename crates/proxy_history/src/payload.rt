@@ -36,8 +36,7 @@ pub(crate) fn payload_of(event: &Event, answer: &Answer) -> u64
 pub(crate) fn has_room(steps: &[Turn], event: &Event, answer: &Answer) -> bool
     ensures { result ≡ has_room (history_of steps.now) event.now answer.now }
 {
-    steps.len() < MAX_STEPS
-        && payload(steps).saturating_add(payload_of(event, answer)) <= MAX_BYTES
+    steps.len() < MAX_STEPS && payload(steps).saturating_add(payload_of(event, answer)) <= MAX_BYTES
 }
 
 fn length_of_event(event: &Event) -> u64
