@@ -5,7 +5,7 @@ use Rattle.std.proofs.lemmas.List.{map-append, reverse-append, reverse-reverse}
 use Rattle.proxy_history.specs.Setting.{Setting}
 use Rattle.proxy_history.specs.History.{History, Step}
 use Rattle.proxy_history.specs.Legal.{IsLegal, IsCause}
-use Rattle.proxy_history.specs.Reference.{Kept, history_in}
+use Rattle.proxy_history.specs.Proxy.{Kept, history_in}
 use Rattle.proxy_history.specs.declared.event.Event.{Event}
 use Rattle.proxy_history.specs.declared.refusal.Refusal.{Refusal}
 use Rattle.proxy_core.specs.Recorded.{triple_of, step_of, journal_of, history_by, made_with, IsLegalJournal, IsCauseIn}

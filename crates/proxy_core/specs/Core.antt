@@ -6,8 +6,8 @@ use Rattle.proxy_history.specs.Setting.{Setting}
 use Rattle.proxy_history.specs.History.{History}
 use Rattle.proxy_history.specs.Past.{past}
 use Rattle.proxy_history.specs.Legal.{MayFollow, IsCause}
-use Rattle.proxy_history.specs.Reference.{Kept}
-use Rattle.proxy_history.specs.Reference as Reference
+use Rattle.proxy_history.specs.Proxy.{Kept}
+use Rattle.proxy_history.specs.Proxy as Reference
 use Rattle.proxy_history.specs.declared.refusal.Refusal.{Refusal}
 use Rattle.proxy_history.specs.declared.answer.Answer.{Answer}
 use Rattle.proxy_history.specs.declared.event.Event.{Event}

@@ -7,7 +7,7 @@ use Rattle.ejector.specs.declared.settings.Rules.{Rules}
 use Rattle.proxy_history.specs.Setting.{Setting}
 use Rattle.proxy_history.specs.History.{History, Step}
 use Rattle.proxy_history.specs.Legal.{IsLegal, IsCause}
-use Rattle.proxy_history.specs.Reference.{Kept}
+use Rattle.proxy_history.specs.Proxy.{Kept}
 use Rattle.proxy_history.specs.declared.answer.Answer.{Answer}
 use Rattle.proxy_history.specs.declared.event.Event.{Event}
 use Rattle.proxy_history.specs.declared.refusal.Refusal.{Refusal}

@@ -6,7 +6,7 @@ ghost use Rattle.ejector.specs.Usable.{is_panic};
 ghost use Rattle.proxy_history.specs.Setting.{hosts};
 ghost use Rattle.proxy_history.specs.History.{epoch};
 ghost use Rattle.proxy_history.specs.Legal.{IsLegal, IsCause};
-ghost use Rattle.proxy_history.specs.Reference.{history_in, setting_of, IsStep};
+ghost use Rattle.proxy_history.specs.Proxy.{history_in, setting_of, IsStep};
 ghost use Rattle.proxy_core.specs.Pipelines.{state_of};
 ghost use Rattle.proxy_core.specs.Machine.{IsKept, no_pipeline};
 ghost use Rattle.proxy_core.specs.Core.{IsMade, IsLeft, IsTurn, IsRun, detected};
@@ -32,7 +32,7 @@ pub struct Core {
 }
 
 impl Model for Core {
-    ghost use Rattle.proxy_history.specs.Reference.{Kept};
+    ghost use Rattle.proxy_history.specs.Proxy.{Kept};
     ghost use Rattle.proxy_core.specs.Machine.{IsKept, setting_in};
 
     ghost Value = { Kept };

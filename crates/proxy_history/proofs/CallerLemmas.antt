@@ -72,6 +72,8 @@ pub use Rattle.proxy_history.proofs.Fresh.{parts_stay as parts_of-after}
 pub use Rattle.proxy_history.proofs.Fresh.{length-requests}
 -- a join of a plan may be asked for its parts
 pub use Rattle.proxy_history.proofs.CommandParts.{plan_may_join as MayJoin-plan_for}
+-- and so are the values of its parts, where all have come
+pub use Rattle.proxy_history.proofs.CommandParts.{values_may_join, if_some_may_join}
 -- a command has the parts of its plan
 pub use Rattle.proxy_history.proofs.CommandParts.{commands_have_their_parts as HasItsParts-parts_of}
 -- the parts are apart, and of commands that arrived

@@ -21,9 +21,6 @@ use Rattle.proxy_history.specs.History.{History, Step, plan_for, requests, epoch
 use Rattle.proxy_history.specs.Replies.{came, reply_by}
 use Rattle.proxy_history.specs.Part.{Part, Past, is_same}
 use Rattle.proxy_history.specs.Past.{past, sent_in}
-use Rattle.proxy_history.specs.Scan.{history_of, seen, Shows}
-use Rattle.proxy_history.specs.Scan.{parts_of as parts_of'}
-use Rattle.proxy_history.specs.declared.replay.Replay.{Replay}
 use Rattle.proxy_history.specs.Waiting.{sent_to}
 use Rattle.proxy_history.specs.Value.{reply_to, or_lost, value_at, value_or, value_of}
 use Rattle.proxy_history.specs.Outcome.{with_value, values_of, is_part_of, parts_of, outcome_by, outcome}
@@ -132,10 +129,3 @@ module _ (S : Setting) (H : History) (legal : IsLegal S H) where
 
   pub outcome_is_plain : (c i : ℕ) → IsPlainIfAny (outcome c i (past S H))
   outcome_is_plain c i = by_request c i (slice_get (requests c H) i)
-
--- and so can those of a replay
-pub seen_is_plain : (S : Setting) (steps : List Step) (r : Replay) (c i : ℕ) → IsLegal S (history_of steps) → Shows S (history_of steps) r → IsPlainIfAny (outcome c i (seen steps [] r))
-seen_is_plain S steps r c i legal shows =
-    subst (λ (ss : List Part). IsPlainIfAny (outcome c i (record { steps = history_of steps; parts = parts_of' r.parts.items; sent = ss; marks = [] }))) (sym shows.sent)
-    (subst (λ (ps : List Part). IsPlainIfAny (outcome c i (record { steps = history_of steps; parts = ps; sent = sent_in S (history_of steps); marks = [] }))) (sym shows.parts)
-    (outcome_is_plain S (history_of steps) legal c i))

@@ -26,6 +26,5 @@ pub mod EjectionLaws
 pub mod LimitLaws
 pub mod OwnLaws
 pub mod SeenLaws
-pub mod Scan
-pub mod Reference
+pub mod Proxy
 pub mod Hosts

@@ -8,21 +8,11 @@
 #![tactic(auto)]
 
 mod answer;
-mod answering;
-mod arrival;
-mod cause;
 mod event;
 mod laws;
 mod limits;
 mod own_laws;
-mod part;
-mod payload;
-mod pipe;
-mod reference;
 mod refusal;
-mod replay;
-mod scan;
-mod value;
 
 pub use answer::Answer;
 pub use ejector::{Field, Settings, Trip};
@@ -42,6 +32,5 @@ pub use own_laws::{
     connection_steps_tell_all, host_steps_tell_all, orders_hold_the_same, others_leave_connections,
     others_leave_hosts, seen_beginnings_are_legal, seen_is_read_in_order, seen_steps_follow,
 };
-pub use reference::Reference;
 pub use refusal::Refusal;
 pub use splitter::{Local, Request};

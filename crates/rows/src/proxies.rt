@@ -23,7 +23,7 @@ use self::setting::Setting;
 use crate::text::{first_word, number};
 use anyhow::{Result, bail};
 use proxy_core::{Core, Event, Refusal};
-use proxy_history::Reference;
+use plain_history::Reference;
 use std::alloc::Global;
 use std::mem;
 

@@ -4,7 +4,7 @@ use super::proxy::Proxy;
 use crate::text::{first_word, number};
 use anyhow::{Result, bail};
 use proxy_core::Core;
-use proxy_history::Reference;
+use plain_history::Reference;
 use std::alloc::Global;
 
 /// The core's answer to `hosts`, `epoch HOST`, `is_out HOST`, `in_panic`, `journal` or `pass_of STEP`.

@@ -6,7 +6,7 @@ use super::random::Numbers;
 use super::setting::Setting;
 use anyhow::Result;
 use proxy_core::{Core, Event};
-use proxy_history::Reference;
+use plain_history::Reference;
 use std::alloc::Global;
 
 // The pass of random events.

@@ -5,7 +5,7 @@ use super::events::event_of;
 use super::outcome::outcome;
 use anyhow::Result;
 use proxy_core::{Answer, Core, Event, Refusal};
-use proxy_history::Reference;
+use plain_history::Reference;
 use std::alloc::Global;
 
 /// Events as their lines have them, each with its pass.

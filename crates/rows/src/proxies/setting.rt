@@ -4,7 +4,7 @@ use crate::text::number;
 use anyhow::{Result, bail};
 use ketama::Ring;
 use proxy_core::{Core, Refusal, Settings};
-use proxy_history::Reference;
+use plain_history::Reference;
 use std::alloc::Global;
 
 // On this ring the key `abc` belongs to host 0, `a` to host 1 and the empty key to host 2.

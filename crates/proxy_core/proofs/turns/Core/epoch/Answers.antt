@@ -1,6 +1,6 @@
 use Rattle.std.proofs.Common.{◌<◌, ◌∙◌, ap, sym, subst, arith}
 use Rattle.proxy_history.specs.Setting.{hosts}
-use Rattle.proxy_history.specs.Reference.{Kept, history_in}
+use Rattle.proxy_history.specs.Proxy.{Kept, history_in}
 use Rattle.proxy_history.specs.History.{epoch}
 use Rattle.proxy_core.proofs.TurnedAsked.{asked_hosts, epoch_is}
 use Rattle.proxy_core.proofs.turns.Core.epoch.Goals as goal

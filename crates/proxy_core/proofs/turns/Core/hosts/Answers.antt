@@ -1,7 +1,7 @@
 use Rattle.std.proofs.Common.{◌≡◌, ◌∙◌, ap, arith}
 use Rattle.ejector.proofs.CallerLemmas.{in_range}
 use Rattle.proxy_history.specs.Setting.{hosts}
-use Rattle.proxy_history.specs.Reference.{Kept}
+use Rattle.proxy_history.specs.Proxy.{Kept}
 use Rattle.proxy_core.proofs.TurnedAsked.{asked_hosts}
 use Rattle.proxy_core.proofs.turns.Core.hosts.Goals as goal
 

@@ -1,6 +1,6 @@
 use Rattle.std.proofs.Common.{◌++◌, [], ◌∷◌, List, Result, ℕ, length, refl, sym, ap, ◌∙◌, subst, arith}
 use Rattle.proxy_history.specs.Setting.{Setting}
-use Rattle.proxy_history.specs.Reference.{history_in}
+use Rattle.proxy_history.specs.Proxy.{history_in}
 use Rattle.proxy_history.specs.declared.answer.Answer.{Answer}
 use Rattle.proxy_history.specs.declared.event.Event.{Event}
 use Rattle.proxy_history.specs.declared.refusal.Refusal.{Refusal}

@@ -1,5 +1,5 @@
 use Rattle.std.proofs.Common.{◌≡◌, ◌≤◌, ◌+◌, ◌++◌, length, vec_len, vec_capacity}
-use Rattle.proxy_history.specs.Reference.{history_in}
+use Rattle.proxy_history.specs.Proxy.{history_in}
 use Rattle.proxy_core.specs.Core.{IsRun}
 use Rattle.proxy_core.proofs.turns.Core.run.Given as goal
 

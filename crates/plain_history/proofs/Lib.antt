@@ -1,0 +1,12 @@
+pub mod Reversed
+pub mod Leaving
+pub mod Replied
+pub mod Collected
+pub mod Searching
+pub mod Placing
+pub mod Taking
+pub mod Replayed
+pub mod Telling
+pub mod SeenOutcomes
+pub mod Following
+pub mod Adding

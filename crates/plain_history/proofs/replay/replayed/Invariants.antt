@@ -1,0 +1,13 @@
+-- What is kept is what the steps so far determine.
+use Rattle.std.proofs.Common.{◌≡◌, take}
+use Rattle.proxy_history.specs.Setting.{Setting}
+use Rattle.proxy_history.specs.Hosts.{HaveHosts}
+use Rattle.plain_history.specs.Scan.{Shows, history_of}
+use Rattle.plain_history.proofs.replay.replayed.Given as goal
+
+abbrev pub invariant-loop-at : goal.invariant-loop-at
+invariant-loop-at l = record {
+  shows : (S : Setting) → S.ring ≡ l.ring → S.rules ≡ record { hosts = l.ring.hosts; settings = l.settings } → HaveHosts l.ring.hosts l.steps
+      → Shows S (history_of (take l.at l.steps)) l.replay;
+  rules : l.replay.ejector.rules ≡ record { hosts = l.ring.hosts; settings = l.settings };
+}
