@@ -1,5 +1,6 @@
 //! The answers to an action that is made many times.
 
+use crate::again::again;
 use anyhow::Result;
 use std::alloc::Global;
 use std::mem;
@@ -39,7 +40,7 @@ impl Series {
             run => {
                 let fresh = Run::of(self.alloc, answer)?;
                 if let Some(run) = mem::replace(run, Some(fresh)) {
-                    run.tell(&mut self.ended)?;
+                    run.tell(self.alloc, &mut self.ended)?;
                 }
             }
         }
@@ -48,10 +49,10 @@ impl Series {
 
     /// Each run as its length and its answers, the first and the last where they count up.
     pub fn text(self) -> Result<String> {
-        let Series { ended, run, .. } = self;
+        let Series { alloc, ended, run } = self;
         let mut text = ended;
         if let Some(run) = run {
-            run.tell(&mut text)?;
+            run.tell(alloc, &mut text)?;
         }
         Ok(text)
     }
@@ -60,7 +61,7 @@ impl Series {
 impl Run {
     fn of(alloc: Global, answer: String) -> Result<Run> {
         Ok(Run {
-            first: String::from_str(alloc, answer.as_str())?,
+            first: again!(String::from_str(alloc, answer.as_str()))?,
             last: answer,
             count: 1,
             counts_up: false,
@@ -83,18 +84,24 @@ impl Run {
         self.count = self.count.saturating_add(1);
     }
 
-    fn tell(&self, text: &mut String) -> Result<()> {
+    // Appends the run behind others.
+    fn tell(&self, alloc: Global, text: &mut String) -> Result<()> {
+        let told = again!(self.text(alloc))?;
         if !text.is_empty() {
-            text.push_str("; ")?;
+            again!(text.push_str("; "))?;
         }
-        let count = self.count;
-        let first = &self.first;
-        write!(text, "{count} times {first}")?;
+        again!(text.push_str(told.as_str()))?;
+        Ok(())
+    }
+
+    fn text(&self, alloc: Global) -> Result<String> {
+        let (count, first) = (self.count, &self.first);
+        let mut text = format!(in alloc; "{count} times {first}")?;
         if self.counts_up {
             let last = &self.last;
             write!(text, " to {last}")?;
         }
-        Ok(())
+        Ok(text)
     }
 }
 

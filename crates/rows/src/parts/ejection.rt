@@ -7,7 +7,7 @@ use crate::proxies::setting::set_field;
 use crate::series::Series;
 use crate::text::{first_word, number};
 use anyhow::{Result, bail};
-use ejector::{EjectError, Ejector, Settings, Trip};
+use ejector::{EjectError, Ejector, Settings};
 use std::alloc::Global;
 
 /// The ejector that a row made last.

@@ -1,0 +1,6 @@
+//! The laws of all crates, each called once.
+//! The laws of all crates, each called once.
+#![tactic(auto)]
+
+#[cfg(test)]
+mod laws;
