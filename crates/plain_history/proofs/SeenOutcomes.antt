@@ -1,5 +1,5 @@
 -- Each outcome that a replay of a legal history shows can be written.
-use Rattle.std.proofs.Common.{◌≡◌, ℕ, List, [], sym, subst}
+use Rattle.std.proofs.Common.{ℕ, List, [], sym, subst}
 use Rattle.proxy_history.specs.Setting.{Setting}
 use Rattle.proxy_history.specs.History.{Step}
 use Rattle.proxy_history.specs.Part.{Part}

@@ -2,7 +2,8 @@ use Rattle.std.proofs.Common.{refl, sym, ap, ◌∙◌}
 use Rattle.plain_history.specs.Scan.{history_of}
 use Rattle.proxy_history.specs.Proxy.{setting_of}
 use Rattle.proxy_history.specs.Past.{past}
-use Rattle.plain_history.proofs.Following.{has_host, legal_have_hosts, cause_is, follows, full_is}
+use Rattle.proxy_history.proofs.CallerLemmas.{HasHost-own_cause}
+use Rattle.plain_history.proofs.Following.{legal_have_hosts, cause_is, follows, full_is}
 use Rattle.plain_history.proofs.Telling.{told_here, cause_here}
 use Rattle.plain_history.proofs.reference.next_answer.Goals as goal
 
@@ -40,7 +41,7 @@ answer_to-requires-clause-host c =
     let S = setting_of c.args.ring.now c.args.settings in
     let H = history_of c.args.steps.now in
     let shows = c.in_ok-replay.ensures S refl refl (legal_have_hosts S c.args.steps.now c.requires.legal) in
-    has_host S (past S H) c.args.event.now (sym (cause_here S H c.args.steps.now c.in_ok-replay.replay c.args.event.now refl shows) ∙ sym (c.in_ok-cause.ensures S (sym c.hosts.ensures.value)) ∙ c.in_default.is)
+    HasHost-own_cause S (past S H) c.args.event.now (sym (cause_here S H c.args.steps.now c.in_ok-replay.replay c.args.event.now refl shows) ∙ sym (c.in_ok-cause.ensures S (sym c.hosts.ensures.value)) ∙ c.in_default.is)
 
 pub returns-then-has_room-clause-answer : goal.returns-then-has_room-clause-answer
 returns-then-has_room-clause-answer c =
