@@ -17,10 +17,10 @@ use Rattle.splitter.specs.Join.{join_of}
 use Rattle.splitter.specs.Laws.{has_plain_value}
 use Rattle.splitter.proofs.CallerLemmas.{plan_texts_are_plain, joins_of_plain_values_are_plain}
 use Rattle.proxy_history.specs.Setting.{Setting}
-use Rattle.proxy_history.specs.History.{History, Step, plan_for, requests, epoch}
+use Rattle.proxy_history.specs.History.{History, plan_for, requests, epoch}
 use Rattle.proxy_history.specs.Replies.{came, reply_by}
 use Rattle.proxy_history.specs.Part.{Part, Past, is_same}
-use Rattle.proxy_history.specs.Past.{past, sent_in}
+use Rattle.proxy_history.specs.Past.{past}
 use Rattle.proxy_history.specs.Waiting.{sent_to}
 use Rattle.proxy_history.specs.Value.{reply_to, or_lost, value_at, value_or, value_of}
 use Rattle.proxy_history.specs.Outcome.{with_value, values_of, is_part_of, parts_of, outcome_by, outcome}
