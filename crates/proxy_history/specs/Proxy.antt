@@ -1,4 +1,4 @@
--- What contracts see of the plain program.
+-- What contracts see of a proxy that keeps a history.
 use Rattle.std.specs.Prelude.{◌≡◌, ◌⊎◌, ℕ, List, ◌∷◌, reverse}
 use Rattle.ketama.specs.Continuum.{Continuum}
 use Rattle.ejector.specs.declared.settings.Settings.{Settings}
