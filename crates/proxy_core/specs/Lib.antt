@@ -5,3 +5,4 @@ pub mod Machine
 pub mod Arrivals
 pub mod Core
 pub mod Recorded
+pub mod Lists
