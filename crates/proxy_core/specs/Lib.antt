@@ -5,3 +5,5 @@ pub mod Machine
 pub mod Arrivals
 pub mod Core
 pub mod Recorded
+pub mod CoreTurns
+pub mod JournalLaws
