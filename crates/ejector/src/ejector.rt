@@ -53,12 +53,12 @@ impl Model for Ejector {
 impl Ejector {
     /// An ejector of `n` hosts to which nothing was told yet. It takes no memory.
     ///
-    /// Refused with 502 and the first field that is out of its range: `hosts` where `n` is 0 or over 64, and then
-    /// the settings in their order. 501 comes only where no field is out of its range.
+    /// Refused exactly where a field is out of its range, with 502 and the first that is: `hosts` where `n` is 0 or over
+    /// 64, and then the settings in their order. It is never refused 501.
     pub fn new(alloc: Global, n: usize, settings: Settings) -> Result<Ejector, EjectError>
         ensures made { IfOk result (λ e. (e.rules ≡ record { hosts = n; settings = settings }) × (e.state ≡ state e.rules [])) }
         ensures refused { MatchOption (first_fault (record { hosts = n; settings = settings }))
-            (IfErr result (λ e. e ≡ EjectError.NoMemory)) (λ field. IsErrOf result (EjectError.BadSettings field)) }
+            (IsOk result) (λ field. IsErrOf result (EjectError.BadSettings field)) }
     {
         let rules = Rules { hosts: n, settings };
         if let Some(field) = rules.first_fault() {

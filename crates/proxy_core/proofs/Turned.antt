@@ -13,7 +13,7 @@ use Rattle.proxy_history.specs.Past.{past}
 use Rattle.proxy_history.specs.Cause.{own_cause, causes}
 use Rattle.proxy_history.specs.Payload.{payload, payload_of, has_room}
 use Rattle.proxy_history.specs.Answer.{answer_to}
-use Rattle.proxy_history.specs.Legal.{IsLegal, MayFollow, IsCause}
+use Rattle.proxy_history.specs.Legal.{IsLegal, MayFollow, IsCause, Fits}
 use Rattle.proxy_history.specs.declared.answer.Answer.{Answer}
 use Rattle.proxy_history.specs.declared.event.Event.{Event}
 use Rattle.proxy_history.specs.declared.event.Event.TheVariants.{Opened, Arrived, Finished, Taken, Answered, Failed, Swept, Handed, Closed}
@@ -23,7 +23,7 @@ use Rattle.proxy_history.proofs.CallerLemmas.{first_true-none as are_false}
 use Rattle.proxy_core.specs.Connections.{connections_of}
 use Rattle.proxy_core.specs.Pipelines.{PipelineState, pipelines_of}
 use Rattle.proxy_core.specs.Kept.{Memory, memory_of}
-use Rattle.proxy_core.specs.Machine.{setting_in, memory_in, history_in, own_cause_in, payload_in, IsKept, IsTurned, IsSame, HasCauseIn}
+use Rattle.proxy_core.specs.Machine.{setting_in, memory_in, history_in, own_cause_in, payload_in, IsKept, IsTurned, IsSame, HasCauseIn, FitsIn}
 use Rattle.proxy_core.specs.Core.{IsMade, IsLeft}
 use Rattle.proxy_core.specs.declared.connection.Connection.{Connection}
 use Rattle.proxy_core.specs.declared.machine.Machine.{Machine}
@@ -173,8 +173,25 @@ made old new pass event a memory kept turned is moved =
 
 -- REFUSALS
 
+room_so : (m : Machine) (event : Event) → IsKept m → own_cause (setting_in m) (past (setting_in m) (history_in m)) event ≡ None
+    → (IsFull m.journal (payload_in (memory_in m) event) → ⊥) → has_room (history_in m) event (answer_to (setting_in m) (past (setting_in m) (history_in m)) event) ≡ true
+room_so m event kept n h =
+    sym (fits-has_room m event (answer_to (setting_in m) (past (setting_in m) (history_in m)) event) (payload_in (memory_in m) event) kept (own_payload_is m event kept n))
+    ∙ not_full m (payload_in (memory_in m) event) h
+
+fits_so : (m : Machine) (event : Event) → IsKept m → own_cause (setting_in m) (past (setting_in m) (history_in m)) event ≡ None → FitsIn m event → Fits (setting_in m) (history_in m) event
+fits_so m Opened kept n h = room_so m Opened kept n h
+fits_so m (Arrived conn request) kept n h = room_so m (Arrived conn request) kept n h
+fits_so m (Finished conn) kept n h = room_so m (Finished conn) kept n h
+fits_so m (Taken host) kept n h = room_so m (Taken host) kept n h
+fits_so m (Answered host e value t) kept n h = room_so m (Answered host e value t) kept n h
+fits_so m (Failed host e kind t) kept n h = room_so m (Failed host e kind t) kept n h
+fits_so m (Swept t) kept n h = room_so m (Swept t) kept n h
+fits_so m (Handed conn) kept n h = tt
+fits_so m (Closed conn) kept n h = room_so m (Closed conn) kept n h
+
 cause_so : (m : Machine) (event : Event) (r : Refusal) → IsKept m → HasCauseIn m event r → IsCause (setting_in m) (history_in m) event r
-cause_so m event refusal.NoMemory kept h = sym (own_cause_is m event kept) ∙ h
+cause_so m event refusal.NoMemory kept h = let n = sym (own_cause_is m event kept) ∙ h.0 in (n, fits_so m event kept n h.1)
 cause_so m event refusal.JournalFull kept h =
     let n = sym (own_cause_is m event kept) ∙ h.0 in (
       n,

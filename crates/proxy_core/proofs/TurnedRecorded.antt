@@ -1,28 +1,28 @@
--- The core's journal of triples, and its history.
-use Rattle.std.proofs.Common.{◌≡◌, List, [], ◌∷◌, ◌++◌, map, refl, sym, ap, ◌∙◌, subst}
+-- The core's journal as a pass sees it, and its history.
+use Rattle.std.proofs.Common.{◌≡◌, List, [], ◌∷◌, ◌++◌, map, sym, ap, ◌∙◌, subst}
 use Rattle.std.specs.Prelude.{reverse}
 use Rattle.std.proofs.lemmas.List.{map-append, reverse-append, reverse-reverse}
 use Rattle.proxy_history.specs.Setting.{Setting}
 use Rattle.proxy_history.specs.History.{History, Step}
 use Rattle.proxy_history.specs.Legal.{IsLegal, IsCause}
 use Rattle.proxy_history.specs.Proxy.{Kept, history_in}
+use Rattle.proxy_history.specs.Seen.{seen_step, history_of_seen}
 use Rattle.proxy_history.specs.declared.event.Event.{Event}
 use Rattle.proxy_history.specs.declared.refusal.Refusal.{Refusal}
-use Rattle.proxy_core.specs.Recorded.{triple_of, step_of, journal_of, history_by, made_with, IsLegalJournal, IsCauseIn}
+use Rattle.proxy_history.proofs.CallerLemmas.{OrdersAgree-seen}
+use Rattle.proxy_core.specs.Recorded.{journal_of, made_with, IsLegalJournal, IsCauseIn}
 
-round_trip : (steps : List Step) → map step_of (map triple_of steps) ≡ steps
-round_trip [] = refl
-round_trip (s ∷ steps) = ap (λ z. s ∷ z) (round_trip steps)
-
-same_history : (k : Kept) → history_by (journal_of k) ≡ history_in k
-same_history k = ap reverse (round_trip k.steps)
+same_history : (k : Kept) → history_of_seen (journal_of k) ≡ history_in k
+same_history k =
+    ap (λ (steps : List Step). history_of_seen (map seen_step steps)) (sym (reverse-reverse k.steps))
+    ∙ (OrdersAgree-seen [] [] (history_in k)).there
 
 -- a step more
-pub journal_more : (old new : Kept) (s : Step) → history_in new ≡ s ∷ history_in old → journal_of new ≡ journal_of old ++ triple_of s ∷ []
+pub journal_more : (old new : Kept) (s : Step) → history_in new ≡ s ∷ history_in old → journal_of new ≡ journal_of old ++ seen_step s ∷ []
 journal_more old new s e =
     let steps : new.steps ≡ old.steps ++ s ∷ [] =
     sym (reverse-reverse new.steps) ∙ ap reverse e ∙ reverse-append (s ∷ []) (reverse old.steps) ∙ ap (λ z. z ++ s ∷ []) (reverse-reverse old.steps) in
-    ap (map triple_of) steps ∙ map-append triple_of old.steps (s ∷ [])
+    ap (map seen_step) steps ∙ map-append seen_step old.steps (s ∷ [])
 
 pub journal_legal : (old new : Kept) → new.setting ≡ old.setting → IsLegal new.setting (history_in new) → IsLegalJournal (made_with old) (journal_of new)
 journal_legal old new e legal =

@@ -6,3 +6,5 @@ pub mod Arrivals
 pub mod Core
 pub mod Recorded
 pub mod Lists
+pub mod CoreTurns
+pub mod JournalLaws

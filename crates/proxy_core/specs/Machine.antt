@@ -174,9 +174,14 @@ pub record IsReady (old new : Machine) (event : Event) : Type 0 where
   pub room : new.journal.room ≡ Some (payload_in (memory_in old) event)
   pub same : IsSame old new
 
+-- There is room for the step of an event, unless it hands out a reply.
+abbrev pub FitsIn : Machine → Event → Type 0
+FitsIn m (Handed conn) = Unit {0}
+FitsIn m event = IsFull m.journal (payload_in (memory_in m) event) → ⊥
+
 -- The refusal has its cause in what is kept.
 abbrev pub HasCauseIn : Machine → Event → Refusal → Type 0
-HasCauseIn m event refusal.NoMemory = own_cause_in (setting_in m) (memory_in m) event ≡ None
+HasCauseIn m event refusal.NoMemory = (own_cause_in (setting_in m) (memory_in m) event ≡ None) × FitsIn m event
 HasCauseIn m event refusal.JournalFull =
     (own_cause_in (setting_in m) (memory_in m) event ≡ None) × IsFull m.journal (payload_in (memory_in m) event)
 HasCauseIn m event r = own_cause_in (setting_in m) (memory_in m) event ≡ Some r

@@ -92,15 +92,13 @@ impl Machine {
         if let Some(cause) = self.answer_cause(host, epoch, value) {
             return Err(cause);
         }
-        let Ok(shared) = value.share(self.alloc) else {
-            return Err(Refusal::NoMemory);
-        };
+        make_room(&mut self.journal, value.text_len())?;
         if self.ejector.room().is_err() {
             return Err(Refusal::NoMemory);
         }
-        match make_room(&mut self.journal, value.text_len()) {
-            Ok(()) => Ok(shared),
-            Err(cause) => Err(cause),
+        match value.share(self.alloc) {
+            Ok(shared) => Ok(shared),
+            Err(_) => Err(Refusal::NoMemory),
         }
     }
 

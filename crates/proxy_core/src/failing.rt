@@ -98,10 +98,10 @@ impl Machine {
         if epoch != current {
             return Err(Refusal::Stale { current });
         }
+        make_room(&mut self.journal, 0)?;
         if self.ejector.room().is_err() {
             return Err(Refusal::NoMemory);
         }
-        make_room(&mut self.journal, 0)?;
         match fail_all(&mut self.pipelines, host, epoch) {
             Ok(lost) => Ok(lost),
             Err(_) => Err(Refusal::NoMemory),

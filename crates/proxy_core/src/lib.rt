@@ -19,9 +19,11 @@ mod refused;
 mod sending;
 mod sweeping;
 mod turns;
+mod worker;
 
 pub use ejector::{Field, Settings, Trip};
 pub use journal_core::{Journal, Step};
 pub use proxy_history::{Answer, Event, Kind, Local, Refusal, Request};
 pub use refused::Refused;
 pub use turns::Core;
+pub use worker::CoreTurns;

@@ -49,8 +49,9 @@ impl Machine {
         if self.connections.len().saturating_sub(self.closed) >= MAX_CONNECTIONS {
             return Err(Refusal::TooManyConnections);
         }
+        make_room(&mut self.journal, 0)?;
         self.connections.reserve(1)?;
-        make_room(&mut self.journal, 0)
+        Ok(())
     }
 
     /// The connection takes no further command.

@@ -47,10 +47,11 @@ impl Machine {
         ensures place { OnOk result (0 < self.new.ejector.room) }
         ensures refused { IfErr result (λ r. IsSame self.old self.new × HasCauseIn self.old (events.Swept t) r) }
     {
+        make_room(&mut self.journal, 0)?;
         if self.ejector.room().is_err() {
             return Err(Refusal::NoMemory);
         }
-        make_room(&mut self.journal, 0)
+        Ok(())
     }
 }
 

@@ -1,11 +1,12 @@
 //! The core: each event is a turn.
-ghost use Rattle.std.specs.Prelude.{◌≡◌, ◌≤◌, ◌<◌, [], map, replicate, IfOk, IfErr, IsErrOf, OnErr, MatchOption};
-ghost use Rattle.ejector.specs.Settings.{first_fault};
+ghost use Rattle.std.specs.Prelude.{◌≡◌, ◌≤◌, ◌<◌, [], map, replicate, IfOk, IfErr, IsErrOf, IsOk, OnErr, MatchOption};
+ghost use Rattle.ejector.specs.Settings.{IsInRange, first_fault};
 ghost use Rattle.ejector.specs.State.{is_out};
 ghost use Rattle.ejector.specs.Usable.{is_panic};
 ghost use Rattle.proxy_history.specs.Setting.{hosts};
 ghost use Rattle.proxy_history.specs.History.{epoch};
 ghost use Rattle.proxy_history.specs.Legal.{IsLegal, IsCause};
+ghost use Rattle.proxy_history.specs.Payload.{payload};
 ghost use Rattle.proxy_history.specs.Proxy.{history_in, setting_of, IsStep};
 ghost use Rattle.proxy_core.specs.Pipelines.{state_of};
 ghost use Rattle.proxy_core.specs.Machine.{IsKept, no_pipeline};
@@ -50,8 +51,8 @@ impl Model for Core {
 impl Core {
     /// A core to which nothing has happened.
     ///
-    /// Refused 1011 with the first setting that is out of its range, `hosts` where the ring has none; 1001 comes only
-    /// where no setting is.
+    /// Refused 1011 with the first setting that is out of its range, `hosts` where the ring has none. Where no setting is,
+    /// it is refused only 1001, for want of memory for what is kept of each host.
     pub fn new(alloc: Global, ring: Ring, settings: Settings) -> Result<Core, Refusal>
         ensures made { IfOk result (λ c. (c.setting ≡ setting_of ring settings) × (c.steps ≡ [])) }
         ensures refused { MatchOption (first_fault (setting_of ring settings).rules)
@@ -61,7 +62,7 @@ impl Core {
         let ejector = match Ejector::new(alloc, hosts, settings) {
             Ok(ejector) => ejector,
             Err(EjectError::BadSettings { field }) => return Err(Refusal::BadSettings { field }),
-            Err(EjectError::NoMemory) => return Err(Refusal::NoMemory),
+            Err(EjectError::NoMemory) => unreachable!(),
         };
         let machine = Machine {
             alloc,
@@ -78,8 +79,9 @@ impl Core {
     /// Takes one event of the pass `pass`: it is answered as a legal history has it, and its step with this answer is added.
     ///
     /// Refused by the first cause of the event's own that holds (1003 to 1010, 1012, 1013), else with 1002 where the journal
-    /// would be full, and with 1001 only where memory was refused and the event has no cause of its own. The event comes
-    /// back then, and nothing has changed.
+    /// would be full. It may be refused 1001, for want of memory, only where it has no cause of its own and its step fits
+    /// the journal (`Handed` also where its step doesn't: its text takes memory before its length is known). The event
+    /// comes back then, and nothing has changed.
     pub fn turn(&mut self, pass: u64, event: Event) -> Result<Answer, Refused>
         ensures step { IfOk result (λ a. IsStep self.old self.new pass event (record { pass = pass; event = event; answer = a })) }
         ensures legal { IsLegal self.new.setting (history_in self.new) }
@@ -92,10 +94,13 @@ impl Core {
 
     /// Takes one event after another, each of its pass: item `i` of the answers is that of pair `i`, or why it was refused.
     ///
-    /// Refused 1001 where there is no memory for the answers; no event was taken then.
+    /// Refused 1001 where there is no memory for the answers; no event was taken then. A run of no events takes no memory
+    /// and is Ok.
     pub fn run(&mut self, pairs: Vec<(u64, Event)>) -> Result<Vec<Result<Answer, Refusal>>, Refusal>
         ensures run { IfOk result (λ answers. IsRun self.old.setting (history_in self.old) pairs.items answers.items (history_in self.new)) }
+        ensures legal { IsLegal self.new.setting (history_in self.new) }
         ensures setting { self.new.setting ≡ self.old.setting }
+        ensures empty { pairs.items ≡ [] → IsOk result }
         ensures refused { IfErr result (λ r. r ≡ Refusal.NoMemory) }
         ensures err { OnErr result (self.new ≡ self.old) }
     {
@@ -117,17 +122,20 @@ impl Core {
         }
     }
 
-    /// The journal: the steps so far, which are a legal history.
+    /// The journal: the steps so far, which are a legal history, and the bytes of their payload.
     pub fn journal(&self) -> &Journal<Event, Answer>
         ensures steps { result.now.steps ≡ self.now.steps }
+        ensures bytes { result.now.bytes ≡ payload (history_in self.now) }
         ensures legal { IsLegal self.now.setting (history_in self.now) }
     {
         &self.machine.journal
     }
 
-    /// How many hosts there are, 1 to 64. Their numbers count from 0.
+    /// How many hosts the ring has, 1 to 64. Their numbers count from 0. No setting of the core is out of its range.
     pub fn hosts(&self) -> usize
         ensures hosts { result ≡ hosts self.now.setting }
+        ensures ring { result ≡ self.now.setting.ring.hosts }
+        ensures range { IsInRange self.now.setting.rules }
         ensures some { 1 ≤ result }
         ensures few { result ≤ MAX_HOSTS }
     {

@@ -36,6 +36,8 @@ pub use Rattle.proxy_history.proofs.StepLemmas.{answers_fit as IsAnswerTo-IsLega
 pub use Rattle.proxy_history.proofs.StepLemmas.{openings_come_first as connection_steps-opened}
 -- a connection that was not opened has no steps
 pub use Rattle.proxy_history.proofs.StepLemmas.{unopened_have_no_steps as connection_steps-unopened}
+-- each step of a host names its present epoch
+pub use Rattle.proxy_history.proofs.StepLemmas.{epochs_are_present as IsOfPresentEpoch-IsLegal}
 -- WHAT NO CAUSE OF REFUSAL MEANS
 
 -- where a row of causes gives no refusal each of them is false
@@ -44,6 +46,8 @@ pub use Rattle.proxy_history.proofs.NoCause.{are_false as first_true-none}
 pub use Rattle.proxy_history.proofs.CauseLemmas.{not_ready_means as own_cause-not_ready}
 -- an open connection that finishes takes no command more
 pub use Rattle.proxy_history.proofs.CauseLemmas.{finishing_takes_nothing as own_cause-finishing}
+-- what each refusal says of the history
+pub use Rattle.proxy_history.proofs.RefusalLemmas.{refusals_mean as Means-IsCause}
 -- a reply that is accepted is of the present epoch
 pub use Rattle.proxy_history.proofs.NoCause.{is_current as own_cause-answered}
 -- and some part flies

@@ -30,4 +30,5 @@ pub mod OwnLemmas
 pub mod SeenLemmas
 pub mod StepLemmas
 pub mod CauseLemmas
+pub mod RefusalLemmas
 pub mod CallerLemmas

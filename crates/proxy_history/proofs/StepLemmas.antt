@@ -1,6 +1,6 @@
 -- What holds of each step of a legal history by itself.
 use Rattle.std.proofs.Common.{◌≡◌, ℕ, ◌+◌, ◌≤◌, false, not, ◌==◌, nat_lt, [], ◌∷◌, length, Option, Some, None, refl, sym, ap, ◌∙◌, subst, inl, inr, arith}
-use Rattle.std.proofs.lemmas.Bool.{cases_Bool, and_parts, not-false, ltb-true, ne_eqb, or_from}
+use Rattle.std.proofs.lemmas.Bool.{cases_Bool, and_parts, not-false, ltb-true, eqb-true, ne_eqb, or_from}
 use Rattle.command_table.specs.Table.{Row, row_named}
 use Rattle.command_table.specs.declared.Kind.{Kind}
 use Rattle.command_table.specs.declared.Kind.TheVariants.{Ping, Echo, Quit, One, SplitGet, SplitSet, SplitSum}
@@ -9,19 +9,19 @@ use Rattle.splitter.specs.Request.{Request, read, broken, request_of}
 use Rattle.splitter.specs.Plan.{takes, plan_by, plan_by_row, plan_of, is_last}
 use Rattle.splitter.specs.Split.{Words}
 use Rattle.proxy_history.specs.Setting.{Setting}
-use Rattle.proxy_history.specs.History.{History, Step, opened, is_opening, is_closed, is_open}
+use Rattle.proxy_history.specs.History.{History, Step, opened, epoch, is_opening, is_closed, is_open}
 use Rattle.proxy_history.specs.Part.{Past}
 use Rattle.proxy_history.specs.Past.{past}
-use Rattle.proxy_history.specs.Cause.{causes}
+use Rattle.proxy_history.specs.Cause.{own_cause, causes}
 use Rattle.proxy_history.specs.Answer.{answer_to, local_of}
 use Rattle.proxy_history.specs.Legal.{IsLegal, MayFollow}
 use Rattle.proxy_history.specs.Own.{is_connection_step, connection_steps}
-use Rattle.proxy_history.specs.StepLaws.{is_last_answer, IsAnswerTo}
+use Rattle.proxy_history.specs.StepLaws.{is_last_answer, IsAnswerTo, IsOfPresentEpoch}
 use Rattle.proxy_history.specs.declared.event.Event.{Event}
 use Rattle.proxy_history.specs.declared.event.Event.TheVariants.{Opened, Arrived, Finished, Taken, Answered, Failed, Swept, Handed, Closed}
 use Rattle.proxy_history.specs.declared.answer.Answer.{Answer}
 use Rattle.proxy_history.specs.declared.answer.Answer.TheVariants as answer
-use Rattle.proxy_history.proofs.NoCause.{are_false}
+use Rattle.proxy_history.proofs.NoCause.{are_false, is_current}
 use Rattle.proxy_history.proofs.Growing.{times_grows}
 
 -- ANSWERS
@@ -59,6 +59,26 @@ answer_fits S x (Closed conn) = tt
 pub answers_fit : (S : Setting) (before : History) (s : Step) → IsLegal S (s ∷ before)
     → IsAnswerTo s.event s.answer
 answers_fit S before s legal = subst (IsAnswerTo s.event) (sym legal.1.is_answered) (answer_fits S (past S before) s.event)
+
+-- EPOCHS
+
+present_epoch : (S : Setting) (H : History) (event : Event) → own_cause S (past S H) event ≡ None → IsOfPresentEpoch H event (answer_to S (past S H) event)
+present_epoch S H Opened n = tt
+present_epoch S H (Arrived conn request) n = tt
+present_epoch S H (Finished conn) n = tt
+present_epoch S H (Taken host) n = refl
+present_epoch S H (Answered host e value t) n = is_current S (past S H) host e t value n
+present_epoch S H (Failed host e kind t) n =
+    let a = are_false (causes S (past S H) (Failed host e kind t)) n in
+    eqb-true e (epoch host H) (not-false (e == epoch host H) a.1.0)
+present_epoch S H (Swept t) n = tt
+present_epoch S H (Handed conn) n = tt
+present_epoch S H (Closed conn) n = tt
+
+pub epochs_are_present : (S : Setting) (before : History) (s : Step) → IsLegal S (s ∷ before)
+    → IsOfPresentEpoch before s.event s.answer
+epochs_are_present S before s legal =
+    subst (IsOfPresentEpoch before s.event) (sym legal.1.is_answered) (present_epoch S before s.event legal.1.has_no_cause)
 
 -- OPENINGS
 

@@ -8,6 +8,7 @@ use Rattle.proxy_history.specs.Cause.{own_cause}
 use Rattle.proxy_history.specs.Payload.{has_room}
 use Rattle.proxy_history.specs.Answer.{answer_to}
 use Rattle.proxy_history.specs.declared.event.Event.{Event}
+use Rattle.proxy_history.specs.declared.event.Event.TheVariants.{Handed}
 use Rattle.proxy_history.specs.declared.refusal.Refusal.{Refusal}
 use Rattle.proxy_history.specs.declared.refusal.Refusal.TheVariants as refusal
 
@@ -21,9 +22,16 @@ abbrev pub IsLegal : Setting → History → Type 0
 IsLegal S [] = Unit {0}
 IsLegal S (s ∷ before) = IsLegal S before × MayFollow S (past S before) s
 
--- The refusal has its cause. A refusal for want of memory or of room has it only where the event has none of its own.
+-- The step of an event fits the journal. Nothing is asked of a reply that is handed out: its text takes memory before its
+-- length is known.
+abbrev pub Fits : Setting → History → Event → Type 0
+Fits S H (Handed conn) = Unit {0}
+Fits S H event = IsTrue (has_room H event (answer_to S (past S H) event))
+
+-- The refusal has its cause. A refusal for want of memory or of room has it only where the event has none of its own, and
+-- want of memory is told only where the step fits: else it is want of room.
 abbrev pub IsCause : Setting → History → Event → Refusal → Type 0
-IsCause S H event refusal.NoMemory = own_cause S (past S H) event ≡ None
+IsCause S H event refusal.NoMemory = (own_cause S (past S H) event ≡ None) × Fits S H event
 IsCause S H event refusal.JournalFull =
     (own_cause S (past S H) event ≡ None) × (has_room H event (answer_to S (past S H) event) ≡ false)
 IsCause S H event r = own_cause S (past S H) event ≡ Some r

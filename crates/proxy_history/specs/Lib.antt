@@ -19,6 +19,7 @@ pub mod Seen
 pub mod Laws
 pub mod StepLaws
 pub mod CauseLaws
+pub mod RefusalLaws
 pub mod HandingLaws
 pub mod CommandLaws
 pub mod SendingLaws

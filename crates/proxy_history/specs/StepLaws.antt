@@ -4,7 +4,7 @@ use Rattle.splitter.specs.Plan.{is_last}
 use Rattle.splitter.specs.declared.plans.Local.{Local}
 use Rattle.splitter.specs.declared.plans.Local.TheVariants as locals
 use Rattle.proxy_history.specs.Setting.{Setting}
-use Rattle.proxy_history.specs.History.{History, Step, plan_for, opened}
+use Rattle.proxy_history.specs.History.{History, Step, plan_for, opened, epoch}
 use Rattle.proxy_history.specs.Legal.{IsLegal}
 use Rattle.proxy_history.specs.Own.{connection_steps}
 use Rattle.proxy_history.specs.declared.event.Event.{Event}
@@ -36,6 +36,18 @@ IsAnswerTo _ _ = ⊥
 abbrev pub AnswersFit : Type 0
 AnswersFit = (S : Setting) (before : History) (s : Step)
     → IsLegal S (s ∷ before) → IsAnswerTo s.event s.answer
+
+-- The step names the epoch that its host has then, which is the number of the host's faults before.
+abbrev pub IsOfPresentEpoch : History → Event → Answer → Type 0
+IsOfPresentEpoch before (Taken host) (answer.Sent e place t) = e ≡ epoch host before
+IsOfPresentEpoch before (Answered host e value t) a = e ≡ epoch host before
+IsOfPresentEpoch before (Failed host e kind t) a = e ≡ epoch host before
+IsOfPresentEpoch before _ _ = ⊤
+
+-- each step of a host names its present epoch
+abbrev pub EpochsArePresent : Type 0
+EpochsArePresent = (S : Setting) (before : History) (s : Step)
+    → IsLegal S (s ∷ before) → IsOfPresentEpoch before s.event s.answer
 
 -- no step of a connection stands before its opening
 abbrev pub OpeningsComeFirst : Type 0

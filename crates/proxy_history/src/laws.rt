@@ -5,7 +5,8 @@ ghost use Rattle.proxy_history.specs.CommandLaws.{CommandsHaveTheirParts, Outcom
 ghost use Rattle.proxy_history.specs.EjectionLaws.{EjectionsChooseHostsAlone};
 ghost use Rattle.proxy_history.specs.HandingLaws.{ClosedGetsNothing, HandedIsItsOutcome, RepliesGoOutOnce};
 ghost use Rattle.proxy_history.specs.LimitLaws.{LimitsHold};
-ghost use Rattle.proxy_history.specs.StepLaws.{AnswersFit, OpeningsComeFirst, UnopenedHaveNoSteps};
+ghost use Rattle.proxy_history.specs.RefusalLaws.{RefusalsMean};
+ghost use Rattle.proxy_history.specs.StepLaws.{AnswersFit, EpochsArePresent, OpeningsComeFirst, UnopenedHaveNoSteps};
 ghost use Rattle.proxy_history.specs.SendingLaws.{EachTakenSends, NothingElseIsSent, UnsentPartsWait, UpstreamIsWhatWasSent, WaitingIsInOrder};
 
 /// Each beginning of a legal history is legal.
@@ -18,6 +19,11 @@ pub fn answers_fit()
     ensures { AnswersFit }
 {}
 
+/// A part that is taken, a reply and a fault name the epoch that their host has then: the number of its faults before.
+pub fn epochs_are_present()
+    ensures { EpochsArePresent }
+{}
+
 /// No step of a connection stands before its opening.
 pub fn openings_come_first()
     ensures { OpeningsComeFirst }
@@ -26,6 +32,12 @@ pub fn openings_come_first()
 /// A connection that was not opened has no steps.
 pub fn unopened_have_no_steps()
     ensures { UnopenedHaveNoSteps }
+{}
+
+/// What a refusal with its cause says: that the connection was never opened or is closed, that it finishes, that its
+/// unwritten commands are as many as may be, that nothing waits for the host or flies to it, which epoch it has, and so on.
+pub fn refusals_mean()
+    ensures { RefusalsMean }
 {}
 
 /// A handing out is refused as not ready exactly where the connection is open and has no unwritten command, or the next of

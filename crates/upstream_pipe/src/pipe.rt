@@ -183,7 +183,7 @@ impl Pipe {
     /// higher.
     ///
     /// Refused 603 (stale) exactly if the epoch isn't the pipe's, else 605 (epochs spent) exactly if it is the greatest
-    /// `u64`, else 601 (no memory).
+    /// `u64`, else 601 (no memory). Where nothing flies or waits it takes no memory, and 601 doesn't come.
     pub fn fault(&mut self, epoch: u64) -> Result<Lost, PipeRefusal>
         ensures flying { IfOk result (λ lost. lost.flying.items ≡ self.old.flying) }
         ensures waiting { IfOk result (λ lost. lost.waiting.items ≡ map owner_in self.old.waiting) }
@@ -193,6 +193,8 @@ impl Pipe {
         ensures stale { IsErrOf result (PipeRefusal.Stale self.old.epoch) ↔ (epoch ≢ self.old.epoch) }
         ensures spent { IsErrOf result PipeRefusal.EpochsSpent ↔ ((epoch ≡ self.old.epoch) × (epoch ≡ 2 ^ 64 - 1)) }
         ensures memory { epoch ≡ self.old.epoch → epoch < 2 ^ 64 - 1 → IfErr result (λ e. e ≡ PipeRefusal.NoMemory) }
+        ensures idle { epoch ≡ self.old.epoch → epoch < 2 ^ 64 - 1
+            → self.old.flying ≡ [] → self.old.waiting ≡ [] → IsOk result }
         ensures err { OnErr result (IsAsBefore self.old self.new) }
     {
         if self.epoch != epoch {
@@ -261,8 +263,12 @@ fn forgotten(conn: u64, place: Option<Owner>) -> Option<Owner>
 // The owners of the parts.
 fn owners(alloc: Global, parts: &VecDeque<Part>) -> Result<Vec<Owner>, PipeRefusal>
     ensures ok { IfOk result (λ owners. owners.items ≡ map owner_in parts.now.items) }
+    ensures none { parts.now.items ≡ [] → IsOk result }
     ensures err { IfErr result (λ e. e ≡ PipeRefusal.NoMemory) }
 {
+    if parts.is_empty() {
+        return Ok(Vec::new(alloc));
+    }
     let owners = parts.iter().map(|part| part.owner).collect(alloc)?;
     Ok(owners)
 }
@@ -273,8 +279,12 @@ fn places(
     flying: &VecDeque<Option<Owner>>,
 ) -> Result<Vec<Option<Owner>>, PipeRefusal>
     ensures ok { IfOk result (λ places. places.items ≡ flying.now.items) }
+    ensures none { flying.now.items ≡ [] → IsOk result }
     ensures err { IfErr result (λ e. e ≡ PipeRefusal.NoMemory) }
 {
+    if flying.is_empty() {
+        return Ok(Vec::new(alloc));
+    }
     let places = flying.iter().copied().collect(alloc)?;
     Ok(places)
 }

@@ -1,11 +1,12 @@
 use Rattle.std.proofs.Common.{◌++◌, [], ◌∷◌, List, Result, ℕ, length, refl, sym, ap, ◌∙◌, subst, arith}
 use Rattle.proxy_history.specs.Setting.{Setting}
-use Rattle.proxy_history.specs.Proxy.{history_in}
+use Rattle.proxy_history.specs.Legal.{IsLegal}
+use Rattle.proxy_history.specs.Proxy.{Kept, history_in}
 use Rattle.proxy_history.specs.declared.answer.Answer.{Answer}
 use Rattle.proxy_history.specs.declared.event.Event.{Event}
 use Rattle.proxy_history.specs.declared.refusal.Refusal.{Refusal}
 use Rattle.proxy_core.specs.Core.{IsTurn, IsRun}
-use Rattle.proxy_core.proofs.TurnedRuns.{run_more, append-item, all-yielded}
+use Rattle.proxy_core.proofs.TurnedRuns.{run_more, IsLegal-run, append-item, all-yielded}
 use Rattle.proxy_core.proofs.turns.Core.run.Goals as goal
 
 pub loop-pass-init : goal.loop-pass-init
@@ -39,3 +40,10 @@ returns-clause-run c =
     let i = c.loop-pass.invariant in
     subst (λ (z : List (ℕ × Event)). IsRun c.args.self.now.setting (history_in c.args.self.now) z c.loop-pass.answers.items (history_in c.loop-pass.self))
     (all-yielded c.loop-pass.yielded c.loop-pass.pass-iterator.rest.items c.args.pairs.items (sym c.loop-pass.pass-iterator.rest.ok.0 ∙ c.in-None.ensures.steps.0) i.pairs) i.run
+
+pub returns-clause-legal : goal.returns-clause-legal
+returns-clause-legal c =
+    let i = c.loop-pass.invariant in
+    let before = subst (λ (k : Kept). IsLegal k.setting (history_in k)) c.self.view_is c.self.invariant.legal in
+    subst (λ (T : Setting). IsLegal T (history_in c.loop-pass.self)) (sym i.setting)
+    (IsLegal-run c.args.self.now.setting (history_in c.args.self.now) c.loop-pass.yielded c.loop-pass.answers.items (history_in c.loop-pass.self) before i.run)

@@ -1,0 +1,63 @@
+-- What a worker knows of turns holds of the journals of a core. Proofs of what a trait promises have to stand in this folder.
+use Rattle.std.specs.Prelude.{◌≡◌, ◌≤◌, ℕ, true, List, [], ◌∷◌, ◌++◌, length}
+use Rattle.std.proofs.Common.{refl, sym, ap, ◌∙◌, subst}
+use Rattle.splitter.specs.declared.request.Request.{Request}
+use Rattle.proxy_history.specs.Setting.{max_steps}
+use Rattle.proxy_history.specs.History.{is_open, is_finishing}
+use Rattle.proxy_history.specs.Past.{past}
+use Rattle.proxy_history.specs.Legal.{IsLegal}
+use Rattle.proxy_history.specs.StepLaws.{IsAnswerTo, IsOfPresentEpoch}
+use Rattle.proxy_history.specs.RefusalLaws.{Means}
+use Rattle.proxy_history.specs.Seen.{SeenStep, step_of, history_of_seen, seen_of_history}
+use Rattle.proxy_history.specs.declared.event.Event.{Event}
+use Rattle.proxy_history.specs.declared.event.Event.TheVariants.{Opened, Arrived}
+use Rattle.proxy_history.specs.declared.answer.Answer.TheVariants as answer
+use Rattle.proxy_history.specs.declared.refusal.Refusal.{Refusal}
+use Rattle.proxy_history.specs.declared.refusal.Refusal.TheVariants as refusal
+use Rattle.proxy_history.proofs.CallerLemmas as history
+use Rattle.proxy_core.specs.Recorded.{Made, setting_by, IsLegalJournal, IsCauseIn}
+use Rattle.proxy_core.specs.CoreTurns.{seen_of_connection}
+
+-- the last step may follow the others
+IsLegal-last : (made : Made) (seen : List SeenStep) (s : SeenStep) → IsLegalJournal made (seen ++ s ∷ [])
+    → IsLegal (setting_by made) (step_of s ∷ history_of_seen seen)
+IsLegal-last made seen s legal = (history.IsLegal-history_of_seen-push (setting_by made) seen s).0 legal
+
+pub are_histories : (made : Made) (seen : List SeenStep) → IsLegalJournal made seen
+    → IsLegal (setting_by made) (history_of_seen seen)
+are_histories made seen legal = legal
+
+pub answers_fit : (made : Made) (seen : List SeenStep) (s : SeenStep)
+    → IsLegalJournal made (seen ++ s ∷ []) → IsAnswerTo s.1 s.2
+answers_fit made seen s legal =
+    history.IsAnswerTo-IsLegal (setting_by made) (history_of_seen seen) (step_of s) (IsLegal-last made seen s legal)
+
+pub openings_are_new : (made : Made) (seen : List SeenStep) (pass c : ℕ)
+    → IsLegalJournal made (seen ++ (pass, Opened, answer.Opened c) ∷ [])
+    → seen_of_connection c seen ≡ []
+openings_are_new made seen pass c legal =
+    let s : SeenStep = (pass, Opened, answer.Opened c) in
+    let own = seen_of_connection c seen in
+    let none = history.connection_steps-opened (setting_by made) (history_of_seen seen) (step_of s) c (IsLegal-last made seen s legal) refl refl in
+    let here : history_of_seen own ≡ [] = sym ((history.IsReadInOrder-seen seen).connection_steps_are c) ∙ none in
+    sym (history.OrdersAgree-seen own [] []).back ∙ ap seen_of_history here
+
+pub are_few_steps : (made : Made) (seen : List SeenStep) → IsLegalJournal made seen → length seen ≤ max_steps
+are_few_steps made seen legal =
+    subst (λ n. n ≤ max_steps) (history.OrdersAgree-seen seen [] []).same_length
+    (history.IsWithinLimits-IsLegal (setting_by made) (history_of_seen seen) legal).few_steps
+
+pub epochs_are_present : (made : Made) (seen : List SeenStep) (s : SeenStep)
+    → IsLegalJournal made (seen ++ s ∷ []) → IsOfPresentEpoch (history_of_seen seen) s.1 s.2
+epochs_are_present made seen s legal =
+    history.IsOfPresentEpoch-IsLegal (setting_by made) (history_of_seen seen) (step_of s) (IsLegal-last made seen s legal)
+
+pub refusals_mean : (made : Made) (r : Refusal) (event : Event) (seen : List SeenStep)
+    → IsCauseIn made r event seen → Means (setting_by made) (history_of_seen seen) event r
+refusals_mean made r event seen cause = history.Means-IsCause (setting_by made) (history_of_seen seen) event r cause
+
+pub finishing_takes_nothing : (made : Made) (c : ℕ) (request : Request) (seen : List SeenStep)
+    → is_open c (history_of_seen seen) ≡ true → is_finishing c (history_of_seen seen) ≡ true
+    → IsCauseIn made refusal.Finishing (Arrived c request) seen
+finishing_takes_nothing made c request seen is_open finishes =
+    history.own_cause-finishing (setting_by made) (past (setting_by made) (history_of_seen seen)) c request is_open finishes
