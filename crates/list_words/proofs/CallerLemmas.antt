@@ -10,6 +10,8 @@ pub use Rattle.list_words.proofs.ChangedLemmas.{slice_set-constant}
 pub use Rattle.list_words.proofs.ChangedLemmas.{changed_at-past}
 -- the item behind a list
 pub use Rattle.list_words.proofs.ChangedLemmas.{changed_at-append}
+-- a change behind what is dropped
+pub use Rattle.list_words.proofs.ChangedLemmas.{changed_at-drop}
 -- a write as a view sees it, and one that it doesn't see
 pub use Rattle.list_words.proofs.ChangedLemmas.{map-slice_set, map-slice_set-same}
 -- A LIST REWRITTEN IN PLACE
@@ -50,14 +52,24 @@ pub use Rattle.list_words.proofs.MemberLemmas.{Contains-first, Contains-later, C
 pub use Rattle.list_words.proofs.MemberLemmas.{slice_get-member}
 -- what stands behind the first items is a member
 pub use Rattle.list_words.proofs.MemberLemmas.{Contains-drop}
+-- what a list has at a place it has there when it has grown
+pub use Rattle.list_words.proofs.MemberLemmas.{slice_get-append}
+-- FILTERS
+
 -- what a filter keeps: the members that pass
-pub use Rattle.list_words.proofs.FilterLemmas.{Contains-filter_passing, filter-passes}
--- WHETHER ONE PASSES A TEST
+pub use Rattle.list_words.proofs.FilterLemmas.{Contains-filter, Contains-filter_passing, filter-passes}
+-- tests that agree, and two tests one after the other
+pub use Rattle.list_words.proofs.FilterLemmas.{filter-same, filter-both}
+-- WHETHER ONE PASSES A TEST, AND WHETHER EACH DOES
 
 -- one passes: a member that does, and the other way round
 pub use Rattle.list_words.proofs.AnyLemmas.{list_any-true, list_any-member}
 -- none passes: no member does, and the other way round
 pub use Rattle.list_words.proofs.AnyLemmas.{list_any-false, list_any-none}
+-- none passes in a filter where none does in the list
+pub use Rattle.list_words.proofs.AnyLemmas.{list_any-filter}
+-- each passes: the item of a place does
+pub use Rattle.list_words.proofs.AnyLemmas.{list_all-get_or}
 -- in two lists side by side none is found where none passes
 pub use Rattle.list_words.proofs.FindLemmas.{find-zip_none}
 -- and who isn't found stands behind those that have a partner

@@ -1,5 +1,5 @@
 -- A list with one item changed.
-use Rattle.std.proofs.Common.{◌≡◌, ◌≤◌, ℕ, zero, suc, List, [], ◌∷◌, ◌++◌, map, length, get_or, slice_set, refl, ap, arith}
+use Rattle.std.proofs.Common.{◌≡◌, ◌≤◌, ℕ, zero, suc, ◌-◌, List, [], ◌∷◌, ◌++◌, map, drop, length, get_or, slice_set, refl, ap, ◌∙◌, arith}
 use Rattle.list_words.specs.Lists.{changed_at}
 
 -- a write of what the item changes to
@@ -37,3 +37,10 @@ pub map-slice_set-same : {X Y : Type 0} (view : X → Y) (place : ℕ) (xs : Lis
 map-slice_set-same view place [] y d e = refl
 map-slice_set-same view zero (x ∷ xs) y d e = ap (λ z. z ∷ map view xs) e
 map-slice_set-same view (suc place) (x ∷ xs) y d e = ap (λ zs. view x ∷ zs) (map-slice_set-same view place xs y d e)
+
+-- a change behind what is dropped
+pub changed_at-drop : {X : Type 0} (change : X → X) (n k : ℕ) (xs : List X) → n ≤ k → changed_at change (k - n) (drop n xs) ≡ drop n (changed_at change k xs)
+changed_at-drop change zero k xs l = ap (λ z. changed_at change z xs) (omega arith)
+changed_at-drop change (suc n) k [] l = refl
+changed_at-drop change (suc n) zero (x ∷ xs) l = absurd (omega (arith, l))
+changed_at-drop change (suc n) (suc k) (x ∷ xs) l = ap (λ z. changed_at change z (drop n xs)) (omega arith) ∙ changed_at-drop change n k xs (omega (arith, l))

@@ -1,5 +1,5 @@
 -- What a filter keeps.
-use Rattle.std.proofs.Common.{◌≡◌, Bool, true, false, List, [], ◌∷◌, filter, Contains, refl, sym, ap, ◌∙◌, subst, inl, inr}
+use Rattle.std.proofs.Common.{◌≡◌, ◌&&◌, Bool, true, false, List, [], ◌∷◌, filter, Contains, refl, sym, ap, ◌∙◌, subst, inl, inr}
 use Rattle.std.proofs.lemmas.Bool.{cases_Bool}
 use Rattle.list_words.proofs.MemberLemmas.{Contains-nil, Contains-first, Contains-later, Contains-cases}
 
@@ -32,4 +32,28 @@ filter-passes {X} f (y ∷ xs) x h = elim (cases_Bool (f y)) [
     | inr more ↦ filter-passes f xs x more
   ]
   | inr n ↦ filter-passes f xs x (subst (λ (z : List X). Contains z x) (left_first f y xs n) h)
+]
+
+-- what is kept was in the list
+pub Contains-filter : {X : Type 0} (f : X → Bool) (xs : List X) (x : X) → Contains (filter f xs) x → Contains xs x
+Contains-filter f [] x h = h
+Contains-filter {X} f (y ∷ xs) x h = elim (cases_Bool (f y)) [
+  | inl t ↦ elim (Contains-cases y (filter f xs) x (subst (λ (z : List X). Contains z x) (kept_first f y xs t) h)) [
+    | inl one ↦ subst (λ (z : X). Contains (z ∷ xs) x) (sym one) (Contains-first x xs)
+    | inr more ↦ Contains-later y xs x (Contains-filter f xs x more)
+  ]
+  | inr n ↦ Contains-later y xs x (Contains-filter f xs x (subst (λ (z : List X). Contains z x) (left_first f y xs n) h))
+]
+
+-- tests that agree keep the same
+pub filter-same : {X : Type 0} (f g : X → Bool) → ((x : X) → f x ≡ g x) → (xs : List X) → filter f xs ≡ filter g xs
+filter-same f g e [] = refl
+filter-same f g e (x ∷ xs) = rw (e x, filter-same f g e xs) refl
+
+-- a filter by two tests is one after the other
+pub filter-both : {X : Type 0} (f g : X → Bool) (xs : List X) → filter (λ x. f x && g x) xs ≡ filter g (filter f xs)
+filter-both f g [] = refl
+filter-both f g (x ∷ xs) = elim (cases_Bool (f x)) [
+  | inl t ↦ rw (t) (rw (filter-both f g xs) refl)
+  | inr e ↦ rw (e) (filter-both f g xs)
 ]

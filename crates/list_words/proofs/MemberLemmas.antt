@@ -1,5 +1,5 @@
 -- Members of lists.
-use Rattle.std.proofs.Common.{◌≡◌, ◌⊎◌, ◌<◌, ℕ, zero, suc, List, [], ◌∷◌, drop, get_or, Some, Contains, slice_get, refl, ap, ◌∙◌, inl, inr, arith}
+use Rattle.std.proofs.Common.{◌≡◌, ◌⊎◌, ◌<◌, ℕ, zero, suc, List, [], ◌∷◌, ◌++◌, drop, get_or, Some, Contains, slice_get, refl, ap, ◌∙◌, inl, inr, arith}
 use Rattle.std.proofs.lemmas.List.Elements.{Contains-append_cases, Contains-append_right}
 use Rattle.std.proofs.lemmas.Option.{slice_get-get_or}
 
@@ -35,3 +35,9 @@ pub Contains-drop : {X : Type 0} (n : ℕ) (xs : List X) (x : X) → Contains (d
 Contains-drop zero xs x h = h
 Contains-drop (suc n) [] x h = h
 Contains-drop (suc n) (y ∷ xs) x h = Contains-later y xs x (Contains-drop n xs x h)
+
+-- what a list has at a place it has there when it has grown
+pub slice_get-append : {X : Type 0} (xs ys : List X) (i : ℕ) (x : X) → slice_get xs i ≡ Some x → slice_get (xs ++ ys) i ≡ Some x
+slice_get-append [] ys i x e = absurd cc
+slice_get-append (a ∷ xs) ys zero x e = e
+slice_get-append (a ∷ xs) ys (suc i) x e = slice_get-append xs ys i x e
