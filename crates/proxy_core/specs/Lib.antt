@@ -5,4 +5,3 @@ pub mod Machine
 pub mod Arrivals
 pub mod Core
 pub mod Recorded
-pub mod Lists
