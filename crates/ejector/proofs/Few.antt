@@ -3,7 +3,8 @@ use Rattle.std.proofs.Common.{◌≡◌, ℕ, zero, suc, ◌+◌, ◌*◌, ◌<�
 use Rattle.std.specs.List.{range_with_len}
 use Rattle.std.proofs.lemmas.Bool.{cases_Bool, or_cases, and_parts, eqb-true, ltb-true}
 use Rattle.std.proofs.lemmas.List.FromFn.{fill_by_all, length-map-range_with_len}
-use Rattle.ejector.proofs.Ranges.{count-map, count-cons, count_most, count_same, count_or, count_one, count_last, among_filter}
+use Rattle.list_words.proofs.CallerLemmas.{count_by-map, count_by-cons, count_by-range_most, count_by-range_same, count_by-or, count_by-range_one, count_by-range_last}
+use Rattle.ejector.proofs.Ranges.{among_filter}
 use Rattle.ejector.proofs.Step.{next_is}
 use Rattle.ejector.specs.declared.mark.Mark.{Mark}
 use Rattle.ejector.specs.declared.mark.Mark.TheVariants.{Good, Bad, Sweep}
@@ -22,14 +23,14 @@ pub hosts_are : (R : Rules) (x : State) → length x.hosts ≡ R.hosts → x.hos
 hosts_are R x e = fill_by_all (host_of x) x.hosts R.hosts fresh_host e (λ k l. refl)
 
 pub out_count_is : (R : Rules) (x : State) → length x.hosts ≡ R.hosts → out_count x ≡ count_by (is_out x) (hosts_of R)
-out_count_is R x e = ap (count_by (λ (s : HostState). s.is_out)) (hosts_are R x e) ∙ count-map (λ (s : HostState). s.is_out) (host_of x) (hosts_of R)
+out_count_is R x e = ap (count_by (λ (s : HostState). s.is_out)) (hosts_are R x e) ∙ count_by-map (λ (s : HostState). s.is_out) (host_of x) (hosts_of R)
 
 -- whether a host is out with one deed more
 abbrev out_with : Deed → State → ℕ → Bool
 out_with d x h = if ejects h d then true else (if returns h d then false else is_out x h)
 
 out_count_with : (R : Rules) (d : Deed) (x : State) → out_count (with_deed R d x) ≡ count_by (out_with d x) (hosts_of R)
-out_count_with R d x = count-map (λ (s : HostState). s.is_out) _ (hosts_of R)
+out_count_with R d x = count_by-map (λ (s : HostState). s.is_out) _ (hosts_of R)
 
 -- TRIPS
 
@@ -46,8 +47,8 @@ ejects_one h k out = elim (cases_Bool (h == k)) [ inl t ↦ rw t refl | inr f �
 trip_out : (R : Rules) (x : State) (h : ℕ) (m : Mark) → length x.hosts ≡ R.hosts → out_count x ≤ most_out R → count_by (out_with (trip_by R x h m) x) (hosts_of R) ≤ most_out R
 trip_out R x h m e l = elim (cases_Bool (may_eject R (out_count x))) [
   | inl t ↦ rw t
-      (rw (count_same (out_with (record (nothing_by m) { ejected = h ∷ [] }) x) (λ k. (h == k) || is_out x k) 0 R.hosts (λ k _ _. ejects_one h k (is_out x k)))
-      (omega (arith, room R (out_count x) t, count_or (λ k. h == k) (is_out x) (hosts_of R), count_one h 0 R.hosts, out_count_is R x e)))
+      (rw (count_by-range_same (out_with (record (nothing_by m) { ejected = h ∷ [] }) x) (λ k. (h == k) || is_out x k) 0 R.hosts (λ k _ _. ejects_one h k (is_out x k)))
+      (omega (arith, room R (out_count x) t, count_by-or (λ k. h == k) (is_out x) (hosts_of R), count_by-range_one h 0 R.hosts, out_count_is R x e)))
   | inr f ↦ rw f (omega (arith, l, out_count_is R x e))
 ]
 
@@ -77,7 +78,7 @@ out_at_is : (R : Rules) (tripping : ℕ → Bool) (first k : ℕ)
 out_at_is R tripping first zero = omega arith
 out_at_is R tripping first (suc k) =
     turn_out R (tripping k) (out_at R tripping first k)
-    ∙ (let last = count_last (λ h. tripping h && may_eject R (out_at R tripping first h)) 0 k in let so_far = out_at_is R tripping first k in
+    ∙ (let last = count_by-range_last (λ h. tripping h && may_eject R (out_at R tripping first h)) 0 k in let so_far = out_at_is R tripping first k in
     let place : 0 + k ≡ k = omega arith in
     rw (last, place) (omega (arith, so_far)))
 
@@ -97,14 +98,14 @@ and_first a b e = let parts = and_parts a b e in parts.0
 
 -- after the returns there are no more than before
 stays_most : (R : Rules) (x : State) → count_by (stays_out R x) (hosts_of R) ≤ count_by (is_out x) (hosts_of R)
-stays_most R x = count_most (stays_out R x) (is_out x) 0 R.hosts (λ h _ _ e. and_first (is_out x h) (not (is_time_over R x.clock (host_of x h))) e)
+stays_most R x = count_by-range_most (stays_out R x) (is_out x) 0 R.hosts (λ h _ _ e. and_first (is_out x h) (not (is_time_over R x.clock (host_of x h))) e)
 
 sweep_out : (R : Rules) (x : State) (m : Mark) → length x.hosts ≡ R.hosts → out_count x ≤ most_out R → count_by (out_with (sweep_by R x m) x) (hosts_of R) ≤ most_out R
 sweep_out R x m e l =
-    let same = count_same (out_with (sweep_by R x m) x) (λ h. is_ejected_in_sweep R x h || stays_out R x h) 0 R.hosts (λ h _ u. sweep_at R x m h (omega (arith, u))) in
+    let same = count_by-range_same (out_with (sweep_by R x m) x) (λ h. is_ejected_in_sweep R x h || stays_out R x h) 0 R.hosts (λ h _ u. sweep_at R x m h (omega (arith, u))) in
     let few : count_by (stays_out R x) (hosts_of R) ≤ most_out R = omega (arith, l, stays_most R x, out_count_is R x e) in
     let first = count_by (stays_out R x) (hosts_of R) in
-    rw same (omega (arith, count_or (is_ejected_in_sweep R x) (stays_out R x) (hosts_of R), out_at_is R (trips_in_sweep R x) first R.hosts, turns_most R (trips_in_sweep R x) first R.hosts few))
+    rw same (omega (arith, count_by-or (is_ejected_in_sweep R x) (stays_out R x) (hosts_of R), out_at_is R (trips_in_sweep R x) first R.hosts, turns_most R (trips_in_sweep R x) first R.hosts few))
 
 -- MARKS
 
@@ -127,8 +128,8 @@ none_out R = none 0 R.hosts
   where
     none : (a n : ℕ) → count_by (λ (h : ℕ). false) (range_with_len a n) ≡ 0
     none a zero = refl
-    none a (suc n) = rw (count-cons (λ (h : ℕ). false) a (range_with_len (a + 1) n), none (a + 1) n) refl
+    none a (suc n) = rw (count_by-cons (λ (h : ℕ). false) a (range_with_len (a + 1) n), none (a + 1) n) refl
 
 pub state_out : (R : Rules) (marks : List Mark) → out_count (state R marks) ≤ most_out R
-state_out R [] = omega (arith, count-map (λ (s : HostState). s.is_out) (host_after R []) (hosts_of R), none_out R)
+state_out R [] = omega (arith, count_by-map (λ (s : HostState). s.is_out) (host_after R []) (hosts_of R), none_out R)
 state_out R (m ∷ before) = subst (λ (y : State). out_count y ≤ most_out R) (sym (next_is R m before)) (next_out R m (state R before) (state_length R before) (state_out R before))

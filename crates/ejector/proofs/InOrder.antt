@@ -1,5 +1,5 @@
 -- The state of marks that stand in a list with the oldest first.
-use Rattle.std.proofs.Common.{◌≡◌, ℕ, zero, suc, ◌+◌, ◌<◌, max, Bool, true, false, ◌==◌, List, [], ◌∷◌, length, map, take, reverse, replicate, get_or, refl, sym, ap, ◌∙◌, if◌then◌else◌}
+use Rattle.std.proofs.Common.{◌≡◌, ℕ, zero, suc, ◌+◌, ◌<◌, max, ◌==◌, List, [], ◌∷◌, length, map, take, reverse, replicate, get_or, refl, sym, ap, ◌∙◌}
 use Rattle.std.specs.List.{range_with_len}
 use Rattle.std.proofs.lemmas.List.{take_more, reverse-append}
 use Rattle.ejector.specs.declared.mark.Mark.{Mark}
@@ -9,7 +9,7 @@ use Rattle.ejector.specs.Marks.{moment}
 use Rattle.ejector.specs.State.{host_after, fresh_host}
 use Rattle.ejector.specs.Ejection.{state}
 use Rattle.ejector.specs.Next.{with_mark, next}
-use Rattle.ejector.proofs.Step.{next_is}
+use Rattle.ejector.proofs.Step.{next_is, if-same}
 
 -- one mark more
 pub reverse_more : (xs : List Mark) (i : ℕ) (d : Mark) → i < length xs → reverse (take (i + 1) xs) ≡ get_or xs i d ∷ reverse (take i xs)
@@ -24,12 +24,8 @@ state_more R before m clock now hosts new e n h =
     ∙ ap (λ (hs : List HostState). record { clock = now; hosts = hs }) (sym h)
 
 -- no marks
-no_streak : (b : Bool) (n : ℕ) → (if b then n else n) ≡ n
-no_streak true n = refl
-no_streak false n = refl
-
 fresh_after : (R : Rules) (h : ℕ) → host_after R [] h ≡ fresh_host
-fresh_after R h = ap (λ (n : ℕ). record fresh_host { streak = n }) (no_streak (R.settings.consecutive == 0) 0)
+fresh_after R h = ap (λ (n : ℕ). record fresh_host { streak = n }) (if-same (R.settings.consecutive == 0) 0)
 
 fresh_hosts : (R : Rules) (a n : ℕ) → map (host_after R []) (range_with_len a n) ≡ replicate n fresh_host
 fresh_hosts R a zero = refl

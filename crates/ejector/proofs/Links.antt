@@ -5,6 +5,7 @@ use Rattle.std.proofs.lemmas.List.{ext_get_or, length-set, get_or-set_same, get_
 use Rattle.std.proofs.lemmas.Simd.{map-map}
 use Rattle.std.proofs.lemmas.List.Sums.{length-filter}
 use Rattle.std.proofs.lemmas.List.FromFn.{length-map-range_with_len, get_or-map-range_with_len}
+use Rattle.list_words.proofs.CallerLemmas.{map-range_same, count_by-map, count_by-range_same}
 use Rattle.ejector.specs.declared.answer.Trip.TheVariants as answer
 use Rattle.ejector.specs.declared.mark.Mark.TheVariants.{Good, Bad, Sweep}
 use Rattle.ejector.specs.declared.host.HostState.{HostState}
@@ -16,7 +17,7 @@ use Rattle.ejector.specs.Sweeps.{is_time_over, comes_back, stays_out, rate_after
 use Rattle.ejector.specs.Ejection.{nothing_by, deed_by, sweep_by, trip_of, swept_of}
 use Rattle.ejector.specs.Next.{host_with, with_deed, with_mark}
 use Rattle.ejector.specs.Counting.{counted, with_good, with_bad, tripped, trips_then, trip_then, outs, with_good_result, with_bad_result, with_return, is_returning, rate_then, in_new_interval, at_turn, is_ejected_at, is_kept_at, tripping_of, swept_hosts, swept_counts}
-use Rattle.ejector.proofs.Ranges.{map_range, count-map, count_same, among_filter}
+use Rattle.ejector.proofs.Ranges.{among_filter}
 use Rattle.ejector.proofs.Few.{hosts_are}
 
 -- a list that is changed at one place alone
@@ -148,8 +149,8 @@ back_out R x k = let s = host_of x k in out_case R s.is_out (is_time_over R x.cl
 
 first_is : (R : Rules) (x : State) → length x.hosts ≡ R.hosts → outs (back_of R x) ≡ count_by (stays_out R x) (hosts_of R)
 first_is R x e =
-    ap outs (back_is R x e) ∙ count-map (λ (s : HostState). s.is_out) (λ h. with_return R x.clock (host_of x h)) (hosts_of R)
-    ∙ count_same (λ h. (with_return R x.clock (host_of x h)).is_out) (stays_out R x) 0 R.hosts (λ h _ _. back_out R x h)
+    ap outs (back_is R x e) ∙ count_by-map (λ (s : HostState). s.is_out) (λ h. with_return R x.clock (host_of x h)) (hosts_of R)
+    ∙ count_by-range_same (λ h. (with_return R x.clock (host_of x h)).is_out) (stays_out R x) 0 R.hosts (λ h _ _. back_out R x h)
 
 -- a return changes no tallies
 tallies_case : (out over : Bool) (s : HostState) (m : ℕ) →
@@ -168,7 +169,7 @@ rate_at R x k = let tallies = back_tallies R x.clock (host_of x k) in rw (tallie
 rates_are : (R : Rules) (x : State) → length x.hosts ≡ R.hosts → map (rate_then R) (back_of R x) ≡ rates R x
 rates_are R x e =
     ap (map (rate_then R)) (back_is R x e) ∙ map-map (rate_then R) (λ h. with_return R x.clock (host_of x h)) (hosts_of R)
-    ∙ map_range (λ h. rate_then R (with_return R x.clock (host_of x h))) (rate_after_returns R x) 0 R.hosts (λ h _ _. rate_at R x h)
+    ∙ map-range_same (λ h. rate_then R (with_return R x.clock (host_of x h))) (rate_after_returns R x) 0 R.hosts (λ h _ _. rate_at R x h)
 
 tripping_is : (R : Rules) (x : State) → length x.hosts ≡ R.hosts → tripping_of R (back_of R x) ≡ trips_in_sweep R x
 tripping_is R x e = ap (trips_by R) (rates_are R x e)
@@ -184,7 +185,7 @@ turn_at R x k e l =
 pub sweep_link : (R : Rules) (x : State) (t : ℕ) → length x.hosts ≡ R.hosts → (with_mark R (Sweep t) x).hosts ≡ swept_hosts R x.clock x.hosts
 sweep_link R x t e =
     let turn = at_turn R x.clock (tripping_of R (back_of R x)) (outs (back_of R x)) (back_of R x) in
-    map_range (λ k. host_with R x.clock (sweep_by R x (Sweep t)) k (host_of x k)) (λ k. in_new_interval (turn k)) 0 R.hosts
+    map-range_same (λ k. host_with R x.clock (sweep_by R x (Sweep t)) k (host_of x k)) (λ k. in_new_interval (turn k)) 0 R.hosts
     (λ k _ l. sweep_at R x t k (omega (arith, l)) ∙ ap in_new_interval (sym (turn_at R x k e (omega (arith, l)))))
     ∙ sym (map-map in_new_interval turn (hosts_of R))
 
@@ -192,7 +193,7 @@ sweep_link R x t e =
 
 returned_is : (R : Rules) (x : State) → length x.hosts ≡ R.hosts → length (filter (comes_back R x) (hosts_of R)) ≡ count_by (is_returning R x.clock) x.hosts
 returned_is R x e =
-    length-filter (comes_back R x) (hosts_of R) ∙ sym (ap (count_by (is_returning R x.clock)) (hosts_are R x e) ∙ count-map (is_returning R x.clock) (host_of x) (hosts_of R))
+    length-filter (comes_back R x) (hosts_of R) ∙ sym (ap (count_by (is_returning R x.clock)) (hosts_are R x e) ∙ count_by-map (is_returning R x.clock) (host_of x) (hosts_of R))
 
 ejected_is : (R : Rules) (x : State) → length x.hosts ≡ R.hosts
     → length (filter (is_ejected_in_sweep R x) (hosts_of R)) ≡ count_by (is_ejected_at R (tripping_of R (back_of R x)) (outs (back_of R x))) (hosts_of R)

@@ -5,7 +5,7 @@ use Rattle.std.proofs.lemmas.Bool.{cases_Bool, or_parts, cases_lt, lt-ltb, le-lt
 use Rattle.std.proofs.lemmas.List.{take_all, length_push, length-take-le, take-append-le, reverse-append}
 use Rattle.std.proofs.lemmas.List.Sums.{sum_by-cons, sum_by_push}
 use Rattle.std.proofs.lemmas.List.FromFn.{get_or-map-range_with_len}
-use Rattle.ejector.proofs.Ranges.{map_range}
+use Rattle.list_words.proofs.CallerLemmas.{map-range_same}
 use Rattle.ejector.specs.declared.mark.Mark.{Mark}
 use Rattle.ejector.specs.declared.mark.Mark.TheVariants.{Good, Bad, Sweep}
 use Rattle.ejector.specs.declared.host.HostState.{HostState}
@@ -60,15 +60,16 @@ streak_one true false n = refl
 streak_one false true n = omega arith
 streak_one false false n = omega arith
 
-never : (b : Bool) (z : ℕ) → (if b then z else z) ≡ z
-never true z = refl
-never false z = refl
+-- a choice of one number and the same
+pub if-same : (b : Bool) (z : ℕ) → (if b then z else z) ≡ z
+if-same true z = refl
+if-same false z = refl
 
 streak_step : (R : Rules) (h : ℕ) (d : Deed) (p : List Deed) → streak_of R h (d ∷ p)
     ≡ (if ends_streak h d then 0
     else (if is_bad h d.mark && not (is_out_after h p || (R.settings.consecutive == 0)) then streak_of R h p + 1 else streak_of R h p))
 streak_step R h d p = elim (cases_Bool (ends_streak h d)) [
-  | inl t ↦ rw (bads_step h d p, t) (never (is_out_after h (d ∷ p) || (R.settings.consecutive == 0)) 0)
+  | inl t ↦ rw (bads_step h d p, t) (if-same (is_out_after h (d ∷ p) || (R.settings.consecutive == 0)) 0)
   | inr f ↦ rw (bads_step h d p, out_same h d p f, f) (streak_one (is_out_after h p || (R.settings.consecutive == 0)) (is_bad h d.mark) (bads h p))
 ]
 
@@ -144,7 +145,7 @@ host_at R f h l = get_or-map-range_with_len f 0 R.hosts h h fresh_host l (omega 
 
 pub state_step : (R : Rules) (d : Deed) (p : List Deed) → state_after R (d ∷ p) ≡ with_deed R d (at_moment (moment d.mark) (state_after R p))
 state_step R d p =
-    let hosts = map_range (host_after R (d ∷ p)) (λ h. host_with R (clock_of (d ∷ p)) d h (host_of (state_after R p) h)) 0 R.hosts
+    let hosts = map-range_same (host_after R (d ∷ p)) (λ h. host_with R (clock_of (d ∷ p)) d h (host_of (state_after R p) h)) 0 R.hosts
     (λ h _ l. host_step R d p h ∙ ap (λ (s : HostState). host_with R (clock_of (d ∷ p)) d h s) (sym (host_at R (host_after R p) h (omega (arith, l))))) in
     ap (λ (hs : List HostState). record { clock = clock_of (d ∷ p); hosts = hs }) hosts
 

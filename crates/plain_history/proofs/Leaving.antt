@@ -1,8 +1,9 @@
 -- Which requests end a connection.
-use Rattle.std.proofs.Common.{◌≡◌, ◌<◌, ◌==◌, ℕ, zero, suc, Bool, true, false, List, [], ◌∷◌, Option, Some, None, Contains, length, map, get_or, nat_lt, refl, sym, ap, ◌∙◌, subst, inl, inr, arith}
+use Rattle.std.proofs.Common.{◌≡◌, ◌<◌, ◌==◌, Bool, true, false, List, Option, Some, None, Contains, length, map, nat_lt, refl, sym, ap, ◌∙◌, subst, inl, inr, arith}
 use Rattle.std.specs.List.{list_all}
 use Rattle.std.proofs.lemmas.Bool.{cases_Bool, and_parts, eqb-true, leb-false, ltb-true}
 use Rattle.std.proofs.lemmas.List.{length-map}
+use Rattle.list_words.proofs.CallerLemmas.{list_all-get_or}
 use Rattle.resp_core.specs.Tree.{Tree}
 use Rattle.resp_core.specs.Command.{is_bulk, is_command, are_words, payload_of, word, IsArrayOf}
 use Rattle.command_table.specs.Names.{one_key_names}
@@ -30,14 +31,9 @@ good_rows : list_all (λ r. takes_one_word r.kind r) rows ≡ true
 unfolding rows one_key_names
 good_rows = refl
 
-passes_at : (p : Row → Bool) (rs : List Row) (k : ℕ) (r : Row) → list_all p rs ≡ true → k < length rs → p (get_or rs k r) ≡ true
-passes_at p [] k r h l = absurd (omega (arith, l))
-passes_at p (x ∷ rs) zero r h l = (and_parts (p x) (list_all p rs) h).0
-passes_at p (x ∷ rs) (suc k) r h l = passes_at p rs k r (and_parts (p x) (list_all p rs) h).1 (omega (arith, l))
-
 quit_row : (r : Row) → Contains rows r → r.kind ≡ Quit → r.least ≡ 1
 quit_row r h e =
-    let good = subst (λ (z : Row). takes_one_word z.kind z ≡ true) h.2 (passes_at (λ z. takes_one_word z.kind z) rows h.0 r good_rows h.1) in
+    let good = subst (λ (z : Row). takes_one_word z.kind z ≡ true) h.2 (list_all-get_or (λ z. takes_one_word z.kind z) rows h.0 r good_rows h.1) in
     eqb-true r.least 1 (subst (λ (z : Kind). takes_one_word z r ≡ true) e good)
 
 last_by : (kind : Kind) (r : Row) (words : Words) → is_last (plan_by kind r words) ≡ is_quit_kind kind

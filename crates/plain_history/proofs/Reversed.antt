@@ -1,9 +1,8 @@
 -- A list of steps, the oldest first, and its history.
-use Rattle.std.proofs.Common.{◌≡◌, ◌+◌, ◌<◌, ◌≤◌, ℕ, Bool, true, false, List, [], ◌∷◌, length, take, get_or, refl, ap, ◌∙◌, inl, inr, arith}
+use Rattle.std.proofs.Common.{◌≡◌, ◌+◌, ◌<◌, ◌≤◌, ℕ, Bool, true, false, List, [], ◌∷◌, length, take, get_or, refl, ap, ◌∙◌}
 use Rattle.std.specs.Prelude.{reverse}
-use Rattle.std.proofs.lemmas.Bool.{cases_Bool}
 use Rattle.std.proofs.lemmas.List.{take_more, take_all, reverse-append, length-reverse, length-take-le}
-use Rattle.proxy_history.specs.History.{History, Step, times}
+use Rattle.proxy_history.specs.History.{Step, times}
 use Rattle.plain_history.specs.Scan.{history_of}
 use Rattle.proxy_history.specs.declared.event.Event.{Event}
 
@@ -20,10 +19,6 @@ times-more is steps i d l e = rw (history_of-more steps i d l, e) refl
 
 pub times-same : (is : Event → Bool) (steps : List Step) (i : ℕ) (d : Step) → i < length steps → is (get_or steps i d).event ≡ false → times is (history_of (take (i + 1) steps)) ≡ times is (history_of (take i steps))
 times-same is steps i d l e = rw (history_of-more steps i d l, e) refl
-
-pub times-few : (is : Event → Bool) (H : History) → times is H ≤ length H
-times-few is [] = omega arith
-times-few is (s ∷ H) = elim (cases_Bool (is s.event)) [ inl e ↦ rw e (omega (arith, times-few is H)) | inr e ↦ rw e (omega (arith, times-few is H)) ]
 
 pub length-history_of : (steps : List Step) (i : ℕ) → i ≤ length steps → length (history_of (take i steps)) ≡ i
 length-history_of steps i l = length-reverse (take i steps) ∙ length-take-le i steps l

@@ -87,8 +87,3 @@ first_of (p ∷ ps) = Some p
 abbrev pub place_in : Part → List Part → Option ℕ
 place_in p [] = None
 place_in p (q ∷ qs) = if is_same p q then Some 0 else option_map (λ k. k + 1) (place_in p qs)
-
--- what there is, as a list
-abbrev pub list_of : {X : Type 0} → Option X → List X
-list_of None = []
-list_of (Some x) = x ∷ []

@@ -4,10 +4,11 @@ use Rattle.std.specs.Prelude.{slice_get}
 use Rattle.std.specs.Option.{option_and_then}
 use Rattle.std.proofs.lemmas.Bool.{false_from_ne_true, ltb-true}
 use Rattle.std.proofs.lemmas.List.{take_more, map-append, length-map, length-take-le, append_assoc}
+use Rattle.list_words.proofs.CallerLemmas.{changed_at-append}
 use Rattle.resp_core.specs.Tree.{Tree}
 use Rattle.splitter.specs.declared.plans.Join.{Join}
 use Rattle.reply_queue.specs.Command.{AwaitedCommand, with_value}
-use Rattle.reply_queue.specs.Queue.{QueueState, IsOpen, changed_at, with_part}
+use Rattle.reply_queue.specs.Queue.{QueueState, IsOpen, with_part}
 use Rattle.proxy_core.specs.declared.place.Place.{Place}
 use Rattle.proxy_core.specs.declared.place.Place.TheVariants.{Waits, NoHost, Busy}
 use Rattle.proxy_core.specs.declared.place.Placed.{Placed}
@@ -22,10 +23,6 @@ slice_get-behind (x ∷ xs) y ys = slice_get-behind xs y ys
 slice_set-behind : {X : Type 0} (xs : List X) (y z : X) (ys : List X) → slice_set (xs ++ y ∷ ys) (length xs) z ≡ xs ++ z ∷ ys
 slice_set-behind [] y z ys = refl
 slice_set-behind (x ∷ xs) y z ys = ap (λ zs. x ∷ zs) (slice_set-behind xs y z ys)
-
-changed_at-behind : {X : Type 0} (change : X → X) (xs : List X) (y : X) (ys : List X) → changed_at change (length xs) (xs ++ y ∷ ys) ≡ xs ++ change y ∷ ys
-changed_at-behind change [] y ys = refl
-changed_at-behind change (x ∷ xs) y ys = ap (λ zs. x ∷ zs) (changed_at-behind change xs y ys)
 
 -- THE NEWEST COMMAND
 
@@ -53,7 +50,7 @@ part_set popped commands how front rest command part v e f =
     let there : (popped + length commands) - popped ≡ length commands = omega arith in
     rw (e, f, there)
     (ap (λ z. record { popped = popped; commands = z })
-    (changed_at-behind (with_value (length front) v) commands (record { how = how; values = front ++ None ∷ rest }) []
+    (changed_at-append (with_value (length front) v) commands (record { how = how; values = front ++ None ∷ rest }) []
     ∙ ap (λ z. commands ++ (record { how = how; values = z }) ∷ []) (slice_set-behind front None (Some v) rest)))
 
 -- and gets what its place gives it

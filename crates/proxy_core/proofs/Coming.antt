@@ -3,6 +3,7 @@ use Rattle.std.proofs.Common.{◌≡◌, ◌⊎◌, ℕ, ◌==◌, ◌&&◌, not
 use Rattle.std.specs.List.{list_any}
 use Rattle.std.proofs.lemmas.Bool.{cases_Bool, not-true, eqb-true, and_parts}
 use Rattle.std.proofs.lemmas.List.{append-nil}
+use Rattle.list_words.proofs.CallerLemmas.{Contains-filter, Contains-filter_passing, filter-passes, list_any-true, list_any-member, list_any-none, list_any-false}
 use Rattle.resp_core.specs.Tree.{Tree}
 use Rattle.splitter.specs.declared.request.Request.{Request}
 use Rattle.proxy_history.specs.Setting.{Setting}
@@ -12,11 +13,10 @@ use Rattle.proxy_history.specs.Past.{past}
 use Rattle.proxy_history.specs.Value.{value_of}
 use Rattle.proxy_history.specs.Legal.{IsLegal}
 use Rattle.proxy_history.specs.Laws.{AreApart}
-use Rattle.proxy_history.proofs.CallerLemmas.{AreApart-filter as apart_filter, Contains-filter as in_filter}
+use Rattle.proxy_history.proofs.CallerLemmas.{AreApart-filter as apart_filter}
 use Rattle.proxy_core.specs.Connections.{connections_of, answered_parts, AreAwaited}
 use Rattle.proxy_core.specs.Pipelines.{owner_of_part, place_of}
 use Rattle.proxy_core.specs.declared.connection.Connection.{Connection}
-use Rattle.proxy_core.proofs.Members.{in_filter_too, filter_passes, any_of, any_from, any_none, none_of_them}
 use Rattle.proxy_core.proofs.PartFacts.{part_in_place, parts_are_numbered, part_is_asked, part_is_opened, not_handed}
 use Rattle.proxy_core.proofs.Valued.{Values, valued, valued_connection, valued_from, connections-valued, same_valued, IsThere}
 use Rattle.proxy_core.proofs.Given.{AreDue, given, given-is, are_awaited, parts-valued}
@@ -52,9 +52,9 @@ are_due : (S : Setting) (H : History) (ps : List Part) → IsLegal S H → HaveN
 are_due S H ps legal n = record {
   apart = apart_filter (has_open H) ps n.apart;
   there = λ p h.
-      let i = in_filter (has_open H) ps p h in
-      is_there S H p legal (n.arrived p i) (not-true (is_closed p.conn H) (filter_passes (has_open H) ps p h)) (n.none p i);
-  none = λ p h. n.none p (in_filter (has_open H) ps p h);
+      let i = Contains-filter (has_open H) ps p h in
+      is_there S H p legal (n.arrived p i) (not-true (is_closed p.conn H) (filter-passes (has_open H) ps p h)) (n.none p i);
+  none = λ p h. n.none p (Contains-filter (has_open H) ps p h);
 }
 
 pub come-awaited : (S : Setting) (H : History) (ps : List Part) (v : Tree) → IsLegal S H → HaveNone S H ps → AreAwaited (map owner_of_part (open_parts H ps)) v (connections_of (past S H))
@@ -75,10 +75,10 @@ any_open H ps q o = by_any (cases_Bool (list_any (is_same q) ps))
   where
     by_any : (list_any (is_same q) ps ≡ true) ⊎ (list_any (is_same q) ps ≡ false) → list_any (is_same q) (open_parts H ps) ≡ list_any (is_same q) ps
     by_any (inl y) =
-        let a = any_of (is_same q) ps y in
+        let a = list_any-true (is_same q) ps y in
         let still : has_open H a.0 ≡ true = ap (λ c. not (is_closed c H)) (sym (same_conn a.0 q a.2)) ∙ ap not o in
-        any_from (is_same q) (open_parts H ps) a.0 (in_filter_too (has_open H) ps a.0 a.1 still) a.2 ∙ sym y
-    by_any (inr n) = any_none (is_same q) (open_parts H ps) (λ p h. none_of_them (is_same q) ps p n (in_filter (has_open H) ps p h)) ∙ sym n
+        list_any-member (is_same q) (open_parts H ps) a.0 (Contains-filter_passing (has_open H) ps a.0 a.1 still) a.2 ∙ sym y
+    by_any (inr n) = list_any-none (is_same q) (open_parts H ps) (λ p h. list_any-false (is_same q) ps p n (Contains-filter (has_open H) ps p h)) ∙ sym n
 
 -- after a step that brings no parts and changes nothing but values
 pub come-connections : (S : Setting) (H : History) (s : Step) (ps : List Part) (v : Tree) → IsLegal S H → HaveNone S H ps

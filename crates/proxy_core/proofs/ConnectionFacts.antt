@@ -6,6 +6,7 @@ use Rattle.std.proofs.lemmas.Bool.{cases_Bool, ltb-true, ltb-false}
 use Rattle.std.proofs.lemmas.List.{length-drop}
 use Rattle.std.proofs.lemmas.List.FromFn.{length-map-range_with_len}
 use Rattle.std.proofs.lemmas.Option.{slice_get_past}
+use Rattle.list_words.proofs.CallerLemmas.{slice_get-table, slice_get-past_range}
 use Rattle.resp_core.specs.Tree.{null_bulk}
 use Rattle.resp_core.specs.Text.{text}
 use Rattle.splitter.specs.declared.request.Request.{Request}
@@ -26,7 +27,6 @@ use Rattle.proxy_core.specs.Connections.{queue_of, connection_of, connections_of
 use Rattle.proxy_core.specs.Kept.{memory_of}
 use Rattle.proxy_core.specs.Machine.{connection_at, own_cause_in, text_in, payload_in}
 use Rattle.proxy_core.specs.declared.connection.Connection.{Connection}
-use Rattle.proxy_core.proofs.Tabled.{slice_get-table, slice_get-past-range}
 use Rattle.proxy_core.proofs.CommandRows.{row, length-row, front_reply-row}
 use Rattle.proxy_core.proofs.Counts.{handed_were_accepted, open_parts}
 
@@ -50,7 +50,7 @@ connection_at-connections_of x c = elim (cases_Bool (nat_lt c (opened x.steps)))
       ap (option_and_then (λ k. k)) (slice_get-table (connection_of x) (opened x.steps) c (ltb-true c (opened x.steps) t))
       ∙ connection_of-by_closed x c (is_closed c x.steps) refl ∙ rw t refl
   | inr f ↦
-      ap (option_and_then (λ k. k)) (slice_get-past-range (connection_of x) 0 (opened x.steps) c (ltb-false c (opened x.steps) f)) ∙ rw f refl
+      ap (option_and_then (λ k. k)) (slice_get-past_range (connection_of x) 0 (opened x.steps) c (ltb-false c (opened x.steps) f)) ∙ rw f refl
 ]
 
 pub connection_at-open : (x : Past) (c : ℕ) → is_open c x.steps ≡ true → connection_at c (connections_of x) ≡ Some (open_connection x c)

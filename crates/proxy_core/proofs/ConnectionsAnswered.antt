@@ -1,6 +1,7 @@
 -- The connections where a host answers.
 use Rattle.std.proofs.Common.{◌≡◌, ℕ, List, [], ◌∷◌, map, None, Contains, refl, sym, ap, ◌∙◌, subst, inl, inr}
 use Rattle.std.proofs.lemmas.Bool.{cases_Bool}
+use Rattle.list_words.proofs.CallerLemmas.{Contains-nil, map-range_same, Contains-first, Contains-cases}
 use Rattle.resp_core.specs.Value.{tree_of}
 use Rattle.resp_core.specs.declared.value.Value.{Value}
 use Rattle.upstream_pipe.specs.declared.part.Owner.{Owner}
@@ -13,11 +14,9 @@ use Rattle.proxy_history.specs.Cause.{own_cause}
 use Rattle.proxy_history.specs.Legal.{IsLegal}
 use Rattle.proxy_history.specs.declared.answer.Answer.{Answer}
 use Rattle.proxy_history.specs.declared.event.Event.TheVariants.{Answered}
-use Rattle.proxy_history.proofs.CallerLemmas.{Contains-nil as none_in_nothing, AreApart-sent as none_twice}
+use Rattle.proxy_history.proofs.CallerLemmas.{AreApart-sent as none_twice}
 use Rattle.proxy_core.specs.Connections.{connections_of, answered_parts, AreAwaited}
 use Rattle.proxy_core.specs.Pipelines.{pipeline_of, place_of, owner_of_part, next_owner}
-use Rattle.proxy_core.proofs.Tabled.{same_range}
-use Rattle.proxy_core.proofs.Members.{first_in, in_cases}
 use Rattle.proxy_core.proofs.ValuesMove.{in_flight, flight_is_unanswered, flight_arrived, unanswered_has_none, oldest_flies, values_answered}
 use Rattle.proxy_core.proofs.Valued.{connections-valued}
 use Rattle.proxy_core.proofs.Coming.{HaveNone, open_parts, come-awaited, come-connections, nothing-new}
@@ -31,9 +30,9 @@ module _ (S : Setting) (H : History) (host e t : ℕ) (value : Value) (legal : I
   oldest = oldest_flies S H host e t value none
 
   flies : (p : Part) → Contains (oldest.0 ∷ []) p → Contains (in_flight host (past S H)) p
-  flies p i = elim (in_cases oldest.0 [] p i) [
-    | inl one ↦ subst (λ (z : Part). Contains (in_flight host (past S H)) z) one (subst (λ (z : List Part). Contains z oldest.0) (sym oldest.2) (first_in oldest.0 oldest.1))
-    | inr more ↦ absurd (none_in_nothing p more)
+  flies p i = elim (Contains-cases oldest.0 [] p i) [
+    | inl one ↦ subst (λ (z : Part). Contains (in_flight host (past S H)) z) one (subst (λ (z : List Part). Contains z oldest.0) (sym oldest.2) (Contains-first oldest.0 oldest.1))
+    | inr more ↦ absurd (Contains-nil p more)
   ]
 
   none_yet : HaveNone S H (oldest.0 ∷ [])
@@ -60,6 +59,6 @@ connections-answered S H pass host e t value answer legal none =
     let x' = past S (record { pass = pass; event = Answered host e value t; answer = answer } ∷ H) in
     let o = oldest S H host e t value legal none in
     come-connections S H (record { pass = pass; event = Answered host e value t; answer = answer }) (o.0 ∷ []) (tree_of value) legal (none_yet S H host e t value legal none)
-    (connections-valued x' ∙ same_range _ _ 0 (opened H) (λ c l m. nothing-new (value_of x') (past S H).parts H c))
+    (connections-valued x' ∙ map-range_same _ _ 0 (opened H) (λ c l m. nothing-new (value_of x') (past S H).parts H c))
     (λ q i o'. values_answered S H pass host e t value answer none o.0 o.1 o.2 q i)
     ∙ ap (λ (z : List Owner). answered_parts z (tree_of value) (connections_of (past S H))) (sym (next_owner_is S H host e t value legal none))

@@ -2,6 +2,7 @@
 use Rattle.std.proofs.Common.{◌≡◌, ℕ, zero, suc, ◌+◌, ◌≤◌, Bool, true, false, ◌==◌, ◌||◌, List, [], ◌∷◌, ◌++◌, length, map, drop, refl, sym, ap, ◌∙◌, inl, inr, arith}
 use Rattle.std.specs.Prelude.{option_map}
 use Rattle.std.proofs.lemmas.Bool.{cases_Bool, and_left, eq-eqb}
+use Rattle.list_words.proofs.CallerLemmas.{changed_at-table}
 use Rattle.splitter.specs.Plan.{Plan, here, leave, parts, is_last}
 use Rattle.splitter.specs.Join.{MayJoin}
 use Rattle.splitter.specs.declared.plans.Join.{Join}
@@ -18,7 +19,6 @@ use Rattle.proxy_history.specs.declared.answer.Answer.{Answer}
 use Rattle.proxy_history.specs.declared.event.Event.TheVariants.{Arrived}
 use Rattle.proxy_history.proofs.CallerLemmas.{length-requests, length-placing, MayJoin-plan_for as plan_may_join}
 use Rattle.proxy_core.specs.Connections.{awaited_by, awaited_from, connection_of, connections_of, with_connection, accepting, arrived_command}
-use Rattle.proxy_core.proofs.Tabled.{changed-table}
 use Rattle.proxy_core.proofs.CommandRows.{IsQuiet, row, length-row, awaited_from-more, quiet_before, quiet_value, same_values}
 use Rattle.proxy_core.proofs.Counts.{handed_were_accepted}
 use Rattle.proxy_core.proofs.ConnectionsMove.{aside, differs}
@@ -88,7 +88,7 @@ connections-arrived S H pass conn request answer legal =
     let x = past S H in
     let s : Step = record { pass = pass; event = Arrived conn request; answer = answer } in
     let change = accepting (arrived_command (plan_for request) (parts_by S x (Arrived conn request))) (is_last (plan_for request)) in
-    sym (changed-table (connection_of x) (connection_of (after S s x)) (option_map change) (opened H) conn (λ l. arrived_at S H s conn request legal refl)
+    sym (changed_at-table (connection_of x) (connection_of (after S s x)) (option_map change) (opened H) conn (λ l. arrived_at S H s conn request legal refl)
     (λ j l q. let d = differs j conn q in
     sym (aside S x s j (quiet-arrived x conn request) (record { no_request = rw d refl; no_handing = refl; no_closing = refl; no_finish = and_left (conn == j) (is_last (plan_for request)) d }))))
 

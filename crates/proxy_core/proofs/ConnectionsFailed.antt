@@ -2,6 +2,7 @@
 use Rattle.std.proofs.Common.{◌≡◌, ℕ, false, List, [], ◌∷◌, ◌++◌, map, Contains, refl, sym, ap, ◌∙◌, subst}
 use Rattle.std.proofs.lemmas.List.{map-append}
 use Rattle.std.proofs.lemmas.List.Elements.{filter-append}
+use Rattle.list_words.proofs.CallerLemmas.{map-range_same, filter-passes, Contains-first, Contains-later}
 use Rattle.upstream_pipe.specs.declared.part.Owner.{Owner}
 use Rattle.upstream_pipe.specs.Pipe.{owner_in}
 use Rattle.proxy_history.specs.Setting.{Setting}
@@ -17,8 +18,6 @@ use Rattle.proxy_history.specs.declared.event.Event.TheVariants.{Failed}
 use Rattle.proxy_history.proofs.CallerLemmas.{AreApart-sent as none_twice, waits-true as waits_parts, AreInOrder-parts as parts_are_in_order}
 use Rattle.proxy_core.specs.Connections.{connections_of, answered_parts, AreAwaited}
 use Rattle.proxy_core.specs.Pipelines.{pipeline_of, piped, owner_of_part, lost_owners}
-use Rattle.proxy_core.proofs.Tabled.{same_range}
-use Rattle.proxy_core.proofs.Members.{filter_passes, first_in, later_in}
 use Rattle.proxy_core.proofs.ValuesMove.{in_flight, at_host, at_host_is_unanswered, at_host_arrived, at_host_apart, unanswered_has_none, values_failed}
 use Rattle.proxy_core.proofs.Valued.{connections-valued}
 use Rattle.proxy_core.proofs.Coming.{HaveNone, has_open, open_parts, open_owners, come-awaited, come-connections, nothing-new}
@@ -30,10 +29,10 @@ waiting_owners (p ∷ ps) = ap (λ z. owner_of_part p ∷ z) (waiting_owners ps)
 
 all_open : (H : History) (ps : List Part) → ((p : Part) → Contains ps p → is_closed p.conn H ≡ false) → open_parts H ps ≡ ps
 all_open H [] f = refl
-all_open H (p ∷ ps) f = rw (f p (first_in p ps)) (ap (λ z. p ∷ z) (all_open H ps (λ q h. f q (later_in p ps q h))))
+all_open H (p ∷ ps) f = rw (f p (Contains-first p ps)) (ap (λ z. p ∷ z) (all_open H ps (λ q h. f q (Contains-later p ps q h))))
 
 waiting_are_open : (h : ℕ) (x : Past) → open_parts x.steps (waiting h x) ≡ waiting h x
-waiting_are_open h x = all_open x.steps (waiting h x) (λ p i. (waits_parts h x p (filter_passes (waits h x) x.parts p i)).2)
+waiting_are_open h x = all_open x.steps (waiting h x) (λ p i. (waits_parts h x p (filter-passes (waits h x) x.parts p i)).2)
 
 -- those that a fault loses: the owners of what flew and of what waited, of open connections
 lost_is : (x : Past) (h : ℕ) → lost_owners (pipeline_of x h) ≡ map owner_of_part (open_parts x.steps (at_host h x))
@@ -66,6 +65,6 @@ pub connections-failed : (S : Setting) (H : History) (pass host e t : ℕ) (kind
 connections-failed S H pass host e t kind answer legal =
     let x' = past S (record { pass = pass; event = Failed host e kind t; answer = answer } ∷ H) in
     come-connections S H (record { pass = pass; event = Failed host e kind t; answer = answer }) (at_host host (past S H)) upstream_failure legal (none_yet S H host)
-    (connections-valued x' ∙ same_range _ _ 0 (opened H) (λ c l m. nothing-new (value_of x') (past S H).parts H c))
+    (connections-valued x' ∙ map-range_same _ _ 0 (opened H) (λ c l m. nothing-new (value_of x') (past S H).parts H c))
     (λ q i o. values_failed S H pass host e t kind answer q i o)
     ∙ ap (λ (z : List Owner). answered_parts z upstream_failure (connections_of (past S H))) (sym (lost_is (past S H) host))

@@ -4,6 +4,7 @@ use Rattle.std.specs.Prelude.{option_map}
 use Rattle.std.proofs.Math.Seq.{drop-nil}
 use Rattle.std.proofs.lemmas.Bool.{cases_Bool, ne_eqb, eq-eqb}
 use Rattle.std.proofs.lemmas.List.FromFn.{map-range_with_len_more}
+use Rattle.list_words.proofs.CallerLemmas.{map-range_same, changed_at-table}
 use Rattle.proxy_history.specs.Setting.{Setting}
 use Rattle.proxy_history.specs.History.{History, Step, opened, handed, is_closed, is_handing, is_closing, finishes, request_by}
 use Rattle.proxy_history.specs.Part.{Past}
@@ -13,7 +14,6 @@ use Rattle.proxy_history.specs.declared.answer.Answer.{Answer}
 use Rattle.proxy_history.specs.declared.event.Event.{Event}
 use Rattle.proxy_history.specs.declared.event.Event.TheVariants.{Opened, Finished, Handed, Closed}
 use Rattle.proxy_core.specs.Connections.{connection_of, connections_of, fresh_connection, with_connection, finished, handing, closing}
-use Rattle.proxy_core.proofs.Tabled.{same_range, changed-table}
 use Rattle.proxy_core.proofs.CommandRows.{IsQuiet, row, quiet_row}
 use Rattle.proxy_core.proofs.Counts.{IsUnused, unused, no_requests}
 
@@ -66,7 +66,7 @@ connections-opened S H pass answer legal =
     map-range_with_len_more (connection_of (after S s x)) 0 n n (omega arith)
     ∙ rw (
       fresh_at S x s n refl (unused S H n legal (omega arith)),
-      same_range (connection_of (after S s x)) (connection_of x) 0 n (λ j l m. aside S x s j (quiet-opened x) (aside-opened j)),
+      map-range_same (connection_of (after S s x)) (connection_of x) 0 n (λ j l m. aside S x s j (quiet-opened x) (aside-opened j)),
     ) refl
 
 -- FINISHED
@@ -84,7 +84,7 @@ pub connections-finished : (S : Setting) (H : History) (pass conn : ℕ) (answer
 connections-finished S H pass conn answer =
     let x = past S H in
     let s : Step = record { pass = pass; event = Finished conn; answer = answer } in
-    sym (changed-table (connection_of x) (connection_of (after S s x)) (option_map finished) (opened H) conn (λ l. finished_at S x s conn refl)
+    sym (changed_at-table (connection_of x) (connection_of (after S s x)) (option_map finished) (opened H) conn (λ l. finished_at S x s conn refl)
     (λ j l q. sym (aside S x s j (quiet-finished x conn) (record { no_request = refl; no_handing = refl; no_closing = refl; no_finish = differs j conn q }))))
 
 -- HANDED
@@ -107,7 +107,7 @@ pub connections-handed : (S : Setting) (H : History) (pass conn : ℕ) (answer :
 connections-handed S H pass conn answer =
     let x = past S H in
     let s : Step = record { pass = pass; event = Handed conn; answer = answer } in
-    sym (changed-table (connection_of x) (connection_of (after S s x)) (option_map handing) (opened H) conn (λ l. handed_at S x s conn refl)
+    sym (changed_at-table (connection_of x) (connection_of (after S s x)) (option_map handing) (opened H) conn (λ l. handed_at S x s conn refl)
     (λ j l q. sym (aside S x s j (quiet-handed x conn) (record { no_request = refl; no_handing = differs j conn q; no_closing = refl; no_finish = refl }))))
 
 -- CLOSED
@@ -120,5 +120,5 @@ pub connections-closed : (S : Setting) (H : History) (pass conn : ℕ) (answer :
 connections-closed S H pass conn answer =
     let x = past S H in
     let s : Step = record { pass = pass; event = Closed conn; answer = answer } in
-    sym (changed-table (connection_of x) (connection_of (after S s x)) (λ k. None) (opened H) conn (λ l. closed_at S x s conn refl)
+    sym (changed_at-table (connection_of x) (connection_of (after S s x)) (λ k. None) (opened H) conn (λ l. closed_at S x s conn refl)
     (λ j l q. sym (aside S x s j (quiet-closed x conn) (record { no_request = refl; no_handing = refl; no_closing = differs j conn q; no_finish = refl }))))

@@ -3,6 +3,7 @@ use Rattle.std.proofs.Common.{◌≡◌, ℕ, ◌≤◌, nat_lt, List, [], ◌�
 use Rattle.std.specs.Prelude.{option_map}
 use Rattle.std.specs.List.{find, zip, range_with_len}
 use Rattle.std.proofs.lemmas.List.{append-nil}
+use Rattle.list_words.proofs.CallerLemmas.{map-same}
 use Rattle.resp_core.specs.Tree.{Tree}
 use Rattle.proxy_history.specs.Setting.{Setting}
 use Rattle.proxy_history.specs.History.{History, Step, opened, epoch}
@@ -14,12 +15,10 @@ use Rattle.proxy_history.specs.Value.{reply_to, or_lost, value_at, value_or, val
 use Rattle.proxy_history.specs.Legal.{IsLegal}
 use Rattle.proxy_history.specs.declared.answer.Answer.{Answer}
 use Rattle.proxy_history.specs.declared.event.Event.TheVariants.{Taken, Swept}
-use Rattle.proxy_history.proofs.CallerLemmas.{length-came as replies_were_asked}
+use Rattle.proxy_history.proofs.CallerLemmas.{sent_to-after, length-came as replies_were_asked}
 use Rattle.proxy_core.specs.Connections.{connection_of, connections_of}
-use Rattle.proxy_core.proofs.Tabled.{same_map}
 use Rattle.proxy_core.proofs.CommandRows.{IsQuiet, steady_row}
 use Rattle.proxy_core.proofs.ConnectionsMove.{aside}
-use Rattle.proxy_core.proofs.PipelineStays.{sent_to_later}
 
 -- SWEPT
 
@@ -31,7 +30,7 @@ pub connections-swept : (S : Setting) (H : History) (pass t : ℕ) (answer : Ans
 connections-swept S H pass t answer =
     let x = past S H in
     let s : Step = record { pass = pass; event = Swept t; answer = answer } in
-    same_map (connection_of (after S s x)) (connection_of x) (range_with_len 0 (opened H))
+    map-same (connection_of (after S s x)) (connection_of x) (range_with_len 0 (opened H))
     (λ c. aside S x s c (quiet-swept x t) (record { no_request = refl; no_handing = refl; no_closing = refl; no_finish = refl }))
 
 -- TAKEN
@@ -53,7 +52,7 @@ taken_reply S H pass host answer h p legal =
     let e = p.epoch in
     let sent = sent_to h e x in
     let found : List (Part × Tree) → Option Tree = λ z. option_map (λ r. r.1) (find (λ r. is_same p r.0) z) in
-    ap (λ z. found (zip z (came h e (s ∷ H)))) (sent_to_later S x s h e)
+    ap (λ z. found (zip z (came h e (s ∷ H)))) (sent_to-after S x s h e)
     ∙ ap (λ z. found (zip (sent ++ filter (is_of h e) (sent_by x s.event)) z)) (append-nil (came h e H))
     ∙ ap found (zip-more sent (filter (is_of h e) (sent_by x s.event)) (came h e H) (replies_were_asked S H h e legal))
 
@@ -72,5 +71,5 @@ pub connections-taken : (S : Setting) (H : History) (pass host : ℕ) (answer : 
 connections-taken S H pass host answer legal =
     let x = past S H in
     let s : Step = record { pass = pass; event = Taken host; answer = answer } in
-    same_map (connection_of (after S s x)) (connection_of x) (range_with_len 0 (opened H))
+    map-same (connection_of (after S s x)) (connection_of x) (range_with_len 0 (opened H))
     (λ c. rw (steady_row S x s c (λ p. taken_value S H pass host answer p legal) refl) refl)

@@ -13,7 +13,7 @@ use Rattle.std.specs.Prelude.{is_some}
 use Rattle.proxy_history.specs.Legal.{IsLegal}
 use Rattle.proxy_history.specs.declared.event.Event.{Event}
 use Rattle.proxy_history.specs.declared.event.Event.TheVariants.{Opened, Arrived, Finished, Taken, Answered, Failed, Swept, Handed, Closed}
-use Rattle.proxy_history.proofs.CallerLemmas.{first_true-none as are_false, times-cons as times_grows, length-requests}
+use Rattle.proxy_history.proofs.CallerLemmas.{first_true-none as are_false, times-cons as times_grows, times-length, length-requests}
 
 -- OPEN CONNECTIONS
 
@@ -126,15 +126,8 @@ handed_were_accepted S (s ∷ H) c legal =
 
 -- COUNTS AND THE LENGTH OF A HISTORY
 
-pub times-at_most : (is : Event → Bool) (H : History) → times is H ≤ length H
-times-at_most is [] = omega arith
-times-at_most is (s ∷ H) = elim (cases_Bool (is s.event)) [
-  | inl t ↦ rw t (omega (arith, times-at_most is H))
-  | inr f ↦ rw f (omega (arith, times-at_most is H))
-]
-
 pub accepted-at_most : (c : ℕ) (H : History) → accepted c H ≤ length H
-accepted-at_most c H = times-at_most (is_arrival c) H
+accepted-at_most c H = times-length (is_arrival c) H
 
 pub handed-at_most : (c : ℕ) (H : History) → handed c H ≤ length H
-handed-at_most c H = times-at_most (is_handing c) H
+handed-at_most c H = times-length (is_handing c) H

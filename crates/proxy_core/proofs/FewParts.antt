@@ -1,8 +1,7 @@
 -- A command has no more parts than its request has bytes.
-use Rattle.std.proofs.Common.{◌≡◌, ℕ, ◌+◌, ◌≤◌, List, [], ◌∷◌, length, map, drop, codes, decimal, Option, Some, None, ap, inl, inr, arith}
+use Rattle.std.proofs.Common.{◌≡◌, ◌+◌, ◌≤◌, List, length, map, decimal, Option, Some, None, ap, inl, inr, arith}
 use Rattle.std.proofs.lemmas.Bool.{cases_Bool}
-use Rattle.std.proofs.lemmas.List.{length-append, length-map, length-drop}
-use Rattle.std.specs.Str.{str_to_ascii_uppercase}
+use Rattle.std.proofs.lemmas.List.{length-append, length-map}
 use Rattle.resp_core.specs.Tree.{Tree, Trees, simple, fault, whole, bulk, null_bulk, list, null_list, no_trees, tree, members}
 use Rattle.resp_core.specs.Text.{text, texts, line}
 use Rattle.resp_core.specs.Value.{tree_of}
@@ -14,8 +13,9 @@ use Rattle.splitter.specs.declared.plans.Join.{Join}
 use Rattle.splitter.specs.declared.plans.PartPlan.{PartPlan}
 use Rattle.splitter.specs.declared.request.Request.{Request}
 use Rattle.splitter.specs.declared.request.Request.TheVariants as requests
-use Rattle.splitter.specs.Split.{Words, pairs, split, split_by, part_at}
+use Rattle.splitter.specs.Split.{Words, split, part_at}
 use Rattle.splitter.specs.Plan.{parts, plan_by, plan_by_row, takes}
+use Rattle.splitter.proofs.CallerLemmas.{length-split_by}
 use Rattle.proxy_history.specs.History.{plan_for}
 use Rattle.proxy_history.specs.Payload.{length_of_request}
 
@@ -46,22 +46,8 @@ few_words (list ts) =
 
 -- AND A COMMAND NO MORE PARTS THAN ONE PAST ITS WORDS
 
-few_pairs : (words : Words) → length (pairs words) ≤ length words
-few_pairs [] = omega arith
-few_pairs (key ∷ []) = omega arith
-few_pairs (key ∷ value ∷ words) = omega (arith, few_pairs words)
-
-few_split : (kind : Kind) (name : List ℕ) (words : Words) → length (split_by kind name words) ≤ length words + 1
-few_split Ping name words = omega arith
-few_split Echo name words = omega arith
-few_split Quit name words = omega arith
-few_split One name words = omega arith
-few_split SplitGet name words = omega (arith, length-map (drop 1 words) (λ key. codes "GET" ∷ key ∷ []), length-drop 1 words)
-few_split SplitSet name words = omega (arith, length-map (pairs (drop 1 words)) (λ (pair : List ℕ × List ℕ). codes "SET" ∷ pair.0 ∷ pair.1 ∷ []), few_pairs (drop 1 words), length-drop 1 words)
-few_split SplitSum name words = omega (arith, length-map (drop 1 words) (λ key. str_to_ascii_uppercase name ∷ key ∷ []), length-drop 1 words)
-
 few_by_parts : (r : Row) (words : Words) (plans : List PartPlan) → map (part_at r.key_at) (split r words) ≡ plans → length plans ≤ length words + 1
-few_by_parts r words plans e = omega (arith, ap length e, length-map (split r words) (part_at r.key_at), few_split r.kind r.name words)
+few_by_parts r words plans e = omega (arith, ap length e, length-map (split r words) (part_at r.key_at), length-split_by r.kind r.name words)
 
 few_by : (kind : Kind) (r : Row) (words : Words) (how : Join) (plans : List PartPlan) → plan_by kind r words ≡ parts how plans → length plans ≤ length words + 1
 few_by Ping r words how plans e = absurd (cc e)

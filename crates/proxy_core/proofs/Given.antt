@@ -3,6 +3,7 @@ use Rattle.std.proofs.Common.{◌≡◌, ℕ, zero, suc, ◌+◌, ◌-◌, ◌�
 use Rattle.std.specs.List.{list_any}
 use Rattle.std.proofs.lemmas.Bool.{le-ltb}
 use Rattle.std.proofs.lemmas.Option.{slice_get-map}
+use Rattle.list_words.proofs.CallerLemmas.{slice_get-table, Contains-first, Contains-later, list_any-false}
 use Rattle.resp_core.specs.Tree.{Tree}
 use Rattle.splitter.specs.Plan.{Plan}
 use Rattle.splitter.specs.declared.request.Request.{Request}
@@ -15,8 +16,6 @@ use Rattle.proxy_history.proofs.CallerLemmas.{is_same-sym_false as is_other_sym}
 use Rattle.proxy_core.specs.Connections.{answered_parts, IsAwaited, AreAwaited}
 use Rattle.proxy_core.specs.Pipelines.{owner_of_part}
 use Rattle.proxy_core.specs.declared.connection.Connection.{Connection}
-use Rattle.proxy_core.proofs.Tabled.{slice_get-table}
-use Rattle.proxy_core.proofs.Members.{first_in, later_in, none_of_them}
 use Rattle.proxy_core.proofs.Valued.{Values, valued, valued_connection, valued_queue, valued_from, valued_by, own_parts, having, having-other, IsThere, part-valued}
 
 -- WHO HAS NO VALUE IS AWAITED
@@ -89,20 +88,20 @@ pub record AreDue (f : Values) (ps : List Part) (H : History) (due : List Part) 
 others_due : (f : Values) (ps : List Part) (H : History) (p : Part) (due : List Part) (v : Tree) → AreDue f ps H (p ∷ due) → AreDue (having p v f) ps H due
 others_due f ps H p due v d = record {
   apart = d.apart.1;
-  there = λ q h. d.there q (later_in p due q h);
-  none = λ q h. having-other p v f q (is_other_sym p q (none_of_them (is_same p) due q d.apart.0 h)) ∙ d.none q (later_in p due q h);
+  there = λ q h. d.there q (Contains-later p due q h);
+  none = λ q h. having-other p v f q (is_other_sym p q (list_any-false (is_same p) due q d.apart.0 h)) ∙ d.none q (Contains-later p due q h);
 }
 
 pub are_awaited : (f : Values) (ps : List Part) (H : History) (due : List Part) (v : Tree) → AreDue f ps H due → AreAwaited (map owner_of_part due) v (valued f ps H)
 are_awaited f ps H [] v d = tt
 are_awaited f ps H (p ∷ due) v d = (
-  is_awaited f ps H p (d.there p (first_in p due)) (d.none p (first_in p due)),
-  subst (λ (z : List (Option Connection)). AreAwaited (map owner_of_part due) v z) (sym (part-valued f ps H p v (d.there p (first_in p due))))
+  is_awaited f ps H p (d.there p (Contains-first p due)) (d.none p (Contains-first p due)),
+  subst (λ (z : List (Option Connection)). AreAwaited (map owner_of_part due) v z) (sym (part-valued f ps H p v (d.there p (Contains-first p due))))
       (are_awaited (having p v f) ps H due v (others_due f ps H p due v d)),
 )
 
 pub parts-valued : (f : Values) (ps : List Part) (H : History) (due : List Part) (v : Tree) → AreDue f ps H due → answered_parts (map owner_of_part due) v (valued f ps H) ≡ valued (given due v f) ps H
 parts-valued f ps H [] v d = refl
 parts-valued f ps H (p ∷ due) v d =
-    ap (answered_parts (map owner_of_part due) v) (part-valued f ps H p v (d.there p (first_in p due)))
+    ap (answered_parts (map owner_of_part due) v) (part-valued f ps H p v (d.there p (Contains-first p due)))
     ∙ parts-valued (having p v f) ps H due v (others_due f ps H p due v d)

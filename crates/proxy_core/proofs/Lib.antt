@@ -1,5 +1,3 @@
-pub mod Tabled
-pub mod Changed
 pub mod CommandRows
 pub mod Counts
 pub mod ConnectionFacts

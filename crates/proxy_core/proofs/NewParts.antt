@@ -4,6 +4,7 @@ use Rattle.std.specs.Prelude.{option_map}
 use Rattle.std.specs.List.{find, zip, list_any}
 use Rattle.std.proofs.lemmas.Bool.{cases_Bool, and_left, and_parts, or_parts, or_from, eqb-true, ltb-true, false_from_ne_true}
 use Rattle.std.proofs.lemmas.List.Elements.{filter-append}
+use Rattle.list_words.proofs.CallerLemmas.{list_any-filter}
 use Rattle.resp_core.specs.Tree.{Tree}
 use Rattle.splitter.specs.declared.plans.PartPlan.{PartPlan}
 use Rattle.proxy_history.specs.Setting.{Setting}
@@ -17,7 +18,7 @@ use Rattle.proxy_history.specs.Value.{reply_to, value_at, value_of, value_or}
 use Rattle.proxy_history.specs.Outcome.{parts_of, is_part_of}
 use Rattle.proxy_history.specs.declared.event.Event.{Event}
 use Rattle.proxy_history.specs.declared.event.Event.TheVariants.{Opened, Arrived, Finished, Taken, Answered, Failed, Swept, Handed, Closed}
-use Rattle.proxy_history.proofs.CallerLemmas.{AreOf, AreEarlier, AreEarlier-cons as earlier_grows, AreEarlier-append as earlier_both, AreInOrder-parts as parts_are_in_order, list_any-filter as any_less, filter-AreOf as all_of, AreOf-placing_first as are_placed, parts_of-not_yet as not_yet}
+use Rattle.proxy_history.proofs.CallerLemmas.{AreOf, AreEarlier, AreEarlier-cons as earlier_grows, AreEarlier-append as earlier_both, AreInOrder-parts as parts_are_in_order, filter-AreOf as all_of, AreOf-placing_first as are_placed, parts_of-not_yet as not_yet}
 
 -- WHAT WAS SENT IS OF COMMANDS THAT HAD ARRIVED
 
@@ -96,7 +97,7 @@ find_none p (q ∷ ps) (t ∷ ts) e =
     rw a.0 (find_none p ps ts a.1)
 
 no_reply : (x : Past) (h : ℕ) (p : Part) → list_any (is_same p) x.sent ≡ false → reply_to p h x ≡ None
-no_reply x h p e = ap (option_map (λ r. r.1)) (find_none p (sent_to h p.epoch x) (came h p.epoch x.steps) (any_less (is_same p) (is_of h p.epoch) x.sent e))
+no_reply x h p e = ap (option_map (λ r. r.1)) (find_none p (sent_to h p.epoch x) (came h p.epoch x.steps) (list_any-filter (is_same p) (is_of h p.epoch) x.sent e))
 
 no_value : (x : Past) (p : Part) (o : Option ℕ) → list_any (is_same p) x.sent ≡ false → ((h : ℕ) → o ≡ Some h → p.epoch ≡ epoch h x.steps) → value_at x p o ≡ None
 no_value x p None e now = refl

@@ -2,6 +2,7 @@
 use Rattle.std.proofs.Common.{◌≡◌, ℕ, zero, suc, ◌+◌, ◌<◌, ◌≤◌, ◌==◌, ◌&&◌, nat_lt, true, false, List, [], ◌∷◌, ◌++◌, length, filter, Option, Some, None, is_some, Contains, slice_get, option_and_then, option_map, refl, sym, ap, ◌∙◌, subst, inl, inr, arith}
 use Rattle.std.proofs.lemmas.Bool.{cases_Bool, cases_lt, ltb-true, and_parts, and_from, eq-eqb, eqb-true, not-false}
 use Rattle.std.proofs.lemmas.List.Elements.{filter-append}
+use Rattle.list_words.proofs.CallerLemmas.{slice_get-append, Contains-nil, Contains-cases, Contains-filter_passing, slice_get-member}
 use Rattle.resp_core.specs.Tree.{Tree}
 use Rattle.splitter.specs.Plan.{Plan, here, leave, parts}
 use Rattle.splitter.specs.Join.{join_of}
@@ -19,8 +20,7 @@ use Rattle.proxy_history.specs.Outcome.{parts_of, is_part_of, values_of, with_va
 use Rattle.proxy_history.specs.Legal.{IsLegal}
 use Rattle.proxy_history.specs.declared.event.Event.{Event}
 use Rattle.proxy_history.specs.declared.event.Event.TheVariants.{Opened, Arrived, Finished, Taken, Answered, Failed, Swept, Handed, Closed}
-use Rattle.proxy_history.proofs.CallerLemmas.{slice_get-append as slice_get_stays, times-cons as times_grows, first_true-none as are_false, AreOf, length-requests, AreOf-placing as placing_are_of, parts_of-after as parts_stay, number-with_host as host_keeps_number, Contains-nil as none_in_nothing, HasArrived-parts as parts_have_arrived, IsLegal-append as beginning, filter-AreOf_other as none_of, filter-AreOf as all_of, parts_of-not_yet as not_yet, transcript-first_outcomes as in_order}
-use Rattle.proxy_core.proofs.Members.{in_cases, in_filter_too, place_of_member}
+use Rattle.proxy_history.proofs.CallerLemmas.{times-cons as times_grows, first_true-none as are_false, AreOf, length-requests, AreOf-placing as placing_are_of, parts_of-after as parts_stay, number-with_host as host_keeps_number, HasArrived-parts as parts_have_arrived, IsLegal-append as beginning, filter-AreOf_other as none_of, filter-AreOf as all_of, parts_of-not_yet as not_yet, transcript-first_outcomes as in_order}
 
 -- NUMBERS ARE PLACES
 
@@ -88,12 +88,12 @@ number_in n (q ∷ ps) zero p a e = let is : q ≡ p = cc in omega (arith, a.0, 
 number_in n (q ∷ ps) (suc k) p a e = omega (arith, number_in (n + 1) ps k p a.1 e)
 
 pub in_own_parts : (x : Past) (p : Part) → Contains x.parts p → Contains (parts_of p.conn p.command x) p
-in_own_parts x p h = in_filter_too (is_part_of p.conn p.command) x.parts p h (and_from _ _ (eq-eqb p.conn p.conn refl) (eq-eqb p.command p.command refl))
+in_own_parts x p h = Contains-filter_passing (is_part_of p.conn p.command) x.parts p h (and_from _ _ (eq-eqb p.conn p.conn refl) (eq-eqb p.command p.command refl))
 
 pub part_in_place : (S : Setting) (H : History) (p : Part) → Contains (past S H).parts p → slice_get (parts_of p.conn p.command (past S H)) p.number ≡ Some p
 part_in_place S H p h =
     let ps = parts_of p.conn p.command (past S H) in
-    let a = place_of_member ps p (in_own_parts (past S H) p h) in
+    let a = slice_get-member ps p (in_own_parts (past S H) p h) in
     let n : 0 + a.0 ≡ p.number = number_in 0 ps a.0 p (parts_are_numbered S H p.conn p.command) a.1 in
     subst (λ (z : ℕ). slice_get ps z ≡ Some p) (omega (arith, n)) a.1
 
@@ -114,7 +114,7 @@ at_end (x ∷ xs) y (suc k) e = at_end xs y k (omega (arith, e))
 
 request_stays : (c i : ℕ) (later before : History) (r : Request) → slice_get (requests c before) i ≡ Some r → slice_get (requests c (later ++ before)) i ≡ Some r
 request_stays c i [] before r e = e
-request_stays c i (s ∷ later) before r e = slice_get_stays (requests c (later ++ before)) (request_by c s.event) i r (request_stays c i later before r e)
+request_stays c i (s ∷ later) before r e = slice_get-append (requests c (later ++ before)) (request_by c s.event) i r (request_stays c i later before r e)
 
 request_now : (c i : ℕ) (s : Step) (before : History) (r : Request) → s.event ≡ Arrived c r → i ≡ accepted c before → slice_get (requests c (s ∷ before)) i ≡ Some r
 request_now c i s before r e l =
@@ -164,8 +164,8 @@ with_none None = refl
 with_none (Some v) = refl
 
 missing : (x : Past) (ps : List Part) (p : Part) → Contains ps p → value_of x p ≡ None → values_of x ps ≡ None
-missing x [] p h e = absurd (none_in_nothing p h)
-missing x (q ∷ ps) p h e = elim (in_cases q ps p h) [
+missing x [] p h e = absurd (Contains-nil p h)
+missing x (q ∷ ps) p h e = elim (Contains-cases q ps p h) [
   | inl one ↦ ap (λ (z : Option Tree). with_value z (values_of x ps)) (ap (value_of x) one ∙ e)
   | inr more ↦ ap (λ (z : Option (List Tree)). with_value (value_of x q) z) (missing x ps p more e) ∙ with_none (value_of x q)
 ]

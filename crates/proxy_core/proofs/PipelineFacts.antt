@@ -4,6 +4,7 @@ use Rattle.std.specs.Option.{unwrap_or}
 use Rattle.std.proofs.lemmas.Bool.{cases_Bool, leb-false}
 use Rattle.std.proofs.lemmas.List.{length-map, length-drop, length-append}
 use Rattle.std.proofs.lemmas.List.FromFn.{length-map-range_with_len}
+use Rattle.list_words.proofs.CallerLemmas.{slice_get-table}
 use Rattle.resp_core.specs.declared.value.Value.{Value}
 use Rattle.splitter.specs.declared.request.Request.{Request}
 use Rattle.proxy_history.specs.Setting.{Setting, hosts}
@@ -19,11 +20,10 @@ use Rattle.proxy_history.specs.Payload.{payload_of}
 use Rattle.proxy_history.specs.declared.event.Kind.{Kind}
 use Rattle.proxy_history.specs.declared.event.Event.{Event}
 use Rattle.proxy_history.specs.declared.event.Event.TheVariants.{Opened, Arrived, Finished, Taken, Answered, Failed, Swept, Handed, Closed}
+use Rattle.proxy_history.proofs.CallerLemmas.{times-length}
 use Rattle.proxy_core.specs.Pipelines.{piped, place_of, pipeline_of, pipelines_of}
 use Rattle.proxy_core.specs.Kept.{memory_of}
 use Rattle.proxy_core.specs.Machine.{no_pipeline, pipeline_at, own_cause_in, text_of_oldest, payload_in}
-use Rattle.proxy_core.proofs.Tabled.{slice_get-table}
-use Rattle.proxy_core.proofs.Counts.{times-at_most}
 
 -- THE PIPELINE OF A HOST
 
@@ -112,10 +112,10 @@ pub sent_to-at_most : (S : Setting) (H : History) (h e : ℕ) → length (sent_t
 sent_to-at_most S H h e = omega (arith, length_of_filter (is_of h e) (past S H).sent, sent-at_most S H)
 
 pub epoch-at_most : (h : ℕ) (H : History) → epoch h H ≤ length H
-epoch-at_most h H = times-at_most (is_fault h) H
+epoch-at_most h H = times-length (is_fault h) H
 
 pub opened-at_most : (H : History) → opened H ≤ length H
-opened-at_most H = times-at_most is_opening H
+opened-at_most H = times-length is_opening H
 
 -- PAYLOAD
 

@@ -2,6 +2,7 @@
 use Rattle.std.proofs.Common.{◌≡◌, ℕ, false, List, [], ◌∷◌, ◌++◌, length, map, filter, drop, Option, refl, ap, ◌∙◌}
 use Rattle.std.proofs.lemmas.List.{append-nil}
 use Rattle.std.proofs.lemmas.List.Elements.{filter-append}
+use Rattle.list_words.proofs.CallerLemmas.{filter-same}
 use Rattle.upstream_pipe.specs.declared.part.Owner.{Owner}
 use Rattle.upstream_pipe.specs.declared.part.Part.{Part as PipePart}
 use Rattle.proxy_history.specs.Setting.{Setting}
@@ -11,7 +12,7 @@ use Rattle.proxy_history.specs.Part.{Part, Past, is_of}
 use Rattle.proxy_history.specs.Past.{after}
 use Rattle.proxy_history.specs.Waiting.{waiting, waits, sent_by, sent_to}
 use Rattle.proxy_history.specs.Arrival.{parts_by}
-use Rattle.proxy_history.proofs.CallerLemmas.{filter-same as same_filter}
+use Rattle.proxy_history.proofs.CallerLemmas.{sent_to-after}
 use Rattle.proxy_core.specs.Pipelines.{PipelineState, piped, place_of, pipeline_of}
 use Rattle.proxy_core.proofs.CommandRows.{same_values}
 
@@ -26,10 +27,7 @@ same_fields w w' f f' e e' t t' a b c d = rw (a, b, c, d) refl
 pub same_pipeline : (p q : PipelineState) → p.waiting ≡ q.waiting → p.flying ≡ q.flying → p.epoch ≡ q.epoch → p.taken ≡ q.taken → p ≡ q
 same_pipeline p q a b c d = same_fields p.waiting q.waiting p.flying q.flying p.epoch q.epoch p.taken q.taken a b c d
 
--- WHAT WAS SENT, AND ITS PLACES
-
-pub sent_to_later : (S : Setting) (x : Past) (s : Step) (h e : ℕ) → sent_to h e (after S s x) ≡ sent_to h e x ++ filter (is_of h e) (sent_by x s.event)
-sent_to_later S x s h e = filter-append (is_of h e) x.sent (sent_by x s.event)
+-- THE PLACES OF WHAT WAS SENT
 
 pub same_places : (S : Setting) (x : Past) (s : Step) → ((c : ℕ) → is_closing c s.event ≡ false) → (ps : List Part) → map (place_of (after S s x)) ps ≡ map (place_of x) ps
 same_places S x s closes_none ps = same_values (place_of (after S s x)) (place_of x) (λ p. rw (closes_none p.conn) refl) ps
@@ -50,7 +48,7 @@ pipeline_stays S x s h a =
     let x' = after S s x in
     let e = epoch h x.steps in
     let same_epoch : epoch h (s ∷ x.steps) ≡ e = rw a.is_no_fault refl in
-    let same_sent : sent_to h e x' ≡ sent_to h e x = sent_to_later S x s h e ∙ ap (λ z. sent_to h e x ++ z) (a.sends_none e) ∙ append-nil (sent_to h e x) in
+    let same_sent : sent_to h e x' ≡ sent_to h e x = sent_to-after S x s h e ∙ ap (λ z. sent_to h e x ++ z) (a.sends_none e) ∙ append-nil (sent_to h e x) in
     let same_came : came h e (s ∷ x.steps) ≡ came h e x.steps = ap (λ z. came h e x.steps ++ z) (a.brings_none e) ∙ append-nil (came h e x.steps) in
     same_pipeline (pipeline_of x' h) (pipeline_of x h)
     (ap (map piped) a.same_waiting)
@@ -71,7 +69,7 @@ waits_on S x s h q no_fault sends_none closes_none = rw (no_fault, sends_none, a
 pub waiting_with : (S : Setting) (x : Past) (s : Step) (h : ℕ) → is_fault h s.event ≡ false → sent_by x s.event ≡ [] → ((c : ℕ) → is_closing c s.event ≡ false)
     → waiting h (after S s x) ≡ waiting h x ++ filter (waits h x) (parts_by S x s.event)
 waiting_with S x s h no_fault sends_none closes_none =
-    same_filter (waits h (after S s x)) (waits h x) (λ q. waits_on S x s h q no_fault sends_none closes_none) (x.parts ++ parts_by S x s.event)
+    filter-same (waits h (after S s x)) (waits h x) (λ q. waits_on S x s h q no_fault sends_none closes_none) (x.parts ++ parts_by S x s.event)
     ∙ filter-append (waits h x) x.parts (parts_by S x s.event)
 
 -- and if no parts come, nothing changes

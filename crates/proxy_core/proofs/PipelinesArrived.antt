@@ -3,6 +3,7 @@ use Rattle.std.proofs.Common.{◌≡◌, ℕ, true, false, List, [], ◌∷◌, 
 use Rattle.std.specs.List.{range_with_len}
 use Rattle.std.proofs.lemmas.Bool.{cases_Bool, eq-eqb, and_right}
 use Rattle.std.proofs.lemmas.List.{append-nil, append_assoc, map-append}
+use Rattle.list_words.proofs.CallerLemmas.{map-same, changed_at-table}
 use Rattle.resp_core.specs.Tree.{Tree}
 use Rattle.splitter.specs.Plan.{Plan, here, leave, parts}
 use Rattle.splitter.specs.declared.request.Request.{Request}
@@ -18,7 +19,6 @@ use Rattle.proxy_history.specs.declared.answer.Answer.{Answer}
 use Rattle.proxy_history.specs.declared.event.Event.TheVariants.{Arrived}
 use Rattle.proxy_history.proofs.CallerLemmas.{AreOf, AreOf-placing_first as are_placed}
 use Rattle.proxy_core.specs.Pipelines.{PipelineState, piped, place_of, pipeline_of, pipelines_of, with_pipeline, pushed_part, pushed_parts}
-use Rattle.proxy_core.proofs.Tabled.{same_map, changed-table}
 use Rattle.proxy_core.proofs.Counts.{arrived_open, open_parts}
 use Rattle.proxy_core.proofs.ConnectionsMove.{differs}
 use Rattle.proxy_core.proofs.NewParts.{AreNow, placing_are_now, not_sent}
@@ -49,16 +49,16 @@ pushed_one : (H : History) (n : ℕ) (f : ℕ → PipelineState) (p : Part) (hos
 pushed_one H n f p host (Some v) a b now =
     let pushed : pushed_part p (map f (range_with_len 0 n)) ≡ map f (range_with_len 0 n) = rw b refl in
     let none_of : (h : ℕ) → is_of h (epoch h H) p ≡ false = λ h. rw b (and_right _ false refl) in
-    pushed ∙ same_map f (λ h. adding H h p (f h)) (range_with_len 0 n) (λ h. rw (none_of h) refl)
+    pushed ∙ map-same f (λ h. adding H h p (f h)) (range_with_len 0 n) (λ h. rw (none_of h) refl)
 pushed_one H n f p None None a b now =
     let pushed : pushed_part p (map f (range_with_len 0 n)) ≡ map f (range_with_len 0 n) = rw (b, a) refl in
-    pushed ∙ same_map f (λ h. adding H h p (f h)) (range_with_len 0 n) (λ h. rw a refl)
+    pushed ∙ map-same f (λ h. adding H h p (f h)) (range_with_len 0 n) (λ h. rw a refl)
 pushed_one H n f p (Some k) None a b now =
     let here : is_of k (epoch k H) p ≡ true = rw (a, b, eq-eqb k k refl, eq-eqb p.epoch (epoch k H) (now k refl)) refl in
     let elsewhere : (j : ℕ) → (j ≡ k → ⊥) → is_of j (epoch j H) p ≡ false = λ j q. rw (a, differs j k q) refl in
     let waits_more : PipelineState → PipelineState = λ (q : PipelineState). record q { waiting = q.waiting ++ piped p ∷ [] } in
     let pushed : pushed_part p (map f (range_with_len 0 n)) ≡ with_pipeline waits_more k (map f (range_with_len 0 n)) = rw (b, a) refl in
-    pushed ∙ changed-table f (λ h. adding H h p (f h)) waits_more n k (λ l. rw here refl) (λ j l q. rw (elsewhere j q) refl)
+    pushed ∙ changed_at-table f (λ h. adding H h p (f h)) waits_more n k (λ l. rw here refl) (λ j l q. rw (elsewhere j q) refl)
 
 -- each pipeline gets the parts for its host
 pushed_all : (H : History) (n : ℕ) (ps : List Part) (f : ℕ → PipelineState) → AreNow H ps
@@ -123,4 +123,4 @@ pipelines-arrived S H pass conn request answer n =
     let new = parts_by S x (Arrived conn request) in
     let o = (open_parts conn H (arrived_open S x conn request n)).1 in
     sym (pushed_all H (hosts S) new (pipeline_of x) (placed_now S x conn (plan_for request))
-    ∙ same_map (λ h. all_added H h new (pipeline_of x h)) (pipeline_of (after S s x)) (range_with_len 0 (hosts S)) (λ h. arrived_at S H pass conn request answer h o))
+    ∙ map-same (λ h. all_added H h new (pipeline_of x h)) (pipeline_of (after S s x)) (range_with_len 0 (hosts S)) (λ h. arrived_at S H pass conn request answer h o))

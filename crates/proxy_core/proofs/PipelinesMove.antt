@@ -5,6 +5,7 @@ use Rattle.std.proofs.Math.Seq.{drop-nil}
 use Rattle.std.proofs.lemmas.Bool.{cases_Bool, ne_eqb, eq-eqb, both_ways}
 use Rattle.std.proofs.lemmas.List.{append-nil, length-append}
 use Rattle.std.proofs.lemmas.Simd.{map-map}
+use Rattle.list_words.proofs.CallerLemmas.{map-same, changed_at-table}
 use Rattle.resp_core.specs.declared.value.Value.{Value}
 use Rattle.resp_core.specs.Value.{tree_of}
 use Rattle.upstream_pipe.specs.declared.part.Owner.{Owner}
@@ -23,7 +24,6 @@ use Rattle.proxy_history.specs.declared.event.Event.{Event}
 use Rattle.proxy_history.specs.declared.event.Event.TheVariants.{Opened, Arrived, Finished, Taken, Answered, Failed, Swept, Handed, Closed}
 use Rattle.proxy_history.proofs.CallerLemmas.{own_cause-answered as is_current, eq-sym as eqb_sym, is_of-true as is_of_parts, AreOfPast, filter-none_of_next as none_of_next, waiting-closed as after_closed, AreOfPast-cons as of_past_grows, AreOfPast-append as of_past_both, AreOfPast-parts as are_of_past, waiting-failed as fault_empties}
 use Rattle.proxy_core.specs.Pipelines.{owner_of_part, piped, place_of, pipeline_of, pipelines_of, with_pipeline, answered_by, failed, without_connection}
-use Rattle.proxy_core.proofs.Tabled.{same_map, changed-table}
 use Rattle.proxy_core.proofs.CommandRows.{IsQuiet, same_values}
 use Rattle.proxy_core.proofs.ConnectionsMove.{quiet-opened, quiet-finished, quiet-handed, differs, drop-one_more}
 use Rattle.proxy_core.proofs.ConnectionsStay.{quiet-swept}
@@ -34,7 +34,7 @@ use Rattle.proxy_core.proofs.PipelineStays.{same_pipeline, same_places, pipeline
 -- a quiet event that brings no parts and closes no connection changes no pipeline
 all_stay : (S : Setting) (x : Past) (s : Step) → IsQuiet x s.event → parts_by S x s.event ≡ [] → ((c : ℕ) → is_closing c s.event ≡ false) → pipelines_of S (after S s x) ≡ pipelines_of S x
 all_stay S x s quiet no_parts closes_none =
-    same_map (pipeline_of (after S s x)) (pipeline_of x) (range_with_len 0 (hosts S)) (λ h. pipeline_stays S x s h (record {
+    map-same (pipeline_of (after S s x)) (pipeline_of x) (range_with_len 0 (hosts S)) (λ h. pipeline_stays S x s h (record {
       is_no_fault = quiet.is_no_fault h;
       sends_none = λ e. ap (filter (is_of h e)) quiet.sends_none;
       brings_none = λ e. quiet.brings_none h e;
@@ -94,7 +94,7 @@ pub pipelines-answered : (S : Setting) (H : History) (pass host e t : ℕ) (valu
 pipelines-answered S H pass host e t value answer n =
     let x = past S H in
     let s : Step = record { pass = pass; event = Answered host e value t; answer = answer } in
-    sym (changed-table (pipeline_of x) (pipeline_of (after S s x)) answered_by (hosts S) host
+    sym (changed_at-table (pipeline_of x) (pipeline_of (after S s x)) answered_by (hosts S) host
     (λ l. answered_at S x s host t value (ap (λ z. Answered host z value t) (is_current S x host e t value n)))
     (λ j l q. let d = differs j host q in sym (pipeline_stays S x s j (record {
       is_no_fault = refl;
@@ -163,7 +163,7 @@ pub pipelines-failed : (S : Setting) (H : History) (pass host e t : ℕ) (kind :
 pipelines-failed S H pass host e t kind answer =
     let x = past S H in
     let s : Step = record { pass = pass; event = Failed host e kind t; answer = answer } in
-    sym (changed-table (pipeline_of x) (pipeline_of (after S s x)) failed (hosts S) host
+    sym (changed_at-table (pipeline_of x) (pipeline_of (after S s x)) failed (hosts S) host
     (λ l. failed_at S H s host (eq-eqb host host refl) refl (fault_empties S H host pass e t kind answer))
     (λ j l q. let d = differs j host q in sym (pipeline_stays S x s j (record {
       is_no_fault = d;
@@ -228,5 +228,5 @@ pub pipelines-closed : (S : Setting) (H : History) (pass conn : ℕ) (answer : A
 pipelines-closed S H pass conn answer =
     let x = past S H in
     let s : Step = record { pass = pass; event = Closed conn; answer = answer } in
-    same_map (pipeline_of (after S s x)) (λ h. without_connection conn (pipeline_of x h)) (range_with_len 0 (hosts S)) (closed_at S x pass conn answer)
+    map-same (pipeline_of (after S s x)) (λ h. without_connection conn (pipeline_of x h)) (range_with_len 0 (hosts S)) (closed_at S x pass conn answer)
     ∙ sym (map-map (without_connection conn) (pipeline_of x) (range_with_len 0 (hosts S)))

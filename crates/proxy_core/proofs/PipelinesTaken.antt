@@ -3,6 +3,7 @@ use Rattle.std.proofs.Common.{◌≡◌, ℕ, ◌≤◌, Bool, true, false, not,
 use Rattle.std.specs.List.{list_any}
 use Rattle.std.proofs.lemmas.Bool.{cases_Bool, or_parts, false_from_ne_true, eqb-false}
 use Rattle.std.proofs.lemmas.List.{append-nil, length-append, map-append, drop-append-le}
+use Rattle.list_words.proofs.CallerLemmas.{filter-same, filter-both, list_any-filter, changed_at-table}
 use Rattle.proxy_history.specs.Setting.{Setting, hosts}
 use Rattle.proxy_history.specs.History.{History, Step, epoch}
 use Rattle.proxy_history.specs.Replies.{came}
@@ -14,10 +15,9 @@ use Rattle.proxy_history.specs.Legal.{IsLegal}
 use Rattle.proxy_history.specs.Laws.{AreApart}
 use Rattle.proxy_history.specs.declared.answer.Answer.{Answer}
 use Rattle.proxy_history.specs.declared.event.Event.TheVariants.{Taken}
-use Rattle.proxy_history.proofs.CallerLemmas.{first_true-none as are_false, AreGood, AreGood-filter as filter_is_good, waits-true as waits_parts, is_of-true as is_of_parts, is_host-same as same_host, filter-same as same_filter, filter-both as filter_both, list_any-filter as any_less, filter-others as all_stay, waits-taken as taken_waits, waiting-taken as after_taken, AreInOrder-parts as parts_are_in_order, length-came as replies_were_asked}
+use Rattle.proxy_history.proofs.CallerLemmas.{sent_to-after, first_true-none as are_false, AreGood, AreGood-filter as filter_is_good, waits-true as waits_parts, is_of-true as is_of_parts, is_host-same as same_host, filter-others as all_stay, waits-taken as taken_waits, waiting-taken as after_taken, AreInOrder-parts as parts_are_in_order, length-came as replies_were_asked}
 use Rattle.proxy_core.specs.Pipelines.{owner_of_part, piped, place_of, pipeline_of, pipelines_of, with_pipeline, flying_of, taken_from}
-use Rattle.proxy_core.proofs.Tabled.{changed-table}
-use Rattle.proxy_core.proofs.PipelineStays.{same_pipeline, same_places, sent_to_later, pipeline_stays}
+use Rattle.proxy_core.proofs.PipelineStays.{same_pipeline, same_places, pipeline_stays}
 
 -- THE FIRST THAT WAITS
 
@@ -33,7 +33,7 @@ of_no_other h j e x p w q = false_from_ne_true _ (λ t.
 
 -- who fails the test isn't missed
 others_stay : (f : Part → Bool) (p : Part) (qs : List Part) → list_any (is_same p) qs ≡ false → filter (λ q. f q && not (is_same q p)) qs ≡ filter f qs
-others_stay f p qs e = filter_both f (λ q. not (is_same q p)) qs ∙ all_stay p (filter f qs) (any_less (is_same p) f qs e)
+others_stay f p qs e = filter-both f (λ q. not (is_same q p)) qs ∙ all_stay p (filter f qs) (list_any-filter (is_same p) f qs e)
 
 one_less : (f g : Part → Bool) (p : Part) (ps qs : List Part) → AreApart qs → filter g qs ≡ p ∷ ps → f p ≡ false → filter (λ q. f q && not (is_same q p)) qs ≡ filter f qs
 one_less f g p ps [] a e n = refl
@@ -46,7 +46,7 @@ one_less f g p ps (q ∷ qs) a e n = elim (cases_Bool (g q)) [
       rw not_it (others_stay f p qs apart)
   | inr m ↦
       let there : filter g qs ≡ p ∷ ps = rw m at e in
-      let none : list_any (is_same q) (p ∷ ps) ≡ false = ap (list_any (is_same q)) (sym there) ∙ any_less (is_same q) g qs a.0 in
+      let none : list_any (is_same q) (p ∷ ps) ≡ false = ap (list_any (is_same q)) (sym there) ∙ list_any-filter (is_same q) g qs a.0 in
       let other : is_same q p ≡ false = (or_parts (is_same q p) (list_any (is_same q) ps) none).0 in
       elim (cases_Bool (f q)) [
         | inl y ↦ rw (y, other) (ap (λ z. q ∷ z) (one_less f g p ps qs a.1 there n))
@@ -59,7 +59,7 @@ waits_elsewhere : (S : Setting) (h j pass : ℕ) (answer : Answer) (x : Past) (p
 waits_elsewhere S h j pass answer x p ps a e q =
     let no : waits j x p ≡ false = false_from_ne_true _ (λ t.
     q (same_host j h p.host (is_of_parts j (epoch j x.steps) p (waits_parts j x p t).0).0 (is_of_parts h (epoch h x.steps) p (waits_parts h x p (first_waits h x p ps e)).0).0)) in
-    rw (append-nil x.parts, e) (same_filter _ (λ q. waits j x q && not (is_same q p)) (taken_waits j x p) x.parts ∙ one_less (waits j x) (waits h x) p ps x.parts a e no)
+    rw (append-nil x.parts, e) (filter-same _ (λ q. waits j x q && not (is_same q p)) (taken_waits j x p) x.parts ∙ one_less (waits j x) (waits h x) p ps x.parts a e no)
 
 -- THE PIPELINE OF THE HOST
 
@@ -75,7 +75,7 @@ taken_at S H pass host answer p ps legal q =
     let it = waits_parts host x p (first_waits host x p ps q) in
     let sends : sent_by x s.event ≡ p ∷ [] = ap first q in
     let of_it : filter (is_of host e) (p ∷ []) ≡ p ∷ [] = rw it.0 refl in
-    let more : sent_to host e x' ≡ sent ++ p ∷ [] = sent_to_later S x s host e ∙ ap (λ z. sent ++ filter (is_of host e) z) sends ∙ ap (λ z. sent ++ z) of_it in
+    let more : sent_to host e x' ≡ sent ++ p ∷ [] = sent_to-after S x s host e ∙ ap (λ z. sent ++ filter (is_of host e) z) sends ∙ ap (λ z. sent ++ z) of_it in
     let same_came : came host e (s ∷ H) ≡ came host e H = append-nil (came host e H) in
     let asked : n ≤ length sent = replies_were_asked S H host e legal in
     let place : place_of x p ≡ Some (owner_of_part p) = rw it.2 refl in
@@ -97,7 +97,7 @@ by_waiting S H pass host answer [] legal q some = absurd (some refl)
 by_waiting S H pass host answer (p ∷ ps) legal q some =
     let x = past S H in
     let s : Step = record { pass = pass; event = Taken host; answer = answer } in
-    sym (changed-table (pipeline_of x) (pipeline_of (after S s x)) taken_from (hosts S) host
+    sym (changed_at-table (pipeline_of x) (pipeline_of (after S s x)) taken_from (hosts S) host
     (λ l. taken_at S H pass host answer p ps legal q)
     (λ j l d. sym (pipeline_stays S x s j (record {
       is_no_fault = refl;

@@ -3,6 +3,7 @@ use Rattle.std.proofs.Common.{◌≡◌, ℕ, zero, suc, ◌+◌, ◌≤◌, ◌
 use Rattle.std.specs.Prelude.{vec_len, slice_index_or, IfSome, IsTrue}
 use Rattle.std.proofs.lemmas.Bool.{cases_Bool, ltb-true, leb-true, leb-false, lt-leb, and_parts, eq-eqb, eqb-true}
 use Rattle.std.proofs.lemmas.List.{length-map}
+use Rattle.list_words.proofs.CallerLemmas.{slice_get-past_range}
 use Rattle.resp_core.specs.Tree.{Tree, is_plain_tree}
 use Rattle.resp_core.specs.Value.{tree_of}
 use Rattle.resp_core.specs.declared.value.Value.TheVariants.{NullBulk}
@@ -18,15 +19,13 @@ use Rattle.proxy_history.specs.Payload.{payload, payload_of}
 use Rattle.proxy_history.specs.Cause.{own_cause}
 use Rattle.proxy_history.specs.Legal.{IsLegal}
 use Rattle.proxy_history.specs.declared.event.Event.TheVariants.{Answered}
-use Rattle.proxy_history.proofs.CallerLemmas.{IsPlainIfAny, IsPlainIfAny-outcome as outcome_is_plain}
+use Rattle.proxy_history.proofs.CallerLemmas.{times-length, IsPlainIfAny, IsPlainIfAny-outcome as outcome_is_plain}
 use Rattle.proxy_core.specs.Connections.{AreAwaited, connections_of}
 use Rattle.proxy_core.specs.Pipelines.{PipelineState, state_of, pipeline_of, pipelines_of, next_owner, lost_owners}
 use Rattle.proxy_core.specs.Machine.{setting_in, memory_in, history_in, pipeline_at, no_pipeline, connection_at, reply_in, IsKept}
 use Rattle.proxy_core.specs.declared.connection.Connection.{Connection}
 use Rattle.proxy_core.specs.declared.pipeline.Pipeline.{Pipeline}
 use Rattle.proxy_core.specs.declared.machine.Machine.{Machine}
-use Rattle.proxy_core.proofs.Tabled.{slice_get-past-range}
-use Rattle.proxy_core.proofs.Counts.{times-at_most}
 use Rattle.proxy_core.proofs.ConnectionFacts.{connection_at-open, connection_at-not_open, front_reply-queue_of}
 use Rattle.proxy_core.proofs.ConnectionsAnswered.{answered-awaited}
 use Rattle.proxy_core.proofs.ConnectionsFailed.{failed-awaited}
@@ -46,11 +45,11 @@ pub asked_hosts : (m : Machine) → IsKept m → vec_len m.pipelines ≡ hosts (
 asked_hosts m kept = m.pipelines.ok.0 ∙ sym (length-map m.pipelines.items state_of) ∙ ap length (kept_pipelines m kept) ∙ length-pipelines_of (setting_in m) (past (setting_in m) (history_in m))
 
 pub asked_closed : (m : Machine) → IsKept m → m.closed + 1 < 18446744073709551616
-asked_closed m kept = omega (arith, kept_closed m kept, times-at_most is_any_closing (history_in m), steps-at_most (setting_in m) (history_in m) kept.legal)
+asked_closed m kept = omega (arith, kept_closed m kept, times-length is_any_closing (history_in m), steps-at_most (setting_in m) (history_in m) kept.legal)
 
 -- a pipeline is that of the history, or there is none
 none_at : (S : Setting) (x : Past) (h : ℕ) → hosts S ≤ h → pipeline_at h (pipelines_of S x) ≡ no_pipeline
-none_at S x h l = rw (slice_get-past-range (pipeline_of x) 0 (hosts S) h l) refl
+none_at S x h l = rw (slice_get-past_range (pipeline_of x) 0 (hosts S) h l) refl
 
 pub at_any : (P : PipelineState → Type 0) (m : Machine) (h : ℕ) → IsKept m
     → (h < hosts (setting_in m) → P (pipeline_of (past (setting_in m) (history_in m)) h)) → P no_pipeline → P (pipeline_at h (memory_in m).pipelines)

@@ -2,6 +2,8 @@
 use Rattle.std.proofs.Common.{◌≡◌, ℕ, zero, suc, ◌+◌, ◌-◌, ◌<◌, ◌≤◌, ◌==◌, ◌&&◌, true, false, if◌then◌else◌, List, [], ◌∷◌, map, filter, drop, Option, Some, None, Contains, slice_get, slice_set, option_map, refl, sym, ap, ◌∙◌, subst, inl, inr, arith}
 use Rattle.std.specs.List.{range_with_len}
 use Rattle.std.proofs.lemmas.Bool.{cases_Bool, and_parts, and_left, and_right, eq-eqb, ne_eqb, eqb-true}
+use Rattle.list_words.specs.Lists.{changed_at}
+use Rattle.list_words.proofs.CallerLemmas.{changed_at-drop, Contains-filter, map-range_same, changed_at-table, Contains-first, Contains-later, filter-passes}
 use Rattle.resp_core.specs.Tree.{Tree}
 use Rattle.splitter.specs.Plan.{Plan, here, leave, parts}
 use Rattle.splitter.specs.declared.plans.Join.{Join}
@@ -9,17 +11,14 @@ use Rattle.splitter.specs.declared.plans.Join.TheVariants.{Same}
 use Rattle.splitter.specs.declared.plans.PartPlan.{PartPlan}
 use Rattle.splitter.specs.declared.request.Request.{Request}
 use Rattle.reply_queue.specs.Command.{AwaitedCommand, with_value}
-use Rattle.reply_queue.specs.Queue.{QueueState, changed_at, with_part}
+use Rattle.reply_queue.specs.Queue.{QueueState, with_part}
 use Rattle.proxy_history.specs.History.{History, plan_for, opened, handed, requests, is_closed, is_finishing}
 use Rattle.proxy_history.specs.Part.{Part, Past, is_same}
 use Rattle.proxy_history.specs.Value.{value_of}
 use Rattle.proxy_history.specs.Outcome.{is_part_of}
-use Rattle.proxy_history.proofs.CallerLemmas.{Contains-filter as in_filter}
 use Rattle.proxy_core.specs.Connections.{awaited_by, awaited_from, connection_of, connections_of, answered_part}
 use Rattle.proxy_core.specs.Pipelines.{owner_of_part}
 use Rattle.proxy_core.specs.declared.connection.Connection.{Connection}
-use Rattle.proxy_core.proofs.Tabled.{same_range, changed-table}
-use Rattle.proxy_core.proofs.Members.{first_in, later_in, filter_passes}
 use Rattle.proxy_core.proofs.PartFacts.{AreNumbered, IsAsked}
 
 -- A value or none yet for each part.
@@ -65,7 +64,7 @@ connection-valued x c =
     (same_from x c 0 (requests c x.steps))
 
 pub connections-valued : (x : Past) → connections_of x ≡ valued (value_of x) x.parts x.steps
-connections-valued x = same_range _ _ 0 (opened x.steps) (λ j l m. connection-valued x j)
+connections-valued x = map-range_same _ _ 0 (opened x.steps) (λ j l m. connection-valued x j)
 
 -- OTHER VALUES ELSEWHERE
 
@@ -74,14 +73,14 @@ is_part_of-parts c i q e = let a = and_parts (q.conn == c) (q.command == i) e in
 
 same_values : (f g : Values) (ps : List Part) → ((q : Part) → Contains ps q → f q ≡ g q) → map f ps ≡ map g ps
 same_values f g [] e = refl
-same_values f g (p ∷ ps) e = rw (e p (first_in p ps), same_values f g ps (λ q h. e q (later_in p ps q h))) refl
+same_values f g (p ∷ ps) e = rw (e p (Contains-first p ps), same_values f g ps (λ q h. e q (Contains-later p ps q h))) refl
 
 module _ (f g : Values) (ps : List Part) (c : ℕ) where
   -- the same of this command
   same_own : (i : ℕ) → ((q : Part) → Contains ps q → q.conn ≡ c → q.command ≡ i → f q ≡ g q) → map f (own_parts ps c i) ≡ map g (own_parts ps c i)
   same_own i e = same_values f g (own_parts ps c i) (λ q h.
-      let a = is_part_of-parts c i q (filter_passes (is_part_of c i) ps q h) in
-      e q (in_filter (is_part_of c i) ps q h) a.0 a.1)
+      let a = is_part_of-parts c i q (filter-passes (is_part_of c i) ps q h) in
+      e q (Contains-filter (is_part_of c i) ps q h) a.0 a.1)
 
   same_command : (i : ℕ) (p : Plan) → ((q : Part) → Contains ps q → q.conn ≡ c → q.command ≡ i → f q ≡ g q) → valued_by f ps c i p ≡ valued_by g ps c i p
   same_command i (here name value) e = refl
@@ -102,7 +101,7 @@ module _ (f g : Values) (ps : List Part) (c : ℕ) where
 
 -- connections are the same where the values of the parts of the open ones are
 pub same_valued : (f g : Values) (ps : List Part) (H : History) → ((q : Part) → Contains ps q → is_closed q.conn H ≡ false → f q ≡ g q) → valued f ps H ≡ valued g ps H
-same_valued f g ps H e = same_range _ _ 0 (opened H) (λ c l m. same_connection f g ps c H (λ o q h k. e q h (ap (λ z. is_closed z H) k ∙ o)))
+same_valued f g ps H e = map-range_same _ _ 0 (opened H) (λ c l m. same_connection f g ps c H (λ o q h k. e q h (ap (λ z. is_closed z H) k ∙ o)))
 
 -- ONE PART GETS A VALUE
 
@@ -139,12 +138,12 @@ one_more_value : (p : Part) (v : Tree) (f : Values) (n k : ℕ) (ps : List Part)
     → slice_set (map f ps) k (Some v) ≡ map (having p v f) ps
 one_more_value p v f n k [] a o e = refl
 one_more_value p v f n zero (q ∷ ps) a o e =
-    let b = o q (first_in q ps) in
+    let b = o q (Contains-first q ps) in
     let here : having p v f q ≡ Some v = having-same p v f q (same_part p q b.0 b.1 (omega (arith, a.0, e))) in
     rw (here, none_behind p v f (n + 1) ps a.1 (omega (arith, e))) refl
 one_more_value p v f n (suc k) (q ∷ ps) a o e =
     let there : having p v f q ≡ f q = having-other p v f q (other_number p q (λ i. omega (arith, a.0, i, e))) in
-    rw there (ap (λ z. f q ∷ z) (one_more_value p v f (n + 1) k ps a.1 (λ r h. o r (later_in q ps r h)) (omega (arith, e))))
+    rw there (ap (λ z. f q ∷ z) (one_more_value p v f (n + 1) k ps a.1 (λ r h. o r (Contains-later q ps r h)) (omega (arith, e))))
 
 -- A part that may get a value: its command is there and not handed out, it stands in the place of its number.
 pub record IsThere (ps : List Part) (H : History) (p : Part) : Type 0 where
@@ -161,7 +160,7 @@ module _ (f : Values) (ps : List Part) (p : Part) (v : Tree) where
   own_command a plan how list e =
       subst (λ (z : Plan). with_value p.number v (valued_by f ps p.conn p.command z) ≡ valued_by (having p v f) ps p.conn p.command z) (sym e)
       (ap (λ (z : List (Option Tree)). record { how = how; values = z })
-      (one_more_value p v f 0 p.number (own_parts ps p.conn p.command) a (λ q h. is_part_of-parts p.conn p.command q (filter_passes (is_part_of p.conn p.command) ps q h)) (omega arith)))
+      (one_more_value p v f 0 p.number (own_parts ps p.conn p.command) a (λ q h. is_part_of-parts p.conn p.command q (filter-passes (is_part_of p.conn p.command) ps q h)) (omega arith)))
 
   own_commands : AreNumbered 0 (own_parts ps p.conn p.command) → (i k : ℕ) (rs : List Request) → i + k ≡ p.command
       → (r : Request) → slice_get rs k ≡ Some r → (how : Join) (list : List PartPlan) → plan_for r ≡ parts how list
@@ -182,13 +181,6 @@ module _ (f : Values) (ps : List Part) (p : Part) (v : Tree) where
       ap (λ z. z ∷ changed_at (with_value p.number v) k (valued_from f ps p.conn (i + 1) rs)) first
       ∙ ap (λ z. valued_by (having p v f) ps p.conn i (plan_for t) ∷ z) (own_commands a (i + 1) k rs (omega (arith, e)) r s how list q)
 
--- a change behind what is dropped
-changed_behind : {X : Type 0} (change : X → X) (n k : ℕ) (xs : List X) → n ≤ k → changed_at change (k - n) (drop n xs) ≡ drop n (changed_at change k xs)
-changed_behind change zero k xs l = ap (λ z. changed_at change z xs) (omega arith)
-changed_behind change (suc n) k [] l = refl
-changed_behind change (suc n) zero (x ∷ xs) l = absurd (omega (arith, l))
-changed_behind change (suc n) (suc k) (x ∷ xs) l = ap (λ z. changed_at change z (drop n xs)) (omega arith) ∙ changed_behind change n k xs (omega (arith, l))
-
 abbrev valuing : Part → Tree → Connection → Connection
 valuing p v k = record k { queue = with_part p.command p.number v k.queue }
 
@@ -198,13 +190,13 @@ own_connection f ps H p v t =
     let n = handed p.conn H in
     let rs = requests p.conn H in
     let commands : changed_at (with_value p.number v) (p.command - n) (drop n (valued_from f ps p.conn 0 rs)) ≡ drop n (valued_from (having p v f) ps p.conn 0 rs) =
-    changed_behind (with_value p.number v) n p.command (valued_from f ps p.conn 0 rs) t.not_handed
+    changed_at-drop (with_value p.number v) n p.command (valued_from f ps p.conn 0 rs) t.not_handed
     ∙ ap (drop n) (own_commands f ps p v t.numbered 0 p.command rs (omega arith) t.asked.request t.asked.is_request t.asked.how t.asked.list t.asked.is_split) in
     rw (t.is_open) (ap (λ (z : List AwaitedCommand). Some (record { queue = record { popped = n; commands = z }; is_finishing = is_finishing p.conn H })) (sym commands))
 
 -- a part of the connections gets a value
 pub part-valued : (f : Values) (ps : List Part) (H : History) (p : Part) (v : Tree) → IsThere ps H p → answered_part (owner_of_part p) v (valued f ps H) ≡ valued (having p v f) ps H
 part-valued f ps H p v t =
-    changed-table (valued_connection f ps H) (valued_connection (having p v f) ps H) (option_map (valuing p v)) (opened H) p.conn
+    changed_at-table (valued_connection f ps H) (valued_connection (having p v f) ps H) (option_map (valuing p v)) (opened H) p.conn
     (λ l. own_connection f ps H p v t)
     (λ c l n. same_connection f (having p v f) ps c H (λ o q h k. sym (having-other p v f q (other_conn p q (λ e. n (sym k ∙ e))))))

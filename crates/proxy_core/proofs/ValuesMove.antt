@@ -6,6 +6,7 @@ use Rattle.std.proofs.lemmas.List.{append-nil}
 use Rattle.std.proofs.lemmas.List.Elements.{Contains-append_cases}
 use Rattle.std.proofs.lemmas.List.Folds.{list_any-append}
 use Rattle.std.proofs.Common.{length-drop}
+use Rattle.list_words.proofs.CallerLemmas.{list_any-filter, Contains-nil, Contains-filter, Contains-first, Contains-cases, Contains-drop, Contains-filter_passing, filter-passes, list_any-true, list_any-member, list_any-false, find-zip_none, list_any-unfound}
 use Rattle.resp_core.specs.Tree.{Tree}
 use Rattle.resp_core.specs.Value.{tree_of}
 use Rattle.resp_core.specs.declared.value.Value.{Value}
@@ -21,8 +22,8 @@ use Rattle.proxy_history.specs.Laws.{AreApart}
 use Rattle.proxy_history.specs.declared.answer.Answer.{Answer}
 use Rattle.proxy_history.specs.declared.event.Kind.{Kind}
 use Rattle.proxy_history.specs.declared.event.Event.TheVariants.{Answered, Failed}
-use Rattle.proxy_history.proofs.CallerLemmas.{own_cause-answered as is_current, AreApart-sent as none_twice, is_same-sym_false as is_other_sym, waits-true as waits_parts, AreOfPast, AreApart-filter as apart_filter, list_any-filter as any_less, is_same-self as is_same_self, AreOfPast-parts as are_of_past, AreInOrder-parts as parts_are_in_order, flying-answered as some_fly, Contains-nil as none_in_nothing, Contains-filter as in_filter, Contains-sent as sent_parts_arrived}
-use Rattle.proxy_core.proofs.Members.{first_in, in_cases, in_drop, in_filter_too, filter_passes, any_of, any_from, none_of_them, one_part, apart_drop, apart_append, none_found, unfound, behind_unfound}
+use Rattle.proxy_history.proofs.CallerLemmas.{is_same-apart, own_cause-answered as is_current, AreApart-sent as none_twice, is_same-sym_false as is_other_sym, waits-true as waits_parts, AreOfPast, AreApart-filter as apart_filter, is_same-self as is_same_self, AreOfPast-parts as are_of_past, AreInOrder-parts as parts_are_in_order, flying-answered as some_fly, Contains-sent as sent_parts_arrived}
+use Rattle.proxy_core.proofs.Members.{apart_drop, apart_append, behind_unfound}
 
 -- WHO HAS NO REPLY YET
 
@@ -79,13 +80,13 @@ not_found x h e p i n =
     ∙ ap (option_map (λ (r : Part × Tree). r.1)) n
 
 pub flight_was_sent : (h : ℕ) (x : Past) (p : Part) → Contains (in_flight h x) p → Contains (sent_to h (epoch h x.steps) x) p
-flight_was_sent h x p i = in_drop (length (came h (epoch h x.steps) x.steps)) (sent_to h (epoch h x.steps) x) p i
+flight_was_sent h x p i = Contains-drop (length (came h (epoch h x.steps) x.steps)) (sent_to h (epoch h x.steps) x) p i
 
 -- who flies has no reply
 pub flight_is_unanswered : (h : ℕ) (x : Past) (p : Part) → AreApart x.sent → Contains (in_flight h x) p → IsUnanswered x h p
 flight_is_unanswered h x p a i =
     let e = epoch h x.steps in
-    let b = of_pipe h e p (filter_passes (is_of h e) x.sent p (flight_was_sent h x p i)) in
+    let b = of_pipe h e p (filter-passes (is_of h e) x.sent p (flight_was_sent h x p i)) in
     record {
       no_local = b.2;
       host_is = b.0;
@@ -97,13 +98,13 @@ flight_is_unanswered h x p a i =
 pub waiting_is_unanswered : (h : ℕ) (x : Past) (p : Part) → Contains (waiting h x) p → IsUnanswered x h p
 waiting_is_unanswered h x p i =
     let e = epoch h x.steps in
-    let w = waits_parts h x p (filter_passes (waits h x) x.parts p i) in
+    let w = waits_parts h x p (filter-passes (waits h x) x.parts p i) in
     let b = of_pipe h e p w.0 in
     record {
       no_local = b.2;
       host_is = b.0;
       epoch_is = b.1;
-      no_reply = not_found x h e p b.1 (none_found (is_same p) (sent_to h e x) (came h e x.steps) (any_less (is_same p) (is_of h e) x.sent w.1));
+      no_reply = not_found x h e p b.1 (find-zip_none (is_same p) (sent_to h e x) (came h e x.steps) (list_any-filter (is_same p) (is_of h e) x.sent w.1));
     }
 
 pub at_host_is_unanswered : (h : ℕ) (x : Past) (p : Part) → AreApart x.sent → Contains (at_host h x) p → IsUnanswered x h p
@@ -114,12 +115,12 @@ at_host_is_unanswered h x p a i = elim (Contains-append_cases (in_flight h x) (w
 
 -- they have arrived
 pub flight_arrived : (S : Setting) (H : History) (h : ℕ) (p : Part) → Contains (in_flight h (past S H)) p → Contains (past S H).parts p
-flight_arrived S H h p i = sent_parts_arrived S H p (in_filter (is_of h (epoch h H)) (past S H).sent p (flight_was_sent h (past S H) p i))
+flight_arrived S H h p i = sent_parts_arrived S H p (Contains-filter (is_of h (epoch h H)) (past S H).sent p (flight_was_sent h (past S H) p i))
 
 pub at_host_arrived : (S : Setting) (H : History) (h : ℕ) (p : Part) → Contains (at_host h (past S H)) p → Contains (past S H).parts p
 at_host_arrived S H h p i = elim (Contains-append_cases (in_flight h (past S H)) (waiting h (past S H)) p i) [
   | inl flies ↦ flight_arrived S H h p flies
-  | inr wait ↦ in_filter (waits h (past S H)) (past S H).parts p wait
+  | inr wait ↦ Contains-filter (waits h (past S H)) (past S H).parts p wait
 ]
 
 pub flight_apart : (h : ℕ) (x : Past) → AreApart x.sent → AreApart (in_flight h x)
@@ -128,9 +129,9 @@ flight_apart h x a = apart_drop (length (came h (epoch h x.steps) x.steps)) (sen
 -- and no two of them are the same
 pub at_host_apart : (h : ℕ) (x : Past) → AreApart x.sent → AreApart x.parts → AreApart (at_host h x)
 at_host_apart h x a b = apart_append (in_flight h x) (waiting h x) (flight_apart h x a) (apart_filter (waits h x) x.parts b) (λ p q i j.
-    let sent : Contains x.sent p = in_filter (is_of h (epoch h x.steps)) x.sent p (flight_was_sent h x p i) in
-    let w = waits_parts h x q (filter_passes (waits h x) x.parts q j) in
-    is_other_sym q p (none_of_them (is_same q) x.sent p w.1 sent))
+    let sent : Contains x.sent p = Contains-filter (is_of h (epoch h x.steps)) x.sent p (flight_was_sent h x p i) in
+    let w = waits_parts h x q (filter-passes (waits h x) x.parts q j) in
+    is_other_sym q p (list_any-false (is_same q) x.sent p w.1 sent))
 
 -- AN ANSWER
 
@@ -201,7 +202,7 @@ module _ (S : Setting) (H : History) (pass host e t : ℕ) (value : Value) (answ
     reply_to_oldest : reply_to p host (past S (answered_step ∷ H)) ≡ Some (tree_of value)
     reply_to_oldest =
         let x = past S H in
-        let u = flight_is_unanswered host x p (none_twice S H) (subst (λ (z : List Part). Contains z p) (sym flies) (first_in p rest)) in
+        let u = flight_is_unanswered host x p (none_twice S H) (subst (λ (z : List Part). Contains z p) (sym flies) (Contains-first p rest)) in
         let now : p.epoch ≡ epoch host H = u.epoch_is in
         let there : drop (length (came host p.epoch H)) (sent_to host p.epoch x) ≡ p ∷ rest =
         subst (λ (z : ℕ). drop (length (came host z H)) (sent_to host z x) ≡ p ∷ rest) (sym now) flies in
@@ -217,7 +218,7 @@ module _ (S : Setting) (H : History) (pass host e t : ℕ) (value : Value) (answ
     pub value_of_oldest : value_of (past S (answered_step ∷ H)) p ≡ Some (tree_of value)
     value_of_oldest =
         let x' = past S (answered_step ∷ H) in
-        let u = flight_is_unanswered host (past S H) p (none_twice S H) (subst (λ (z : List Part). Contains z p) (sym flies) (first_in p rest)) in
+        let u = flight_is_unanswered host (past S H) p (none_twice S H) (subst (λ (z : List Part). Contains z p) (sym flies) (Contains-first p rest)) in
         value-of_host x' host p u.no_local u.host_is ∙ ap (or_lost (nat_lt p.epoch (epoch host (answered_step ∷ H)))) reply_to_oldest
 
     -- and the others keep theirs
@@ -236,8 +237,8 @@ module _ (S : Setting) (H : History) (pass host e t : ℕ) (value : Value) (answ
         by_part : (is_same q p ≡ true) ⊎ (is_same q p ≡ false)
             → value_of (past S (answered_step ∷ H)) q ≡ (if list_any (is_same q) (p ∷ []) then Some (tree_of value) else value_of (past S H) q)
         by_part (inl y) =
-            let arrived = flight_arrived S H host p (subst (λ (z : List Part). Contains z p) (sym flies) (first_in p rest)) in
-            let is : q ≡ p = one_part (past S H).parts q p (parts_are_in_order S H).apart i arrived y in
+            let arrived = flight_arrived S H host p (subst (λ (z : List Part). Contains z p) (sym flies) (Contains-first p rest)) in
+            let is : q ≡ p = is_same-apart (past S H).parts q p (parts_are_in_order S H).apart i arrived y in
             let any : list_any (is_same q) (p ∷ []) ≡ true = or_left (is_same q p) false y in
             ap (value_of (past S (answered_step ∷ H))) is ∙ value_of_oldest
             ∙ ap (λ (b : Bool). if b then Some (tree_of value) else value_of (past S H) q) (sym any)
@@ -248,8 +249,8 @@ module _ (S : Setting) (H : History) (pass host e t : ℕ) (value : Value) (answ
 -- A FAULT
 
 of_past_at : (H : History) (ps : List Part) (p : Part) (h : ℕ) → AreOfPast H ps → Contains ps p → p.host ≡ Some h → p.epoch ≤ epoch h H
-of_past_at H [] p h a i o = absurd (none_in_nothing p i)
-of_past_at H (q ∷ ps) p h a i o = elim (in_cases q ps p i) [
+of_past_at H [] p h a i o = absurd (Contains-nil p i)
+of_past_at H (q ∷ ps) p h a i o = elim (Contains-cases q ps p i) [
   | inl one ↦
       let there : is_host h q.host ≡ true = is_host_self h q.host (ap (λ (z : Part). z.host) one ∙ o) in
       omega (arith, a.0 h there, ap (λ (z : Part). z.epoch) one)
@@ -276,16 +277,16 @@ unanswered_is_at_host S H h q i o u = list_any-append (is_same q) (in_flight h (
         → (list_any (is_same q) (in_flight h (past S H)) || list_any (is_same q) (waiting h (past S H))) ≡ true
     by_sent (inl sent) =
         let x = past S H in
-        let a = any_of (is_same q) x.sent sent in
-        let is : q ≡ a.0 = one_part x.parts q a.0 (parts_are_in_order S H).apart i (sent_parts_arrived S H a.0 a.1) a.2 in
-        let also : Contains (sent_to h (epoch h H) x) a.0 = in_filter_too (is_of h (epoch h H)) x.sent a.0 a.1 (ap (is_of h (epoch h H)) (sym is) ∙ ours) in
-        let among : list_any (is_same q) (sent_to h (epoch h H) x) ≡ true = any_from (is_same q) (sent_to h (epoch h H) x) a.0 also a.2 in
-        or_left (list_any (is_same q) (in_flight h x)) (list_any (is_same q) (waiting h x)) (unfound (is_same q) (sent_to h (epoch h H) x) (came h (epoch h H) H) not_there among)
+        let a = list_any-true (is_same q) x.sent sent in
+        let is : q ≡ a.0 = is_same-apart x.parts q a.0 (parts_are_in_order S H).apart i (sent_parts_arrived S H a.0 a.1) a.2 in
+        let also : Contains (sent_to h (epoch h H) x) a.0 = Contains-filter_passing (is_of h (epoch h H)) x.sent a.0 a.1 (ap (is_of h (epoch h H)) (sym is) ∙ ours) in
+        let among : list_any (is_same q) (sent_to h (epoch h H) x) ≡ true = list_any-member (is_same q) (sent_to h (epoch h H) x) a.0 also a.2 in
+        or_left (list_any (is_same q) (in_flight h x)) (list_any (is_same q) (waiting h x)) (list_any-unfound (is_same q) (sent_to h (epoch h H) x) (came h (epoch h H) H) not_there among)
     by_sent (inr never) =
         let x = past S H in
         let w : waits h x q ≡ true = and_from _ _ (and_from _ _ ours (ap not never)) (ap not o) in
         or_right (list_any (is_same q) (in_flight h x)) (list_any (is_same q) (waiting h x))
-        (any_from (is_same q) (waiting h x) q (in_filter_too (waits h x) x.parts q i w) (is_same_self q))
+        (list_any-member (is_same q) (waiting h x) q (Contains-filter_passing (waits h x) x.parts q i w) (is_same_self q))
 
 module _ (S : Setting) (H : History) (pass host e t : ℕ) (kind : Kind) (answer : Answer) where
   abbrev failed_step : Step
@@ -348,8 +349,8 @@ module _ (S : Setting) (H : History) (pass host e t : ℕ) (kind : Kind) (answer
           → value_of (past S (failed_step ∷ H)) q ≡ (if list_any (is_same q) (at_host host (past S H)) then Some upstream_failure else value_of (past S H) q)
       by_place (inl y) =
           let x = past S H in
-          let a = any_of (is_same q) (at_host host x) y in
-          let is : q ≡ a.0 = one_part x.parts q a.0 (parts_are_in_order S H).apart i (at_host_arrived S H host a.0 a.1) a.2 in
+          let a = list_any-true (is_same q) (at_host host x) y in
+          let is : q ≡ a.0 = is_same-apart x.parts q a.0 (parts_are_in_order S H).apart i (at_host_arrived S H host a.0 a.1) a.2 in
           ap (value_of (past S (failed_step ∷ H))) is ∙ lost_now a.0 (at_host_is_unanswered host x a.0 (none_twice S H) a.1)
           ∙ ap (λ (b : Bool). if b then Some upstream_failure else value_of x q) (sym y)
       by_place (inr n) =

@@ -2,13 +2,14 @@
 use Rattle.std.specs.Prelude.{◌≡◌, ℕ, ◌+◌, Bool, true, false, ◌||◌, if◌then◌else◌, Option, Some, None, List, [], ◌∷◌, ◌++◌, map, drop, slice_get}
 use Rattle.std.specs.Option.{option_map}
 use Rattle.std.specs.List.{range_with_len}
+use Rattle.list_words.specs.Lists.{changed_at}
 use Rattle.resp_core.specs.Tree.{Tree}
 use Rattle.splitter.specs.Plan.{Plan, here, leave, parts}
 use Rattle.splitter.specs.declared.plans.Join.TheVariants.{Same}
 use Rattle.splitter.specs.declared.request.Request.{Request}
 use Rattle.upstream_pipe.specs.declared.part.Owner.{Owner}
 use Rattle.reply_queue.specs.Command.{AwaitedCommand}
-use Rattle.reply_queue.specs.Queue.{QueueState, IsOpen, changed_at, with_part, without_front}
+use Rattle.reply_queue.specs.Queue.{QueueState, IsOpen, with_part, without_front}
 use Rattle.proxy_history.specs.History.{opened, handed, requests, is_closed, is_finishing, plan_for}
 use Rattle.proxy_history.specs.Part.{Part, Past}
 use Rattle.proxy_history.specs.Value.{value_of}

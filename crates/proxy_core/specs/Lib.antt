@@ -5,6 +5,5 @@ pub mod Machine
 pub mod Arrivals
 pub mod Core
 pub mod Recorded
-pub mod Lists
 pub mod CoreTurns
 pub mod JournalLaws

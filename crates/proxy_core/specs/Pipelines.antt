@@ -1,10 +1,10 @@
 -- What a history determines of the pipelines to its hosts, and how an event changes it.
 use Rattle.std.specs.Prelude.{ℕ, ◌+◌, if◌then◌else◌, Option, Some, None, List, [], ◌∷◌, ◌++◌, map, drop, filter, filter_map, length, is_none}
 use Rattle.std.specs.List.{range_with_len}
+use Rattle.list_words.specs.Lists.{changed_at}
 use Rattle.upstream_pipe.specs.declared.part.Owner.{Owner}
 use Rattle.upstream_pipe.specs.declared.part.Part.{Part as PipePart}
 use Rattle.upstream_pipe.specs.Pipe.{owner_in, is_kept, forgotten}
-use Rattle.reply_queue.specs.Queue.{changed_at}
 use Rattle.proxy_history.specs.Setting.{Setting, hosts}
 use Rattle.proxy_history.specs.History.{epoch, is_closed}
 use Rattle.proxy_history.specs.Replies.{came}

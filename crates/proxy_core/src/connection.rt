@@ -6,7 +6,7 @@ ghost use Rattle.reply_queue.specs.Queue.{IsOpen};
 ghost use Rattle.splitter.specs.Join.{MayJoin};
 ghost use Rattle.splitter.specs.declared.plans.Join.TheVariants.{Same};
 ghost use Rattle.proxy_history.specs.Setting.{max_unwritten};
-ghost use Rattle.proxy_core.specs.Lists.{list_of};
+ghost use Rattle.list_words.specs.Lists.{list_of};
 ghost use Rattle.proxy_history.specs.Value.{upstream_failure};
 ghost use Rattle.proxy_core.specs.Arrivals.{MayAccept, next_index, value_of_placed, with_value_at};
 ghost use Rattle.proxy_core.specs.Connections.{accepting, IsAwaited, IsAwaitedIn, AreAwaited, with_answer, answered_part, answered_parts, closing, finished, fresh_connection, handing, with_connection};

@@ -1,7 +1,7 @@
 //! The pipelines to the hosts.
 ghost use Rattle.std.specs.Prelude.{◌≡◌, ◌≢◌, ℕ, ◌+◌, ◌-◌, ◌<◌, ◌≤◌, ◌^◌, [], length, map, get_or, IfOk, IfErr, OnOk, OnErr};
 ghost use Rattle.upstream_pipe.specs.Pipe.{owner_in};
-ghost use Rattle.proxy_core.specs.Lists.{list_of};
+ghost use Rattle.list_words.specs.Lists.{list_of};
 ghost use Rattle.proxy_history.specs.Setting.{max_waiting};
 ghost use Rattle.proxy_core.specs.Arrivals.{HaveRoom, MayWait, one_at, with_waiting, pushed_all, pushed_at, piped_as};
 ghost use Rattle.proxy_core.specs.Pipelines.{answered_by, failed, next_owner, state_of, taken_from, with_pipeline, without_connection};

@@ -1,9 +1,10 @@
 -- Each part is one of a command that arrived.
-use Rattle.std.proofs.Common.{◌≡◌, ◌⊎◌, ℕ, suc, ◌+◌, ◌<◌, ◌≤◌, Bool, true, false, nat_lt, List, [], ◌∷◌, ◌++◌, length, filter, Contains, subst, Option, Some, None, refl, sym, ap, ◌∙◌, inl, inr, arith, if◌then◌else◌}
+use Rattle.std.proofs.Common.{◌≡◌, ◌⊎◌, ℕ, suc, ◌+◌, ◌<◌, ◌≤◌, Bool, true, false, nat_lt, List, [], ◌∷◌, ◌++◌, length, Contains, subst, Option, Some, None, refl, sym, ap, ◌∙◌, inl, inr, arith, if◌then◌else◌}
 use Rattle.std.specs.List.{slice_get}
-use Rattle.std.proofs.lemmas.Bool.{cases_Bool, ltb-true, ltb-false}
+use Rattle.std.proofs.lemmas.Bool.{ltb-true, ltb-false}
 use Rattle.std.proofs.lemmas.List.{append-nil, append_assoc, length-append}
-use Rattle.std.proofs.lemmas.List.Elements.{Contains-append_left, Contains-append_right, Contains-append_cases, Contains-push_cases}
+use Rattle.std.proofs.lemmas.List.Elements.{Contains-append_left, Contains-append_cases, Contains-push_cases}
+use Rattle.list_words.proofs.CallerLemmas.{Contains-nil, Contains-filter}
 use Rattle.splitter.specs.Plan.{Plan, here, leave, parts}
 use Rattle.splitter.specs.declared.plans.Join.{Join}
 use Rattle.splitter.specs.declared.plans.PartPlan.{PartPlan}
@@ -19,9 +20,6 @@ use Rattle.proxy_history.specs.declared.event.Event.{Event}
 use Rattle.proxy_history.specs.declared.event.Event.TheVariants.{Opened, Arrived, Finished, Taken, Answered, Failed, Swept, Handed, Closed}
 use Rattle.proxy_history.proofs.Fresh.{host_keeps_conn, host_keeps_command}
 use Rattle.proxy_history.proofs.Apart.{host_keeps_number}
-
-pub none_in_nothing : {X : Type 0} (x : X) → Contains [] x → ⊥
-none_in_nothing x h = omega (arith, h.1)
 
 -- WHAT IS PLACED
 
@@ -109,22 +107,22 @@ pub record IsNew (S : Setting) (x : Past) (event : Event) (p : Part) : Type 0 wh
 
 new_by_plan : (S : Setting) (x : Past) (conn : ℕ) (request : Request) (p : Part) (plan : Plan) → plan_for request ≡ plan → Contains (placed_by S x conn plan) p → IsNew S x (Arrived conn request) p
 new_by_plan S x conn request p (parts how list) e h = elim (placed_is_by S x conn (accepted conn x.steps) [] list p h) [
-  | inl earlier ↦ absurd (none_in_nothing p earlier)
+  | inl earlier ↦ absurd (Contains-nil p earlier)
   | inr by ↦ record { conn = conn; request = request; arrives = refl; how = how; list = list; is_split = e; by = by }
 ]
-new_by_plan S x conn request p (here name value) e h = absurd (none_in_nothing p h)
-new_by_plan S x conn request p (leave name value) e h = absurd (none_in_nothing p h)
+new_by_plan S x conn request p (here name value) e h = absurd (Contains-nil p h)
+new_by_plan S x conn request p (leave name value) e h = absurd (Contains-nil p h)
 
 pub new_is : (S : Setting) (x : Past) (event : Event) (p : Part) → Contains (parts_by S x event) p → IsNew S x event p
 new_is S x (Arrived conn request) p h = new_by_plan S x conn request p (plan_for request) refl h
-new_is S x Opened p h = absurd (none_in_nothing p h)
-new_is S x (Finished conn) p h = absurd (none_in_nothing p h)
-new_is S x (Taken host) p h = absurd (none_in_nothing p h)
-new_is S x (Answered host e value t) p h = absurd (none_in_nothing p h)
-new_is S x (Failed host e kind t) p h = absurd (none_in_nothing p h)
-new_is S x (Swept t) p h = absurd (none_in_nothing p h)
-new_is S x (Handed conn) p h = absurd (none_in_nothing p h)
-new_is S x (Closed conn) p h = absurd (none_in_nothing p h)
+new_is S x Opened p h = absurd (Contains-nil p h)
+new_is S x (Finished conn) p h = absurd (Contains-nil p h)
+new_is S x (Taken host) p h = absurd (Contains-nil p h)
+new_is S x (Answered host e value t) p h = absurd (Contains-nil p h)
+new_is S x (Failed host e kind t) p h = absurd (Contains-nil p h)
+new_is S x (Swept t) p h = absurd (Contains-nil p h)
+new_is S x (Handed conn) p h = absurd (Contains-nil p h)
+new_is S x (Closed conn) p h = absurd (Contains-nil p h)
 
 -- the parts of an arrival, by the plan
 parts_are : (S : Setting) (x : Past) (event : Event) (p : Part) (a : IsNew S x event p) → parts_by S x event ≡ placing S x a.conn (accepted a.conn x.steps) [] a.list
@@ -195,7 +193,7 @@ unfolding earlier_still
 before-earlier_still S s H p a = refl
 
 pub parts_have_arrived : (S : Setting) (H : History) (p : Part) → Contains (past S H).parts p → HasArrived S H p
-parts_have_arrived S [] p h = absurd (none_in_nothing p h)
+parts_have_arrived S [] p h = absurd (Contains-nil p h)
 parts_have_arrived S (s ∷ before) p h = elim (Contains-append_cases (past S before).parts (parts_by S (past S before) s.event) p h) [
   | inl earlier ↦ earlier_still S s before p (parts_have_arrived S before p earlier)
   | inr now ↦ arrived_now S before s p (new_is S (past S before) s.event p now)
@@ -203,30 +201,20 @@ parts_have_arrived S (s ∷ before) p h = elim (Contains-append_cases (past S be
 
 -- WHAT WAS SENT
 
-pub in_filter : (f : Part → Bool) (ps : List Part) (p : Part) → Contains (filter f ps) p → Contains ps p
-in_filter f [] p h = h
-in_filter f (q ∷ ps) p h = elim (cases_Bool (f q)) [
-  | inl t ↦ elim (Contains-append_cases (q ∷ []) (filter f ps) p (rw t at h)) [
-    | inl one ↦ Contains-append_left (q ∷ []) ps p one
-    | inr more ↦ Contains-append_right (q ∷ []) ps p (in_filter f ps p more)
-  ]
-  | inr g ↦ Contains-append_right (q ∷ []) ps p (in_filter f ps p (rw g at h))
-]
-
 in_first : (ps : List Part) (p : Part) → Contains (first ps) p → Contains ps p
 in_first [] p h = h
 in_first (q ∷ ps) p h = Contains-append_left (q ∷ []) ps p h
 
 sent_now : (x : Past) (event : Event) (p : Part) → Contains (sent_by x event) p → Contains x.parts p
-sent_now x (Taken host) p h = in_filter (waits host x) x.parts p (in_first (waiting host x) p h)
-sent_now x Opened p h = absurd (none_in_nothing p h)
-sent_now x (Arrived conn request) p h = absurd (none_in_nothing p h)
-sent_now x (Finished conn) p h = absurd (none_in_nothing p h)
-sent_now x (Answered host e value t) p h = absurd (none_in_nothing p h)
-sent_now x (Failed host e kind t) p h = absurd (none_in_nothing p h)
-sent_now x (Swept t) p h = absurd (none_in_nothing p h)
-sent_now x (Handed conn) p h = absurd (none_in_nothing p h)
-sent_now x (Closed conn) p h = absurd (none_in_nothing p h)
+sent_now x (Taken host) p h = Contains-filter (waits host x) x.parts p (in_first (waiting host x) p h)
+sent_now x Opened p h = absurd (Contains-nil p h)
+sent_now x (Arrived conn request) p h = absurd (Contains-nil p h)
+sent_now x (Finished conn) p h = absurd (Contains-nil p h)
+sent_now x (Answered host e value t) p h = absurd (Contains-nil p h)
+sent_now x (Failed host e kind t) p h = absurd (Contains-nil p h)
+sent_now x (Swept t) p h = absurd (Contains-nil p h)
+sent_now x (Handed conn) p h = absurd (Contains-nil p h)
+sent_now x (Closed conn) p h = absurd (Contains-nil p h)
 
 pub sent_parts_arrived : (S : Setting) (H : History) (p : Part) → Contains (past S H).sent p → Contains (past S H).parts p
 sent_parts_arrived S [] p h = h

@@ -67,7 +67,7 @@ pub use Rattle.proxy_history.proofs.CommandParts.{length-placing}
 -- of the parts of one command all are of it
 pub use Rattle.proxy_history.proofs.CommandParts.{all_of as filter-AreOf}
 -- and none is of another
-pub use Rattle.proxy_history.proofs.CommandParts.{none_of as filter-AreOf_other}
+pub use Rattle.proxy_history.proofs.Fresh.{none_of as filter-AreOf_other}
 -- a command that has not arrived has no parts
 pub use Rattle.proxy_history.proofs.CommandParts.{not_yet as parts_of-not_yet}
 -- the parts of a command that arrived stay the same
@@ -128,6 +128,8 @@ pub use Rattle.proxy_history.proofs.Waiting.{is_same_self as is_same-self}
 pub use Rattle.proxy_history.proofs.SentOnce.{is_same_sym as is_same-sym}
 -- and so with others
 pub use Rattle.proxy_history.proofs.SentOnce.{is_other_sym as is_same-sym_false}
+-- among parts that are apart the same are equal
+pub use Rattle.proxy_history.proofs.UnsentLemmas.{one_part as is_same-apart}
 -- parts that are apart stay so in a filter
 pub use Rattle.proxy_history.proofs.Waiting.{apart_filter as AreApart-filter}
 -- who is none of these takes none of them
@@ -154,25 +156,17 @@ pub use Rattle.proxy_history.proofs.SeenLemmas.{seen_steps_follow as IsLegal-his
 pub use Rattle.proxy_history.proofs.SeenLemmas.{seen_beginnings_are_legal as IsLegal-history_of_seen-append}
 -- what a history tells, in the order in which a pass sees it
 pub use Rattle.proxy_history.proofs.SeenLemmas.{seen_is_read_in_order as IsReadInOrder-seen}
--- LISTS
+-- LISTS AND COUNTS
 
--- what a list has at a place it has there when it has grown
-pub use Rattle.proxy_history.proofs.Growing.{slice_get_stays as slice_get-append}
 -- no count falls
 pub use Rattle.proxy_history.proofs.Growing.{times_grows as times-cons}
+-- no more steps are counted than there are
+pub use Rattle.proxy_history.proofs.Growing.{times-length}
+-- what was sent one step later
+pub use Rattle.proxy_history.proofs.Values.{sent_to_after as sent_to-after}
 -- each of these parts passes the test
 pub use Rattle.proxy_history.proofs.Good.{AreGood}
 -- so it is with those that a filter keeps
 pub use Rattle.proxy_history.proofs.Good.{filter_is_good as AreGood-filter}
--- tests that agree keep the same
-pub use Rattle.proxy_history.proofs.Waiting.{same_filter as filter-same}
--- a filter by two tests is one after the other
-pub use Rattle.proxy_history.proofs.Waiting.{filter_both as filter-both}
--- a test that none passes none passes in a filter
-pub use Rattle.proxy_history.proofs.Waiting.{any_less as list_any-filter}
--- what a filter keeps was in the list
-pub use Rattle.proxy_history.proofs.Arrived.{in_filter as Contains-filter}
--- nothing is in the empty list
-pub use Rattle.proxy_history.proofs.Arrived.{none_in_nothing as Contains-nil}
 -- equal numbers are equal the other way round
 pub use Rattle.proxy_history.proofs.SentOnce.{eqb_sym as eq-sym}

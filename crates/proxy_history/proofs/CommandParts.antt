@@ -24,7 +24,7 @@ use Rattle.proxy_history.specs.Outcome.{parts_of, is_part_of, values_of, with_va
 use Rattle.proxy_history.specs.CommandLaws.{parts_in_plan, HasItsParts}
 use Rattle.proxy_history.specs.declared.event.Event.{Event}
 use Rattle.proxy_history.specs.declared.event.Event.TheVariants.{Opened, Arrived, Finished, Taken, Answered, Failed, Swept, Handed, Closed}
-use Rattle.proxy_history.proofs.Fresh.{length-requests, AreOf, placing_are_of, parts_stay}
+use Rattle.proxy_history.proofs.Fresh.{length-requests, AreOf, placing_are_of, none_of, parts_stay}
 use Rattle.proxy_history.proofs.Apart.{host_keeps_number}
 use Rattle.proxy_history.proofs.Arrived.{text_is}
 
@@ -41,12 +41,6 @@ all_of conn command (p ∷ ps) a =
     let f : (p.conn == conn) ≡ true = eq-eqb p.conn conn a.0 in
     let g : (p.command == command) ≡ true = eq-eqb p.command command a.1 in
     rw (f, g) (ap (λ z. p ∷ z) (all_of conn command ps a.2))
-
-pub none_of : (c i conn command : ℕ) (ps : List Part) → ((conn == c) && (command == i)) ≡ false → AreOf conn command ps → filter (is_part_of c i) ps ≡ []
-none_of c i conn command [] e a = refl
-none_of c i conn command (p ∷ ps) e a =
-    let f : is_part_of c i p ≡ false = rw (a.0, a.1) e in
-    rw f (none_of c i conn command ps e a.2)
 
 pub are_placed : (S : Setting) (x : Past) (conn : ℕ) (list : List PartPlan) → AreOf conn (accepted conn x.steps) (placing S x conn (accepted conn x.steps) [] list)
 are_placed S x conn list = placing_are_of S x conn (accepted conn x.steps) [] list tt

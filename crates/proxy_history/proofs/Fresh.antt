@@ -62,7 +62,8 @@ placing_are_of S x conn command placed (p ∷ ps) a =
     (host_keeps_conn x placed (host_for S x p.key) (hostless conn command (length placed) p))
     (host_keeps_command x placed (host_for S x p.key) (hostless conn command (length placed) p)))
 
-none_of : (c i conn command : ℕ) (ps : List Part) → ((conn == c) && (command == i)) ≡ false → AreOf conn command ps → filter (is_part_of c i) ps ≡ []
+-- none of these parts is of another command
+pub none_of : (c i conn command : ℕ) (ps : List Part) → ((conn == c) && (command == i)) ≡ false → AreOf conn command ps → filter (is_part_of c i) ps ≡ []
 none_of c i conn command [] e a = refl
 none_of c i conn command (p ∷ ps) e a =
     let f : is_part_of c i p ≡ false = rw (a.0, a.1) e in

@@ -1,15 +1,9 @@
 -- Lists that grow at their end.
-use Rattle.std.proofs.Common.{◌≡◌, ℕ, zero, suc, Bool, true, false, cond, List, [], ◌∷◌, ◌++◌, Option, Some, ◌≤◌, inl, inr, arith}
+use Rattle.std.proofs.Common.{◌≡◌, Bool, true, false, cond, List, [], ◌∷◌, ◌++◌, length, Option, Some, ◌≤◌, inl, inr, arith}
 use Rattle.std.proofs.lemmas.Bool.{cases_Bool}
 use Rattle.proxy_history.specs.History.{History, times, Step}
 use Rattle.proxy_history.specs.declared.event.Event.{Event}
-use Rattle.std.specs.List.{find, zip, slice_get}
-
--- what a list has at a place, it has there when it has grown
-pub slice_get_stays : {X : Type 0} (xs ys : List X) (i : ℕ) (x : X) → slice_get xs i ≡ Some x → slice_get (xs ++ ys) i ≡ Some x
-slice_get_stays [] ys i x e = absurd cc
-slice_get_stays (a ∷ xs) ys zero x e = e
-slice_get_stays (a ∷ xs) ys (suc i) x e = slice_get_stays xs ys i x e
+use Rattle.std.specs.List.{find, zip}
 
 cond_goes : {X : Type 0} (b : Bool) (x r : X) (more grown : Option X) → (more ≡ Some r → grown ≡ Some r)
     → cond b (Some x) more ≡ Some r → cond b (Some x) grown ≡ Some r
@@ -22,6 +16,11 @@ pub find_zip_stays : {A B : Type 0} (t : A × B → Bool) (xs xs' : List A) (ys 
 find_zip_stays t [] xs' ys ys' r e = absurd cc
 find_zip_stays t (x ∷ xs) xs' [] ys' r e = absurd cc
 find_zip_stays t (x ∷ xs) xs' (y ∷ ys) ys' r e = cond_goes (t (x, y)) (x, y) r _ _ (find_zip_stays t xs xs' ys ys' r) e
+
+-- no more steps are counted than there are
+pub times-length : (is : Event → Bool) (H : History) → times is H ≤ length H
+times-length is [] = omega arith
+times-length is (s ∷ H) = elim (cases_Bool (is s.event)) [ inl t ↦ rw (t) (omega (arith, times-length is H)) | inr f ↦ rw (f) (omega (arith, times-length is H)) ]
 
 -- no count falls
 pub times_grows : (is : Event → Bool) (s : Step) (H : History) → times is H ≤ times is (s ∷ H)

@@ -6,6 +6,7 @@ use Rattle.std.specs.Option.{option_and_then}
 use Rattle.std.proofs.lemmas.Bool.{cases_Bool, and_parts, not-false}
 use Rattle.std.proofs.lemmas.List.Folds.{list_all-append}
 use Rattle.std.proofs.lemmas.List.Elements.{Contains-append_left, Contains-append_right}
+use Rattle.list_words.proofs.CallerLemmas.{Contains-filter}
 use Rattle.resp_core.specs.Tree.{Tree, is_plain_tree}
 use Rattle.resp_core.specs.Value.{tree_of}
 use Rattle.resp_core.specs.declared.value.Value.{Value}
@@ -30,7 +31,7 @@ use Rattle.proxy_history.specs.Laws.{IsPlaced}
 use Rattle.proxy_history.specs.declared.event.Event.{Event}
 use Rattle.proxy_history.specs.declared.event.Event.TheVariants.{Opened, Arrived, Finished, Taken, Answered, Failed, Swept, Handed, Closed}
 use Rattle.proxy_history.proofs.NoCause.{are_false}
-use Rattle.proxy_history.proofs.Arrived.{parts_have_arrived, in_filter}
+use Rattle.proxy_history.proofs.Arrived.{parts_have_arrived}
 
 -- whether a value, if there is one, can be written
 abbrev pub IsPlainIfAny : Option Tree → Type 0
@@ -121,7 +122,7 @@ module _ (S : Setting) (H : History) (legal : IsLegal S H) where
   by_plan : (c i : ℕ) (p : Plan) → has_plain_value p ≡ true → IsPlainIfAny (outcome_by (past S H) c i p)
   by_plan c i (here name v) h = h
   by_plan c i (leave name v) h = h
-  by_plan c i (parts how list) h = joined_is_plain how (values_of (past S H) (parts_of c i (past S H))) (values_are_plain (parts_of c i (past S H)) (λ p g. in_filter (is_part_of c i) (past S H).parts p g))
+  by_plan c i (parts how list) h = joined_is_plain how (values_of (past S H) (parts_of c i (past S H))) (values_are_plain (parts_of c i (past S H)) (λ p g. Contains-filter (is_part_of c i) (past S H).parts p g))
 
   by_request : (c i : ℕ) (o : Option Request) → IsPlainIfAny (option_and_then (λ request. outcome_by (past S H) c i (plan_for request)) o)
   by_request c i None = tt

@@ -3,6 +3,7 @@ use Rattle.std.proofs.Common.{◌≡◌, ℕ, ◌<◌, List, [], ◌∷◌, ◌+
 use Rattle.std.specs.List.{slice_get}
 use Rattle.std.specs.Option.{option_and_then}
 use Rattle.std.proofs.lemmas.Option.{slice_get_within}
+use Rattle.list_words.proofs.CallerLemmas.{slice_get-append}
 use Rattle.resp_core.specs.Tree.{Tree}
 use Rattle.proxy_history.specs.Setting.{Setting}
 use Rattle.splitter.specs.Plan.{Plan, here, leave, parts}
@@ -15,7 +16,6 @@ use Rattle.proxy_history.specs.Outcome.{with_value, values_of, parts_of, outcome
 use Rattle.proxy_history.specs.Cause.{own_cause}
 use Rattle.proxy_history.specs.Legal.{IsLegal}
 use Rattle.splitter.specs.declared.request.Request.{Request}
-use Rattle.proxy_history.proofs.Growing.{slice_get_stays}
 use Rattle.proxy_history.proofs.Fresh.{length-requests, parts_stay}
 use Rattle.proxy_history.proofs.Values.{value_stays, option_map_stays}
 
@@ -43,7 +43,7 @@ by_request : (S : Setting) (x : Past) (s : Step) (c i : ℕ) (v : Tree) → own_
 by_request S x s c i v n None q e = absurd cc
 by_request S x s c i v n (Some request) q e =
     let l : i < accepted c x.steps = omega (arith, slice_get_within (requests c x.steps) i request q, length-requests c x.steps) in
-    rw (slice_get_stays (requests c x.steps) (request_by c s.event) i request q) (outcome_by_stays S x s c i v n l (plan_for request) e)
+    rw (slice_get-append (requests c x.steps) (request_by c s.event) i request q) (outcome_by_stays S x s c i v n l (plan_for request) e)
 
 -- one more step
 pub outcome_stays : (S : Setting) (x : Past) (s : Step) (c i : ℕ) (v : Tree) → own_cause S x s.event ≡ None → outcome c i x ≡ Some v → outcome c i (after S s x) ≡ Some v

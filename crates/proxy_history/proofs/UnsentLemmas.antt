@@ -1,8 +1,9 @@
 -- Which parts wait.
-use Rattle.std.proofs.Common.{◌≡◌, ◌↔◌, ◌⊎◌, ℕ, Bool, true, false, ◌==◌, ◌&&◌, is_none, List, [], ◌∷◌, ◌++◌, filter, Contains, Option, Some, None, refl, sym, ap, ◌∙◌, subst, inl, inr}
+use Rattle.std.proofs.Common.{◌≡◌, ◌↔◌, ℕ, Bool, true, false, ◌==◌, ◌&&◌, is_none, List, [], ◌∷◌, ◌++◌, Contains, Option, Some, None, refl, sym, ap, ◌∙◌, subst, inl, inr}
 use Rattle.std.specs.List.{list_any}
-use Rattle.std.proofs.lemmas.Bool.{and_parts, cases_Bool, or_cases, or_left, or_right, both_ways, eqb-true, eq-eqb, false_from_ne_true}
-use Rattle.std.proofs.lemmas.List.Elements.{Contains-append_left, Contains-append_right, Contains-append_cases, Contains-push, Contains-push_cases}
+use Rattle.std.proofs.lemmas.Bool.{and_parts, both_ways, eqb-true, eq-eqb, false_from_ne_true}
+use Rattle.std.proofs.lemmas.List.Elements.{Contains-append_left, Contains-append_right, Contains-push}
+use Rattle.list_words.proofs.CallerLemmas.{Contains-nil, Contains-cases, Contains-filter, Contains-filter_passing, list_any-true, list_any-member}
 use Rattle.proxy_history.specs.Setting.{Setting}
 use Rattle.proxy_history.specs.History.{History, Step, epoch, is_fault}
 use Rattle.proxy_history.specs.Part.{Part, is_of, is_host, is_same}
@@ -12,7 +13,7 @@ use Rattle.proxy_history.specs.Arrival.{parts_by}
 use Rattle.proxy_history.specs.Laws.{AreApart, IsPlaced, HasArrived}
 use Rattle.proxy_history.specs.SendingLaws.{IsUnsent}
 use Rattle.proxy_history.proofs.Apart.{parts_are_in_order}
-use Rattle.proxy_history.proofs.Arrived.{none_in_nothing, parts_have_arrived, sent_parts_arrived, in_filter}
+use Rattle.proxy_history.proofs.Arrived.{parts_have_arrived, sent_parts_arrived}
 use Rattle.proxy_history.proofs.Faults.{faults_raise_epochs}
 use Rattle.proxy_history.proofs.Good.{AreGood, filter_is_good, waits_parts}
 use Rattle.proxy_history.proofs.SentOnce.{is_same_sym}
@@ -20,54 +21,22 @@ use Rattle.proxy_history.proofs.Waiting.{is_same_self}
 
 -- LISTS OF PARTS
 
--- one of these is the first, or behind it
-first_or_rest : (q : Part) (ps : List Part) (p : Part) → Contains (q ∷ ps) p → (q ≡ p) ⊎ Contains ps p
-first_or_rest q ps p h = elim (Contains-append_cases (q ∷ []) ps p h) [
-  | inl one ↦ elim (Contains-push_cases [] q p one) [ inl nothing ↦ absurd (none_in_nothing p nothing) | inr is ↦ inl is ]
-  | inr more ↦ inr more
-]
-
+-- each of these parts passes the test
 is_good : (f : Part → Bool) (ps : List Part) (p : Part) → AreGood f ps → Contains ps p → f p ≡ true
-is_good f [] p g h = absurd (none_in_nothing p h)
-is_good f (q ∷ ps) p g h = elim (first_or_rest q ps p h) [ inl is ↦ ap f (sym is) ∙ g.0 | inr more ↦ is_good f ps p g.1 more ]
-
-stays_in : (f : Part → Bool) (ps : List Part) (p : Part) → Contains ps p → f p ≡ true → Contains (filter f ps) p
-stays_in f [] p h e = absurd (none_in_nothing p h)
-stays_in f (q ∷ ps) p h e = elim (first_or_rest q ps p h) [
-  | inl is ↦
-      let kept : f q ≡ true = ap f is ∙ e in
-      rw kept (Contains-append_left (q ∷ []) (filter f ps) p (subst (Contains (q ∷ [])) is (Contains-push [] q)))
-  | inr more ↦ elim (cases_Bool (f q)) [
-    | inl t ↦ rw t (Contains-append_right (q ∷ []) (filter f ps) p (stays_in f ps p more e))
-    | inr g ↦ rw g (stays_in f ps p more e)
-  ]
-]
-
-any_of : (f : Part → Bool) (ps : List Part) (p : Part) → Contains ps p → f p ≡ true → list_any f ps ≡ true
-any_of f [] p h e = absurd (none_in_nothing p h)
-any_of f (q ∷ ps) p h e = elim (first_or_rest q ps p h) [
-  | inl is ↦ or_left (f q) (list_any f ps) (ap f is ∙ e)
-  | inr more ↦ or_right (f q) (list_any f ps) (any_of f ps p more e)
-]
-
-of_any : (f : Part → Bool) (ps : List Part) → list_any f ps ≡ true → (p : Part) × Contains ps p × (f p ≡ true)
-of_any f [] e = absurd cc
-of_any f (q ∷ ps) e = elim (or_cases (f q) (list_any f ps) e) [
-  | inl t ↦ (q, Contains-append_left (q ∷ []) ps q (Contains-push [] q), t)
-  | inr more ↦ let a = of_any f ps more in (a.0, Contains-append_right (q ∷ []) ps a.0 a.1, a.2)
-]
+is_good f [] p g h = absurd (Contains-nil p h)
+is_good f (q ∷ ps) p g h = elim (Contains-cases q ps p h) [ inl is ↦ ap f (sym is) ∙ g.0 | inr more ↦ is_good f ps p g.1 more ]
 
 -- among parts that are apart the same are equal
-one_part : (ps : List Part) (p q : Part) → AreApart ps → Contains ps p → Contains ps q → is_same p q ≡ true
+pub one_part : (ps : List Part) (p q : Part) → AreApart ps → Contains ps p → Contains ps q → is_same p q ≡ true
     → p ≡ q
-one_part [] p q a h g e = absurd (none_in_nothing p h)
-one_part (r ∷ ps) p q a h g e = elim (first_or_rest r ps p h) [
-  | inl is ↦ elim (first_or_rest r ps q g) [
+one_part [] p q a h g e = absurd (Contains-nil p h)
+one_part (r ∷ ps) p q a h g e = elim (Contains-cases r ps p h) [
+  | inl is ↦ elim (Contains-cases r ps q g) [
     | inl too ↦ sym is ∙ too
-    | inr later ↦ absurd (both_ways (list_any (is_same r) ps) a.0 (any_of (is_same r) ps q later (ap (λ z. is_same z q) is ∙ e)))
+    | inr later ↦ absurd (both_ways (list_any (is_same r) ps) a.0 (list_any-member (is_same r) ps q later (ap (λ z. is_same z q) is ∙ e)))
   ]
-  | inr more ↦ elim (first_or_rest r ps q g) [
-    | inl is ↦ absurd (both_ways (list_any (is_same r) ps) a.0 (any_of (is_same r) ps p more (ap (λ z. is_same z p) is ∙ is_same_sym p q e)))
+  | inr more ↦ elim (Contains-cases r ps q g) [
+    | inl is ↦ absurd (both_ways (list_any (is_same r) ps) a.0 (list_any-member (is_same r) ps p more (ap (λ z. is_same z p) is ∙ is_same_sym p q e)))
     | inr later ↦ one_part ps p q a.1 more later e
   ]
 ]
@@ -103,7 +72,7 @@ is_waiting : (S : Setting) (H : History) (h : ℕ) (p : Part) → Contains (wait
     → IsUnsent S H h p
 is_waiting S H h p c =
     let x = past S H in
-    let a = parts_have_arrived S H p (in_filter (waits h x) x.parts p c) in
+    let a = parts_have_arrived S H p (Contains-filter (waits h x) x.parts p c) in
     let w = waits_parts h x p (is_good (waits h x) (waiting h x) p (filter_is_good (waits h x) x.parts) c) in
     let o = and_parts (is_host h p.host && (p.epoch == epoch h H)) (is_none p.local) w.0 in
     let b = and_parts (is_host h p.host) (p.epoch == epoch h H) o.0 in
@@ -116,7 +85,7 @@ is_waiting S H h p c =
       for_host = host;
       no_value = has_no_value p.local o.1;
       no_fault = (faults_raise_epochs a.later (a.step ∷ a.before) h).1 same;
-      not_sent = λ s. both_ways (list_any (is_same p) x.sent) w.1 (any_of (is_same p) x.sent p s (is_same_self p));
+      not_sent = λ s. both_ways (list_any (is_same p) x.sent) w.1 (list_any-member (is_same p) x.sent p s (is_same_self p));
       not_closed = w.2;
     }
 
@@ -147,11 +116,11 @@ in_waiting S H h p w =
     let of_host : is_of h (epoch h H) p ≡ true =
     rw (w.for_host, eq-eqb h h refl, eq-eqb p.epoch (epoch h H) now, w.no_value) refl in
     let unsent : list_any (is_same p) x.sent ≡ false = false_from_ne_true (list_any (is_same p) x.sent) (λ t.
-    let q = of_any (is_same p) x.sent t in
+    let q = list_any-true (is_same p) x.sent t in
     let is : p ≡ q.0 =
     one_part x.parts p q.0 (parts_are_in_order S H).apart part (sent_parts_arrived S H q.0 q.1) q.2 in
     w.not_sent (subst (Contains x.sent) (sym is) q.1)) in
-    stays_in (waits h x) x.parts p part (rw (of_host, unsent, w.not_closed) refl)
+    Contains-filter_passing (waits h x) x.parts p part (rw (of_host, unsent, w.not_closed) refl)
 
 pub unsent_parts_wait : (S : Setting) (H : History) (h : ℕ) (p : Part)
     → Contains (waiting h (past S H)) p ↔ IsUnsent S H h p

@@ -29,7 +29,8 @@ pub option_map_stays : {A B : Type 0} (f : A → B) (o o' : Option A) (v : B) �
 option_map_stays f None o' v g e = absurd cc
 option_map_stays f (Some r) o' v g e = rw (g r refl) e
 
-sent_to_after : (S : Setting) (x : Past) (s : Step) (h e : ℕ) → sent_to h e (after S s x) ≡ sent_to h e x ++ filter (is_of h e) (sent_by x s.event)
+-- what was sent one step later
+pub sent_to_after : (S : Setting) (x : Past) (s : Step) (h e : ℕ) → sent_to h e (after S s x) ≡ sent_to h e x ++ filter (is_of h e) (sent_by x s.event)
 sent_to_after S x s h e = filter-append (is_of h e) x.sent (sent_by x s.event)
 
 reply_stays : (S : Setting) (x : Past) (s : Step) (h : ℕ) (p : Part) (v : Tree) → reply_to p h x ≡ Some v → reply_to p h (after S s x) ≡ Some v

@@ -1,9 +1,10 @@
 -- How the waiting parts of a host change with a step: what a queue of the program has to do.
 use Rattle.std.proofs.Common.{◌≡◌, ℕ, ◌<◌, ◌≤◌, Bool, true, false, not, ◌==◌, ◌&&◌, ◌||◌, List, [], ◌∷◌, ◌++◌, filter, refl, ap, ◌∙◌, inl, inr, arith}
 use Rattle.std.specs.List.{list_any}
-use Rattle.std.proofs.lemmas.Bool.{or_parts, or_from, cases_Bool, eq-eqb, false_from_ne_true}
+use Rattle.std.proofs.lemmas.Bool.{or_parts, cases_Bool, eq-eqb, false_from_ne_true}
 use Rattle.std.proofs.lemmas.List.{append-nil}
 use Rattle.std.proofs.lemmas.List.Folds.{list_any-append}
+use Rattle.list_words.proofs.CallerLemmas.{filter-same, filter-both, list_any-filter}
 use Rattle.proxy_history.specs.Setting.{Setting}
 use Rattle.proxy_history.specs.History.{History, epoch, is_closed}
 use Rattle.proxy_history.specs.Part.{Past, Part, is_of, is_host, is_same}
@@ -16,27 +17,11 @@ use Rattle.proxy_history.proofs.SentOnce.{is_other_sym}
 
 -- FILTERS
 
-pub same_filter : {X : Type 0} (f g : X → Bool) → ((x : X) → f x ≡ g x) → (xs : List X) → filter f xs ≡ filter g xs
-same_filter f g e [] = refl
-same_filter f g e (x ∷ xs) = rw (e x, same_filter f g e xs) refl
-
-pub filter_both : {X : Type 0} (f g : X → Bool) (xs : List X) → filter (λ x. f x && g x) xs ≡ filter g (filter f xs)
-filter_both f g [] = refl
-filter_both f g (x ∷ xs) = elim (cases_Bool (f x)) [
-  | inl t ↦ rw (t) (rw (filter_both f g xs) refl)
-  | inr e ↦ rw (e) (filter_both f g xs)
-]
-
-pub any_less : {X : Type 0} (t f : X → Bool) (xs : List X) → list_any t xs ≡ false → list_any t (filter f xs) ≡ false
-any_less t f [] e = refl
-any_less t f (x ∷ xs) e =
-    let a = or_parts (t x) (list_any t xs) e in
-    elim (cases_Bool (f x)) [ inl y ↦ rw (y) (or_from _ _ a.0 (any_less t f xs a.1)) | inr n ↦ rw (n) (any_less t f xs a.1) ]
-
+-- parts that are apart stay so
 pub apart_filter : (f : Part → Bool) (ps : List Part) → AreApart ps → AreApart (filter f ps)
 apart_filter f [] a = tt
 apart_filter f (p ∷ ps) a = elim (cases_Bool (f p)) [
-  | inl t ↦ rw (t) (any_less (is_same p) f ps a.0, apart_filter f ps a.1)
+  | inl t ↦ rw (t) (list_any-filter (is_same p) f ps a.0, apart_filter f ps a.1)
   | inr e ↦ rw (e) (apart_filter f ps a.1)
 ]
 
@@ -70,8 +55,8 @@ without_first p ps a = rw (is_same_self p) (all_stay p ps a.0)
 pub taken : (h : ℕ) (x : Past) (p : Part) (ps : List Part) → AreApart x.parts → waiting h x ≡ p ∷ ps → waiting h (record x { sent = x.sent ++ p ∷ [] }) ≡ ps
 taken h x p ps a e =
     let apart : AreApart (p ∷ ps) = rw e at (apart_filter (waits h x) x.parts a) in
-    same_filter _ (λ q. waits h x q && not (is_same q p)) (taken_waits h x p) x.parts
-    ∙ filter_both (waits h x) (λ q. not (is_same q p)) x.parts
+    filter-same _ (λ q. waits h x q && not (is_same q p)) (taken_waits h x p) x.parts
+    ∙ filter-both (waits h x) (λ q. not (is_same q p)) x.parts
     ∙ ap (filter (λ q. not (is_same q p))) e ∙ without_first p ps apart
 
 pub after_taken : (S : Setting) (h pass : ℕ) (answer : Answer) (x : Past) (p : Part) (ps : List Part) → AreApart x.parts → waiting h x ≡ p ∷ ps
@@ -93,9 +78,9 @@ pub after_closed : (S : Setting) (h pass c : ℕ) (answer : Answer) (x : Past)
     → waiting h (after S (record { pass = pass; event = Closed c; answer = answer }) x) ≡ filter (λ q. not (c == q.conn)) (waiting h x)
 after_closed S h pass c answer x =
     rw (append-nil x.parts, append-nil x.sent)
-    (same_filter _ (λ q. waits h x q && not (c == q.conn))
+    (filter-same _ (λ q. waits h x q && not (c == q.conn))
     (λ q. bools3 (is_of h (epoch h x.steps) q) (not (list_any (is_same q) x.sent)) (c == q.conn) (is_closed q.conn x.steps)) x.parts
-    ∙ filter_both (waits h x) (λ q. not (c == q.conn)) x.parts)
+    ∙ filter-both (waits h x) (λ q. not (c == q.conn)) x.parts)
 
 -- no part is of an epoch to come
 abbrev pub AreOfPast : History → List Part → Type 0

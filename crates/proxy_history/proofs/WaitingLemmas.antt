@@ -3,6 +3,7 @@ use Rattle.std.proofs.Common.{◌≡◌, ℕ, ◌+◌, ◌<◌, ◌≤◌, Bool,
 use Rattle.std.proofs.lemmas.Bool.{cases_Bool}
 use Rattle.std.proofs.lemmas.List.{length-append}
 use Rattle.std.proofs.lemmas.List.Elements.{Contains-append_left, Contains-append_right, Contains-append_cases, Contains-push, Contains-push_cases}
+use Rattle.list_words.proofs.CallerLemmas.{Contains-nil, Contains-filter}
 use Rattle.splitter.specs.Plan.{Plan, here, leave, parts}
 use Rattle.proxy_history.specs.Setting.{Setting}
 use Rattle.proxy_history.specs.History.{History, Step, accepted, plan_for}
@@ -13,7 +14,7 @@ use Rattle.proxy_history.specs.Arrival.{parts_by, placed_by}
 use Rattle.proxy_history.specs.SendingLaws.{ComesFirst}
 use Rattle.proxy_history.specs.declared.event.Event.{Event}
 use Rattle.proxy_history.specs.declared.event.Event.TheVariants.{Arrived}
-use Rattle.proxy_history.proofs.Arrived.{none_in_nothing, in_filter, IsNew, new_is, arrived_now, before-arrived_now, earlier_still, before-earlier_still, parts_have_arrived}
+use Rattle.proxy_history.proofs.Arrived.{IsNew, new_is, arrived_now, before-arrived_now, earlier_still, before-earlier_still, parts_have_arrived}
 use Rattle.proxy_history.proofs.CommandParts.{AreNumbered, placing_is_numbered}
 
 -- each of these stands before those behind it
@@ -25,7 +26,7 @@ in_turn-filter : (S : Setting) (H : History) (f : Part → Bool) (ps : List Part
     → AreInTurn S H (filter f ps)
 in_turn-filter S H f [] a = tt
 in_turn-filter S H f (p ∷ ps) a = elim (cases_Bool (f p)) [
-  | inl t ↦ rw t (λ q h. a.0 q (in_filter f ps q h), in_turn-filter S H f ps a.1)
+  | inl t ↦ rw t (λ q h. a.0 q (Contains-filter f ps q h), in_turn-filter S H f ps a.1)
   | inr n ↦ rw n (in_turn-filter S H f ps a.1)
 ]
 
@@ -58,7 +59,7 @@ in_turn-cons S s H (p ∷ ps) a = (
 -- PARTS OF ONE ARRIVAL
 
 number_above : (n : ℕ) (ps : List Part) (q : Part) → AreNumbered n ps → Contains ps q → n ≤ q.number
-number_above n [] q a h = absurd (none_in_nothing q h)
+number_above n [] q a h = absurd (Contains-nil q h)
 number_above n (p ∷ ps) q a h = elim (Contains-append_cases (p ∷ []) ps q h) [
   | inl one ↦
       let is : p ≡ q = only one in
@@ -67,7 +68,7 @@ number_above n (p ∷ ps) q a h = elim (Contains-append_cases (p ∷ []) ps q h)
 ]
   where
     only : Contains (p ∷ []) q → p ≡ q
-    only one = elim (Contains-push_cases [] p q one) [ inl nothing ↦ absurd (none_in_nothing q nothing) | inr is ↦ is ]
+    only one = elim (Contains-push_cases [] p q one) [ inl nothing ↦ absurd (Contains-nil q nothing) | inr is ↦ is ]
 
 new_in_turn : (S : Setting) (H : History) (s : Step) (n : ℕ) (ps : List Part)
     → ((q : Part) → Contains ps q → IsNew S (past S H) s.event q) → AreNumbered n ps → AreInTurn S (s ∷ H) ps

@@ -1,3 +1,2 @@
 pub mod ValuesCome
-pub mod Changed
 pub mod QueueLaws

@@ -1,7 +1,8 @@
 -- The commands of a connection that are accepted and not popped.
-use Rattle.std.specs.Prelude.{◌≡◌, ◌-◌, ◌+◌, ℕ, zero, suc, nat_lt, if◌then◌else◌, Option, Some, None, List, [], ◌∷◌, slice_get, drop, refl}
+use Rattle.std.specs.Prelude.{◌≡◌, ◌-◌, ◌+◌, ℕ, nat_lt, if◌then◌else◌, Option, Some, None, List, [], ◌∷◌, slice_get, drop, refl}
 use Rattle.std.specs.Option.{option_and_then}
 use Rattle.std.specs.Coded.{Coded, code_by, coded×, coded_ℕ, coded_list}
+use Rattle.list_words.specs.Lists.{changed_at}
 use Rattle.resp_core.specs.Tree.{Tree}
 use Rattle.reply_queue.specs.Command.{AwaitedCommand, command_code, with_value, reply_to}
 
@@ -28,12 +29,6 @@ value_at q index part = option_and_then (λ command. slice_get command.values pa
 -- the command is accepted and not popped, and has this part, which has no value yet
 abbrev pub IsOpen : QueueState → ℕ → ℕ → Type 0
 IsOpen q index part = value_at q index part ≡ Some None
-
--- the list with the item in this place changed
-abbrev pub changed_at : {X : Type 0} → (X → X) → ℕ → List X → List X
-changed_at change place [] = []
-changed_at change zero (x ∷ xs) = change x ∷ xs
-changed_at change (suc place) (x ∷ xs) = x ∷ changed_at change place xs
 
 -- the queue once a command's part has this value
 abbrev pub with_part : ℕ → ℕ → Tree → QueueState → QueueState

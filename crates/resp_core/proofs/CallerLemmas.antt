@@ -3,7 +3,7 @@
 -- the words of an array, and when it is a command
 pub use Rattle.resp_core.proofs.Words.{words_of-list, is_command-list}
 -- the members of a list of values
-pub use Rattle.resp_core.proofs.TreeLemmas.{length_members}
+pub use Rattle.resp_core.proofs.TreeLemmas.{length_members, trees_of-members}
 -- the laws of texts
 pub use Rattle.resp_core.proofs.Spelling.{spelling_is_shortest, read_values_are_plain}
 -- what a reader stands after

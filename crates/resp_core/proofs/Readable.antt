@@ -1,5 +1,5 @@
 -- What a reader gives can be written and read again.
-use Rattle.std.proofs.Common.{ℕ, List, length, take, arith}
+use Rattle.std.proofs.Common.{ℕ, List, take, arith}
 use Rattle.std.proofs.lemmas.List.{length-take-le}
 use Rattle.resp_core.specs.Tree.{Tree}
 use Rattle.resp_core.specs.Grammar.{max_depth}

@@ -6,6 +6,8 @@ pub use Rattle.splitter.proofs.PlanLemmas.{plan_of-command}
 pub use Rattle.splitter.proofs.PlainLaws.{plan_texts_are_plain, joins_of_plain_values_are_plain}
 -- parts are commands, each with its key
 pub use Rattle.splitter.proofs.PartLaws.{all_made, plain_command, parts_are_commands}
+-- a command is split into no more commands than it has words, or into one
+pub use Rattle.splitter.proofs.SplitLemmas.{length-split_by}
 -- parts keep a client's limits
 pub use Rattle.splitter.proofs.CommandLaws.{parts_are_of_commands, commands_keep_limits}
 -- requests, and where they finish

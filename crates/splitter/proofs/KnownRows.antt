@@ -1,7 +1,8 @@
 -- What the rows of the table say of a key's place and of a name's length.
-use Rattle.std.proofs.Common.{◌≡◌, ◌<◌, ℕ, zero, suc, Bool, true, ◌&&◌, ◌==◌, ltb, List, [], ◌∷◌, Contains, length, get_or, refl, subst, arith}
+use Rattle.std.proofs.Common.{◌≡◌, ◌<◌, ℕ, Bool, true, ◌&&◌, ◌==◌, ltb, Contains, length, refl, subst}
 use Rattle.std.specs.List.{list_all}
 use Rattle.std.proofs.lemmas.Bool.{and_parts, ltb-true, eqb-true}
+use Rattle.list_words.proofs.CallerLemmas.{list_all-get_or}
 use Rattle.command_table.specs.Names.{one_key_names}
 use Rattle.command_table.specs.Table.{Row, rows}
 use Rattle.command_table.specs.declared.Kind.{Kind}
@@ -23,13 +24,8 @@ good_rows : list_all (λ r. good_by r.kind r) rows ≡ true
 unfolding rows one_key_names
 good_rows = refl
 
-passes_at : (p : Row → Bool) (rs : List Row) (k : ℕ) (r : Row) → list_all p rs ≡ true → k < length rs → p (get_or rs k r) ≡ true
-passes_at p [] k r h l = absurd (omega (arith, l))
-passes_at p (x ∷ rs) zero r h l = (and_parts (p x) (list_all p rs) h).0
-passes_at p (x ∷ rs) (suc k) r h l = passes_at p rs k r (and_parts (p x) (list_all p rs) h).1 (omega (arith, l))
-
 good_row : (r : Row) → Contains rows r → good_by r.kind r ≡ true
-good_row r h = subst (λ (z : Row). good_by z.kind z ≡ true) h.2 (passes_at (λ z. good_by z.kind z) rows h.0 r good_rows h.1)
+good_row r h = subst (λ (z : Row). good_by z.kind z ≡ true) h.2 (list_all-get_or (λ z. good_by z.kind z) rows h.0 r good_rows h.1)
 
 good_kind : (k : Kind) (r : Row) → Contains rows r → r.kind ≡ k → good_by k r ≡ true
 good_kind k r h e = subst (λ (z : Kind). good_by z r ≡ true) e (good_row r h)

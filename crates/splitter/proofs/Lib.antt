@@ -6,4 +6,5 @@ pub mod PlainLaws
 pub mod PartLaws
 pub mod CommandLaws
 pub mod RequestLemmas
+pub mod SplitLemmas
 pub mod CallerLemmas

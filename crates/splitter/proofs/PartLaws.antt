@@ -7,13 +7,13 @@ use Rattle.std.specs.Char.{to_ascii_uppercase, to_ascii_lowercase}
 use Rattle.std.proofs.lemmas.Bool.{cases_Bool, and_parts, lt-ltb, ltb-true, leb-true}
 use Rattle.std.proofs.lemmas.Fmt.{decimal_nonempty}
 use Rattle.std.proofs.lemmas.List.{length-append, length-map}
-use Rattle.resp_core.specs.Tree.{Tree, Trees, simple, fault, whole, bulk, null_bulk, list, null_list, no_trees, tree, members, trees_of, is_plain_tree}
+use Rattle.resp_core.specs.Tree.{Tree, simple, fault, whole, bulk, null_bulk, list, null_list, members, trees_of, is_plain_tree}
 use Rattle.resp_core.specs.Text.{line, line_end, text, texts}
 use Rattle.resp_core.specs.Grammar.{max_bulk, max_text, max_depth}
 use Rattle.resp_core.specs.Within.{IsWithin, AreWithin}
 use Rattle.resp_core.specs.Laws.{Holds}
 use Rattle.resp_core.specs.Command.{is_bulk, is_command, payload_of, words_of, word}
-use Rattle.resp_core.proofs.CallerLemmas.{length_members, text_is_read_back, is_command-list}
+use Rattle.resp_core.proofs.CallerLemmas.{length_members, trees_of-members, text_is_read_back, is_command-list}
 use Rattle.command_table.specs.Table.{Row, rows, row_named}
 use Rattle.command_table.specs.declared.Kind.{Kind}
 use Rattle.command_table.specs.declared.Kind.TheVariants.{Ping, Echo, Quit, One, SplitGet, SplitSet, SplitSum}
@@ -254,10 +254,6 @@ by_row (Some r) w0 rest how ps f e =
       | inr h ↦ let g = rw h at e in absurd (cc g)
     ]
 
-trees_members : (ts : Trees) → trees_of (members ts) ≡ ts
-trees_members no_trees = refl
-trees_members (tree t ts) = ap (tree t) (trees_members ts)
-
 -- a command is that of its words
 pub command_words : (t : Tree) → is_command t ≡ true → t ≡ command_of (words_of t)
 command_words (simple s) h = absurd cc
@@ -265,7 +261,7 @@ command_words (fault s) h = absurd cc
 command_words (whole n) h = absurd cc
 command_words (bulk s) h = absurd cc
 command_words null_bulk h = absurd cc
-command_words (list ts) h = sym (command_of-payloads (members ts) h ∙ ap list (trees_members ts))
+command_words (list ts) h = sym (command_of-payloads (members ts) h ∙ ap list (trees_of-members ts))
 command_words null_list h = absurd cc
 
 pub some_words : (t : Tree) → is_command t ≡ true → 0 < length (words_of t)

@@ -1,6 +1,5 @@
 -- Look-up in a map after a change, and that each key stands once in it.
-use Rattle.std.proofs.Common.{◌≡◌, ℕ, Bool, true, false, not, ◌&&◌, ◌||◌, List, [], ◌∷◌, Option, Some, None, length, filter, if◌then◌else◌, ℤ, inl, inr, refl, sym, ap, ◌∙◌}
-use Rattle.std.specs.List.{list_any}
+use Rattle.std.proofs.Common.{◌≡◌, ℕ, Bool, true, false, not, List, [], ◌∷◌, Option, Some, None, length, filter, if◌then◌else◌, ℤ, inl, inr, refl, sym, ap, ◌∙◌}
 use Rattle.std.specs.Str.{bytes_eq}
 use Rattle.std.proofs.lemmas.Bool.{cases_Bool, and_parts}
 use Rattle.std.proofs.lemmas.Slice.Eq.{bytes_eq-Decides}
@@ -10,7 +9,7 @@ use Rattle.stub_server.specs.declared.command.Command.TheVariants.{Get, Set, Del
 use Rattle.stub_server.specs.declared.map.Entry.{Entry}
 use Rattle.stub_server.specs.Command.{command_named, takes}
 use Rattle.resp_core.specs.Command.{is_command, words_of, word}
-use Rattle.stub_server.specs.Map.{Map, is_of, value_at, is_key, with_value, names_key, without, has_distinct_keys}
+use Rattle.stub_server.specs.Map.{Map, value_at, is_key, with_value, names_key, without, has_distinct_keys}
 use Rattle.stub_server.specs.Number.{one_more}
 use Rattle.stub_server.specs.Table.{Outcome, gives, unknown_command, wrong_number, number_at, counted, incremented, outcome_by, outcome_named, outcome_of_words, map_after}
 

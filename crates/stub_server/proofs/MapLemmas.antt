@@ -1,10 +1,12 @@
 -- The map of a stub, from one change to the next.
-use Rattle.std.proofs.Common.{◌≡◌, ◌<◌, ◌≤◌, ◌+◌, if◌then◌else◌, ℕ, zero, suc, Bool, true, false, not, List, [], ◌∷◌, ◌++◌, Option, Some, None, map, length, get_or, set, position, nat_lt, inl, inr, refl, sym, ap, ◌∙◌, arith}
-use Rattle.std.specs.List.{position_or_len, count_by, fold}
+use Rattle.std.proofs.Common.{◌≡◌, ◌<◌, ◌≤◌, ◌+◌, ℕ, zero, suc, Bool, true, false, List, [], ◌∷◌, ◌++◌, Some, None, length, get_or, set, position, nat_lt, inl, inr, refl, sym, ap, ◌∙◌, arith}
+use Rattle.std.specs.List.{position_or_len}
 use Rattle.std.proofs.lemmas.Bool.{cases_Bool}
 use Rattle.std.proofs.lemmas.Bool.Decides.{Decides-ltb}
 use Rattle.stub_server.specs.declared.map.Entry.{Entry}
 use Rattle.stub_server.specs.Map.{Map, is_of, with_value}
+-- a lemma that an attribute names has a name without a dash
+pub use Rattle.list_words.proofs.CallerLemmas.{count_by-map as count_by_map}
 
 pub position-place : (p : Entry → Bool) (m : Map) (i : ℕ) → position p m ≡ Some i → (i ≡ position_or_len p m) × (i < length m)
 position-place p m i e =
@@ -40,10 +42,3 @@ added key value m e =
       | inl f ↦ let g : Some (position_or_len (is_of key) m) ≡ None = rw f at e in absurd cc
       | inr f ↦ no_place key value m (let n : position_or_len (is_of key) m < length m → ⊥ = λ l. let t = (Decides-ltb (position_or_len (is_of key) m) (length m)).1 l in let u : false ≡ true = sym f ∙ t in cc in omega (arith, n))
     ]
-
-fold_map : {X Y : Type 0} (f : X → Y) (g : ℕ → Y → ℕ) (n : ℕ) (xs : List X) → fold g n (map f xs) ≡ fold (λ m x. g m (f x)) n xs
-fold_map f g n [] = refl
-fold_map f g n (x ∷ xs) = fold_map f g (g n (f x)) xs
-
-pub count_by_map : {X Y : Type 0} (f : X → Y) (p : Y → Bool) (xs : List X) → count_by p (map f xs) ≡ count_by (λ x. p (f x)) xs
-count_by_map f p xs = fold_map f (λ n y. n + (if p y then 1 else 0)) 0 xs

@@ -1,5 +1,5 @@
 -- The first command of a name, from one row to the next.
-use Rattle.std.proofs.Common.{◌≡◌, ◌<◌, ◌+◌, ℕ, add-one, List, [], Bool, true, false, Option, Some, map, length, get_or, inl, inr, ◌∷◌, drop, drop-cons, refl, arith}
+use Rattle.std.proofs.Common.{◌≡◌, ◌<◌, ◌+◌, ℕ, add-one, List, [], true, Some, map, length, get_or, inl, inr, ◌∷◌, drop, drop-cons, refl}
 use Rattle.std.specs.Str.{str_to_ascii_lowercase, bytes_eq}
 use Rattle.std.proofs.lemmas.Slice.Eq.{bytes_eq-Decides}
 use Rattle.std.proofs.lemmas.Bool.{cases_Bool}

@@ -1,5 +1,5 @@
 -- The answers of a stub, and its map after each.
-use Rattle.std.specs.Prelude.{ℕ, ℤ, pos, Bool, if◌then◌else◌, List, [], ◌∷◌, length, drop, Option, Some, None, codes}
+use Rattle.std.specs.Prelude.{ℕ, ℤ, pos, if◌then◌else◌, List, [], ◌∷◌, length, drop, Option, Some, None, codes}
 use Rattle.std.specs.Fmt.{signed_decimal}
 use Rattle.resp_core.specs.Tree.{Tree, simple, fault, whole, bulk, null_bulk}
 use Rattle.resp_core.specs.Command.{is_command, words_of, word}

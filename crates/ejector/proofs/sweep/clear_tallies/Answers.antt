@@ -1,7 +1,7 @@
 use Rattle.std.proofs.Common.{get_or, set, ap, ◌∙◌}
+use Rattle.list_words.proofs.CallerLemmas.{get_or-mapped_to, set-mapped_to}
 use Rattle.ejector.specs.State.{fresh_host}
 use Rattle.ejector.specs.Counting.{in_new_interval}
-use Rattle.ejector.proofs.InPlace.{get_or-mapped_to, set-mapped_to}
 use Rattle.ejector.proofs.sweep.clear_tallies.Goals as goal
 
 pub loop-host-preserved : goal.loop-host-preserved

@@ -1,10 +1,9 @@
 use Rattle.std.proofs.Common.{◌<◌, true, false, length, get_or, set, sym, ap, ◌∙◌, arith}
+use Rattle.list_words.proofs.CallerLemmas.{count_by-range_more, get_or-made_to, set-made_to, made_to-same}
 use Rattle.ejector.specs.State.{fresh_host}
 use Rattle.ejector.specs.Trips.{may_eject}
 use Rattle.ejector.specs.Sweeps.{trips_by}
 use Rattle.ejector.specs.Counting.{at_turn, is_ejected_at, is_kept_at, outs}
-use Rattle.ejector.proofs.Ranges.{count_more}
-use Rattle.ejector.proofs.InPlace.{get_or-made_to, set-made_to, made_to_same}
 use Rattle.ejector.proofs.Turns.{turn_yes, turn_no, turned, not_turned}
 use Rattle.ejector.proofs.sweep.trip_outliers.Goals as goal
 use Rattle.ejector.proofs.sweep.trip_outliers.Goals.{then-trips+then-may, then-trips+else-may, else-trips}
@@ -30,8 +29,8 @@ loop-i-preserved c =
           record {
             hosts = w.hosts-is ∙ ap (λ s. set c.loop-i.hosts i s) new ∙ placed;
             out = omega (arith, w.out-is, inv.out, done.2);
-            ejected = omega (arith, w.ejected-is, inv.ejected, count_more (is_ejected_at R tripping first) i true done.0);
-            kept = omega (arith, w.kept-is, inv.kept, count_more (is_kept_at R tripping first) i false done.1);
+            ejected = omega (arith, w.ejected-is, inv.ejected, count_by-range_more (is_ejected_at R tripping first) i true done.0);
+            kept = omega (arith, w.kept-is, inv.kept, count_by-range_more (is_kept_at R tripping first) i false done.1);
             few_out = omega (arith, w.out-is, inv.few_out);
             few_ejected = omega (arith, w.ejected-is, inv.few_ejected);
             few_kept = omega (arith, w.kept-is, inv.few_kept);
@@ -44,8 +43,8 @@ loop-i-preserved c =
           record {
             hosts = w.hosts-is ∙ ap (λ s. set c.loop-i.hosts i s) new ∙ placed;
             out = omega (arith, w.out-is, inv.out, done.2);
-            ejected = omega (arith, w.ejected-is, inv.ejected, count_more (is_ejected_at R tripping first) i false done.0);
-            kept = omega (arith, w.kept-is, inv.kept, count_more (is_kept_at R tripping first) i true done.1);
+            ejected = omega (arith, w.ejected-is, inv.ejected, count_by-range_more (is_ejected_at R tripping first) i false done.0);
+            kept = omega (arith, w.kept-is, inv.kept, count_by-range_more (is_kept_at R tripping first) i true done.1);
             few_out = omega (arith, w.out-is, inv.few_out);
             few_ejected = omega (arith, w.ejected-is, inv.few_ejected);
             few_kept = omega (arith, w.kept-is, inv.few_kept);
@@ -54,10 +53,10 @@ loop-i-preserved c =
           let stays = sym c.trips.ensures ∙ w.if-trips.false in
           let done = not_turned R c.args.now tripping first xs i stays in
           record {
-            hosts = w.hosts-is ∙ inv.hosts ∙ made_to_same turn xs i fresh_host within (turn_no R c.args.now tripping first xs i stays);
+            hosts = w.hosts-is ∙ inv.hosts ∙ made_to-same turn xs i fresh_host within (turn_no R c.args.now tripping first xs i stays);
             out = omega (arith, w.out-is, inv.out, done.2);
-            ejected = omega (arith, w.ejected-is, inv.ejected, count_more (is_ejected_at R tripping first) i false done.0);
-            kept = omega (arith, w.kept-is, inv.kept, count_more (is_kept_at R tripping first) i false done.1);
+            ejected = omega (arith, w.ejected-is, inv.ejected, count_by-range_more (is_ejected_at R tripping first) i false done.0);
+            kept = omega (arith, w.kept-is, inv.kept, count_by-range_more (is_kept_at R tripping first) i false done.1);
             few_out = omega (arith, w.out-is, inv.few_out);
             few_ejected = omega (arith, w.ejected-is, inv.few_ejected);
             few_kept = omega (arith, w.kept-is, inv.few_kept);

@@ -1,6 +1,6 @@
 use Rattle.std.proofs.Common.{sym, ap, ◌∙◌, arith}
 use Rattle.std.specs.Option.{option_copied}
-use Rattle.plain_history.specs.Scan.{list_of}
+use Rattle.list_words.specs.Lists.{list_of}
 use Rattle.proxy_history.specs.History.{request_by}
 use Rattle.plain_history.proofs.Collected.{request_found, request_not_found}
 use Rattle.plain_history.proofs.scan.request_at.Goals as goal

@@ -1,9 +1,9 @@
 use Rattle.std.proofs.Common.{slice_set, Some, [], ◌∷◌, ap, ◌∙◌}
 use Rattle.std.specs.Option.{option_map}
 use Rattle.std.proofs.lemmas.Result.{on_ok_weaker}
+use Rattle.list_words.proofs.CallerLemmas.{slice_set-changed}
 use Rattle.resp_core.specs.Value.{tree_of}
 use Rattle.splitter.specs.declared.plans.Join.TheVariants.{Same}
-use Rattle.reply_queue.proofs.Changed.{slice_set-changed}
 use Rattle.proxy_core.specs.Connections.{accepting}
 use Rattle.proxy_core.proofs.connection.accept_own.Goals as goal
 

@@ -1,7 +1,7 @@
 use Rattle.std.proofs.Common.{map, slice_set, false, ap, ◌∙◌}
 use Rattle.std.specs.Option.{option_map}
 use Rattle.std.proofs.lemmas.Result.{on_ok_weaker}
-use Rattle.reply_queue.proofs.Changed.{slice_set-changed}
+use Rattle.list_words.proofs.CallerLemmas.{slice_set-changed}
 use Rattle.proxy_core.specs.Arrivals.{value_of_placed}
 use Rattle.proxy_core.specs.Connections.{accepting}
 use Rattle.proxy_core.proofs.connection.accept_parts.Goals as goal

@@ -1,8 +1,8 @@
 use Rattle.std.proofs.Common.{slice_set, ap, ◌∙◌}
 use Rattle.std.specs.Option.{option_map}
+use Rattle.list_words.proofs.CallerLemmas.{slice_set-changed}
 use Rattle.resp_core.specs.Value.{tree_of}
 use Rattle.proxy_core.specs.Connections.{with_answer}
-use Rattle.reply_queue.proofs.Changed.{slice_set-changed}
 use Rattle.proxy_core.proofs.connection.answer_part.Goals as goal
 
 pub returns : goal.returns

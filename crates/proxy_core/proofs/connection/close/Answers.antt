@@ -1,5 +1,5 @@
 use Rattle.std.proofs.Common.{None, sym}
-use Rattle.proxy_core.proofs.Changed.{changed_at-past, slice_set-constant}
+use Rattle.list_words.proofs.CallerLemmas.{changed_at-past, slice_set-constant}
 use Rattle.proxy_core.proofs.connection.close.Goals as goal
 
 pub returns-then-place-connections : goal.returns-then-place-connections

@@ -1,8 +1,7 @@
 use Rattle.std.proofs.Common.{slice_set, ap, ◌∙◌, sym}
 use Rattle.std.specs.Option.{option_map}
-use Rattle.reply_queue.proofs.Changed.{slice_set-changed}
+use Rattle.list_words.proofs.CallerLemmas.{slice_set-changed, changed_at-past}
 use Rattle.proxy_core.specs.Connections.{handing}
-use Rattle.proxy_core.proofs.Changed.{changed_at-past}
 use Rattle.proxy_core.proofs.connection.hand.Goals as goal
 
 pub returns-then-place-connections : goal.returns-then-place-connections

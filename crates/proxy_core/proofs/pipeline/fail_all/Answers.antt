@@ -1,6 +1,6 @@
 use Rattle.std.proofs.lemmas.Result.{on_ok_weaker, on_err_weaker}
+use Rattle.list_words.proofs.CallerLemmas.{map-slice_set, map-slice_set-same}
 use Rattle.proxy_core.specs.Pipelines.{failed, state_of}
-use Rattle.proxy_core.proofs.Changed.{map-slice_set, map-slice_set-same}
 use Rattle.proxy_core.proofs.pipeline.fail_all.Goals as goal
 
 pub returns-clause-failed : goal.returns-clause-failed

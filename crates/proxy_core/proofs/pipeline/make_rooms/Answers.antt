@@ -1,6 +1,6 @@
 use Rattle.std.proofs.Common.{sym, ◌∙◌, length-set, arith}
+use Rattle.list_words.proofs.CallerLemmas.{map-slice_set-same}
 use Rattle.proxy_core.specs.Pipelines.{state_of}
-use Rattle.proxy_core.proofs.Changed.{map-slice_set-same}
 use Rattle.proxy_core.proofs.Pushed.{room_more}
 use Rattle.proxy_core.proofs.pipeline.make_rooms.Goals as goal
 

@@ -1,6 +1,6 @@
+use Rattle.list_words.proofs.CallerLemmas.{map-slice_set}
 use Rattle.proxy_core.specs.Pipelines.{state_of}
 use Rattle.proxy_core.specs.Arrivals.{with_waiting, piped_as}
-use Rattle.proxy_core.proofs.Changed.{map-slice_set}
 use Rattle.proxy_core.proofs.pipeline.push_one.Goals as goal
 
 pub returns-in-Waits-clause-pushed : goal.returns-in-Waits-clause-pushed

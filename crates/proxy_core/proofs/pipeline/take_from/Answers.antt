@@ -1,5 +1,5 @@
+use Rattle.list_words.proofs.CallerLemmas.{map-slice_set}
 use Rattle.proxy_core.specs.Pipelines.{taken_from, state_of}
-use Rattle.proxy_core.proofs.Changed.{map-slice_set}
 use Rattle.proxy_core.proofs.pipeline.take_from.Goals as goal
 
 pub returns-clause-taken : goal.returns-clause-taken

@@ -1,8 +1,8 @@
 use Rattle.std.proofs.Common.{◌-◌, slice_set, ap, ◌∙◌}
+use Rattle.list_words.proofs.CallerLemmas.{slice_set-changed}
 use Rattle.resp_core.specs.Value.{tree_of}
 use Rattle.reply_queue.specs.Command.{with_value}
 use Rattle.reply_queue.specs.Queue.{QueueState}
-use Rattle.reply_queue.proofs.Changed.{slice_set-changed}
 use Rattle.reply_queue.proofs.queue.Queue.set_part.Goals as goal
 
 pub returns : goal.returns

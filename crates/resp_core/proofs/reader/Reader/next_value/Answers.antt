@@ -1,5 +1,5 @@
-use Rattle.std.proofs.Common.{◌≡◌, ◌+◌, ◌-◌, ◌++◌, ℕ, List, length, take, refl, sym, ap, ◌∙◌, drop, drop-drop, subst, arith}
-use Rattle.std.proofs.lemmas.List.{take_all, length-drop, take-append-drop, length-take-le}
+use Rattle.std.proofs.Common.{◌≡◌, ◌+◌, ◌-◌, ℕ, List, length, take, refl, sym, ap, ◌∙◌, drop, drop-drop, subst, arith}
+use Rattle.std.proofs.lemmas.List.{take_all, length-drop}
 use Rattle.resp_core.specs.Value.{tree_of}
 use Rattle.resp_core.specs.Front.{IsFirstValue, IsUnfinished, IsFault}
 use Rattle.resp_core.specs.Offset.{offset_of, number_of, refusal_number}

@@ -1,0 +1,9 @@
+pub mod ChangedLemmas
+pub mod InPlaceLemmas
+pub mod RangeLemmas
+pub mod CountLemmas
+pub mod MemberLemmas
+pub mod FilterLemmas
+pub mod AnyLemmas
+pub mod FindLemmas
+pub mod CallerLemmas
