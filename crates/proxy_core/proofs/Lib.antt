@@ -32,3 +32,4 @@ pub mod TurnedNew
 pub mod TurnedRuns
 pub mod TurnedRecorded
 pub mod Crosses
+pub mod CallerLemmas

@@ -1,7 +1,7 @@
 use denote.Param.Send.{sendable}
 use Rattle.std.proofs.Crossing.{crosses}
 use Rattle.ticket_gate.below.atomic_table.proofs.shared.Seat.TheSendSync as seat
-use Rattle.proxy_core.proofs.Crosses.{core_send, gate_sync}
+use Rattle.proxy_core.proofs.CallerLemmas.{core_send, gate_sync}
 use Rattle.gate_tests.proofs.core_at_gate.two_passes_sweep.Goals as goal
 
 pub join-one-requires-send-F : goal.join-one-requires-send-F
