@@ -22,8 +22,8 @@ use self::run::Run;
 use self::setting::Setting;
 use crate::text::{first_word, number};
 use anyhow::{Result, bail};
-use proxy_core::{Core, Event, Refusal};
 use plain_history::Reference;
+use proxy_core::{Core, Event, Refusal};
 use std::alloc::Global;
 use std::mem;
 

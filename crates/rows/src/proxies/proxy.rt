@@ -1,7 +1,7 @@
 //! What the core and the plain program have in common.
 
-use proxy_core::{Answer, Core, Event, Refusal, Refused, Step};
 use plain_history::Reference;
+use proxy_core::{Answer, Core, Event, Refusal, Refused, Step};
 
 /// A proxy that takes events one after another, and keeps a step for each that it answered.
 pub trait Proxy {

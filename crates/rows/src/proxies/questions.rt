@@ -3,8 +3,8 @@
 use super::proxy::Proxy;
 use crate::text::{first_word, number};
 use anyhow::{Result, bail};
-use proxy_core::Core;
 use plain_history::Reference;
+use proxy_core::Core;
 use std::alloc::Global;
 
 /// The core's answer to `hosts`, `epoch HOST`, `is_out HOST`, `in_panic`, `journal` or `pass_of STEP`.

@@ -5,8 +5,8 @@ use super::outcome::outcome;
 use super::random::Numbers;
 use super::setting::Setting;
 use anyhow::Result;
-use proxy_core::{Core, Event};
 use plain_history::Reference;
+use proxy_core::{Core, Event};
 use std::alloc::Global;
 
 // The pass of random events.

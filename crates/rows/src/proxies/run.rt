@@ -4,8 +4,8 @@ use super::answers::{answer_text, refusal_text};
 use super::events::event_of;
 use super::outcome::outcome;
 use anyhow::Result;
-use proxy_core::{Answer, Core, Event, Refusal};
 use plain_history::Reference;
+use proxy_core::{Answer, Core, Event, Refusal};
 use std::alloc::Global;
 
 /// Events as their lines have them, each with its pass.

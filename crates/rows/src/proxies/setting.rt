@@ -3,8 +3,8 @@
 use crate::text::number;
 use anyhow::{Result, bail};
 use ketama::Ring;
-use proxy_core::{Core, Refusal, Settings};
 use plain_history::Reference;
+use proxy_core::{Core, Refusal, Settings};
 use std::alloc::Global;
 
 // On this ring the key `abc` belongs to host 0, `a` to host 1 and the empty key to host 2.
