@@ -1,6 +1,5 @@
 -- What the host is asked for a request can be read back.
-use Rattle.std.proofs.Common.{◌≡◌, ◌≤◌, ◌<◌, ◌+◌, ◌^◌, ℕ, List, [], ◌∷◌, Option, Some, None, length, map, drop, get_or, codes, inl, inr, refl, ap, ◌∙◌, arith}
-use Rattle.std.specs.Str.{str_to_ascii_uppercase}
+use Rattle.std.proofs.Common.{◌≡◌, ◌≤◌, ◌<◌, ◌+◌, ◌^◌, ℕ, List, [], ◌∷◌, Option, Some, None, length, map, get_or, inl, inr, refl, ap, ◌∙◌, arith}
 use Rattle.std.proofs.lemmas.Bool.{cases_Bool}
 use Rattle.std.proofs.lemmas.List.{length-map}
 use Rattle.resp_core.specs.Tree.{Tree, simple, fault, whole, bulk, null_bulk, list, null_list, members}
@@ -9,16 +8,14 @@ use Rattle.resp_core.specs.Grammar.{max_depth}
 use Rattle.resp_core.specs.Within.{IsWithin}
 use Rattle.resp_core.specs.Command.{is_command, payload_of, words_of, word}
 use Rattle.command_table.specs.Table.{Row, row_named}
-use Rattle.command_table.specs.declared.Kind.{Kind}
-use Rattle.command_table.specs.declared.Kind.TheVariants.{Ping, Echo, Quit, One, SplitGet, SplitSet, SplitSum}
 use Rattle.splitter.specs.declared.Join.{Join}
 use Rattle.splitter.specs.declared.PartPlan.{PartPlan}
 use Rattle.splitter.specs.Request.{Request, read, broken}
 use Rattle.splitter.specs.Plan.{parts, takes, plan_of}
-use Rattle.splitter.specs.Split.{Words, pairs, split_by, command_of, part_at}
+use Rattle.splitter.specs.Split.{Words, command_of, part_at}
 use Rattle.splitter.specs.Commands.{commands_by_row, commands_of}
 use Rattle.splitter.specs.Join.{MayJoin}
-use Rattle.splitter.proofs.CallerLemmas.{parts_are_of_commands, commands_keep_limits, all_made, plain_command, parts_are_commands}
+use Rattle.splitter.proofs.CallerLemmas.{length-split_by, parts_are_of_commands, commands_keep_limits, all_made, plain_command, parts_are_commands}
 use Rattle.resp_core.specs.declared.reader.TheConstants.{CLIENT_MEMBERS}
 use Rattle.proxy_run.specs.Sendable.{IsSendable, IsRead, AreTextsOf, AreSendable}
 use Rattle.proxy_run.specs.Reply.{asked}
@@ -50,27 +47,9 @@ asked-join broken how ps e = absurd cc
 asked-join (read t) how ps e = (parts_are_commands t how ps e).0
 
 -- no more parts than words, or one
-few_pairs : (ws : Words) → length (pairs ws) ≤ length ws
-few_pairs [] = omega arith
-few_pairs (a ∷ []) = omega arith
-few_pairs (a ∷ b ∷ ws) = omega (arith, few_pairs ws)
-
-few_dropped : (ws : Words) → length (drop 1 ws) ≤ length ws
-few_dropped [] = omega arith
-few_dropped (w ∷ ws) = omega arith
-
-few_split : (kind : Kind) (name : List ℕ) (ws : Words) → length (split_by kind name ws) ≤ length ws + 1
-few_split Ping name ws = omega arith
-few_split Echo name ws = omega arith
-few_split Quit name ws = omega arith
-few_split One name ws = omega arith
-few_split SplitGet name ws = omega (arith, length-map (drop 1 ws) (λ key. codes "GET" ∷ key ∷ []), few_dropped ws)
-few_split SplitSet name ws = omega (arith, length-map (pairs (drop 1 ws)) (λ (pair : List ℕ × List ℕ). codes "SET" ∷ pair.0 ∷ pair.1 ∷ []), few_pairs (drop 1 ws), few_dropped ws)
-few_split SplitSum name ws = omega (arith, length-map (drop 1 ws) (λ key. str_to_ascii_uppercase name ∷ key ∷ []), few_dropped ws)
-
 few_by_row : (o : Option Row) (ws : Words) → length (commands_by_row o ws) ≤ length ws + 1
 few_by_row None ws = omega arith
-few_by_row (Some r) ws = elim (cases_Bool (takes r.kind r.least (length ws))) [ inl h ↦ rw h (few_split r.kind r.name ws) | inr h ↦ rw h (omega arith) ]
+few_by_row (Some r) ws = elim (cases_Bool (takes r.kind r.least (length ws))) [ inl h ↦ rw h (length-split_by r.kind r.name ws) | inr h ↦ rw h (omega arith) ]
 
 few_words : (t : Tree) → IsWithin CLIENT_MEMBERS max_depth t → length (words_of t) ≤ CLIENT_MEMBERS
 few_words (simple s) h = omega arith

@@ -1,5 +1,6 @@
 -- The pass inside puts the state back and serves the next ticket.
-use Rattle.std.proofs.Common.{◌≡◌, ◌≢◌, ◌⊎◌, ℕ, ◌+◌, ◌<◌, true, List, [], ◌∷◌, ◌++◌, set, refl, sym, ap, ◌∙◌, subst, ⊎_elim, arith, le_refl, Option, Some, None}
+use Rattle.std.proofs.Common.{◌≡◌, ◌≢◌, ◌⊎◌, ℕ, ◌+◌, ◌<◌, true, List, [], ◌∷◌, ◌++◌, set, refl, sym, ap, ◌∙◌, subst, ⊎_elim, arith, le_refl, Option, Some}
+use Rattle.std.specs.Option.{unwrap_or}
 use mathlib.Core.Option as maybe
 use mathlib.Core.Option.{none, some, some-injective}
 use Rattle.atomic_table.specs.Table.{step, gives, rest as after_first, Allows}
@@ -30,13 +31,9 @@ module _ {S E A C : Type 0} (journal : S → List (ℕ × E × A)) (setting : S 
   abbrev Rule : Whole S E A C → Type 0
   Rule = GateRule journal setting legal c
 
-  abbrev some_or : S → Option S → S
-  some_or d None = d
-  some_or d (Some x) = x
-
   abbrev held_or : S → List (ℕ × Option S) → S
   held_or d [] = d
-  held_or d (z ∷ zs) = some_or d z.1
+  held_or d (z ∷ zs) = unwrap_or z.1 d
 
   serves_next-own : (slots id n t new : ℕ) (k : Knowledge E A C) (x : S) (more : List (ℕ × E × A)) (held : List (ℕ × Option S)) → new ≡ t + 1 → k.ticket ≡ Some t → k.inside ≡ true → k.number ≡ Some n
       → journal x ≡ k.seen ++ more → ((event : E) (answer : A) → more ≡ (n, event, answer) ∷ [] → legal c (journal x)) → setting x ≡ c → AtMostOneOf n more

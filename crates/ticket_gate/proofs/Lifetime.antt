@@ -1,5 +1,6 @@
 -- The first moment of a gate and its last.
-use Rattle.std.proofs.Common.{◌≡◌, ℕ, zero, suc, List, [], ◌∷◌, refl, sym, ap, ◌∙◌, subst, arith, le_refl, Option, Some, None}
+use Rattle.std.proofs.Common.{◌≡◌, ℕ, zero, suc, List, [], ◌∷◌, refl, sym, ap, ◌∙◌, subst, arith, le_refl, Option, Some}
+use Rattle.std.specs.Option.{unwrap_or}
 use mathlib.Core.Option as maybe
 use mathlib.Core.Option.{none, some, some-injective, some-ne-none}
 use lib.ListN.{get_elem?}
@@ -51,10 +52,6 @@ module _ {S E A C : Type 0} (journal : S → List (ℕ × E × A)) (setting : S 
       )
       one (suc j) v at = absurd (some-ne-none v (sym at))
 
-  abbrev some_or : S → Option S → S
-  some_or d None = d
-  some_or d (Some x) = x
-
   -- where each ticket was served, the state is home
   pub closes : (id : ℕ) (v : View E A C) (words : List ℕ) (slots : List (Option S)) → Final (Seen (GateRule journal setting legal c) id v) words slots → (n m : ℕ) → get_elem? words 0 ≡ some n → get_elem? words 1 ≡ some m → n ≡ m
       → (x : S) → get_elem? slots 0 ≡ some (Some x) → (k : ℕ) → v.own.number ≡ Some k → Closes journal setting legal c k v.own.seen x
@@ -68,7 +65,7 @@ module _ {S E A C : Type 0} (journal : S → List (ℕ × E × A)) (setting : S 
       let nobody : (j : ℕ) → g.inside ≡ some j → ⊥ = λ j its. let l = (inside_ticket journal setting legal c s r j its).0 in omega arith in
       let home = (home_if journal setting g.journal c s.homes s.views g.inside nobody r.placed).1 in
       let there : get_elem? slots 0 ≡ some (Some home.0) = last.4 0 (Some home.0) (ap (λ (homes : List (maybe.Option (Option S))). get_elem? homes 0) home.1) in
-      let it : x ≡ home.0 = ap (some_or x) (some-injective (Some x) (Some home.0) (sym is ∙ there)) in
+      let it : x ≡ home.0 = ap (λ o. unwrap_or o x) (some-injective (Some x) (Some home.0) (sym is ∙ there)) in
       let log : journal x ≡ g.journal = ap journal it ∙ home.2 in
       record {
         has_setting = ap setting it ∙ home.3;

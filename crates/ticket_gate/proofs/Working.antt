@@ -1,6 +1,7 @@
 -- A turn of the state, seen from the place that makes it.
 use Rattle.std.proofs.Common.{◌≡◌, ℕ, ◌+◌, List, [], ◌∷◌, ◌++◌, refl, sym, ap, ◌∙◌, subst, inl, inr, Option, Some, None, Result, Ok, Err}
 use Rattle.std.specs.Prelude.{MatchResult, IfOk, IfErr}
+use Rattle.std.specs.Option.{unwrap_or}
 use Rattle.atomic_table.specs.Table.{rest}
 use Rattle.atomic_table.specs.declared.shared.Seat.{Seat}
 use Rattle.ticket_gate.specs.declared.view.Knowledge.{Knowledge}
@@ -16,13 +17,9 @@ module _ {S : Type 0} where
   first_or d [] = d
   first_or d (z ∷ zs) = z.1
 
-  abbrev some_or : S → Option S → S
-  some_or d None = d
-  some_or d (Some x) = x
-
   -- the state that is taken out of the slot
   pub taken : (held : List (ℕ × Option S)) (x y : S) (found : Option S) → held ≡ (0, Some x) ∷ [] → held ≡ (0, found) ∷ rest held → found ≡ Some y → y ≡ x
-  taken held x y found is was out = ap (some_or y) (sym out ∙ ap (first_or found) (sym was ∙ is))
+  taken held x y found is was out = ap (λ o. unwrap_or o y) (sym out ∙ ap (first_or found) (sym was ∙ is))
 
   -- and put back
   pub put_back : {E A C : Type 0} (me me' me'' : Sitting S E A C) (k : Knowledge E A C) (x y : S) → me ≡ (view_of k, (0, Some x) ∷ []) → me' ≡ (me.0, (0, None) ∷ rest me.1) → me'' ≡ (me'.0, (0, Some y) ∷ rest me'.1)
