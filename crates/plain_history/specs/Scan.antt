@@ -7,7 +7,6 @@ use Rattle.command_table.specs.declared.Kind.{Kind}
 use Rattle.command_table.specs.declared.Kind.TheVariants.{Ping, Echo, Quit, One, SplitGet, SplitSet, SplitSum}
 use Rattle.ejector.specs.Ejection.{state}
 use Rattle.ejector.specs.declared.mark.Mark.{Mark}
-use Rattle.ejector.specs.declared.mark.Mark.{Mark}
 use Rattle.proxy_history.specs.Setting.{Setting}
 use Rattle.proxy_history.specs.History.{History, Step, is_opening, is_any_closing, is_arrival, is_handing, is_fault, is_closing, finishes}
 use Rattle.proxy_history.specs.Past.{parts_in, sent_in, marks_in}
@@ -19,7 +18,6 @@ use Rattle.plain_history.specs.declared.scan.Wanted.TheVariants as wanted
 use Rattle.plain_history.specs.declared.part.Part.{Part as Part'}
 use Rattle.plain_history.specs.declared.part.AtOnce.{AtOnce}
 use Rattle.plain_history.specs.declared.replay.Replay.{Replay}
-use Rattle.proxy_history.specs.Past.{parts_in, sent_in, marks_in}
 use Rattle.plain_history.specs.declared.part.AtOnce.TheVariants as at_once
 
 abbrev pub is_wanted : Wanted → Event → Bool

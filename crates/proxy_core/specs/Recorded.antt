@@ -10,6 +10,7 @@ use Rattle.proxy_history.specs.declared.event.Event.{Event}
 use Rattle.proxy_history.specs.declared.refusal.Refusal.{Refusal}
 use Rattle.proxy_history.proofs.CallerLemmas as history
 
+-- a core's journal, as the gate and its passes see it
 abbrev pub journal_of : Kept → List SeenStep
 journal_of k = map seen_step k.steps
 
@@ -17,15 +18,19 @@ journal_of k = map seen_step k.steps
 abbrev pub Made : Type 0
 Made = Continuum × Rules
 
+-- what a core was made with
 abbrev pub made_with : Kept → Made
 made_with k = (k.setting.ring, k.setting.rules)
 
+-- the setting that these make
 abbrev pub setting_by : Made → Setting
 setting_by made = record { ring = made.0; rules = made.1 }
 
+-- a journal is legal where its history is
 abbrev pub IsLegalJournal : Made → List SeenStep → Type 0
 IsLegalJournal made journal = IsLegal (setting_by made) (history_of_seen journal)
 
+-- a refusal of an event is due over a journal where it has its cause in the history
 abbrev pub IsCauseIn : Made → Refusal → Event → List SeenStep → Type 0
 IsCauseIn made r event journal = IsCause (setting_by made) (history_of_seen journal) event r
 

@@ -29,7 +29,8 @@ pub(crate) struct Machine {
 /// Makes room in a journal for one step with so many bytes of payload.
 pub(crate) fn make_room(journal: &mut Journal<Event, Answer>, bytes: u64) -> Result<(), Refusal>
     ensures room { OnOk result ((journal.new.room ≡ Some bytes) × (IsFull journal.old bytes → ⊥)) }
-    ensures refused { IfErr result (λ r. ((r ≡ Refusal.NoMemory) × (IsFull journal.old bytes → ⊥)) ⊎ ((r ≡ Refusal.JournalFull) × IsFull journal.old bytes)) }
+    ensures refused { IfErr result (λ r. ((r ≡ Refusal.NoMemory) × (IsFull journal.old bytes → ⊥))
+        ⊎ ((r ≡ Refusal.JournalFull) × IsFull journal.old bytes)) }
     ensures steps { journal.new.steps ≡ journal.old.steps }
     ensures bytes { journal.new.bytes ≡ journal.old.bytes }
 {

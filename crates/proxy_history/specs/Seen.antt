@@ -9,9 +9,11 @@ use Rattle.proxy_history.specs.declared.answer.Answer.{Answer}
 abbrev pub SeenStep : Type 0
 SeenStep = ℕ × Event × Answer
 
+-- a step of a history, so
 abbrev pub seen_step : Step → SeenStep
 seen_step s = (s.pass, s.event, s.answer)
 
+-- and back
 abbrev pub step_of : SeenStep → Step
 step_of seen = record { pass = seen.0; event = seen.1; answer = seen.2 }
 

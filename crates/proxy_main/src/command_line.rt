@@ -47,7 +47,7 @@ fn command<'a>(alloc: Global) -> Result<Command<'a>, AllocError> {
 }
 
 /// Reads the words of the command line, of which the first is the program's name.
-pub fn read(alloc: Global, words: &[String]) -> Result<Asked, Refused> {
+pub(crate) fn read(alloc: Global, words: &[String]) -> Result<Asked, Refused> {
     command(alloc)?.try_get_matches_from(words)?;
     Ok(Asked::Local)
 }

@@ -37,7 +37,7 @@ impl Model for Host {
 
 impl Host {
     /// A host whose map is empty.
-    pub fn new(alloc: Global) -> Host
+    pub(crate) fn new(alloc: Global) -> Host
         ensures { result ≡ [] }
     {
         Host {
@@ -51,7 +51,7 @@ impl Host {
     ///
     /// The host reads the part's text with a client's limits, and answers what it reads. Fails only where memory is
     /// refused.
-    pub fn ask(&mut self, owner: Owner, text: Bytes) -> Result<(Owner, Value), Ending>
+    pub(crate) fn ask(&mut self, owner: Owner, text: Bytes) -> Result<(Owner, Value), Ending>
         requires { IsSendableText text }
         ensures owner { IfOk result (λ r. r.0 ≡ owner) }
         ensures reply { IfOk result (λ r. (t : Tree) → text ≡ spelling t → IsSendable t → tree_of r.1 ≡ answer_of self.old t) }
@@ -86,7 +86,8 @@ fn answer_text(alloc: Global, stub: &mut Stub, text: &[u8]) -> Result<Value, End
 // The value whose one spelling this is.
 fn read_back(alloc: Global, text: &[u8]) -> Result<Value, Ending>
     requires { IsSendableText text.now }
-    ensures value { IfOk result (λ value. (t : Tree) → text.now ≡ spelling t → IsSendable t → tree_of value ≡ t) }
+    ensures value { IfOk result (λ value. (t : Tree) → text.now ≡ spelling t → IsSendable t
+        → tree_of value ≡ t) }
     ensures err { IfErr result (λ e. e ≡ Memory) }
 {
     let mut reader = Reader::new(alloc, Limits::CLIENT);

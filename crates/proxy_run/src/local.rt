@@ -37,7 +37,8 @@ pub fn local_run<R: Read, W: Write>(
     input: &mut R,
     output: &mut W,
 ) -> Result<(), Ending>
-    ensures answers { OnOk result (AnswersAll (R.remaining input.old) (W.contents output.old) (W.contents output.new)) }
+    ensures answers { OnOk result (AnswersAll (R.remaining input.old)
+        (W.contents output.old) (W.contents output.new)) }
     ensures err { IfErr result IsEndOfRun }
 {
     let mut reader = Reader::new(alloc, Limits::CLIENT);
@@ -65,7 +66,9 @@ pub fn local_run<R: Read, W: Write>(
 
 // Writes the answers, and forgets them.
 fn write_out<W: Write>(output: &mut W, answers: &mut Vec<u8>) -> Result<(), Ending>
-    ensures written { OnOk result (Appends (W.contents output.old) (W.contents output.new) answers.old.items × (answers.new.items ≡ [])) }
+    ensures written { OnOk result
+        (Appends (W.contents output.old) (W.contents output.new) answers.old.items
+        × (answers.new.items ≡ [])) }
     ensures err { IfErr result (λ e. e ≡ Socket) }
 {
     output

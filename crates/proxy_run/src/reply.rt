@@ -35,7 +35,7 @@ pub enum Flow {
 ///
 /// Each value goes through the connection's queue, into the place of its part. Fails only where memory is refused, or
 /// where the numbers of commands are spent.
-pub fn reply_to(
+pub(crate) fn reply_to(
     alloc: Global,
     request: &Request,
     queue: &mut Queue,

@@ -55,7 +55,7 @@ pub enum Part {
 
 impl Part {
     /// Begins a row about the part of this name.
-    pub fn open(alloc: Global, name: &str, arguments: &str) -> Result<Part> {
+    pub(crate) fn open(alloc: Global, name: &str, arguments: &str) -> Result<Part> {
         match name {
             "reader" => Ok(Part::Reader(ReaderSubject::open(alloc, arguments)?)),
             "table" => Ok(Part::Table),
@@ -73,7 +73,7 @@ impl Part {
     }
 
     /// Makes one action.
-    pub fn act(&mut self, alloc: Global, line: &str) -> Result<String> {
+    pub(crate) fn act(&mut self, alloc: Global, line: &str) -> Result<String> {
         match self {
             Part::Reader(reader) => reader.act(alloc, line),
             Part::Table => table::act(alloc, line),

@@ -42,7 +42,7 @@ pub struct Proxies {
 
 impl Proxies {
     /// Begins a row. The name is `core`, `plain` or `both`, and the arguments are those of a setting.
-    pub fn open(alloc: Global, name: &str, arguments: &str) -> Result<Proxies> {
+    pub(crate) fn open(alloc: Global, name: &str, arguments: &str) -> Result<Proxies> {
         let setting = Setting::read(alloc, arguments)?;
         let core = match name {
             "plain" => None,
@@ -65,7 +65,7 @@ impl Proxies {
     /// `new ARGUMENTS` begins anew, `pass N` is the pass of all events behind it, the events between `run` and `end` are
     /// taken by one call, `random SEED EVENTS` makes so many random events, `random_runs SEEDS EVENTS` as many on fresh
     /// proxies for each seed, and `refusals` tells all refusals.
-    pub fn act(&mut self, alloc: Global, line: &str) -> Result<String> {
+    pub(crate) fn act(&mut self, alloc: Global, line: &str) -> Result<String> {
         let (name, rest) = first_word(line);
         match name {
             "new" => self.begin(alloc, rest),

@@ -7,7 +7,7 @@ use anyhow::{Context, Result, bail};
 use std::alloc::Global;
 
 /// Prints each line of the script, and behind an action ` => ` and its answer.
-pub fn play(rt: &impl Print, alloc: Global, text: &str) -> Result<()> {
+pub(crate) fn play(rt: &impl Print, alloc: Global, text: &str) -> Result<()> {
     let mut subject = None;
     let mut line_number = 0u64;
     for line in text.lines() {

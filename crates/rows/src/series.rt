@@ -25,7 +25,7 @@ struct Run {
 
 impl Series {
     /// No answers.
-    pub fn new(alloc: Global) -> Series {
+    pub(crate) fn new(alloc: Global) -> Series {
         Series {
             alloc,
             ended: String::new(alloc),
@@ -34,7 +34,7 @@ impl Series {
     }
 
     /// Adds an answer.
-    pub fn add(&mut self, answer: String) -> Result<()> {
+    pub(crate) fn add(&mut self, answer: String) -> Result<()> {
         match &mut self.run {
             Some(run) if run.goes_on_with(answer.as_str()) => run.add(answer),
             run => {
@@ -48,7 +48,7 @@ impl Series {
     }
 
     /// Each run as its length and its answers, the first and the last where they count up.
-    pub fn text(self) -> Result<String> {
+    pub(crate) fn text(self) -> Result<String> {
         let Series { alloc, ended, run } = self;
         let mut text = ended;
         if let Some(run) = run {

@@ -17,7 +17,7 @@ pub enum Subject {
 
 impl Subject {
     /// Begins a row, by the words behind its name: the subject and its arguments.
-    pub fn open(alloc: Global, words: &str) -> Result<Subject> {
+    pub(crate) fn open(alloc: Global, words: &str) -> Result<Subject> {
         let (name, arguments) = first_word(words);
         match name {
             "core" | "plain" | "both" => Ok(Subject::Proxies(Proxies::open(
@@ -28,7 +28,7 @@ impl Subject {
     }
 
     /// Makes one action, and gives its answer in words.
-    pub fn act(&mut self, alloc: Global, line: &str) -> Result<String> {
+    pub(crate) fn act(&mut self, alloc: Global, line: &str) -> Result<String> {
         match self {
             Subject::Proxies(proxies) => proxies.act(alloc, line),
             Subject::Part(part) => part.act(alloc, line),

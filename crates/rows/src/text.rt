@@ -7,12 +7,12 @@ use std::alloc::Global;
 use std::str::FromStr;
 
 /// The first word of a line, and what stands behind the space that follows it.
-pub fn first_word(line: &str) -> (&str, &str) {
+pub(crate) fn first_word(line: &str) -> (&str, &str) {
     line.split_once(' ').unwrap_or((line, ""))
 }
 
 /// The number that a word is.
-pub fn number<N: FromStr>(word: &str) -> Result<N>
+pub(crate) fn number<N: FromStr>(word: &str) -> Result<N>
 where
     N::Err: Drop,
 {
@@ -23,7 +23,7 @@ where
 }
 
 /// The bytes that a word stands for; `""` is the empty word.
-pub fn word_bytes(alloc: Global, word: &str) -> Result<Vec<u8>> {
+pub(crate) fn word_bytes(alloc: Global, word: &str) -> Result<Vec<u8>> {
     if word == "\"\"" {
         return Ok(Vec::new(alloc));
     }
@@ -31,7 +31,7 @@ pub fn word_bytes(alloc: Global, word: &str) -> Result<Vec<u8>> {
 }
 
 /// The bytes that a text with escapes stands for.
-pub fn unescaped(alloc: Global, text: &str) -> Result<Vec<u8>> {
+pub(crate) fn unescaped(alloc: Global, text: &str) -> Result<Vec<u8>> {
     let mut bytes = Vec::new(alloc);
     let mut escape = Escape::Outside;
     for byte in text.bytes() {
@@ -48,7 +48,7 @@ pub fn unescaped(alloc: Global, text: &str) -> Result<Vec<u8>> {
 }
 
 /// Appends the bytes as a text with escapes.
-pub fn put_escaped(text: &mut String, bytes: &[u8]) -> Result<()> {
+pub(crate) fn put_escaped(text: &mut String, bytes: &[u8]) -> Result<()> {
     for byte in bytes {
         match *byte {
             b'\r' => text.push_str("\\r")?,

@@ -18,7 +18,7 @@ const BIG_PAYLOAD: usize = 65_526;
 const BIG_REST: usize = 7 + 1_023 * 65_536 + 10;
 
 /// The value of a text in RESP2 with escapes, or behind `simple` a simple string of any bytes.
-pub fn value_of(alloc: Global, text: &str) -> Result<Value> {
+pub(crate) fn value_of(alloc: Global, text: &str) -> Result<Value> {
     if let Some(line) = text.strip_prefix("simple ") {
         let bytes = unescaped(alloc, line)?;
         return Ok(Value::Simple(Bytes::from_vec(bytes)?));
@@ -34,7 +34,7 @@ pub fn value_of(alloc: Global, text: &str) -> Result<Value> {
 
 /// The request of the words behind a connection: `broken`, `value VALUE`, `many NAME KEYS`, `bytes LENGTH`, or the words
 /// of a command.
-pub fn request_of(alloc: Global, words: &str) -> Result<Request> {
+pub(crate) fn request_of(alloc: Global, words: &str) -> Result<Request> {
     let (kind, rest) = first_word(words);
     match kind {
         "broken" => Ok(Request::Broken),
@@ -49,7 +49,7 @@ pub fn request_of(alloc: Global, words: &str) -> Result<Request> {
 }
 
 /// The command of these words.
-pub fn command(alloc: Global, line: &str) -> Result<Request> {
+pub(crate) fn command(alloc: Global, line: &str) -> Result<Request> {
     let mut words = Vec::new(alloc);
     for word in line.split(' ') {
         words.push(Value::Bulk(Bytes::from_vec(word_bytes(alloc, word)?)?))?;

@@ -63,9 +63,10 @@ PlanTextsArePlain = (r : Request) → has_plain_value (plan_of r) ≡ true
 abbrev pub JoinsOfPlainValuesArePlain : Type 0
 JoinsOfPlainValuesArePlain = (how : Join) (ts : List Tree) → list_all is_plain_tree ts ≡ true → is_plain_tree (join_of how ts) ≡ true
 
--- Each stream asks something, and one thing.
+-- Each stream has a list of requests,
 abbrev pub EachStreamAsks : Type 0
 EachStreamAsks = (b : List ℕ) → (rs : List Request) × AreRequests b rs
 
+-- and one alone.
 abbrev pub OneAsking : Type 0
 OneAsking = (b : List ℕ) (rs qs : List Request) → AreRequests b rs → AreRequests b qs → rs ≡ qs

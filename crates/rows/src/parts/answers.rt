@@ -6,12 +6,12 @@ use std::alloc::Global;
 use std::fmt::{Debug, Display};
 
 /// What is printed of an answer.
-pub fn shown(alloc: Global, answer: impl Display + Drop) -> Result<String> {
+pub(crate) fn shown(alloc: Global, answer: impl Display + Drop) -> Result<String> {
     Ok(again!(answer.to_string(alloc))?)
 }
 
 /// A refusal in words: its number, and its name and fields as they stand in the code.
-pub fn refusal_words(alloc: Global, number: u16, refusal: &impl Debug) -> Result<String> {
+pub(crate) fn refusal_words(alloc: Global, number: u16, refusal: &impl Debug) -> Result<String> {
     let shown = format!(in alloc; "{refusal:?}")?;
     let mut text = format!(in alloc; "{number}")?;
     for word in shown.split_whitespace() {

@@ -18,12 +18,12 @@ pub struct EjectorSubject {
 
 impl EjectorSubject {
     /// Begins a row.
-    pub fn open() -> EjectorSubject {
+    pub(crate) fn open() -> EjectorSubject {
         EjectorSubject { ejector: None }
     }
 
     /// Makes one action: `new HOSTS KEY=N ..`, or what `told` takes.
-    pub fn act(&mut self, alloc: Global, line: &str) -> Result<String> {
+    pub(crate) fn act(&mut self, alloc: Global, line: &str) -> Result<String> {
         let (verb, rest) = first_word(line);
         if verb == "new" {
             return self.make(alloc, rest);

@@ -6,7 +6,7 @@ use anyhow::{Result, bail};
 use splitter::Join;
 
 /// The join of this name.
-pub fn join_of(name: &str) -> Result<Join> {
+pub(crate) fn join_of(name: &str) -> Result<Join> {
     match name {
         "Same" => Ok(Join::Same),
         "Get" => Ok(Join::Get),
@@ -17,7 +17,7 @@ pub fn join_of(name: &str) -> Result<Join> {
 }
 
 /// Whether so many values may be joined.
-pub fn may_join(how: Join, values: usize) -> bool
+pub(crate) fn may_join(how: Join, values: usize) -> bool
     ensures { IsTrue result → MayJoin how values }
 {
     match how {

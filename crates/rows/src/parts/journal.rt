@@ -15,7 +15,7 @@ pub struct JournalSubject {
 
 impl JournalSubject {
     /// Begins a row.
-    pub fn open(alloc: Global) -> JournalSubject {
+    pub(crate) fn open(alloc: Global) -> JournalSubject {
         JournalSubject {
             journal: Journal::new(alloc),
         }
@@ -23,7 +23,7 @@ impl JournalSubject {
 
     /// Makes one action: `room BYTES`, `add PASS EVENT ANSWER BYTES` (behind making room for it), `get STEP`, `len`,
     /// `bytes`.
-    pub fn act(&mut self, alloc: Global, line: &str) -> Result<String> {
+    pub(crate) fn act(&mut self, alloc: Global, line: &str) -> Result<String> {
         let (verb, rest) = first_word(line);
         match verb {
             "room" => {

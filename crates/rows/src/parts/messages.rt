@@ -28,7 +28,7 @@ macro_rules! messages {
 }
 
 /// Gives the refusals of what the line names: `reader`, `ring`, `ejector`, `pipe`, `splitter`, `queue`, `journal`, `stub`.
-pub fn act(alloc: Global, line: &str) -> Result<String> {
+pub(crate) fn act(alloc: Global, line: &str) -> Result<String> {
     match line {
         "reader" => again!(of_reader(alloc)),
         "ring" => again!(of_ring(alloc)),

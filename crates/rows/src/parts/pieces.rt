@@ -5,7 +5,7 @@ use anyhow::Result;
 use std::alloc::Global;
 
 /// How often a word stands there, and the word: `7*a` is `a` seven times.
-pub fn repeated(word: &str) -> (usize, &str) {
+pub(crate) fn repeated(word: &str) -> (usize, &str) {
     match word.split_once('*') {
         Some((count, piece)) => match count.parse::<usize>() {
             Ok(count) => (count, piece),
@@ -17,7 +17,7 @@ pub fn repeated(word: &str) -> (usize, &str) {
 
 /// The stream of these words, one behind the other. Each is bytes with escapes or `bulk:LENGTH`, a bulk string of so
 /// many bytes, and may be repeated.
-pub fn stream_of(alloc: Global, words: &str) -> Result<Vec<u8>> {
+pub(crate) fn stream_of(alloc: Global, words: &str) -> Result<Vec<u8>> {
     let mut stream = Vec::new(alloc);
     for word in words.split(' ') {
         put_piece(alloc, &mut stream, word)?;

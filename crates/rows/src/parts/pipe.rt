@@ -16,7 +16,7 @@ pub struct PipeSubject {
 
 impl PipeSubject {
     /// Begins a row.
-    pub fn open(alloc: Global) -> PipeSubject {
+    pub(crate) fn open(alloc: Global) -> PipeSubject {
         PipeSubject {
             pipe: Pipe::new(alloc),
         }
@@ -24,7 +24,7 @@ impl PipeSubject {
 
     /// Makes one action: `push CONNECTION COMMAND PART TEXT`, `take`, `answered EPOCH`, `fault EPOCH`, `forget
     /// CONNECTION`, `room PARTS`, `epoch`, `waiting`, `flying`, `oldest`. An owner is told by its three numbers.
-    pub fn act(&mut self, alloc: Global, line: &str) -> Result<String> {
+    pub(crate) fn act(&mut self, alloc: Global, line: &str) -> Result<String> {
         let (verb, rest) = first_word(line);
         match verb {
             "push" => self.push(alloc, rest),

@@ -17,7 +17,7 @@ const SHOWN: usize = 8;
 
 /// Makes one action: `plan WORDS`, where `7*a` is seven words `a`; `value VALUE` or `broken`, the plan of that request;
 /// or `join HOW VALUES`.
-pub fn act(alloc: Global, line: &str) -> Result<String> {
+pub(crate) fn act(alloc: Global, line: &str) -> Result<String> {
     let (verb, rest) = first_word(line);
     let request = match verb {
         "plan" => again!(command_of(alloc, rest))?,

@@ -20,7 +20,7 @@ pub struct QueueSubject {
 
 impl QueueSubject {
     /// Begins a row.
-    pub fn open(alloc: Global) -> QueueSubject {
+    pub(crate) fn open(alloc: Global) -> QueueSubject {
         QueueSubject {
             queue: Queue::new(alloc),
         }
@@ -29,7 +29,7 @@ impl QueueSubject {
     /// Makes one action: `accept JOIN PARTS`, `is_open COMMAND PART`, `set COMMAND PART VALUE`, `set_all COMMAND PARTS
     /// VALUE` (from the last part to the first), `ready`, `left`, `front`, `drop`, `pop`, or `past`, which accepts a
     /// command of one part and pops it.
-    pub fn act(&mut self, alloc: Global, line: &str) -> Result<String> {
+    pub(crate) fn act(&mut self, alloc: Global, line: &str) -> Result<String> {
         let (verb, rest) = first_word(line);
         match verb {
             "accept" => self.accept(alloc, rest),

@@ -10,7 +10,7 @@ use rate_core::{is_outlier, rate};
 use std::alloc::Global;
 
 /// Makes one action: `rate GOOD TOTAL`, or `is_outlier FACTOR HOST RATES`, where a rate is a number or `None`.
-pub fn act(alloc: Global, line: &str) -> Result<String> {
+pub(crate) fn act(alloc: Global, line: &str) -> Result<String> {
     let (verb, rest) = first_word(line);
     match verb {
         "rate" => share(alloc, rest),

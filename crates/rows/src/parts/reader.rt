@@ -23,7 +23,7 @@ pub struct ReaderSubject {
 
 impl ReaderSubject {
     /// Begins a row, with the limits of a `client` or of a `host`.
-    pub fn open(alloc: Global, arguments: &str) -> Result<ReaderSubject> {
+    pub(crate) fn open(alloc: Global, arguments: &str) -> Result<ReaderSubject> {
         let limits = match arguments {
             "client" => Limits::CLIENT,
             "host" => Limits::HOST,
@@ -37,7 +37,7 @@ impl ReaderSubject {
 
     /// Makes one action: `feed BYTES`, `next`, `read PIECES` (a stream of its own), `measure VALUE`, `simple BYTES`,
     /// `error BYTES`, `words VALUE`.
-    pub fn act(&mut self, alloc: Global, line: &str) -> Result<String> {
+    pub(crate) fn act(&mut self, alloc: Global, line: &str) -> Result<String> {
         let (verb, rest) = first_word(line);
         match verb {
             "feed" => self.feed(alloc, rest),

@@ -16,14 +16,14 @@ pub struct RingSubject {
 
 impl RingSubject {
     /// Begins a row.
-    pub fn open() -> RingSubject {
+    pub(crate) fn open() -> RingSubject {
         RingSubject { ring: None }
     }
 
     /// Makes one action: `name BYTES`, `point KEY`, `tagged KEY` (its point by its tag), `of_points HOSTS
     /// POINT:HOST,..`, `build NAME,.. WEIGHT,..`, `many HOSTS WEIGHT`, `owner POINT`, `owner POINT out HOST ..`, or
     /// `key KEY`, which tells the key's point and owner, and whether it stays where host 1 goes out.
-    pub fn act(&mut self, alloc: Global, line: &str) -> Result<String> {
+    pub(crate) fn act(&mut self, alloc: Global, line: &str) -> Result<String> {
         let (verb, rest) = first_word(line);
         match verb {
             "name" => name_text(alloc, rest),

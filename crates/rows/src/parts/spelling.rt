@@ -6,7 +6,7 @@ use resp_core::{Limits, Reader, Value, put_text};
 use std::alloc::Global;
 
 /// The value's one spelling, with escapes.
-pub fn spelling(alloc: Global, value: &Value) -> Result<String> {
+pub(crate) fn spelling(alloc: Global, value: &Value) -> Result<String> {
     let mut text = String::new(alloc);
     if !value.is_plain() {
         text.push_str("not plain")?;
@@ -19,7 +19,7 @@ pub fn spelling(alloc: Global, value: &Value) -> Result<String> {
 }
 
 /// The values of a text with escapes, as far as they are whole.
-pub fn values_of(alloc: Global, text: &str) -> Result<Vec<Value>> {
+pub(crate) fn values_of(alloc: Global, text: &str) -> Result<Vec<Value>> {
     let bytes = unescaped(alloc, text)?;
     let mut reader = Reader::new(alloc, Limits::HOST);
     reader.feed(bytes.as_slice())?;

@@ -18,14 +18,14 @@ pub struct StubSubject {
 
 impl StubSubject {
     /// Begins a row.
-    pub fn open(alloc: Global) -> StubSubject {
+    pub(crate) fn open(alloc: Global) -> StubSubject {
         StubSubject {
             stub: Stub::new(alloc),
         }
     }
 
     /// Makes one action: `ask WORDS` or `value VALUE`, a request whose answer is told.
-    pub fn act(&mut self, alloc: Global, line: &str) -> Result<String> {
+    pub(crate) fn act(&mut self, alloc: Global, line: &str) -> Result<String> {
         let (verb, rest) = first_word(line);
         let request = match verb {
             "ask" => again!(command(alloc, rest))?,

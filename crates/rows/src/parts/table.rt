@@ -8,7 +8,7 @@ use command_table::look;
 use std::alloc::Global;
 
 /// Makes one action: `look NAME`, or `alike NAMES`, which tells how many names in a row are known alike.
-pub fn act(alloc: Global, line: &str) -> Result<String> {
+pub(crate) fn act(alloc: Global, line: &str) -> Result<String> {
     let (verb, rest) = first_word(line);
     match verb {
         "look" => again!(entry_text(alloc, rest)),

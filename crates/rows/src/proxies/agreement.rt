@@ -14,7 +14,7 @@ pub struct Answers {
 
 impl Answers {
     /// Whether there are two answers, which aren't the same.
-    pub fn differ(&self) -> bool {
+    pub(crate) fn differ(&self) -> bool {
         match (&self.core, &self.plain) {
             (Some(core), Some(plain)) => core.as_str() != plain.as_str(),
             _ => false,
@@ -22,7 +22,7 @@ impl Answers {
     }
 
     /// The one answer, or both where they differ.
-    pub fn text(self, alloc: Global) -> Result<String> {
+    pub(crate) fn text(self, alloc: Global) -> Result<String> {
         let differ = self.differ();
         match (self.core, self.plain) {
             (Some(core), Some(plain)) if differ => {

@@ -6,7 +6,7 @@ use proxy_core::{Answer, Field, Local, Refusal, Trip};
 use std::alloc::Global;
 
 /// The answer in words: its name, and its fields in their order.
-pub fn answer_text(alloc: Global, answer: &Answer) -> Result<String> {
+pub(crate) fn answer_text(alloc: Global, answer: &Answer) -> Result<String> {
     let mut words = String::new(alloc);
     put_answer(&mut words, answer)?;
     Ok(words)
@@ -76,7 +76,7 @@ fn local_name(local: Local) -> &'static str {
 }
 
 /// The name of what a result did.
-pub fn trip_name(trip: Trip) -> &'static str {
+pub(crate) fn trip_name(trip: Trip) -> &'static str {
     match trip {
         Trip::None => "None",
         Trip::Ejected => "Ejected",
@@ -85,7 +85,7 @@ pub fn trip_name(trip: Trip) -> &'static str {
 }
 
 /// The refusal in words: its number, its name and its fields.
-pub fn refusal_text(alloc: Global, refusal: Refusal) -> Result<String> {
+pub(crate) fn refusal_text(alloc: Global, refusal: Refusal) -> Result<String> {
     let number = refusal.number();
     let name = refusal_name(refusal);
     let mut text = format!(in alloc; "{number} {name}")?;
@@ -99,7 +99,7 @@ pub fn refusal_text(alloc: Global, refusal: Refusal) -> Result<String> {
 }
 
 /// Each refusal in words, in the order of their numbers.
-pub fn all_refusals(alloc: Global) -> Result<String> {
+pub(crate) fn all_refusals(alloc: Global) -> Result<String> {
     let refusals = [
         Refusal::NoMemory,
         Refusal::JournalFull,

@@ -8,7 +8,7 @@ use std::alloc::Global;
 
 /// The event of a line: its name and its fields in their order, the moment of an answer before its value and that of a
 /// fault behind its kind.
-pub fn event_of(alloc: Global, line: &str) -> Result<Event> {
+pub(crate) fn event_of(alloc: Global, line: &str) -> Result<Event> {
     let (name, fields) = first_word(line);
     let (first, rest) = first_word(fields);
     match name {

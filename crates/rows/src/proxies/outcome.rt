@@ -9,7 +9,12 @@ use std::alloc::Global;
 /// Takes an event, once more where it found no memory, and gives the answer or the refusal in words.
 ///
 /// An answer has to stand in a step of this pass that was added, and a refusal may add none: else the words tell so.
-pub fn outcome<P: Proxy>(alloc: Global, proxy: &mut P, pass: u64, event: Event) -> Result<String> {
+pub(crate) fn outcome<P: Proxy>(
+    alloc: Global,
+    proxy: &mut P,
+    pass: u64,
+    event: Event,
+) -> Result<String> {
     let before = proxy.steps();
     let turn = turned(proxy, pass, event);
     match told(alloc, proxy, pass, before, &turn) {

@@ -8,7 +8,7 @@ use proxy_core::Core;
 use std::alloc::Global;
 
 /// The core's answer to `hosts`, `epoch HOST`, `is_out HOST`, `in_panic`, `journal` or `pass_of STEP`.
-pub fn core_answer(alloc: Global, core: &Core, question: &str) -> Result<String> {
+pub(crate) fn core_answer(alloc: Global, core: &Core, question: &str) -> Result<String> {
     let (name, rest) = first_word(question);
     match name {
         "hosts" => {
@@ -41,7 +41,11 @@ fn host_answer(alloc: Global, core: &Core, name: &str, host: usize) -> Result<St
 }
 
 /// The plain program's answer to `pass_of STEP`. It answers no other question.
-pub fn plain_answer(alloc: Global, plain: &Reference, question: &str) -> Result<Option<String>> {
+pub(crate) fn plain_answer(
+    alloc: Global,
+    plain: &Reference,
+    question: &str,
+) -> Result<Option<String>> {
     match question.strip_prefix("pass_of ") {
         Some(step) => Ok(Some(pass_of(alloc, plain, number(step)?)?)),
         None => Ok(None),

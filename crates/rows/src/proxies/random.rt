@@ -95,7 +95,7 @@ impl Numbers {
     }
 
     /// An event of a few connections and of three hosts, of which these are the epochs.
-    pub fn event(&mut self, alloc: Global, epochs: [u64; 3], t: u64) -> Result<Event> {
+    pub(crate) fn event(&mut self, alloc: Global, epochs: [u64; 3], t: u64) -> Result<Event> {
         let conn = self.below(4);
         let host = self.host();
         Ok(match self.below(24) {
@@ -125,7 +125,7 @@ impl Numbers {
     }
 
     /// Settings by which hosts go out and come back soon, and three hosts panic where two are out.
-    pub fn settings(&mut self) -> Settings {
+    pub(crate) fn settings(&mut self) -> Settings {
         Settings {
             tags: self.chance(2),
             base_ms: 5,

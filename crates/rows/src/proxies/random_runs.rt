@@ -23,7 +23,7 @@ pub struct Randomly {
 
 impl Randomly {
     /// Makes the events on both, up to the first whose answers differ: which it is and both answers, if there is one.
-    pub fn first_difference(
+    pub(crate) fn first_difference(
         self,
         alloc: Global,
         core: &mut Core,
@@ -72,7 +72,7 @@ fn epochs(core: &Core) -> [u64; 3] {
 
 /// Makes so many random events on fresh proxies for each of the seeds 1 to `seeds`, each with random settings. Tells how
 /// many were answered, or the first whose answers differ.
-pub fn run_each(alloc: Global, seeds: u64, events: u64) -> Result<String> {
+pub(crate) fn run_each(alloc: Global, seeds: u64, events: u64) -> Result<String> {
     let mut answered = 0usize;
     for seed in 1..=seeds {
         let mut numbers = Numbers(0x9e37_79b9_7f4a_7c15 ^ (seed << 20));

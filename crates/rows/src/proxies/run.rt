@@ -16,20 +16,20 @@ pub struct Run {
 
 impl Run {
     /// No events.
-    pub fn new(alloc: Global) -> Run {
+    pub(crate) fn new(alloc: Global) -> Run {
         Run {
             lines: Vec::new(alloc),
         }
     }
 
     /// Adds the event of a line.
-    pub fn add(&mut self, alloc: Global, pass: u64, line: &str) -> Result<()> {
+    pub(crate) fn add(&mut self, alloc: Global, pass: u64, line: &str) -> Result<()> {
         self.lines.push((pass, String::from_str(alloc, line)?))?;
         Ok(())
     }
 
     /// Gives the events to the core in one call, again where there was no memory for it: the answers in words.
-    pub fn on_core(&self, alloc: Global, core: &mut Core) -> Result<String> {
+    pub(crate) fn on_core(&self, alloc: Global, core: &mut Core) -> Result<String> {
         let answers = match core.run(self.pairs(alloc)?) {
             Ok(answers) => answers,
             Err(_) => core.run(self.pairs(alloc)?)?,
@@ -50,7 +50,7 @@ impl Run {
     }
 
     /// Gives the events to the plain program, one after another: the answers in words.
-    pub fn on_plain(&self, alloc: Global, plain: &mut Reference) -> Result<String> {
+    pub(crate) fn on_plain(&self, alloc: Global, plain: &mut Reference) -> Result<String> {
         let mut text = String::new(alloc);
         for (pass, line) in &self.lines {
             let event = event_of(alloc, line.as_str())?;

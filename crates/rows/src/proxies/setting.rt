@@ -20,7 +20,7 @@ pub struct Setting {
 
 impl Setting {
     /// Three hosts with a point each, and these settings.
-    pub fn of(alloc: Global, settings: Settings) -> Result<Setting> {
+    pub(crate) fn of(alloc: Global, settings: Settings) -> Result<Setting> {
         Ok(Setting {
             hosts: 3,
             points: POINTS.to_vec(alloc)?,
@@ -30,7 +30,7 @@ impl Setting {
 
     /// The setting of a row's arguments, of which each is `tags`, `hosts=N`, `points=POINT:HOST,..` (`points=none` for
     /// none) or `KEY=N` with a key of the settings. What isn't given is as in `of` and as in the default settings.
-    pub fn read(alloc: Global, arguments: &str) -> Result<Setting> {
+    pub(crate) fn read(alloc: Global, arguments: &str) -> Result<Setting> {
         let mut setting = Setting::of(alloc, Settings::default())?;
         for argument in arguments.split_whitespace() {
             setting.set(alloc, argument)?;
@@ -50,7 +50,7 @@ impl Setting {
     }
 
     /// A core on this setting, made again where there was no memory.
-    pub fn core(&self, alloc: Global) -> Result<Core, Refusal> {
+    pub(crate) fn core(&self, alloc: Global) -> Result<Core, Refusal> {
         match self.one_core(alloc) {
             Err(Refusal::NoMemory) => self.one_core(alloc),
             made => made,
@@ -62,7 +62,7 @@ impl Setting {
     }
 
     /// A plain program on this setting, made again where there was no memory.
-    pub fn plain(&self, alloc: Global) -> Result<Reference, Refusal> {
+    pub(crate) fn plain(&self, alloc: Global) -> Result<Reference, Refusal> {
         match self.one_plain(alloc) {
             Err(Refusal::NoMemory) => self.one_plain(alloc),
             made => made,
@@ -83,7 +83,7 @@ impl Setting {
 }
 
 /// The points of a list `POINT:HOST,..`, or of `none`.
-pub fn points_of(alloc: Global, text: &str) -> Result<Vec<(u32, usize)>> {
+pub(crate) fn points_of(alloc: Global, text: &str) -> Result<Vec<(u32, usize)>> {
     let mut points = Vec::new(alloc);
     if text == "none" {
         return Ok(points);
@@ -98,7 +98,7 @@ pub fn points_of(alloc: Global, text: &str) -> Result<Vec<(u32, usize)>> {
 }
 
 /// Sets the field of this key of the settings.
-pub fn set_field(settings: &mut Settings, key: &str, n: u32) -> Result<()> {
+pub(crate) fn set_field(settings: &mut Settings, key: &str, n: u32) -> Result<()> {
     match key {
         "interval_ms" => settings.interval_ms = n,
         "base_ms" => settings.base_ms = n,
