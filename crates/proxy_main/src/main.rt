@@ -1,8 +1,6 @@
 //! `redproxy`: a proxy that clients speak to as to one Redis server.
 #![tactic(auto)]
 
-mod command_line;
-
 use command_line::{Asked, Refused};
 use proxy_run::{Ending, local_run};
 use std::process::ExitCode;
@@ -37,8 +35,8 @@ fn run<R: Runtime + AllocGlobal>(rt: &R) -> u8 {
     match command_line::read(rt.alloc(), words.as_slice()) {
         Ok(Asked::Local) => run_local(rt),
         Err(Refused::Memory) => ended(rt, Ending::Memory),
-        Err(Refused::ByParser(error)) => match error.print(rt) {
-            Ok(()) if error.exit_code() == 0 => 0,
+        Err(Refused::Told(told)) => match told.print(rt) {
+            Ok(()) if told.is_help() => 0,
             Ok(()) => BAD_COMMAND_LINE,
             Err(_) => ended(rt, Ending::Socket),
         },

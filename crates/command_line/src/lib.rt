@@ -1,0 +1,73 @@
+//! The command line of `redproxy`: its words, and what they ask for.
+#![tactic(auto)]
+
+use clap::error::ErrorKind;
+use clap::{Command, Error};
+use std::alloc::{AllocError, Global};
+use std::io;
+
+/// What the program is to do.
+#[derive(Drop)]
+pub enum Asked {
+    /// Serve one client on standard input and output.
+    Local,
+}
+
+/// Why the words of the command line ask for nothing that can be done.
+#[derive(Drop)]
+pub enum Refused {
+    /// There was no memory to read them.
+    Memory,
+    /// What is to be told instead.
+    Told(Told),
+}
+
+/// The parser's text for words that ask for nothing: what is wrong with them, or the help that was asked for.
+#[derive(Drop)]
+pub struct Told {
+    error: Error,
+}
+
+impl Told {
+    /// Prints the text: help on standard output, what is wrong on standard error. An error of that stream is given back.
+    pub fn print<R: Print + Eprint>(&self, rt: &R) -> io::Result<()> {
+        self.error.print(rt)
+    }
+
+    /// Whether help was asked for, and nothing is wrong.
+    pub fn is_help(&self) -> bool {
+        self.error.exit_code() == 0
+    }
+}
+
+impl From<AllocError> for Refused {
+    fn from(_error: AllocError) -> Refused {
+        Refused::Memory
+    }
+}
+
+impl From<Error> for Refused {
+    fn from(error: Error) -> Refused {
+        if error.kind() == ErrorKind::OutOfMemory {
+            Refused::Memory
+        } else {
+            Refused::Told(Told { error })
+        }
+    }
+}
+
+fn command<'a>(alloc: Global) -> Result<Command<'a>, AllocError> {
+    let local = Command::new(alloc, "local").about(
+        "Serves one client on standard input and output",
+    );
+    Command::new(alloc, "redproxy")
+        .about("A proxy that clients speak to as to one Redis server")
+        .subcommand_required(true)
+        .subcommand(local)
+}
+
+/// Reads the words of the command line, of which the first is the program's name.
+pub fn read(alloc: Global, words: &[String]) -> Result<Asked, Refused> {
+    command(alloc)?.try_get_matches_from(words)?;
+    Ok(Asked::Local)
+}

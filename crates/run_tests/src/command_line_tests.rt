@@ -1,0 +1,34 @@
+//! The command line: which words are read, and which are refused with which text.
+use command_line::{Asked, Refused, read};
+use std::alloc::Global;
+use std::test::Fail;
+
+// What the words ask for: 0 to serve, 1 for help, 2 for nothing that can be done, 6 where memory was refused.
+fn asked(alloc: Global, words: &[&str]) -> Result<u8, Fail> {
+    let mut owned = Vec::new(alloc);
+    for word in words {
+        owned.push(String::from_str(alloc, word)?)?;
+    }
+    match read(alloc, &owned) {
+        Ok(Asked::Local) => Ok(0),
+        Err(Refused::Told(told)) if told.is_help() => Ok(1),
+        Err(Refused::Told(_)) => Ok(2),
+        Err(Refused::Memory) => Ok(6),
+    }
+}
+
+#[test]
+fn command_lines_are_read(rt: HostRuntime) -> Result<(), Fail> {
+    let rows: [(&[&str], u8); 6] = [
+        (&["redproxy", "local"], 0),
+        (&["redproxy", "--help"], 1),
+        (&["redproxy", "help", "local"], 1),
+        (&["redproxy"], 2),
+        (&["redproxy", "serve"], 2),
+        (&["redproxy", "local", "x"], 2),
+    ];
+    for (words, expected) in rows {
+        assert_eq!(rt; asked(rt.alloc(), words)?, expected);
+    }
+    Ok(())
+}
