@@ -14,6 +14,7 @@ pub mod ConnectionsAnswered
 pub mod ConnectionsFailed
 pub mod PipelineFacts
 pub mod PipelineStays
+pub mod PipelinesSettled
 pub mod PipelinesMove
 pub mod PipelinesTaken
 pub mod PipelinesArrived

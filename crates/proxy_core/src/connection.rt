@@ -10,7 +10,7 @@ ghost use Rattle.list_words.specs.Lists.{list_of};
 ghost use Rattle.proxy_history.specs.Value.{upstream_failure};
 ghost use Rattle.proxy_core.specs.Arrivals.{MayAccept, next_index, value_of_placed, with_value_at};
 ghost use Rattle.proxy_core.specs.Connections.{accepting, IsAwaited, IsAwaitedIn, AreAwaited, with_answer, answered_part, answered_parts, closing, finished, fresh_connection, handing, with_connection};
-ghost use Rattle.proxy_core.specs.Machine.{connection_at, reply_in};
+ghost use Rattle.proxy_core.specs.Machine.{connection_at, left_in, reply_in};
 
 use crate::place::{Place, Placed};
 use bytes::Bytes;
@@ -45,6 +45,16 @@ pub(crate) fn connection_at(connections: &[Option<Connection>], conn: u64) -> Op
     ensures { option_copied result ≡ connection_at conn connections.now }
 {
     connections.get(conn as usize)?.as_ref()
+}
+
+/// How many of the connection's commands are accepted and not handed out: none where it isn't open.
+pub(crate) fn left_at(connections: &[Option<Connection>], conn: u64) -> usize
+    ensures { result ≡ left_in (connection_at conn connections.now) }
+{
+    match connection_at(connections, conn) {
+        Some(connection) => connection.queue.left(),
+        None => 0,
+    }
 }
 
 /// The connection takes no further command.

@@ -1,14 +1,15 @@
 //! Connections are opened, finish and are closed.
-ghost use Rattle.std.specs.Prelude.{◌≡◌, ◌<◌, ◌+◌, ◌++◌, ◌∷◌, [], ◌^◌, Some, length, map, vec_len, vec_capacity, IfOk, IfErr, OnOk};
+ghost use Rattle.std.specs.Prelude.{ℕ, ◌≡◌, ◌<◌, ◌+◌, ◌++◌, ◌∷◌, [], ◌^◌, Some, length, map, vec_len, vec_capacity, IfOk, IfErr, OnOk};
 ghost use Rattle.proxy_history.specs.declared.answer.Answer.TheVariants as answers;
 ghost use Rattle.proxy_history.specs.declared.event.Event.TheVariants as events;
-ghost use Rattle.proxy_core.specs.Connections.{fresh_connection, with_connection, finished, closing};
-ghost use Rattle.proxy_core.specs.Pipelines.{without_connection};
-ghost use Rattle.proxy_core.specs.Machine.{memory_in, IsTurned, IsSame, IsReady, HasCauseIn};
+ghost use Rattle.proxy_history.specs.Value.{upstream_failure};
+ghost use Rattle.proxy_core.specs.Connections.{AreAwaited, fresh_connection, with_connection, finished, closing};
+ghost use Rattle.proxy_core.specs.Pipelines.{lost_owners, state_of, without_connection};
+ghost use Rattle.proxy_core.specs.Machine.{memory_in, pipeline_at, IsTurned, IsSame, IsReady, HasCauseIn};
 
-use crate::connection::{Connection, close, connection_at, finish};
+use crate::connection::{Connection, close, connection_at, finish, left_at};
 use crate::machine::{Machine, make_room};
-use crate::pipeline::forget;
+use crate::pipeline::{Pipeline, forget};
 use crate::refused::Refused;
 use journal_core::Step;
 use proxy_history::{Answer, Event, MAX_CONNECTIONS, Refusal};
@@ -93,7 +94,9 @@ impl Machine {
 
     /// Closes a connection: its parts that wait are dropped, and the replies to those that fly go to nobody.
     pub(crate) fn close(&mut self, pass: u64, conn: u64) -> Result<Answer, Refused>
-        requires { self.old.closed + 1 < 2 ^ 64 }
+        requires closed { self.old.closed + 1 < 2 ^ 64 }
+        requires awaited { (h : ℕ) → AreAwaited (lost_owners (pipeline_at h (memory_in self.old).pipelines)) upstream_failure
+            self.old.connections.items }
         ensures answered { IfOk result (λ a. (a ≡ answers.Closed) × IsTurned self.old self.new pass (events.Closed conn) a
             (record (memory_in self.old) {
               connections = closing conn self.old.connections.items;
@@ -107,7 +110,7 @@ impl Machine {
         if let Err(cause) = self.ready_to_close(conn) {
             return Err(Refused { cause, event });
         }
-        forget(&mut self.pipelines, conn);
+        forget_parts(&mut self.pipelines, &self.connections, conn);
         close(&mut self.connections, conn);
         self.closed += 1;
         self.journal.add(
@@ -131,5 +134,16 @@ impl Machine {
             return Err(Refusal::NoSuchConnection);
         }
         make_room(&mut self.journal, 0)
+    }
+}
+
+// Forgets the connection's parts. None waits or flies where all its commands are handed out, and no pipe is looked at then.
+fn forget_parts(pipelines: &mut [Pipeline], connections: &[Option<Connection>], conn: u64)
+    requires awaited { (h : ℕ) → AreAwaited (lost_owners (pipeline_at h (map state_of pipelines.old))) upstream_failure
+        connections.now }
+    ensures { map state_of pipelines.new ≡ map (without_connection conn) (map state_of pipelines.old) }
+{
+    if left_at(connections, conn) > 0 {
+        forget(pipelines, conn);
     }
 }

@@ -108,4 +108,4 @@ pub hand-requires : goal.hand-requires
 hand-requires c = record { plain = asked_reply c.args.self.now c.in-Handed.conn c.requires }
 
 pub close-requires : goal.close-requires
-close-requires c = asked_closed c.args.self.now c.requires
+close-requires c = record { closed = asked_closed c.args.self.now c.requires; awaited = λ h. asked_fault c.args.self.now h c.requires }
