@@ -1,12 +1,14 @@
 -- The values that have come, each in its part's place.
-use Rattle.std.proofs.Common.{◌≡◌, ◌+◌, ◌<◌, ℕ, zero, suc, Bool, true, false, not, cond, Some, None, List, [], ◌∷◌, length, map, count_by, replicate, slice_get, slice_set, IsTrue, IsSome, is_some, ◌↔◌, refl, sym, ap, ◌∙◌, arith}
+use Rattle.std.proofs.Common.{◌≡◌, ◌+◌, ◌<◌, ℕ, zero, suc, Bool, true, false, not, cond, Some, None, List, [], ◌∷◌, length, map, count_by, replicate, slice_get, slice_set, IsTrue, IsSome, is_some, ◌↔◌, refl, sym, ap, ◌∙◌, arith, inl, inr}
+use Rattle.std.proofs.lemmas.Bool.{cases_Bool}
 use Rattle.std.proofs.lemmas.List.Sums.{sum_by-cons}
 use Rattle.std.specs.Option.{option_map}
 use Rattle.resp_core.specs.Value.{tree_of}
 use Rattle.resp_core.specs.declared.Value.{Value}
 use Rattle.splitter.specs.declared.Join.{Join}
+use Rattle.splitter.specs.declared.plans.Join.TheVariants.{Same}
 use Rattle.splitter.specs.Join.{join_of}
-use Rattle.reply_queue.specs.Command.{all_values, reply_to}
+use Rattle.reply_queue.specs.Command.{all_values, reply_to, is_same, same_reply_to}
 use Rattle.reply_queue.specs.Places.{values_come, AreKept}
 
 -- none has come
@@ -73,6 +75,18 @@ reply_is_complete how come values zero kept e = refl
 reply_is_complete how come values (suc missing) kept e =
     let none : all_values (values_come come values) ≡ None = all_values-missing come values kept.places (omega (arith, kept.count)) in
     absurd (cc (ap (λ vs. is_some (option_map (join_of how) vs)) none))
+
+-- where one is missing nothing is the reply
+pub same_reply_to-missing : (how : Join) (come : List Bool) (values : List Value) (missing : ℕ) → AreKept how come values missing → 0 < missing → same_reply_to (record { how = how; values = values_come come values }) ≡ None
+same_reply_to-missing how come values missing kept l = elim (cases_Bool (is_same how)) [
+  | inl t ↦ rw t (ap (option_map (join_of how)) (all_values-missing come values kept.places (omega (arith, l, kept.count))))
+  | inr f ↦ rw f refl
+]
+
+-- else the one value is
+pub same_reply_to-come : (come : List Bool) (values : List Value) (missing : ℕ) → AreKept Same come values missing → missing ≡ 0 → same_reply_to (record { how = Same; values = values_come come values }) ≡ option_map tree_of (slice_get values 0)
+same_reply_to-come come [] missing kept e = absurd (omega (arith, kept.places, kept.may_join))
+same_reply_to-come come (v ∷ values) missing kept e = complete_has_reply Same come (v ∷ values) missing kept e
 
 -- a part is open exactly if it is there and its value hasn't come
 pub is_open_where : (come : List Bool) (values : List Value) (part : ℕ) (has_come : Bool) → length values ≡ length come → slice_get come part ≡ Some has_come → IsTrue (not has_come) ↔ (slice_get (values_come come values) part ≡ Some None)

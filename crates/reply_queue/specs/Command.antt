@@ -1,10 +1,11 @@
 -- A command whose reply is awaited: the values of its parts, as far as they have come.
-use Rattle.std.specs.Prelude.{ℕ, Option, Some, None, List, [], ◌∷◌, replicate, slice_set, refl}
+use Rattle.std.specs.Prelude.{ℕ, Bool, true, false, if◌then◌else◌, Option, Some, None, List, [], ◌∷◌, replicate, slice_set, refl}
 use Rattle.std.specs.Option.{option_map}
 use Rattle.std.specs.Coded.{Coded, code_by, coded×, coded_list, coded_option}
 use Rattle.resp_core.specs.Tree.{Tree}
 use Rattle.resp_core.specs.Code.{tree_code}
 use Rattle.splitter.specs.declared.Join.{Join}
+use Rattle.splitter.specs.declared.plans.Join.TheVariants.{Same, Get, Set, Sum}
 use Rattle.splitter.specs.contracts.Join.{the_row}
 use Rattle.splitter.specs.Join.{join_of}
 
@@ -36,3 +37,14 @@ all_values (Some value ∷ values) = option_map (λ others. value ∷ others) (a
 -- the reply to a command: the join of the values of its parts, where each has one
 abbrev pub reply_to : AwaitedCommand → Option Tree
 reply_to command = option_map (join_of command.how) (all_values command.values)
+
+-- whether the reply is the one value itself
+abbrev pub is_same : Join → Bool
+is_same Same = true
+is_same Get = false
+is_same Set = false
+is_same Sum = false
+
+-- the reply to a command, where it is the value of its one part as it came
+abbrev pub same_reply_to : AwaitedCommand → Option Tree
+same_reply_to command = if is_same command.how then reply_to command else None

@@ -4,7 +4,7 @@ use Rattle.std.specs.Option.{option_and_then}
 use Rattle.std.specs.Coded.{Coded, code_by, coded×, coded_ℕ, coded_list}
 use Rattle.list_words.specs.Lists.{changed_at}
 use Rattle.resp_core.specs.Tree.{Tree}
-use Rattle.reply_queue.specs.Command.{AwaitedCommand, command_code, with_value, reply_to}
+use Rattle.reply_queue.specs.Command.{AwaitedCommand, command_code, with_value, reply_to, same_reply_to}
 
 -- what contracts see of a queue: how many commands were popped, and the commands accepted since, the oldest first. The index
 -- of a command is the number of those accepted before it.
@@ -38,6 +38,11 @@ with_part index part value q = record { popped = q.popped; commands = changed_at
 abbrev pub front_reply : List AwaitedCommand → Option Tree
 front_reply [] = None
 front_reply (command ∷ commands) = reply_to command
+
+-- the reply to the oldest command, where it is the value of its one part as it came
+abbrev pub same_front_reply : List AwaitedCommand → Option Tree
+same_front_reply [] = None
+same_front_reply (command ∷ commands) = same_reply_to command
 
 -- the queue without its oldest command
 abbrev pub without_front : QueueState → QueueState

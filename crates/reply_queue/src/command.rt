@@ -1,8 +1,9 @@
 //! A command whose reply is awaited.
 ghost use Rattle.std.specs.Prelude.{◌≡◌, ◌<◌, ◌↔◌, Some, None, length, replicate, slice_get, slice_set, vec_len, IsTrue, IsSome, IfOk, IfErr};
+ghost use Rattle.std.specs.Option.{option_copied, option_map};
 ghost use Rattle.resp_core.specs.Value.{tree_of};
 ghost use Rattle.splitter.specs.Join.{MayJoin};
-ghost use Rattle.reply_queue.specs.Command.{awaited, with_value, reply_to};
+ghost use Rattle.reply_queue.specs.Command.{awaited, with_value, reply_to, same_reply_to};
 
 use resp_core::Value;
 use splitter::{Join, SplitError, join};
@@ -78,6 +79,19 @@ impl Command {
         ensures { IsTrue result ↔ IsSome (reply_to self.now) }
     {
         self.missing == 0
+    }
+
+    /// The reply as it stands, where it is the value of the one part and has come. It takes no memory.
+    pub(crate) fn same_reply(&self) -> Option<&Value>
+        ensures { option_map tree_of (option_copied result) ≡ same_reply_to self.now }
+    {
+        if self.missing > 0 {
+            return None;
+        }
+        match self.how {
+            Join::Same => self.values.first(),
+            Join::Get | Join::Set | Join::Sum => None,
+        }
     }
 
     /// The reply: the join of the values of the parts, each of which has one.

@@ -1,10 +1,10 @@
 //! The queue of a connection.
 ghost use Rattle.std.specs.Prelude.{◌≡◌, ◌+◌, ◌-◌, ◌^◌, ◌<◌, ◌≤◌, ◌↔◌, [], ◌∷◌, ◌++◌, length, IsTrue, IsSome, OnOk, OnErr, OnSome, IfOk, IfErr, IfNone, IsErrOf};
-ghost use Rattle.std.specs.Option.{option_map};
+ghost use Rattle.std.specs.Option.{option_copied, option_map};
 ghost use Rattle.resp_core.specs.Value.{tree_of};
 ghost use Rattle.splitter.specs.Join.{MayJoin};
 ghost use Rattle.reply_queue.specs.Command.{awaited};
-ghost use Rattle.reply_queue.specs.Queue.{IsOpen, with_part, front_reply, without_front};
+ghost use Rattle.reply_queue.specs.Queue.{IsOpen, with_part, front_reply, same_front_reply, without_front};
 
 use crate::command::Command;
 use crate::refusal::QueueRefusal;
@@ -160,6 +160,18 @@ impl Queue {
         match self.commands.front() {
             Some(command) if command.is_complete() => Ok(Some(command.reply(self.alloc)?)),
             _ => Ok(None),
+        }
+    }
+
+    /// The reply to the oldest command as it stands, where it is the value of the command's one part (`Same`): `None` exactly
+    /// if there is no command, its values are joined in another way, or its value hasn't come. It shares nothing, and takes no
+    /// memory.
+    pub fn same_front(&self) -> Option<&Value>
+        ensures reply { option_map tree_of (option_copied result) ≡ same_front_reply self.now.commands }
+    {
+        match self.commands.front() {
+            Some(command) => command.same_reply(),
+            None => None,
         }
     }
 
