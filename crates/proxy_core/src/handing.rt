@@ -1,8 +1,10 @@
 //! Replies are handed out.
-ghost use Rattle.std.specs.Prelude.{◌≡◌, length, IfOk, IfErr, IfSome, IsTrue};
+ghost use Rattle.std.specs.Prelude.{◌≡◌, length, IfOk, IfErr, IfSome, IsSome, IsTrue, OnErr};
+ghost use Rattle.std.specs.Option.{option_map};
 ghost use Rattle.resp_core.specs.Text.{text};
 ghost use Rattle.resp_core.specs.Tree.{is_plain_tree};
 ghost use Rattle.resp_core.specs.Value.{tree_of};
+ghost use Rattle.reply_queue.specs.Queue.{front_reply};
 ghost use Rattle.proxy_history.specs.declared.answer.Answer.TheVariants as answers;
 ghost use Rattle.proxy_history.specs.declared.event.Event.TheVariants as events;
 ghost use Rattle.proxy_core.specs.Connections.{handing, with_connection};
@@ -14,6 +16,7 @@ use crate::refused::Refused;
 use bytes::Bytes;
 use journal_core::Step;
 use proxy_history::{Answer, Event, Refusal};
+use reply_queue::Queue;
 use resp_core::{Value, put_text};
 use std::alloc::{AllocError, Global};
 
@@ -55,19 +58,34 @@ impl Machine {
         let Some(connection) = connection_at(&self.connections, conn) else {
             return Err(Refusal::NoSuchConnection);
         };
-        let Ok(reply) = connection.queue.front() else {
-            return Err(Refusal::NoMemory);
-        };
-        let Some(reply) = reply else {
+        let Some(text) = front_text(self.alloc, &connection.queue)? else {
             let left = connection.queue.left() as u64;
             return Err(Refusal::NotReady { left });
         };
-        let text = text_of(self.alloc, &reply)?;
         let shared = text.clone()?;
         match make_room(&mut self.journal, text.len() as u64) {
             Ok(()) => Ok((text, shared)),
             Err(cause) => Err(cause),
         }
+    }
+}
+
+// The text of the reply to the oldest command, which has to be plain, if there is one. A reply that is one value is written from
+// where it stands.
+fn front_text(alloc: Global, queue: &Queue) -> Result<Option<Bytes>, AllocError>
+    requires plain { IfSome (front_reply queue.now.commands) (λ v. IsTrue (is_plain_tree v)) }
+    ensures text { IfOk result (λ o. o ≡ option_map text (front_reply queue.now.commands)) }
+    ensures ready { OnErr result (IsSome (front_reply queue.now.commands)) }
+{
+    if let Some(reply) = queue.same_front() {
+        return Ok(Some(text_of(alloc, reply)?));
+    }
+    let Ok(reply) = queue.front() else {
+        return Err(AllocError);
+    };
+    match reply {
+        Some(reply) => Ok(Some(text_of(alloc, &reply)?)),
+        None => Ok(None),
     }
 }
 
