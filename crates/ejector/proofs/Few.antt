@@ -1,11 +1,10 @@
 -- No more hosts are out than the limit allows.
-use Rattle.std.proofs.Common.{◌≡◌, ℕ, zero, suc, ◌+◌, ◌*◌, ◌<◌, ◌≤◌, Bool, true, false, not, ◌||◌, ◌&&◌, ◌==◌, nat_lt, List, [], ◌∷◌, length, map, count_by, refl, sym, ap, ◌∙◌, subst, inl, inr, arith, if◌then◌else◌}
+use Rattle.std.proofs.Common.{◌≡◌, ℕ, zero, suc, ◌+◌, ◌*◌, ◌<◌, ◌≤◌, Bool, true, false, not, ◌||◌, ◌&&◌, ◌==◌, nat_lt, List, [], ◌∷◌, length, map, count_by, refl, ap, ◌∙◌, inl, inr, arith, if◌then◌else◌}
 use Rattle.std.specs.List.{range_with_len}
 use Rattle.std.proofs.lemmas.Bool.{cases_Bool, or_cases, and_parts, eqb-true, ltb-true}
 use Rattle.std.proofs.lemmas.List.FromFn.{fill_by_all, length-map-range_with_len}
-use Rattle.list_words.proofs.CallerLemmas.{count_by-map, count_by-cons, count_by-range_most, count_by-range_same, count_by-or, count_by-range_one, count_by-range_last}
+use Rattle.list_words.proofs.CallerLemmas.{count_by-map, count_by-range_most, count_by-range_same, count_by-or, count_by-range_one, count_by-range_last}
 use Rattle.ejector.proofs.Ranges.{among_filter}
-use Rattle.ejector.proofs.Step.{next_is}
 use Rattle.ejector.specs.declared.mark.Mark.{Mark}
 use Rattle.ejector.specs.declared.mark.Mark.TheVariants.{Good, Bad, Sweep}
 use Rattle.ejector.specs.declared.host.HostState.{HostState}
@@ -13,7 +12,6 @@ use Rattle.ejector.specs.declared.settings.Rules.{Rules}
 use Rattle.ejector.specs.Marks.{moment}
 use Rattle.ejector.specs.Deeds.{Deed, is_among, ejects, returns}
 use Rattle.ejector.specs.State.{State, hosts_of, host_of, is_out, out_count, at_moment, fresh_host}
-use Rattle.ejector.specs.Opening.{IsOpening}
 use Rattle.ejector.specs.Trips.{may_eject, most_out, is_trip}
 use Rattle.ejector.specs.Sweeps.{comes_back, stays_out, trips_in_sweep, out_at, out_after_turn, is_ejected_in_sweep, is_time_over}
 use Rattle.ejector.specs.Ejection.{deed_by, sweep_by, nothing_by, trip_by, state}

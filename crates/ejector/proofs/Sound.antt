@@ -1,5 +1,5 @@
 -- Counters stay sound.
-use Rattle.std.proofs.Common.{◌≡◌, ℕ, ◌+◌, ◌-◌, ◌<◌, ◌≤◌, Bool, true, false, not, ◌||◌, ◌&&◌, ◌==◌, nat_lt, List, All, length, map, replicate, get_or, refl, sym, ap, ◌∙◌, subst, inl, inr, arith, if◌then◌else◌}
+use Rattle.std.proofs.Common.{◌≡◌, ℕ, ◌+◌, ◌-◌, ◌<◌, ◌≤◌, Bool, true, false, not, ◌||◌, ◌&&◌, ◌==◌, nat_lt, List, All, length, map, replicate, get_or, refl, sym, ◌∙◌, subst, inl, inr, arith, if◌then◌else◌}
 use Rattle.std.specs.List.{range_with_len}
 use Rattle.std.proofs.lemmas.Bool.{cases_Bool, cases_lt, lt-ltb, ltb-true, cases_eq, eq-eqb, ne_eqb, false≢true}
 use Rattle.std.proofs.lemmas.List.{get_or-map, length-map, get_or-replicate, length-replicate}
@@ -12,7 +12,7 @@ use Rattle.ejector.specs.declared.host.HostState.{HostState}
 use Rattle.ejector.specs.declared.settings.Rules.{Rules}
 use Rattle.ejector.specs.Counted.{max_results}
 use Rattle.ejector.specs.Opening.{IsSound}
-use Rattle.ejector.specs.State.{State, hosts_of, host_of, out_count, fresh_host}
+use Rattle.ejector.specs.State.{State, host_of, out_count, fresh_host}
 use Rattle.ejector.specs.Trips.{may_eject, is_trip}
 use Rattle.ejector.specs.Sweeps.{is_time_over}
 use Rattle.ejector.specs.Ejection.{nothing_by}

@@ -1,5 +1,5 @@
 -- Opening states: what an ejector can have kept from before.
-use Rattle.std.specs.Prelude.{◌≡◌, true, ◌-◌, ◌≤◌, ℕ, All, length}
+use Rattle.std.specs.Prelude.{◌≡◌, true, ◌-◌, ◌≤◌, All, length}
 use Rattle.ejector.specs.declared.host.HostState.{HostState}
 use Rattle.ejector.specs.declared.settings.Rules.{Rules}
 use Rattle.ejector.specs.Counted.{max_results, max_multiplier}
