@@ -8,3 +8,5 @@ pub use Rattle.ejector.proofs.Openings.{opening_first, fresh_opening}
 pub use Rattle.ejector.proofs.Openings.{openings_stay}
 -- settings without a fault are in range
 pub use Rattle.ejector.proofs.InRange.{in_range}
+-- rules that differ in no field are the same
+pub use Rattle.ejector.proofs.Differences.{no_difference}
