@@ -1,18 +1,17 @@
 -- No more hosts are out than the limit allows.
-use Rattle.std.proofs.Common.{◌≡◌, ℕ, zero, suc, ◌+◌, ◌*◌, ◌<◌, ◌≤◌, Bool, true, false, not, ◌||◌, ◌&&◌, ◌==◌, nat_lt, List, [], ◌∷◌, length, map, count_by, refl, sym, ap, ◌∙◌, subst, inl, inr, arith, if◌then◌else◌}
+use Rattle.std.proofs.Common.{◌≡◌, ℕ, zero, suc, ◌+◌, ◌*◌, ◌<◌, ◌≤◌, Bool, true, false, not, ◌||◌, ◌&&◌, ◌==◌, nat_lt, List, [], ◌∷◌, length, map, count_by, refl, ap, ◌∙◌, inl, inr, arith, if◌then◌else◌}
 use Rattle.std.specs.List.{range_with_len}
 use Rattle.std.proofs.lemmas.Bool.{cases_Bool, or_cases, and_parts, eqb-true, ltb-true}
 use Rattle.std.proofs.lemmas.List.FromFn.{fill_by_all, length-map-range_with_len}
-use Rattle.list_words.proofs.CallerLemmas.{count_by-map, count_by-cons, count_by-range_most, count_by-range_same, count_by-or, count_by-range_one, count_by-range_last}
+use Rattle.list_words.proofs.CallerLemmas.{count_by-map, count_by-range_most, count_by-range_same, count_by-or, count_by-range_one, count_by-range_last}
 use Rattle.ejector.proofs.Ranges.{among_filter}
-use Rattle.ejector.proofs.Step.{next_is}
 use Rattle.ejector.specs.declared.mark.Mark.{Mark}
 use Rattle.ejector.specs.declared.mark.Mark.TheVariants.{Good, Bad, Sweep}
 use Rattle.ejector.specs.declared.host.HostState.{HostState}
 use Rattle.ejector.specs.declared.settings.Rules.{Rules}
 use Rattle.ejector.specs.Marks.{moment}
 use Rattle.ejector.specs.Deeds.{Deed, is_among, ejects, returns}
-use Rattle.ejector.specs.State.{host_after, State, hosts_of, host_of, is_out, out_count, at_moment, fresh_host}
+use Rattle.ejector.specs.State.{State, hosts_of, host_of, is_out, out_count, at_moment, fresh_host}
 use Rattle.ejector.specs.Trips.{may_eject, most_out, is_trip}
 use Rattle.ejector.specs.Sweeps.{comes_back, stays_out, trips_in_sweep, out_at, out_after_turn, is_ejected_in_sweep, is_time_over}
 use Rattle.ejector.specs.Ejection.{deed_by, sweep_by, nothing_by, trip_by, state}
@@ -120,16 +119,5 @@ next_length R m x = length-map-range_with_len _ 0 R.hosts
 pub next_out : (R : Rules) (m : Mark) (x : State) → length x.hosts ≡ R.hosts → out_count x ≤ most_out R → out_count (next R m x) ≤ most_out R
 next_out R m x e l = let y = at_moment (moment m) x in rw (out_count_with R (deed_by R y m) y) (deed_out R y m e l)
 
-pub state_length : (R : Rules) (marks : List Mark) → length (state R marks).hosts ≡ R.hosts
-state_length R marks = length-map-range_with_len _ 0 R.hosts
-
-none_out : (R : Rules) → count_by (λ (h : ℕ). false) (hosts_of R) ≡ 0
-none_out R = none 0 R.hosts
-  where
-    none : (a n : ℕ) → count_by (λ (h : ℕ). false) (range_with_len a n) ≡ 0
-    none a zero = refl
-    none a (suc n) = rw (count_by-cons (λ (h : ℕ). false) a (range_with_len (a + 1) n), none (a + 1) n) refl
-
-pub state_out : (R : Rules) (marks : List Mark) → out_count (state R marks) ≤ most_out R
-state_out R [] = omega (arith, count_by-map (λ (s : HostState). s.is_out) (host_after R []) (hosts_of R), none_out R)
-state_out R (m ∷ before) = subst (λ (y : State). out_count y ≤ most_out R) (sym (next_is R m before)) (next_out R m (state R before) (state_length R before) (state_out R before))
+pub state_length : (R : Rules) (O : State) (marks : List Mark) → length (state R O marks).hosts ≡ R.hosts
+state_length R O marks = length-map-range_with_len _ 0 R.hosts

@@ -7,7 +7,7 @@ use Rattle.ejector.specs.declared.settings.Rules.{Rules}
 use Rattle.ejector.specs.Settings.{first_fault, first_failing, is_within, field_tests, IsInRange}
 
 -- each test passes
-abbrev AllPass : List (Field × Bool) → Type 0
+abbrev pub AllPass : List (Field × Bool) → Type 0
 AllPass [] = Unit {0}
 AllPass (t ∷ ts) = (t.1 ≡ true) × AllPass ts
 
@@ -15,7 +15,7 @@ first_test : (f : Field) (ok : Bool) (rest : List (Field × Bool)) → first_fai
 first_test f true rest e = (refl, e)
 first_test f false rest e = cc
 
-all_pass : (ts : List (Field × Bool)) → first_failing ts ≡ None → AllPass ts
+pub all_pass : (ts : List (Field × Bool)) → first_failing ts ≡ None → AllPass ts
 all_pass [] e = tt
 all_pass (t ∷ ts) e = let here = first_test t.0 t.1 ts e in (here.0, all_pass ts here.1)
 

@@ -10,7 +10,8 @@ use Rattle.ejector.specs.declared.answer.Trip.TheVariants as answer
 use Rattle.ejector.specs.declared.mark.Mark.TheVariants.{Good, Bad, Sweep}
 use Rattle.ejector.specs.declared.host.HostState.{HostState}
 use Rattle.ejector.specs.declared.settings.Rules.{Rules}
-use Rattle.ejector.specs.Deeds.{Deed, max_results, raised, lowered}
+use Rattle.ejector.specs.Deeds.{Deed}
+use Rattle.ejector.specs.Counted.{max_results, raised, lowered}
 use Rattle.ejector.specs.State.{State, hosts_of, host_of, is_out, out_count, fresh_host}
 use Rattle.ejector.specs.Trips.{may_eject, is_trip}
 use Rattle.ejector.specs.Sweeps.{is_time_over, comes_back, stays_out, rate_after_returns, rates, trips_by, trips_in_sweep, is_ejected_in_sweep, is_kept_in_sweep, out_at_turn}

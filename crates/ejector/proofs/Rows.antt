@@ -7,7 +7,7 @@ use Rattle.ejector.specs.declared.mark.Mark.{Mark}
 use Rattle.ejector.specs.declared.mark.Mark.TheVariants.{Good, Bad, Sweep}
 use Rattle.ejector.specs.declared.settings.Rules.{Rules}
 use Rattle.ejector.specs.Settings.{default_settings}
-use Rattle.ejector.specs.State.{State, host_of, is_out}
+use Rattle.ejector.specs.State.{State, fresh_state, host_of, is_out}
 use Rattle.ejector.specs.Ejection.{state, trip, swept, deeds, trip_of}
 use Rattle.ejector.specs.Deeds.{Deed}
 use Rattle.ejector.specs.Usable.{is_panic, is_usable}
@@ -17,7 +17,7 @@ rules n percent = record { hosts = n; settings = record default_settings { max_p
 
 -- the state after marks in their order
 abbrev after : Rules → List Mark → State
-after R marks = state R (reverse marks)
+after R marks = state R (fresh_state R) (reverse marks)
 
 -- what each did, the last one first
 abbrev answers_in : List Deed → List Trip
@@ -25,10 +25,10 @@ answers_in [] = []
 answers_in (d ∷ ds) = trip_of d ∷ answers_in ds
 
 abbrev answers : Rules → List Mark → List Trip
-answers R marks = reverse (answers_in (deeds R (reverse marks)))
+answers R marks = reverse (answers_in (deeds R (fresh_state R) (reverse marks)))
 
 abbrev last_sweep : Rules → List Mark → ℕ → Swept
-last_sweep R marks t = swept R (Sweep t) (reverse marks)
+last_sweep R marks t = swept R (fresh_state R) (Sweep t) (reverse marks)
 
 abbrev sums : ℕ → ℕ → ℕ → Swept
 sums r e k = record { returned = r; ejected = e; kept = k }
@@ -50,7 +50,7 @@ row_streak : answers ten (replicate 4 (Bad 2 0) ++ Good 2 0 ∷ replicate 4 (Bad
 row_streak = refl
 
 -- one host alone, with a limit of 0 percent
-row_alone : (trip (rules 1 0) (Bad 0 0) (replicate 4 (Bad 0 0)) ≡ answer.Ejected) × (is_usable (rules 1 0) (after (rules 1 0) (five 0)) 0 ≡ true)
+row_alone : (trip (rules 1 0) (fresh_state (rules 1 0)) (Bad 0 0) (replicate 4 (Bad 0 0)) ≡ answer.Ejected) × (is_usable (rules 1 0) (after (rules 1 0) (five 0)) 0 ≡ true)
     × (is_panic (rules 1 0) (after (rules 1 0) (five 0)) ≡ true)
 row_alone = (refl, refl, refl)
 
@@ -137,5 +137,5 @@ row_lowered = (refl, refl, refl)
 abbrev off : Rules
 off = record { hosts = 10; settings = record default_settings { consecutive = 0; request_volume = 2; factor = 1000 } }
 
-row_off : (trip off (Bad 9 0) (replicate 30 (Bad 9 0)) ≡ answer.None) × (last_sweep off (replicate 30 (Bad 9 0) ++ good_to 2 0 9) 0 ≡ sums 0 1 0)
+row_off : (trip off (fresh_state off) (Bad 9 0) (replicate 30 (Bad 9 0)) ≡ answer.None) × (last_sweep off (replicate 30 (Bad 9 0) ++ good_to 2 0 9) 0 ≡ sums 0 1 0)
 row_off = (refl, refl)

@@ -1,5 +1,5 @@
 -- How counters of the hosts go on, a mark at a time. The contracts of the code that counts cite this; no public contract does.
-use Rattle.std.specs.Prelude.{ℕ, Bool, true, false, ◌==◌, ◌+◌, ◌-◌, ◌≤◌, ◌||◌, ◌&&◌, not, nat_lt, if◌then◌else◌, List, Option, None, map, get_or, set, count_by}
+use Rattle.std.specs.Prelude.{ℕ, Bool, true, false, ◌==◌, ◌+◌, ◌-◌, ◌||◌, ◌&&◌, not, nat_lt, if◌then◌else◌, List, Option, None, map, get_or, set, count_by}
 use Rattle.std.specs.List.{range_with_len}
 use Rattle.rate_core.specs.Rate.{rate_of}
 use Rattle.ejector.specs.declared.answer.Trip.{Trip}
@@ -7,15 +7,10 @@ use Rattle.ejector.specs.declared.answer.Trip.TheVariants as answer
 use Rattle.ejector.specs.declared.answer.Swept.{Swept}
 use Rattle.ejector.specs.declared.host.HostState.{HostState}
 use Rattle.ejector.specs.declared.settings.Rules.{Rules}
-use Rattle.ejector.specs.Deeds.{max_results, raised}
+use Rattle.ejector.specs.Counted.{max_results, raised}
 use Rattle.ejector.specs.State.{fresh_host}
 use Rattle.ejector.specs.Trips.{may_eject}
 use Rattle.ejector.specs.Sweeps.{is_time_over, trips_by, out_at}
-
--- what holds of a host's counters
-pub record IsSound (R : Rules) (s : HostState) : Type 0 where
-  pub share : s.good_results ≤ s.results
-  pub streak : s.streak ≤ R.settings.consecutive - 1
 
 -- ONE HOST
 
@@ -50,9 +45,9 @@ with_return R now s =
 abbrev pub rate_then : Rules → HostState → Option ℕ
 rate_then R s = if s.is_out || nat_lt s.results R.settings.request_volume then None else rate_of s.good_results s.results
 
--- whether it may be used, where `panic` says whether all are
-abbrev pub usable_then : Bool → HostState → Bool
-usable_then panic s = panic || not s.is_out
+-- whether it isn't out
+abbrev pub is_in : HostState → Bool
+is_in s = not s.is_out
 
 abbrev pub in_new_interval : HostState → HostState
 in_new_interval s = record s { good_results = 0; results = 0 }

@@ -1,5 +1,5 @@
--- The ejection state of a list of marks, the newest first. What a mark does follows from the state before it,
--- and the state is read off the list of what all marks did.
+-- The ejection state of a list of marks, the newest first, from an opening state on. What a mark does follows from the
+-- state before it, and the state is counted in the list of what all marks did.
 use Rattle.std.specs.Prelude.{ℕ, ◌==◌, not, if◌then◌else◌, List, [], ◌∷◌, length, filter}
 use Rattle.ejector.specs.declared.answer.Trip.{Trip}
 use Rattle.ejector.specs.declared.answer.Trip.TheVariants as answer
@@ -9,7 +9,8 @@ use Rattle.ejector.specs.declared.mark.Mark.TheVariants.{Good, Bad, Sweep}
 use Rattle.ejector.specs.declared.settings.Rules.{Rules}
 use Rattle.ejector.specs.Marks.{moment}
 use Rattle.ejector.specs.Deeds.{Deed}
-use Rattle.ejector.specs.State.{State, hosts_of, is_out, out_count, at_moment, state_after}
+use Rattle.ejector.specs.Counted.{state_after}
+use Rattle.ejector.specs.State.{State, hosts_of, is_out, out_count, at_moment}
 use Rattle.ejector.specs.Trips.{may_eject, is_trip}
 use Rattle.ejector.specs.Sweeps.{comes_back, is_ejected_in_sweep, is_kept_in_sweep}
 
@@ -41,16 +42,18 @@ deed_after R before m = deed_by R (at_moment (moment m) before) m
 
 -- THE STATE OF A LIST OF MARKS
 
-abbrev pub with_deed_of : Rules → Mark → List Deed → List Deed
-with_deed_of R m deeds = deed_after R (state_after R deeds) m ∷ deeds
+-- the deeds with that of one mark more
+abbrev pub with_deed_of : Rules → State → Mark → List Deed → List Deed
+with_deed_of R O m deeds = deed_after R (state_after R O deeds) m ∷ deeds
 
 -- what the marks did
-abbrev pub deeds : Rules → List Mark → List Deed
-deeds R [] = []
-deeds R (m ∷ before) = with_deed_of R m (deeds R before)
+abbrev pub deeds : Rules → State → List Mark → List Deed
+deeds R O [] = []
+deeds R O (m ∷ before) = with_deed_of R O m (deeds R O before)
 
-abbrev pub state : Rules → List Mark → State
-state R marks = state_after R (deeds R marks)
+-- the state after these marks, which found the opening state O
+abbrev pub state : Rules → State → List Mark → State
+state R O marks = state_after R O (deeds R O marks)
 
 -- WHAT THE LAST MARK DID
 
@@ -61,8 +64,8 @@ abbrev pub swept_of : Deed → Swept
 swept_of d = record { returned = length d.returned; ejected = length d.ejected; kept = length d.kept }
 
 -- what a mark did to its host, and what a sweep did, after the marks before it
-abbrev pub trip : Rules → Mark → List Mark → Trip
-trip R m before = trip_of (deed_after R (state R before) m)
+abbrev pub trip : Rules → State → Mark → List Mark → Trip
+trip R O m before = trip_of (deed_after R (state R O before) m)
 
-abbrev pub swept : Rules → Mark → List Mark → Swept
-swept R m before = swept_of (deed_after R (state R before) m)
+abbrev pub swept : Rules → State → Mark → List Mark → Swept
+swept R O m before = swept_of (deed_after R (state R O before) m)

@@ -1,4 +1,4 @@
--- What the contracts of an ejector see of it.
+-- What the contracts of an ejector and of a snapshot see of it.
 use Rattle.std.specs.Prelude.{ℕ, Bool, true, false}
 use Rattle.ejector.specs.declared.mark.Mark.{Mark}
 use Rattle.ejector.specs.declared.mark.Mark.TheVariants.{Good, Bad}
@@ -8,8 +8,6 @@ use Rattle.ejector.specs.State.{State}
 pub record Ejection : Type 0 where
   pub rules : Rules
   pub state : State
-  -- how many marks it can take before it needs memory
-  pub room : ℕ
 
 -- the mark of a result
 abbrev pub result_mark : Bool → ℕ → ℕ → Mark

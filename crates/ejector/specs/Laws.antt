@@ -1,23 +1,43 @@
--- What holds of every list of marks.
-use Rattle.std.specs.Prelude.{◌≡◌, ◌≢◌, ℕ, true, false, ◌-◌, ◌*◌, ◌≤◌, min, max, List, ◌∷◌, ◌++◌}
+-- What holds of every list of marks, from every opening state on.
+use Rattle.std.specs.Prelude.{◌≡◌, ◌≢◌, ℕ, true, false, ◌-◌, ◌*◌, ◌≤◌, min, max, List, [], ◌∷◌, ◌++◌}
 use Rattle.ejector.specs.declared.mark.Mark.{Mark}
 use Rattle.ejector.specs.declared.mark.Mark.TheVariants.{Good, Bad, Sweep}
 use Rattle.ejector.specs.declared.settings.Rules.{Rules}
 use Rattle.ejector.specs.Deeds.{ejects, returns}
 use Rattle.ejector.specs.State.{State, host_of, is_out, out_count, at_moment}
+use Rattle.ejector.specs.Opening.{IsOpening}
 use Rattle.ejector.specs.Trips.{may_eject, most_out}
 use Rattle.ejector.specs.Sweeps.{rates, out_at_turn}
 use Rattle.ejector.specs.Ejection.{state, deed_after}
 
+-- OPENING STATES
+
+-- before the first mark the state is the opening
+abbrev pub OpeningComesFirst : Type 0
+OpeningComesFirst = (R : Rules) (O : State) → IsOpening R O → state R O [] ≡ O
+
+-- what marks lead to from an opening state is one again
+abbrev pub OpeningsStay : Type 0
+OpeningsStay = (R : Rules) (O : State) (marks : List Mark) → IsOpening R O → IsOpening R (state R O marks)
+
+-- a state may be handed on at any mark: later marks lead from it where they lead from the opening after the marks before
+abbrev pub StateGoesOn : Type 0
+StateGoesOn = (R : Rules) (O : State) (later before : List Mark)
+    → state R (state R O before) later ≡ state R O (later ++ before)
+
+-- THE LIMIT
+
 -- at each beginning of a list of marks no more hosts are out than the limit allows
 abbrev pub FewAreOut : Type 0
-FewAreOut = (R : Rules) (later before : List Mark) (all : List Mark) → all ≡ later ++ before
-    → out_count (state R before) ≤ most_out R
+FewAreOut = (R : Rules) (O : State) (later before : List Mark) (all : List Mark) → IsOpening R O
+    → all ≡ later ++ before → out_count (state R O before) ≤ most_out R
 
--- the state before a mark decides the state after it, and nothing else of the list does
+-- WHAT A MARK DOES
+
+-- the state before a mark decides the state after it, and nothing else of the list or the opening does
 abbrev pub StateDecidesNext : Type 0
-StateDecidesNext = (R : Rules) (m : Mark) (marks others : List Mark)
-    → state R marks ≡ state R others → state R (m ∷ marks) ≡ state R (m ∷ others)
+StateDecidesNext = (R : Rules) (m : Mark) (O P : State) (marks others : List Mark)
+    → state R O marks ≡ state R P others → state R O (m ∷ marks) ≡ state R P (m ∷ others)
 
 -- a host's time is over at a sweep: an ejection lasts base_ms times the multiplier, at most max_ms, from its start on
 abbrev pub IsTimeOver : Rules → State → ℕ → ℕ → Type 0
@@ -27,31 +47,33 @@ IsTimeOver R x h t =
 
 -- a host that is out comes back only at a sweep at which its time is over
 abbrev pub OutUntilTimeIsOver : Type 0
-OutUntilTimeIsOver = (R : Rules) (m : Mark) (marks : List Mark) (h : ℕ)
-    → is_out (state R marks) h ≡ true → is_out (state R (m ∷ marks)) h ≡ false
-    → (t : ℕ) × (m ≡ Sweep t) × IsTimeOver R (state R marks) h t
+OutUntilTimeIsOver = (R : Rules) (O : State) (m : Mark) (marks : List Mark) (h : ℕ)
+    → is_out (state R O marks) h ≡ true → is_out (state R O (m ∷ marks)) h ≡ false
+    → (t : ℕ) × (m ≡ Sweep t) × IsTimeOver R (state R O marks) h t
 
 -- The sweep at this moment brings the host back, which is out afterwards exactly if this very sweep ejects it again.
-pub record BringsBack (R : Rules) (marks : List Mark) (h t : ℕ) : Type 0 where
-  pub returned : returns h (deed_after R (state R marks) (Sweep t)) ≡ true
-  pub out_again : is_out (state R (Sweep t ∷ marks)) h
-      ≡ ejects h (deed_after R (state R marks) (Sweep t))
+pub record BringsBack (R : Rules) (O : State) (marks : List Mark) (h t : ℕ) : Type 0 where
+  pub returned : returns h (deed_after R (state R O marks) (Sweep t)) ≡ true
+  pub out_again : is_out (state R O (Sweep t ∷ marks)) h
+      ≡ ejects h (deed_after R (state R O marks) (Sweep t))
 
 -- a sweep at which the time of a host that is out is over brings it back
 abbrev pub BackOnceTimeIsOver : Type 0
-BackOnceTimeIsOver = (R : Rules) (marks : List Mark) (h t : ℕ)
-    → is_out (state R marks) h ≡ true → IsTimeOver R (state R marks) h t → BringsBack R marks h t
+BackOnceTimeIsOver = (R : Rules) (O : State) (marks : List Mark) (h t : ℕ)
+    → is_out (state R O marks) h ≡ true → IsTimeOver R (state R O marks) h t → BringsBack R O marks h t
 
 -- one good result puts a streak to 0
 abbrev pub GoodEndsStreak : Type 0
-GoodEndsStreak = (R : Rules) (marks : List Mark) (h t : ℕ)
-    → (host_of (state R (Good h t ∷ marks)) h).streak ≡ 0
+GoodEndsStreak = (R : Rules) (O : State) (marks : List Mark) (h t : ℕ)
+    → (host_of (state R O (Good h t ∷ marks)) h).streak ≡ 0
+
+-- OTHER HOSTS
 
 -- a result of another host changes nothing of a host
 abbrev pub OthersChangeNothing : Type 0
-OthersChangeNothing = (R : Rules) (marks : List Mark) (h k t : ℕ) → h ≢ k
-    → (host_of (state R (Good k t ∷ marks)) h ≡ host_of (state R marks) h)
-    × (host_of (state R (Bad k t ∷ marks)) h ≡ host_of (state R marks) h)
+OthersChangeNothing = (R : Rules) (O : State) (marks : List Mark) (h k t : ℕ) → h ≢ k
+    → (host_of (state R O (Good k t ∷ marks)) h ≡ host_of (state R O marks) h)
+    × (host_of (state R O (Bad k t ∷ marks)) h ≡ host_of (state R O marks) h)
 
 -- for a host, a mark finds the same after one state and after another: for a bad result the limit allows an ejection after both or neither;
 -- for a sweep all rates are the same, and at the host's turn the limit allows an ejection after both or neither
@@ -64,8 +86,8 @@ FindsTheSame R h (Sweep t) x y = (rates R (at_moment t x) ≡ rates R (at_moment
 
 -- what becomes of a host follows from its own state and the clock; other hosts matter through the limit and the rates of a sweep alone
 abbrev pub OthersMatterByLimitAndRates : Type 0
-OthersMatterByLimitAndRates = (R : Rules) (m : Mark) (marks others : List Mark) (h : ℕ)
-    → host_of (state R marks) h ≡ host_of (state R others) h
-    → (state R marks).clock ≡ (state R others).clock
-    → FindsTheSame R h m (state R marks) (state R others)
-    → host_of (state R (m ∷ marks)) h ≡ host_of (state R (m ∷ others)) h
+OthersMatterByLimitAndRates = (R : Rules) (m : Mark) (O P : State) (marks others : List Mark) (h : ℕ)
+    → host_of (state R O marks) h ≡ host_of (state R P others) h
+    → (state R O marks).clock ≡ (state R P others).clock
+    → FindsTheSame R h m (state R O marks) (state R P others)
+    → host_of (state R O (m ∷ marks)) h ≡ host_of (state R P (m ∷ others)) h

@@ -3,7 +3,9 @@ pub mod EjectError
 pub mod Marks
 pub mod Deeds
 pub mod State
+pub mod Counted
 pub mod Trips
+pub mod Opening
 pub mod Sweeps
 pub mod Ejection
 pub mod Usable

@@ -4,7 +4,8 @@ use Rattle.ejector.specs.declared.host.HostState.{HostState}
 use Rattle.ejector.specs.declared.mark.Mark.{Mark}
 use Rattle.ejector.specs.declared.settings.Rules.{Rules}
 use Rattle.ejector.specs.Marks.{moment, is_good, is_bad, is_result, is_sweep}
-use Rattle.ejector.specs.Deeds.{Deed, ejects, returns, lowers, ends_streak, max_results, raised, lowered}
+use Rattle.ejector.specs.Deeds.{Deed, ejects, returns, lowers, ends_streak}
+use Rattle.ejector.specs.Counted.{max_results, raised, lowered}
 use Rattle.ejector.specs.State.{State, hosts_of, host_of, at_moment}
 use Rattle.ejector.specs.Ejection.{deed_by}
 

@@ -1,10 +1,8 @@
 -- The ejection state: the clock, and what is counted of each host.
-use Rattle.std.specs.Prelude.{ℕ, Bool, false, List, length, map, get_or, max, count_by}
+use Rattle.std.specs.Prelude.{ℕ, Bool, false, List, get_or, max, count_by, replicate}
 use Rattle.std.specs.List.{range_with_len}
 use Rattle.ejector.specs.declared.host.HostState.{HostState}
 use Rattle.ejector.specs.declared.settings.Rules.{Rules}
-use Rattle.ejector.specs.Marks.{is_good}
-use Rattle.ejector.specs.Deeds.{Deed, clock_of, is_out_after, start_of, streak_of, results_of, multiplier_of}
 
 pub record State : Type 0 where
   pub clock : ℕ
@@ -13,6 +11,10 @@ pub record State : Type 0 where
 -- a host of which nothing was told
 abbrev pub fresh_host : HostState
 fresh_host = record { is_out = false; start = 0; streak = 0; good_results = 0; results = 0; multiplier = 0 }
+
+-- the state of hosts of which nothing was told
+abbrev pub fresh_state : Rules → State
+fresh_state R = record { clock = 0; hosts = replicate R.hosts fresh_host }
 
 -- the numbers of the hosts
 abbrev pub hosts_of : Rules → List ℕ
@@ -31,17 +33,3 @@ out_count x = count_by (λ (s : HostState). s.is_out) x.hosts
 -- a moment comes: the clock is the greatest so far
 abbrev pub at_moment : ℕ → State → State
 at_moment t x = record x { clock = max x.clock t }
-
--- the state after deeds, read off their list
-abbrev pub host_after : Rules → List Deed → ℕ → HostState
-host_after R deeds h = record {
-  is_out = is_out_after h deeds;
-  start = start_of h deeds;
-  streak = streak_of R h deeds;
-  good_results = count_by (is_good h) (results_of h deeds);
-  results = length (results_of h deeds);
-  multiplier = multiplier_of R h deeds;
-}
-
-abbrev pub state_after : Rules → List Deed → State
-state_after R deeds = record { clock = clock_of deeds; hosts = map (host_after R deeds) (hosts_of R) }

@@ -1,9 +1,10 @@
-ghost use Rattle.std.specs.Prelude.{◌≡◌, ◌+◌, ◌-◌, ◌*◌, ◌/◌, ◌<◌, ◌≤◌, ◌==◌, ◌&&◌, length, map, slice_index_or, nat_lt};
+ghost use Rattle.std.specs.Prelude.{◌≡◌, ◌+◌, ◌-◌, ◌*◌, ◌/◌, ◌<◌, ◌≤◌, ◌==◌, ◌&&◌, length, map, replicate, slice_index_or, nat_lt, true};
 ghost use Rattle.ejector.specs.Settings.{IsInRange};
-ghost use Rattle.ejector.specs.Deeds.{max_multiplier};
+ghost use Rattle.ejector.specs.Counted.{max_multiplier};
+ghost use Rattle.ejector.specs.Opening.{IsSound};
 ghost use Rattle.ejector.specs.State.{fresh_host};
 ghost use Rattle.ejector.specs.Trips.{may_eject};
-ghost use Rattle.ejector.specs.Counting.{IsSound, counted, with_bad, ejected, kept, tripped, outs, trips_then, with_good_result, with_bad_result, trip_then, usable_then};
+ghost use Rattle.ejector.specs.Counting.{counted, with_bad, ejected, kept, tripped, outs, trips_then, with_good_result, with_bad_result, trip_then, is_in};
 
 use crate::answer::Trip;
 use crate::host::HostState;
@@ -85,13 +86,29 @@ pub(crate) fn is_panic(rules: &Rules, out: usize) -> bool
     100 * (rules.hosts - out) < rules.settings.panic_percent as usize * rules.hosts
 }
 
-/// Writes for each host, in its place, whether it may be used: it isn't out, or all are used in panic.
-pub(crate) fn set_usable(panic: bool, hosts: &[HostState], usable: &mut [bool])
-    requires { length usable.old ≡ length hosts.now }
-    ensures { usable.new ≡ map (usable_then panic) hosts.now }
+/// Writes for each host, in its place, whether it isn't out, and says how many are out.
+pub(crate) fn set_in(hosts: &[HostState], places: &mut [bool]) -> usize
+    requires { length places.old ≡ length hosts.now }
+    ensures places { places.new ≡ map is_in hosts.now }
+    ensures count { result ≡ outs hosts.now }
+    ensures within { result ≤ length hosts.now }
 {
+    let mut out = 0;
     for i in 0..hosts.len() {
-        usable[i] = panic || !hosts[i].is_out;
+        places[i] = !hosts[i].is_out;
+        if hosts[i].is_out {
+            out += 1;
+        }
+    }
+    out
+}
+
+/// Writes true in each place.
+pub(crate) fn set_all(places: &mut [bool])
+    ensures { places.new ≡ replicate (length places.old) true }
+{
+    for i in 0..places.len() {
+        places[i] = true;
     }
 }
 

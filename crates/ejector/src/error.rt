@@ -1,7 +1,9 @@
 ghost use Rattle.std.specs.Prelude.{◌≡◌};
 ghost use Rattle.ejector.specs.EjectError.{number_of};
+ghost use Rattle.ejector.specs.declared.error.EjectError.TheVariants.{NoMemory};
 
 use crate::settings::Field;
+use std::alloc::AllocError;
 use thiserror::Error;
 
 /// Why an ejector refused a call.
@@ -24,5 +26,13 @@ impl EjectError {
             EjectError::NoMemory => 501,
             EjectError::BadSettings { .. } => 502,
         }
+    }
+}
+
+impl From<AllocError> for EjectError {
+    ghost from_gives = { λ _ e. e ≡ NoMemory };
+
+    fn from(_error: AllocError) -> EjectError {
+        EjectError::NoMemory
     }
 }

@@ -1,5 +1,21 @@
-// What holds of every list of marks.
-ghost use Rattle.ejector.specs.Laws.{BackOnceTimeIsOver, FewAreOut, GoodEndsStreak, OthersChangeNothing, OthersMatterByLimitAndRates, OutUntilTimeIsOver, StateDecidesNext};
+// What holds of every list of marks, from every opening state on.
+ghost use Rattle.ejector.specs.Laws.{BackOnceTimeIsOver, FewAreOut, GoodEndsStreak, OpeningComesFirst, OpeningsStay, OthersChangeNothing, OthersMatterByLimitAndRates, OutUntilTimeIsOver, StateDecidesNext, StateGoesOn};
+
+/// Before the first mark the state is the opening state.
+pub fn opening_comes_first()
+    ensures { OpeningComesFirst }
+{}
+
+/// What marks lead to from an opening state can be an opening state itself.
+pub fn openings_stay()
+    ensures { OpeningsStay }
+{}
+
+/// A state may be handed on at any mark: from it later marks lead where they lead from the first opening state after the
+/// marks before.
+pub fn state_goes_on()
+    ensures { StateGoesOn }
+{}
 
 /// At every beginning of every list of marks no more hosts are out than the limit allows:
 /// `max_percent` of them, rounded up, but at least one.
@@ -7,7 +23,7 @@ pub fn few_are_out()
     ensures { FewAreOut }
 {}
 
-/// The state before a mark decides the state after it: nothing else of the list of marks matters.
+/// The state before a mark decides the state after it: nothing else of the list of marks or of the opening matters.
 pub fn state_decides_next()
     ensures { StateDecidesNext }
 {}

@@ -2,7 +2,7 @@
 //!
 //! After Envoy's outlier detection, in this project's own profile: consecutive failures and success rates
 //! trip a host, a limit says how many may be out, and an ejected host is out until a sweep at which its time
-//! is over. The ejector keeps the list of its marks, and counts in it at each question.
+//! is over. The ejector keeps what is counted of each host, and hands it on where another ejector is to go on.
 #![tactic(auto)]
 
 mod answer;
@@ -12,16 +12,18 @@ mod error;
 mod host;
 mod laws;
 mod mark;
-mod replay;
 mod settings;
+mod snapshot;
 mod sweep;
 
 pub use answer::{Swept, Trip};
 pub use ejector::Ejector;
 pub use error::EjectError;
 pub use laws::{
-    back_once_time_is_over, few_are_out, good_ends_streak, others_change_nothing,
-    others_matter_by_limit_and_rates, out_until_time_is_over, state_decides_next,
+    back_once_time_is_over, few_are_out, good_ends_streak, opening_comes_first, openings_stay,
+    others_change_nothing, others_matter_by_limit_and_rates, out_until_time_is_over,
+    state_decides_next, state_goes_on,
 };
 pub use mark::Mark;
 pub use settings::{Field, Rules, Settings};
+pub use snapshot::EjectState;

@@ -1,5 +1,5 @@
 ghost use Rattle.std.specs.Prelude.{◌≡◌};
-ghost use Rattle.ejector.specs.Settings.{default_settings, is_within, first_failing, first_fault, settings_tests};
+ghost use Rattle.ejector.specs.Settings.{default_settings, is_within, first_failing, first_fault, first_difference, settings_tests, settings_comparisons};
 
 use rate_core::MAX_HOSTS;
 use std::fmt;
@@ -57,11 +57,13 @@ impl Default for Settings {
     }
 }
 
-/// A field that can be out of its range, in the order in which they are looked at.
+/// A field that a refusal names, in the order in which they are looked at.
 #[derive(Clone, Copy, Debug, PartialEq, Eq)]
 pub enum Field {
     /// The number of hosts: 1 to 64.
     Hosts,
+    /// Whether keys are hashed by their tag. It is never out of its range.
+    Tags,
     IntervalMs,
     BaseMs,
     MaxMs,
@@ -77,6 +79,7 @@ impl fmt::Display for Field {
     fn fmt<W: fmt::Write>(&self, f: &mut fmt::Formatter<W>) -> fmt::Result {
         f.write_str(match self {
             Field::Hosts => "hosts",
+            Field::Tags => "tags",
             Field::IntervalMs => "interval_ms",
             Field::BaseMs => "base_ms",
             Field::MaxMs => "max_ms",
@@ -107,6 +110,16 @@ impl Rules {
         }
         self.settings.first_fault()
     }
+
+    /// The first field in which these rules and others differ: `hosts`, and then the settings in their order.
+    pub fn first_difference(&self, other: &Rules) -> Option<Field>
+        ensures { result ≡ first_difference self.now other.now }
+    {
+        if self.hosts != other.hosts {
+            return Some(Field::Hosts);
+        }
+        self.settings.first_difference(&other.settings)
+    }
 }
 
 impl Settings {
@@ -130,6 +143,34 @@ impl Settings {
         } else if !is_within(0, 100_000, self.factor) {
             Some(Field::Factor)
         } else if !is_within(0, 100, self.panic_percent) {
+            Some(Field::PanicPercent)
+        } else {
+            None
+        }
+    }
+
+    fn first_difference(&self, other: &Settings) -> Option<Field>
+        ensures { result ≡ first_failing (settings_comparisons self.now other.now) }
+    {
+        if self.tags != other.tags {
+            Some(Field::Tags)
+        } else if self.interval_ms != other.interval_ms {
+            Some(Field::IntervalMs)
+        } else if self.base_ms != other.base_ms {
+            Some(Field::BaseMs)
+        } else if self.max_ms != other.max_ms {
+            Some(Field::MaxMs)
+        } else if self.max_percent != other.max_percent {
+            Some(Field::MaxPercent)
+        } else if self.consecutive != other.consecutive {
+            Some(Field::Consecutive)
+        } else if self.success_hosts != other.success_hosts {
+            Some(Field::SuccessHosts)
+        } else if self.request_volume != other.request_volume {
+            Some(Field::RequestVolume)
+        } else if self.factor != other.factor {
+            Some(Field::Factor)
+        } else if self.panic_percent != other.panic_percent {
             Some(Field::PanicPercent)
         } else {
             None

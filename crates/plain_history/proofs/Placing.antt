@@ -14,7 +14,7 @@ use Rattle.proxy_history.specs.Arrival.{usable, placing, placed_part, with_host,
 use Rattle.plain_history.specs.Scan.{part_of, parts_of}
 use Rattle.plain_history.specs.declared.part.Part.{Part as Part'}
 
-pub usable-of_state : (S : Setting) (past : Past) (R : Rules) (x : State) → S.rules ≡ R → x ≡ state S.rules past.marks → usable S past ≡ map (is_usable R x) (hosts_of R)
+pub usable-of_state : (S : Setting) (past : Past) (R : Rules) (x : State) → S.rules ≡ R → x ≡ state S.rules S.opening past.marks → usable S past ≡ map (is_usable R x) (hosts_of R)
 usable-of_state S past R x e f = rw (f, ← e) refl
 
 -- the part that the code places

@@ -2,6 +2,7 @@
 use Rattle.std.proofs.Common.{◌≡◌, ℕ, List, [], ◌∷◌, ◌++◌, refl, sym, ap, ◌∙◌}
 use Rattle.std.proofs.lemmas.List.{map-append}
 use Rattle.ejector.specs.declared.mark.Mark.{Mark}
+use Rattle.ejector.specs.State.{State}
 use Rattle.ejector.specs.Ejection.{state}
 use Rattle.proxy_history.specs.Setting.{Setting}
 use Rattle.proxy_history.specs.History.{Step}
@@ -55,19 +56,19 @@ pub shows-grown : (S : Setting) (steps : List Step) (s : Step) (event : Event) (
     → parts_of sent ≡ sent_by (seen steps [] r) event
     → r'.parts.items ≡ r.parts.items ++ brought → r'.sent.items ≡ r.sent.items ++ sent
     → r'.ejector.rules ≡ r.ejector.rules
-    → ((marks : List Mark) → state r.ejector.rules marks ≡ r.ejector.state → r'.ejector.state ≡ state r.ejector.rules (mark_by (seen steps [] r) event ++ marks))
+    → ((O : State) (marks : List Mark) → state r.ejector.rules O marks ≡ r.ejector.state → r'.ejector.state ≡ state r.ejector.rules O (mark_by (seen steps [] r) event ++ marks))
     → Shows S (s ∷ history_of steps) r'
 shows-grown S steps s event r r' brought sent e h pb sb pe se re me =
     let H = history_of steps in
     let before = past S H in
     let same : seen steps (marks_in S H) r ≡ before = seen-past S steps r h in
-    let known : state r.ejector.rules (marks_in S H) ≡ r.ejector.state = ap (λ z. state z (marks_in S H)) h.rules ∙ sym h.state in
+    let known : state r.ejector.rules S.opening (marks_in S H) ≡ r.ejector.state = ap (λ z. state z S.opening (marks_in S H)) h.rules ∙ sym h.state in
     record {
       parts = ap parts_of pe ∙ map-append part_of r.parts.items brought ∙ ap (λ z. z ++ parts_of brought) h.parts
           ∙ ap (λ z. parts_in S H ++ z) (pb ∙ ap (λ z. parts_by S z event) same ∙ ap (parts_by S before) (sym e));
       sent = ap parts_of se ∙ map-append part_of r.sent.items sent ∙ ap (λ z. z ++ parts_of sent) h.sent
           ∙ ap (λ z. sent_in S H ++ z) (sb ∙ sent_by-any steps (marks_in S H) r event ∙ ap (λ z. sent_by z event) same ∙ ap (sent_by before) (sym e));
       rules = re ∙ h.rules;
-      state = me (marks_in S H) known ∙ ap (λ z. state z (mark_by (seen steps [] r) event ++ marks_in S H)) h.rules
-          ∙ ap (λ z. state S.rules (z ++ marks_in S H)) (mark_by-any steps (marks_in S H) r event ∙ ap (λ z. mark_by z event) same ∙ ap (mark_by before) (sym e));
+      state = me S.opening (marks_in S H) known ∙ ap (λ z. state z S.opening (mark_by (seen steps [] r) event ++ marks_in S H)) h.rules
+          ∙ ap (λ z. state S.rules S.opening (z ++ marks_in S H)) (mark_by-any steps (marks_in S H) r event ∙ ap (λ z. mark_by z event) same ∙ ap (mark_by before) (sym e));
     }

@@ -21,7 +21,7 @@ use Rattle.proxy_history.specs.declared.answer.Answer.{Answer}
 
 -- the answer to an event, in each setting of this ring and these rules, where the ejector is in this state
 abbrev pub IsAnswer : Continuum → Rules → State → (List Mark → Past) → Event → Answer → Type 0
-IsAnswer ring rules now x event a = (S : Setting) (marks : List Mark) → S.ring ≡ ring → S.rules ≡ rules → now ≡ state S.rules marks → a ≡ answer_to S (x marks) event
+IsAnswer ring rules now x event a = (S : Setting) (marks : List Mark) → S.ring ≡ ring → S.rules ≡ rules → now ≡ state S.rules S.opening marks → a ≡ answer_to S (x marks) event
 
 pub told_of : {E : Type 0} (r : Result Answer E) (ring : Continuum) (rules : Rules) (now : State) (x : List Mark → Past) (event event' : Event) → event' ≡ event
     → IfOk r (λ a. IsAnswer ring rules now x event a) → IfOk r (λ a. IsAnswer ring rules now x event' a)
@@ -35,19 +35,19 @@ by_host (Err error) ring rules now x event h = tt
 
 -- where the answer is told of any past with these marks
 pub by_reply : {E : Type 0} (r : Result Answer E) (ring : Continuum) (rules : Rules) (now : State) (steps : List Step) (replay : Replay) (host epoch t : ℕ) (value : Value)
-    → IfOk r (λ a. (S : Setting) (y : Past) (e : ℕ) (v : Value) → S.rules ≡ rules → now ≡ state S.rules y.marks → a ≡ answer_to S y (Answered host e v t))
+    → IfOk r (λ a. (S : Setting) (y : Past) (e : ℕ) (v : Value) → S.rules ≡ rules → now ≡ state S.rules S.opening y.marks → a ≡ answer_to S y (Answered host e v t))
     → IfOk r (λ a. IsAnswer ring rules now (λ marks. seen steps marks replay) (Answered host epoch value t) a)
 by_reply (Ok a) ring rules now steps replay host epoch t value h = λ S marks f g k. h S (seen steps marks replay) epoch value g k
 by_reply (Err error) ring rules now steps replay host epoch t value h = tt
 
 pub by_fault : {E : Type 0} (r : Result Answer E) (ring : Continuum) (rules : Rules) (now : State) (steps : List Step) (replay : Replay) (host epoch t : ℕ) (kind : Kind)
-    → IfOk r (λ a. (S : Setting) (marks : List Mark) (e : ℕ) → S.rules ≡ rules → now ≡ state S.rules marks → a ≡ answer_to S (seen steps marks replay) (Failed host e kind t))
+    → IfOk r (λ a. (S : Setting) (marks : List Mark) (e : ℕ) → S.rules ≡ rules → now ≡ state S.rules S.opening marks → a ≡ answer_to S (seen steps marks replay) (Failed host e kind t))
     → IfOk r (λ a. IsAnswer ring rules now (λ marks. seen steps marks replay) (Failed host epoch kind t) a)
 by_fault (Ok a) ring rules now steps replay host epoch t kind h = λ S marks f g k. h S marks epoch g k
 by_fault (Err error) ring rules now steps replay host epoch t kind h = tt
 
 pub by_sweep : {E : Type 0} (r : Result Answer E) (ring : Continuum) (rules : Rules) (now : State) (steps : List Step) (replay : Replay) (t : ℕ)
-    → IfOk r (λ a. (S : Setting) (y : Past) → S.rules ≡ rules → now ≡ state S.rules y.marks → a ≡ answer_to S y (Swept t))
+    → IfOk r (λ a. (S : Setting) (y : Past) → S.rules ≡ rules → now ≡ state S.rules S.opening y.marks → a ≡ answer_to S y (Swept t))
     → IfOk r (λ a. IsAnswer ring rules now (λ marks. seen steps marks replay) (Swept t) a)
 by_sweep (Ok a) ring rules now steps replay t h = λ S marks f g k. h S (seen steps marks replay) g k
 by_sweep (Err error) ring rules now steps replay t h = tt

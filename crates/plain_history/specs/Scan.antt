@@ -75,7 +75,7 @@ pub record Shows (S : Setting) (H : History) (r : Replay) : Type 0 where
   pub parts : parts_of r.parts.items ≡ parts_in S H
   pub sent : parts_of r.sent.items ≡ sent_in S H
   pub rules : r.ejector.rules ≡ S.rules
-  pub state : r.ejector.state ≡ state S.rules (marks_in S H)
+  pub state : r.ejector.state ≡ state S.rules S.opening (marks_in S H)
 
 abbrev pub first_of : List Part → Option Part
 first_of [] = None

@@ -1,6 +1,7 @@
 //! The answer to an event that isn't refused.
 ghost use Rattle.std.specs.Prelude.{◌≡◌, ◌+◌, ◌<◌, [], List, ℕ, Some, None, length, count_by, IfOk, OnOk};
 ghost use Rattle.ejector.specs.declared.mark.Mark.{Mark};
+ghost use Rattle.ejector.specs.State.{State};
 ghost use Rattle.ejector.specs.Ejection.{state, trip as trip_after};
 ghost use Rattle.ejector.specs.Ejector.{result_mark};
 ghost use Rattle.proxy_history.specs.Setting.{Setting};
@@ -38,7 +39,7 @@ pub(crate) fn accepted(
     requires hosts { ring.now.hosts ≡ replay.now.ejector.rules.hosts }
     requires tags { tags ≡ replay.now.ejector.rules.settings.tags }
     ensures { IfOk result (λ answer. (S : Setting) (marks : List Mark) → S.ring ≡ ring.now → S.rules ≡ replay.now.ejector.rules
-        → replay.now.ejector.state ≡ state S.rules marks
+        → replay.now.ejector.state ≡ state S.rules S.opening marks
         → answer ≡ answer_to S (seen steps.now marks replay.now) (Arrived conn request.now)) }
 {
     let index = times(steps, Wanted::Arrival(conn));
@@ -122,7 +123,7 @@ pub(crate) fn taken(
 pub(crate) fn matched(ejector: &mut Ejector, host: usize, t: u64) -> Result<Answer, AllocError>
     requires { host < ejector.old.rules.hosts }
     ensures { IfOk result (λ answer. (S : Setting) (x : Past) (epoch : ℕ) (value : Value) → S.rules ≡ ejector.old.rules
-        → ejector.old.state ≡ state S.rules x.marks → answer ≡ answer_to S x (Answered host epoch value t)) }
+        → ejector.old.state ≡ state S.rules S.opening x.marks → answer ≡ answer_to S x (Answered host epoch value t)) }
 {
     Ok(Answer::Matched {
         trip: trip(ejector, host, true, t)?,
@@ -132,8 +133,8 @@ pub(crate) fn matched(ejector: &mut Ejector, host: usize, t: u64) -> Result<Answ
 // What a result does to its host.
 fn trip(ejector: &mut Ejector, host: usize, ok: bool, t: u64) -> Result<Trip, AllocError>
     requires { host < ejector.old.rules.hosts }
-    ensures { IfOk result (λ trip. (marks : List Mark) → state ejector.old.rules marks ≡ ejector.old.state
-        → trip ≡ trip_after ejector.old.rules (result_mark ok host t) marks) }
+    ensures { IfOk result (λ trip. (O : State) (marks : List Mark) → state ejector.old.rules O marks ≡ ejector.old.state
+        → trip ≡ trip_after ejector.old.rules O (result_mark ok host t) marks) }
 {
     match ejector.result(host, ok, t) {
         Ok(trip) => Ok(trip),
@@ -151,7 +152,7 @@ pub(crate) fn lost(
 ) -> Result<Answer, AllocError>
     requires { host < replay.old.ejector.rules.hosts }
     ensures { IfOk result (λ answer. (S : Setting) (marks : List Mark) (epoch : ℕ) → S.rules ≡ replay.old.ejector.rules
-        → replay.old.ejector.state ≡ state S.rules marks → answer ≡ answer_to S (seen steps.now marks replay.old) (Failed host epoch kind t)) }
+        → replay.old.ejector.state ≡ state S.rules S.opening marks → answer ≡ answer_to S (seen steps.now marks replay.old) (Failed host epoch kind t)) }
 {
     let parts = waiting(steps, replay, host) + flying(steps, replay, host);
     let trip = if is_excused(steps, replay, host, kind) {
@@ -165,7 +166,7 @@ pub(crate) fn lost(
 /// The answer to a sweep.
 pub(crate) fn swept(ejector: &mut Ejector, t: u64) -> Result<Answer, AllocError>
     ensures { IfOk result (λ answer. (S : Setting) (x : Past) → S.rules ≡ ejector.old.rules
-        → ejector.old.state ≡ state S.rules x.marks → answer ≡ answer_to S x (Swept t)) }
+        → ejector.old.state ≡ state S.rules S.opening x.marks → answer ≡ answer_to S x (Swept t)) }
 {
     match ejector.sweep(t) {
         Ok(hosts) => Ok(Answer::Swept {

@@ -35,7 +35,7 @@ pub(crate) fn placed_parts(
     requires hosts { ring.now.hosts ≡ replay.now.ejector.rules.hosts }
     requires tags { tags ≡ replay.now.ejector.rules.settings.tags }
     ensures { IfOk result (λ parts. (S : Setting) (marks : List Mark) → S.ring ≡ ring.now → S.rules ≡ replay.now.ejector.rules
-        → replay.now.ejector.state ≡ state S.rules marks
+        → replay.now.ejector.state ≡ state S.rules S.opening marks
         → parts_of parts.items ≡ placing S (seen steps.now marks replay.now) conn (accepted conn (history_of steps.now)) [] list.now) }
 {
     let mut hosts = [false; MAX_HOSTS];

@@ -13,7 +13,7 @@ ghost use Rattle.proxy_history.specs.Answer.{answer_to};
 ghost use Rattle.proxy_history.specs.Hosts.{HasHost};
 ghost use Rattle.proxy_history.specs.Legal.{IsLegal, MayFollow, IsCause};
 ghost use Rattle.plain_history.specs.Scan.{Shows, history_of, seen};
-ghost use Rattle.proxy_history.specs.Proxy.{history_in, setting_of, IsStep, HasCause};
+ghost use Rattle.proxy_history.specs.Proxy.{history_in, rules_of, setting_of, IsStep, HasCause};
 ghost use Rattle.proxy_history.specs.declared.event.Event.TheVariants.{Handed};
 
 use crate::answering::{accepted, handed_out, lost, matched, swept, taken};
@@ -47,7 +47,7 @@ impl Model for Reference {
     ghost use Rattle.std.specs.Prelude.{◌≡◌, None, reverse};
     ghost use Rattle.ejector.specs.Settings.{first_fault};
     ghost use Rattle.proxy_history.specs.Legal.{IsLegal};
-    ghost use Rattle.proxy_history.specs.Proxy.{Kept};
+    ghost use Rattle.proxy_history.specs.Proxy.{Kept, rules_of, setting_of};
 
     ghost Value = { Kept };
 
@@ -56,13 +56,10 @@ impl Model for Reference {
 
     ghost coded = { Prim.hlevel (codes, tree_code) };
 
-    ghost view = { λ r. record {
-      setting = record { ring = r.ring; rules = record { hosts = r.ring.hosts; settings = r.settings } };
-      steps = r.steps.items;
-    } };
+    ghost view = { λ r. record { setting = setting_of r.ring r.settings; steps = r.steps.items } };
 
-    ghost invariant = { λ r. (first_fault (record { hosts = r.ring.hosts; settings = r.settings }) ≡ None)
-        × IsLegal (record { ring = r.ring; rules = record { hosts = r.ring.hosts; settings = r.settings } }) (reverse r.steps.items) };
+    ghost invariant = { λ r. (first_fault (rules_of r.ring r.settings) ≡ None)
+        × IsLegal (setting_of r.ring r.settings) (reverse r.steps.items) };
 }
 
 impl Reference {
@@ -71,8 +68,8 @@ impl Reference {
     /// Refused 1011 with the first setting that is out of its range, `hosts` where the ring has none; 1001 comes only
     /// where no setting is.
     pub fn new(alloc: Global, ring: Ring, settings: Settings) -> Result<Reference, Refusal>
-        ensures made { IfOk result (λ r. (r.setting ≡ record { ring = ring; rules = record { hosts = ring.hosts; settings = settings } }) × (r.steps ≡ [])) }
-        ensures refused { MatchOption (first_fault (record { hosts = ring.hosts; settings = settings }))
+        ensures made { IfOk result (λ r. (r.setting ≡ setting_of ring settings) × (r.steps ≡ [])) }
+        ensures refused { MatchOption (first_fault (rules_of ring settings))
             (IfErr result (λ e. e ≡ Refusal.NoMemory)) (λ field. IsErrOf result (Refusal.BadSettings field)) }
     {
         match Ejector::new(alloc, ring.hosts(), settings) {
@@ -137,7 +134,7 @@ fn next_answer(
     steps: &[Turn],
     event: &Event,
 ) -> Result<Answer, Refusal>
-    requires fault { first_fault (record { hosts = ring.now.hosts; settings = settings }) ≡ None }
+    requires fault { first_fault (rules_of ring.now settings) ≡ None }
     requires legal { IsLegal (setting_of ring.now settings) (history_of steps.now) }
     ensures answer { IfOk result (λ a. (pass : ℕ) → MayFollow (setting_of ring.now settings) (past (setting_of ring.now settings) (history_of steps.now))
         (record { pass = pass; event = event.now; answer = a })) }
@@ -246,7 +243,7 @@ fn answer_to(
     requires legal { (S : Setting) × IsLegal S (history_of steps.now) × Shows S (history_of steps.now) replay.old }
     requires host { HasHost ring.now.hosts event.now }
     ensures { IfOk result (λ a. (S : Setting) (marks : List Mark) → S.ring ≡ ring.now → S.rules ≡ replay.old.ejector.rules
-        → replay.old.ejector.state ≡ state S.rules marks → a ≡ answer_to S (seen steps.now marks replay.old) event.now) }
+        → replay.old.ejector.state ≡ state S.rules S.opening marks → a ≡ answer_to S (seen steps.now marks replay.old) event.now) }
 {
     match event {
         Event::Opened => Ok(Answer::Opened {

@@ -2,6 +2,7 @@
 ghost use Rattle.std.specs.Prelude.{◌≡◌, ◌<◌, ◌∷◌, ◌++◌, [], List, None, IfOk, OnOk};
 ghost use Rattle.ejector.specs.declared.mark.Mark.{Mark};
 ghost use Rattle.ejector.specs.Settings.{first_fault};
+ghost use Rattle.ejector.specs.State.{State, fresh_state};
 ghost use Rattle.ejector.specs.Ejection.{state};
 ghost use Rattle.ejector.specs.Ejector.{result_mark};
 ghost use Rattle.proxy_history.specs.Setting.{Setting};
@@ -9,6 +10,7 @@ ghost use Rattle.proxy_history.specs.History.{Step};
 ghost use Rattle.proxy_history.specs.Waiting.{sent_by};
 ghost use Rattle.proxy_history.specs.Arrival.{parts_by};
 ghost use Rattle.proxy_history.specs.Marks.{is_excused, mark_by};
+ghost use Rattle.proxy_history.specs.Proxy.{rules_of};
 ghost use Rattle.proxy_history.specs.Hosts.{HasHost, HaveHosts};
 ghost use Rattle.plain_history.specs.Scan.{Shows, history_of, part_of, parts_of, seen};
 
@@ -37,8 +39,8 @@ pub(crate) fn replayed(
     settings: Settings,
     steps: &[Turn],
 ) -> Result<Replay, AllocError>
-    requires { first_fault (record { hosts = ring.now.hosts; settings = settings }) ≡ None }
-    ensures { IfOk result (λ r. (S : Setting) → S.ring ≡ ring.now → S.rules ≡ record { hosts = ring.now.hosts; settings = settings }
+    requires { first_fault (rules_of ring.now settings) ≡ None }
+    ensures { IfOk result (λ r. (S : Setting) → S.ring ≡ ring.now → S.rules ≡ rules_of ring.now settings → S.opening ≡ fresh_state S.rules
         → HaveHosts ring.now.hosts steps.now → Shows S (history_of steps.now) r) }
 {
     let mut replay = Replay {
@@ -61,8 +63,8 @@ pub(crate) fn replayed(
 
 // The outlier detection to which nothing was told yet.
 fn ejector(alloc: Global, ring: &Ring, settings: Settings) -> Result<Ejector, AllocError>
-    requires { first_fault (record { hosts = ring.now.hosts; settings = settings }) ≡ None }
-    ensures { IfOk result (λ e. (e.rules ≡ record { hosts = ring.now.hosts; settings = settings }) × (e.state ≡ state e.rules [])) }
+    requires { first_fault (rules_of ring.now settings) ≡ None }
+    ensures { IfOk result (λ e. (e.rules ≡ rules_of ring.now settings) × (e.state ≡ fresh_state e.rules)) }
 {
     Ejector::new(alloc, ring.hosts(), settings).map_err(|_| AllocError)
 }
@@ -102,7 +104,7 @@ fn parts_by(
     requires hosts { ring.now.hosts ≡ replay.now.ejector.rules.hosts }
     requires tags { tags ≡ replay.now.ejector.rules.settings.tags }
     ensures { IfOk result (λ parts. (S : Setting) (marks : List Mark) → S.ring ≡ ring.now → S.rules ≡ replay.now.ejector.rules
-        → replay.now.ejector.state ≡ state S.rules marks
+        → replay.now.ejector.state ≡ state S.rules S.opening marks
         → parts_of parts.items ≡ parts_by S (seen steps.now marks replay.now) event.now) }
 {
     let Event::Arrived { conn, request } = event else {
@@ -159,8 +161,8 @@ fn take_mark(
 ) -> Result<(), AllocError>
     requires { hosts ≡ replay.old.ejector.rules.hosts }
     ensures state { OnOk result (HasHost hosts event.now
-        → (marks : List Mark) → state replay.old.ejector.rules marks ≡ replay.old.ejector.state
-        → replay.new.ejector.state ≡ state replay.old.ejector.rules (mark_by (seen steps.now [] replay.old) event.now ++ marks)) }
+        → (O : State) (marks : List Mark) → state replay.old.ejector.rules O marks ≡ replay.old.ejector.state
+        → replay.new.ejector.state ≡ state replay.old.ejector.rules O (mark_by (seen steps.now [] replay.old) event.now ++ marks)) }
     ensures rules { replay.new.ejector.rules ≡ replay.old.ejector.rules }
     ensures parts { replay.new.parts ≡ replay.old.parts }
     ensures sent { replay.new.sent ≡ replay.old.sent }
@@ -200,8 +202,8 @@ fn take_result(
     t: u64,
 ) -> Result<(), AllocError>
     requires { hosts ≡ ejector.old.rules.hosts }
-    ensures state { OnOk result (host < hosts → (marks : List Mark) → state ejector.old.rules marks ≡ ejector.old.state
-        → ejector.new.state ≡ state ejector.old.rules (result_mark ok host t ∷ marks)) }
+    ensures state { OnOk result (host < hosts → (O : State) (marks : List Mark) → state ejector.old.rules O marks ≡ ejector.old.state
+        → ejector.new.state ≡ state ejector.old.rules O (result_mark ok host t ∷ marks)) }
     ensures rules { ejector.new.rules ≡ ejector.old.rules }
 {
     if host >= hosts {

@@ -6,6 +6,7 @@ use Rattle.std.proofs.lemmas.List.{reverse-append, length-reverse}
 use Rattle.ejector.specs.State.{State}
 use Rattle.ejector.specs.Ejection.{state}
 use Rattle.ejector.specs.Settings.{first_fault}
+use Rattle.ejector.specs.Opening.{IsOpening}
 use Rattle.journal_core.specs.Journal.{IsFull}
 use Rattle.proxy_history.specs.Setting.{Setting, hosts, max_steps, max_payload}
 use Rattle.proxy_history.specs.History.{History, Step, times, is_any_closing}
@@ -118,7 +119,7 @@ pub record IsMoved (S : Setting) (H : History) (s : Step) (memory : Memory) : Ty
   pub connections : memory.connections ≡ connections_of (past S (s ∷ H))
   pub closed : memory.closed ≡ times is_any_closing (s ∷ H)
   pub pipelines : memory.pipelines ≡ pipelines_of S (past S (s ∷ H))
-  pub hosts : memory.hosts ≡ state S.rules (past S (s ∷ H)).marks
+  pub hosts : memory.hosts ≡ state S.rules S.opening (past S (s ∷ H)).marks
 
 abbrev memory' : ℕ → List (Option Connection) → ℕ → List PipelineState → State → Memory
 memory' b c n p h = record { bytes = b; connections = c; closed = n; pipelines = p; hosts = h }
@@ -129,12 +130,13 @@ same_fields b b' c c' n n' p p' h h' v w x y z = rw (v, w, x, y, z) refl
 
 -- it is kept where setting and history are these
 pub kept_so : (m : Machine) (S : Setting) (H : History) → setting_in m ≡ S → history_in m ≡ H → IsLegal S H → memory_in m ≡ memory_of S H → S.rules.hosts ≡ S.ring.hosts
-    → first_fault S.rules ≡ None → IsKept m
-kept_so m S H a b legal e f g = record {
+    → first_fault S.rules ≡ None → IsOpening S.rules S.opening → IsKept m
+kept_so m S H a b legal e f g w = record {
   legal = subst (λ (T : Setting). IsLegal T (history_in m)) (sym a) (subst (λ (K : History). IsLegal S K) (sym b) legal);
   memory = e ∙ ap (λ (T : Setting). memory_of T H) (sym a) ∙ ap (λ (K : History). memory_of (setting_in m) K) (sym b);
   hosts = ap (λ (T : Setting). T.rules.hosts) a ∙ f ∙ sym (ap (λ (T : Setting). T.ring.hosts) a);
   rules = ap (λ (T : Setting). first_fault T.rules) a ∙ g;
+  opening = subst (λ (T : Setting). IsOpening T.rules T.opening) (sym a) w;
 }
 
 -- TURNS
@@ -163,12 +165,12 @@ made old new pass event a memory kept turned is moved =
     ap (λ z. z + payload_in (memory_in old) event) (ap (λ (z : Memory). z.bytes) kept.memory) ∙ ap (λ z. payload H + z) bytes in
     let now : memory_in new ≡ memory_of S (s ∷ H) = turned.memory
     ∙ same_fields (old.journal.bytes + payload_in (memory_in old) event) (payload (s ∷ H)) memory.connections (connections_of (past S (s ∷ H))) memory.closed (times is_any_closing (s ∷ H))
-    memory.pipelines (pipelines_of S (past S (s ∷ H))) memory.hosts (state S.rules (past S (s ∷ H)).marks) sum moved.connections moved.closed moved.pipelines moved.hosts in
+    memory.pipelines (pipelines_of S (past S (s ∷ H))) memory.hosts (state S.rules S.opening (past S (s ∷ H)).marks) sum moved.connections moved.closed moved.pipelines moved.hosts in
     record {
       may_follow = may;
       history = later;
       setting = turned.setting;
-      is_kept = kept_so new S (s ∷ H) turned.setting later (kept.legal, may) now kept.hosts kept.rules;
+      is_kept = kept_so new S (s ∷ H) turned.setting later (kept.legal, may) now kept.hosts kept.rules kept.opening;
     }
 
 -- REFUSALS
@@ -218,5 +220,5 @@ left old new event r kept h =
       cause = cause_so old event r.cause kept h.2;
       steps = same.steps;
       setting = same.setting;
-      is_kept = kept_so new (setting_in old) (history_in old) same.setting (ap reverse same.steps) kept.legal (same.memory ∙ kept.memory) kept.hosts kept.rules;
+      is_kept = kept_so new (setting_in old) (history_in old) same.setting (ap reverse same.steps) kept.legal (same.memory ∙ kept.memory) kept.hosts kept.rules kept.opening;
     }

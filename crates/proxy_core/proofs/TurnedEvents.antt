@@ -6,6 +6,7 @@ use Rattle.splitter.specs.declared.request.Request.{Request}
 use Rattle.splitter.specs.Plan.{is_last}
 use Rattle.ejector.specs.declared.mark.Mark.{Mark}
 use Rattle.ejector.specs.declared.mark.Mark.TheVariants as mark
+use Rattle.ejector.specs.State.{State}
 use Rattle.ejector.specs.Ejection.{state, trip, swept}
 use Rattle.proxy_history.specs.Setting.{Setting, hosts}
 use Rattle.proxy_history.specs.History.{times, is_any_closing, plan_for, epoch}
@@ -52,7 +53,7 @@ kept_closed m kept = ap (λ (z : Memory). z.closed) kept.memory
 pub kept_pipelines : (m : Machine) → IsKept m → (memory_in m).pipelines ≡ pipelines_of (setting_in m) (past (setting_in m) (history_in m))
 kept_pipelines m kept = ap (λ (z : Memory). z.pipelines) kept.memory
 
-pub kept_hosts : (m : Machine) → IsKept m → m.ejector.state ≡ state m.ejector.rules (past (setting_in m) (history_in m)).marks
+pub kept_hosts : (m : Machine) → IsKept m → m.ejector.state ≡ state m.ejector.rules m.opening.value.state (past (setting_in m) (history_in m)).marks
 kept_hosts m kept = ap (λ (z : Memory). z.hosts) kept.memory
 
 -- OPENED, FINISHED, CLOSED
@@ -113,19 +114,19 @@ closed-made old new pass conn a kept h =
 
 pub swept-made : (old new : Machine) (pass t : ℕ) (a : Answer) → IsKept old
     → IsTurned old new pass (Swept t) a (record (memory_in old) { hosts = new.ejector.state })
-    → ((marks : List Mark) → state old.ejector.rules marks ≡ old.ejector.state → a ≡ counts_of (swept old.ejector.rules (mark.Sweep t) marks))
-    → ((marks : List Mark) → state old.ejector.rules marks ≡ old.ejector.state → new.ejector.state ≡ state old.ejector.rules (mark.Sweep t ∷ marks))
+    → ((O : State) (marks : List Mark) → state old.ejector.rules O marks ≡ old.ejector.state → a ≡ counts_of (swept old.ejector.rules O (mark.Sweep t) marks))
+    → ((O : State) (marks : List Mark) → state old.ejector.rules O marks ≡ old.ejector.state → new.ejector.state ≡ state old.ejector.rules O (mark.Sweep t ∷ marks))
     → IsMade old new pass (Swept t) a
 swept-made old new pass t a kept turned is moves =
     let S = setting_in old in
     let H = history_in old in
     made old new pass (Swept t) a (record (memory_in old) { hosts = new.ejector.state }) kept turned
-    (is (past S H).marks (sym (kept_hosts old kept)))
+    (is S.opening (past S H).marks (sym (kept_hosts old kept)))
     (record {
       connections = kept_connections old kept ∙ sym (connections-swept S H pass t a);
       closed = kept_closed old kept;
       pipelines = kept_pipelines old kept ∙ sym (pipelines-swept S H pass t a);
-      hosts = moves (past S H).marks (sym (kept_hosts old kept));
+      hosts = moves S.opening (past S H).marks (sym (kept_hosts old kept));
     })
 
 pub handed-made : (old new : Machine) (pass conn : ℕ) (a : Answer) → IsKept old
@@ -181,8 +182,8 @@ pub answered-made : (old new : Machine) (pass host e t : ℕ) (value : Value) (a
       pipelines = with_pipeline answered_by host (memory_in old).pipelines;
       hosts = new.ejector.state;
     })
-    → ((marks : List Mark) → state old.ejector.rules marks ≡ old.ejector.state → a ≡ answers.Matched (trip old.ejector.rules (mark.Good host t) marks))
-    → ((marks : List Mark) → state old.ejector.rules marks ≡ old.ejector.state → new.ejector.state ≡ state old.ejector.rules (mark.Good host t ∷ marks))
+    → ((O : State) (marks : List Mark) → state old.ejector.rules O marks ≡ old.ejector.state → a ≡ answers.Matched (trip old.ejector.rules O (mark.Good host t) marks))
+    → ((O : State) (marks : List Mark) → state old.ejector.rules O marks ≡ old.ejector.state → new.ejector.state ≡ state old.ejector.rules O (mark.Good host t ∷ marks))
     → IsMade old new pass (Answered host e value t) a
 answered-made old new pass host e t value a kept turned is moves =
     let S = setting_in old in
@@ -195,7 +196,7 @@ answered-made old new pass host e t value a kept turned is moves =
     let n = no_cause old new pass (Answered host e value t) a memory kept turned in
     let at = at_host old host kept (has_host S (past S H) (Answered host e value t) n) in
     made old new pass (Answered host e value t) a memory kept turned
-    (is (past S H).marks (sym (kept_hosts old kept)))
+    (is S.opening (past S H).marks (sym (kept_hosts old kept)))
     (record {
       connections =
           ap (λ (z : PipelineState). answered_parts (next_owner z.flying) (tree_of value) old.connections.items) at
@@ -203,7 +204,7 @@ answered-made old new pass host e t value a kept turned is moves =
           ∙ sym (connections-answered S H pass host e t value a kept.legal n);
       closed = kept_closed old kept;
       pipelines = ap (with_pipeline answered_by host) (kept_pipelines old kept) ∙ sym (pipelines-answered S H pass host e t value a n);
-      hosts = moves (past S H).marks (sym (kept_hosts old kept));
+      hosts = moves S.opening (past S H).marks (sym (kept_hosts old kept));
     })
 
 -- a fault is excused where the pipeline has nothing to do
@@ -216,18 +217,18 @@ excused_is x h kinds.Garbled = refl
 mark_is : (x : Past) (h e t : ℕ) (kind : Kind) → fault_mark (pipeline_of x h) h kind t ≡ mark_by x (Failed h e kind t)
 mark_is x h e t kind = ap (λ b. if b then [] else mark.Bad h t ∷ []) (excused_is x h kind)
 
-trip_is : (S : Setting) (x : Past) (marks : List Mark) → trip_by S.rules marks x.marks ≡ trip_of S x marks
+trip_is : (S : Setting) (x : Past) (marks : List Mark) → trip_by S.rules S.opening marks x.marks ≡ trip_of S x marks
 trip_is S x [] = refl
 trip_is S x (m ∷ marks) = refl
 
 lost_is : (S : Setting) (x : Past) (h e t : ℕ) (kind : Kind) (p : PipelineState) → p ≡ pipeline_of x h
-    → answers.Lost (length p.waiting + length p.flying) (trip_by S.rules (fault_mark p h kind t) x.marks) ≡ answer_to S x (Failed h e kind t)
+    → answers.Lost (length p.waiting + length p.flying) (trip_by S.rules S.opening (fault_mark p h kind t) x.marks) ≡ answer_to S x (Failed h e kind t)
 lost_is S x h e t kind p same =
-    ap (λ (q : PipelineState). answers.Lost (length q.waiting + length q.flying) (trip_by S.rules (fault_mark q h kind t) x.marks)) same
-    ∙ ap (λ z. answers.Lost (z + length (pipeline_of x h).flying) (trip_by S.rules (fault_mark (pipeline_of x h) h kind t) x.marks)) (length-pipeline_waiting x h)
-    ∙ ap (λ z. answers.Lost (length (waiting h x) + z) (trip_by S.rules (fault_mark (pipeline_of x h) h kind t) x.marks)) (length-pipeline_flying x h)
+    ap (λ (q : PipelineState). answers.Lost (length q.waiting + length q.flying) (trip_by S.rules S.opening (fault_mark q h kind t) x.marks)) same
+    ∙ ap (λ z. answers.Lost (z + length (pipeline_of x h).flying) (trip_by S.rules S.opening (fault_mark (pipeline_of x h) h kind t) x.marks)) (length-pipeline_waiting x h)
+    ∙ ap (λ z. answers.Lost (length (waiting h x) + z) (trip_by S.rules S.opening (fault_mark (pipeline_of x h) h kind t) x.marks)) (length-pipeline_flying x h)
     ∙ ap (answers.Lost (length (waiting h x) + flying h x))
-    (ap (λ z. trip_by S.rules z x.marks) (mark_is x h e t kind) ∙ trip_is S x (mark_by x (Failed h e kind t)))
+    (ap (λ z. trip_by S.rules S.opening z x.marks) (mark_is x h e t kind) ∙ trip_is S x (mark_by x (Failed h e kind t)))
 
 pub failed-made : (old new : Machine) (pass host e t : ℕ) (kind : Kind) (a : Answer) → IsKept old
     → IsTurned old new pass (Failed host e kind t) a (record (memory_in old) {
@@ -235,11 +236,11 @@ pub failed-made : (old new : Machine) (pass host e t : ℕ) (kind : Kind) (a : A
       pipelines = with_pipeline failed host (memory_in old).pipelines;
       hosts = new.ejector.state;
     })
-    → ((marks : List Mark) → state old.ejector.rules marks ≡ old.ejector.state
+    → ((O : State) (marks : List Mark) → state old.ejector.rules O marks ≡ old.ejector.state
     → a ≡ answers.Lost (length (pipeline_at host (memory_in old).pipelines).waiting + length (pipeline_at host (memory_in old).pipelines).flying)
-    (trip_by old.ejector.rules (fault_mark (pipeline_at host (memory_in old).pipelines) host kind t) marks))
-    → ((marks : List Mark) → state old.ejector.rules marks ≡ old.ejector.state
-    → new.ejector.state ≡ state old.ejector.rules (fault_mark (pipeline_at host (memory_in old).pipelines) host kind t ++ marks))
+    (trip_by old.ejector.rules O (fault_mark (pipeline_at host (memory_in old).pipelines) host kind t) marks))
+    → ((O : State) (marks : List Mark) → state old.ejector.rules O marks ≡ old.ejector.state
+    → new.ejector.state ≡ state old.ejector.rules O (fault_mark (pipeline_at host (memory_in old).pipelines) host kind t ++ marks))
     → IsMade old new pass (Failed host e kind t) a
 failed-made old new pass host e t kind a kept turned is moves =
     let S = setting_in old in
@@ -252,7 +253,7 @@ failed-made old new pass host e t kind a kept turned is moves =
     let n = no_cause old new pass (Failed host e kind t) a memory kept turned in
     let at = at_host old host kept (has_host S (past S H) (Failed host e kind t) n) in
     made old new pass (Failed host e kind t) a memory kept turned
-    (is (past S H).marks (sym (kept_hosts old kept)) ∙ lost_is S (past S H) host e t kind (pipeline_at host (memory_in old).pipelines) at)
+    (is S.opening (past S H).marks (sym (kept_hosts old kept)) ∙ lost_is S (past S H) host e t kind (pipeline_at host (memory_in old).pipelines) at)
     (record {
       connections =
           ap (λ (z : PipelineState). answered_parts (lost_owners z) upstream_failure old.connections.items) at
@@ -260,8 +261,8 @@ failed-made old new pass host e t kind a kept turned is moves =
           ∙ sym (connections-failed S H pass host e t kind a kept.legal);
       closed = kept_closed old kept;
       pipelines = ap (with_pipeline failed host) (kept_pipelines old kept) ∙ sym (pipelines-failed S H pass host e t kind a);
-      hosts = moves (past S H).marks (sym (kept_hosts old kept))
-          ∙ ap (λ z. state S.rules (z ++ (past S H).marks)) (ap (λ (z : PipelineState). fault_mark z host kind t) at ∙ mark_is (past S H) host e t kind);
+      hosts = moves S.opening (past S H).marks (sym (kept_hosts old kept))
+          ∙ ap (λ z. state S.rules S.opening (z ++ (past S H).marks)) (ap (λ (z : PipelineState). fault_mark z host kind t) at ∙ mark_is (past S H) host e t kind);
     })
 
 -- ARRIVED

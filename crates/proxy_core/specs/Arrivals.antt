@@ -92,7 +92,7 @@ pub record AreCounted (pipelines : List PipelineState) (counts : List ℕ) (plac
 
 -- what is kept tells of a past what decides where the parts of a connection's next command go
 pub record Tells (S : Setting) (m : Memory) (conn : ℕ) (x : Past) : Type 0 where
-  pub state_is : m.hosts ≡ state S.rules x.marks
+  pub state_is : m.hosts ≡ state S.rules S.opening x.marks
   pub waiting_are : (h : ℕ) → h < hosts S → length (pipeline_at h m.pipelines).waiting ≡ length (waiting h x)
   pub index_is : (k : Connection) → connection_at conn m.connections ≡ Some k → k.queue.popped + length k.queue.commands ≡ accepted conn x.steps
 

@@ -32,7 +32,7 @@ pub record IsLeft (old new : Machine) (event : Event) (r : Refused) : Type 0 whe
 
 -- what outlier detection knows of the hosts
 abbrev pub detected : Kept → State
-detected k = state k.setting.rules (past k.setting (Reference.history_in k)).marks
+detected k = state k.setting.rules k.setting.opening (past k.setting (Reference.history_in k)).marks
 
 -- One event was taken: its step was added with this answer, which may come next, or it was refused with its cause and the
 -- history stays.

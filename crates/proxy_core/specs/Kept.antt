@@ -25,5 +25,5 @@ memory_of S H = let x = past S H in record {
   connections = connections_of x;
   closed = times is_any_closing H;
   pipelines = pipelines_of S x;
-  hosts = state S.rules x.marks;
+  hosts = state S.rules S.opening x.marks;
 }

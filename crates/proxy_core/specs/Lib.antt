@@ -7,3 +7,4 @@ pub mod Core
 pub mod Recorded
 pub mod CoreTurns
 pub mod JournalLaws
+pub mod Handover

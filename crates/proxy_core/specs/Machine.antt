@@ -8,6 +8,8 @@ use Rattle.upstream_pipe.specs.declared.part.Part.{Part as PipePart}
 use Rattle.reply_queue.specs.Queue.{front_reply}
 use Rattle.journal_core.specs.Journal.{IsFull}
 use Rattle.ejector.specs.Settings.{first_fault}
+use Rattle.ejector.specs.State.{State}
+use Rattle.ejector.specs.Opening.{IsOpening}
 use Rattle.ejector.specs.declared.settings.Rules.{Rules}
 use Rattle.ejector.specs.declared.mark.Mark.{Mark}
 use Rattle.ejector.specs.declared.mark.Mark.TheVariants.{Bad}
@@ -32,7 +34,7 @@ use Rattle.proxy_core.specs.declared.connection.Connection.{Connection}
 use Rattle.proxy_core.specs.declared.machine.Machine.{Machine}
 
 abbrev pub setting_in : Machine → Setting
-setting_in m = record { ring = m.ring; rules = m.ejector.rules }
+setting_in m = record { ring = m.ring; rules = m.ejector.rules; opening = m.opening.value.state }
 
 abbrev pub memory_in : Machine → Memory
 memory_in m = record {
@@ -48,12 +50,13 @@ abbrev pub history_in : Machine → History
 history_in m = reverse m.journal.steps
 
 -- The steps are a legal history, and what is kept beside them is what it determines. The ring and outlier detection are of
--- the same hosts, and no setting is out of its range.
+-- the same hosts, no setting is out of its range, and the opening state is one that the settings allow.
 pub record IsKept (m : Machine) : Type 0 where
   pub legal : IsLegal (setting_in m) (history_in m)
   pub memory : memory_in m ≡ memory_of (setting_in m) (history_in m)
   pub hosts : m.ejector.rules.hosts ≡ m.ring.hosts
   pub rules : first_fault m.ejector.rules ≡ None
+  pub opening : IsOpening m.ejector.rules m.opening.value.state
 
 -- the connection of this number, if it is open
 abbrev pub connection_at : ℕ → List (Option Connection) → Option Connection
@@ -127,9 +130,9 @@ abbrev pub fault_mark : PipelineState → ℕ → Kind → ℕ → List Mark
 fault_mark p host kind t = if is_excused_in p kind then [] else Bad host t ∷ []
 
 -- what the newest of these marks does after the others, if there is one
-abbrev pub trip_by : Rules → List Mark → List Mark → Trip
-trip_by rules [] marks = trips.None
-trip_by rules (m ∷ _) marks = trip rules m marks
+abbrev pub trip_by : Rules → State → List Mark → List Mark → Trip
+trip_by rules O [] marks = trips.None
+trip_by rules O (m ∷ _) marks = trip rules O m marks
 
 -- PAYLOAD
 

@@ -1,10 +1,10 @@
 -- The core as a state that keeps a journal: its steps as a pass sees them, the oldest first.
 use Rattle.std.specs.Prelude.{List, [], ◌++◌, map}
 use Rattle.ketama.specs.Continuum.{Continuum}
-use Rattle.ejector.specs.declared.settings.Rules.{Rules}
+use Rattle.ejector.specs.Ejector.{Ejection}
 use Rattle.proxy_history.specs.Setting.{Setting}
 use Rattle.proxy_history.specs.Legal.{IsLegal, IsCause}
-use Rattle.proxy_history.specs.Proxy.{Kept}
+use Rattle.proxy_history.specs.Proxy.{Kept, setting_from}
 use Rattle.proxy_history.specs.Seen.{SeenStep, seen_step, history_of_seen}
 use Rattle.proxy_history.specs.declared.event.Event.{Event}
 use Rattle.proxy_history.specs.declared.refusal.Refusal.{Refusal}
@@ -14,17 +14,17 @@ use Rattle.proxy_history.proofs.CallerLemmas as history
 abbrev pub journal_of : Kept → List SeenStep
 journal_of k = map seen_step k.steps
 
--- the ring, and the rules of outlier detection
+-- the ring, and the rules of outlier detection with the state that it found
 abbrev pub Made : Type 0
-Made = Continuum × Rules
+Made = Continuum × Ejection
 
 -- what a core was made with
 abbrev pub made_with : Kept → Made
-made_with k = (k.setting.ring, k.setting.rules)
+made_with k = (k.setting.ring, record { rules = k.setting.rules; state = k.setting.opening })
 
 -- the setting that these make
 abbrev pub setting_by : Made → Setting
-setting_by made = record { ring = made.0; rules = made.1 }
+setting_by made = setting_from made.0 made.1
 
 -- a journal is legal where its history is
 abbrev pub IsLegalJournal : Made → List SeenStep → Type 0

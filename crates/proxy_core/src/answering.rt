@@ -4,6 +4,7 @@ ghost use Rattle.resp_core.specs.Text.{text};
 ghost use Rattle.resp_core.specs.Value.{tree_of};
 ghost use Rattle.ejector.specs.declared.mark.Mark.{Mark};
 ghost use Rattle.ejector.specs.declared.mark.Mark.TheVariants as marks';
+ghost use Rattle.ejector.specs.State.{State};
 ghost use Rattle.ejector.specs.Ejection.{state, trip};
 ghost use Rattle.ejector.specs.Ejector.{result_mark};
 ghost use Rattle.proxy_history.specs.Setting.{hosts};
@@ -40,10 +41,10 @@ impl Machine {
               pipelines = with_pipeline answered_by host (memory_in self.old).pipelines;
               hosts = self.new.ejector.state;
             })) }
-        ensures matched { IfOk result (λ a. (marks : List Mark) → state self.old.ejector.rules marks ≡ self.old.ejector.state
-            → a ≡ answers.Matched (trip self.old.ejector.rules (marks'.Good host t) marks)) }
-        ensures hosts { OnOk result ((marks : List Mark) → state self.old.ejector.rules marks ≡ self.old.ejector.state
-            → self.new.ejector.state ≡ state self.old.ejector.rules (marks'.Good host t ∷ marks)) }
+        ensures matched { IfOk result (λ a. (O : State) (marks : List Mark) → state self.old.ejector.rules O marks ≡ self.old.ejector.state
+            → a ≡ answers.Matched (trip self.old.ejector.rules O (marks'.Good host t) marks)) }
+        ensures hosts { OnOk result ((O : State) (marks : List Mark) → state self.old.ejector.rules O marks ≡ self.old.ejector.state
+            → self.new.ejector.state ≡ state self.old.ejector.rules O (marks'.Good host t ∷ marks)) }
         ensures refused { IfErr result (λ r. (r.event ≡ events.Answered host epoch value t) × IsSame self.old self.new
             × HasCauseIn self.old (events.Answered host epoch value t) r.cause) }
     {
@@ -85,7 +86,6 @@ impl Machine {
         requires hosts { vec_len self.old.pipelines ≡ hosts (setting_in self.old) }
         ensures ready { OnOk result (IsReady self.old self.new (events.Answered host epoch value.now 0)) }
         ensures shared { IfOk result (λ shared. tree_of shared ≡ tree_of value.now) }
-        ensures place { OnOk result (0 < self.new.ejector.room) }
         ensures text { OnOk result (length (text (tree_of value.now)) < 2 ^ 64 - 1) }
         ensures refused { IfErr result (λ r. IsSame self.old self.new × HasCauseIn self.old (events.Answered host epoch value.now 0) r) }
     {
@@ -93,9 +93,6 @@ impl Machine {
             return Err(cause);
         }
         make_room(&mut self.journal, value.text_len())?;
-        if self.ejector.room().is_err() {
-            return Err(Refusal::NoMemory);
-        }
         match value.share(self.alloc) {
             Ok(shared) => Ok(shared),
             Err(_) => Err(Refusal::NoMemory),
@@ -124,15 +121,17 @@ impl Machine {
     }
 }
 
-/// Tells outlier detection of a result of the host, and gives what it did to it. There has to be room for a mark.
+/// Tells outlier detection of a result of the host, and gives what it did to it.
 pub(crate) fn counted(ejector: &mut Ejector, host: usize, ok: bool, t: u64) -> Trip
-    requires host { host < ejector.old.rules.hosts }
-    requires room { 0 < ejector.old.room }
-    ensures state { (marks : List Mark) → state ejector.old.rules marks ≡ ejector.old.state
-        → ejector.new.state ≡ state ejector.old.rules (result_mark ok host t ∷ marks) }
-    ensures trip { (marks : List Mark) → state ejector.old.rules marks ≡ ejector.old.state
-        → result ≡ trip ejector.old.rules (result_mark ok host t) marks }
+    requires { host < ejector.old.rules.hosts }
+    ensures state { (O : State) (marks : List Mark) → state ejector.old.rules O marks ≡ ejector.old.state
+        → ejector.new.state ≡ state ejector.old.rules O (result_mark ok host t ∷ marks) }
+    ensures trip { (O : State) (marks : List Mark) → state ejector.old.rules O marks ≡ ejector.old.state
+        → result ≡ trip ejector.old.rules O (result_mark ok host t) marks }
     ensures rules { ejector.new.rules ≡ ejector.old.rules }
 {
-    ejector.result(host, ok, t).unwrap_or(Trip::None)
+    match ejector.result(host, ok, t) {
+        Ok(trip) => trip,
+        Err(_) => unreachable!(),
+    }
 }

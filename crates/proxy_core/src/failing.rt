@@ -1,6 +1,7 @@
 //! Hosts fail.
 ghost use Rattle.std.specs.Prelude.{◌≡◌, ◌<◌, ◌+◌, ◌-◌, ◌^◌, ◌++◌, Some, None, length, map, vec_len, IfOk, IfErr, OnOk, OnErr, List};
 ghost use Rattle.ejector.specs.declared.mark.Mark.{Mark};
+ghost use Rattle.ejector.specs.State.{State};
 ghost use Rattle.ejector.specs.Ejection.{state};
 ghost use Rattle.proxy_history.specs.Setting.{hosts};
 ghost use Rattle.proxy_history.specs.Value.{upstream_failure};
@@ -42,11 +43,11 @@ impl Machine {
               pipelines = with_pipeline failed host (memory_in self.old).pipelines;
               hosts = self.new.ejector.state;
             })) }
-        ensures lost { IfOk result (λ a. (marks : List Mark) → state self.old.ejector.rules marks ≡ self.old.ejector.state
+        ensures lost { IfOk result (λ a. (O : State) (marks : List Mark) → state self.old.ejector.rules O marks ≡ self.old.ejector.state
             → a ≡ answers.Lost (length (pipeline_at host (memory_in self.old).pipelines).waiting + length (pipeline_at host (memory_in self.old).pipelines).flying)
-            (trip_by self.old.ejector.rules (fault_mark (pipeline_at host (memory_in self.old).pipelines) host kind t) marks)) }
-        ensures hosts { OnOk result ((marks : List Mark) → state self.old.ejector.rules marks ≡ self.old.ejector.state
-            → self.new.ejector.state ≡ state self.old.ejector.rules (fault_mark (pipeline_at host (memory_in self.old).pipelines) host kind t ++ marks)) }
+            (trip_by self.old.ejector.rules O (fault_mark (pipeline_at host (memory_in self.old).pipelines) host kind t) marks)) }
+        ensures hosts { OnOk result ((O : State) (marks : List Mark) → state self.old.ejector.rules O marks ≡ self.old.ejector.state
+            → self.new.ejector.state ≡ state self.old.ejector.rules O (fault_mark (pipeline_at host (memory_in self.old).pipelines) host kind t ++ marks)) }
         ensures refused { IfErr result (λ r. (r.event ≡ events.Failed host epoch kind t) × IsSame self.old self.new
             × HasCauseIn self.old (events.Failed host epoch kind t) r.cause) }
     {
@@ -83,7 +84,6 @@ impl Machine {
         ensures cause { OnOk result (own_cause_in (setting_in self.old) (memory_in self.old) (events.Failed host epoch Late 0) ≡ None) }
         ensures full { OnOk result (IsFull self.old.journal 0 → ⊥) }
         ensures room { OnOk result (self.new.journal.room ≡ Some 0) }
-        ensures place { OnOk result (0 < self.new.ejector.room) }
         ensures setting { setting_in self.new ≡ setting_in self.old }
         ensures steps { self.new.journal.steps ≡ self.old.journal.steps }
         ensures memory { OnOk result (memory_in self.new
@@ -99,9 +99,6 @@ impl Machine {
             return Err(Refusal::Stale { current });
         }
         make_room(&mut self.journal, 0)?;
-        if self.ejector.room().is_err() {
-            return Err(Refusal::NoMemory);
-        }
         match fail_all(&mut self.pipelines, host, epoch) {
             Ok(lost) => Ok(lost),
             Err(_) => Err(Refusal::NoMemory),
@@ -110,14 +107,15 @@ impl Machine {
 }
 
 // Tells outlier detection of a fault of the host, unless the host had nothing to do and its link was dropped, and gives what
-// it did to the host. There has to be room for a mark.
+// it did to the host.
 fn faulted(ejector: &mut Ejector, host: usize, kind: Kind, parts: u64, t: u64) -> Trip
-    requires host { host < ejector.old.rules.hosts }
-    requires room { 0 < ejector.old.room }
-    ensures state { (p : PipelineState) (marks : List Mark) → parts ≡ length p.waiting + length p.flying → state ejector.old.rules marks ≡ ejector.old.state
-        → ejector.new.state ≡ state ejector.old.rules (fault_mark p host kind t ++ marks) }
-    ensures trip { (p : PipelineState) (marks : List Mark) → parts ≡ length p.waiting + length p.flying → state ejector.old.rules marks ≡ ejector.old.state
-        → result ≡ trip_by ejector.old.rules (fault_mark p host kind t) marks }
+    requires { host < ejector.old.rules.hosts }
+    ensures state { (p : PipelineState) (O : State) (marks : List Mark) → parts ≡ length p.waiting + length p.flying
+        → state ejector.old.rules O marks ≡ ejector.old.state
+        → ejector.new.state ≡ state ejector.old.rules O (fault_mark p host kind t ++ marks) }
+    ensures trip { (p : PipelineState) (O : State) (marks : List Mark) → parts ≡ length p.waiting + length p.flying
+        → state ejector.old.rules O marks ≡ ejector.old.state
+        → result ≡ trip_by ejector.old.rules O (fault_mark p host kind t) marks }
     ensures rules { ejector.new.rules ≡ ejector.old.rules }
 {
     if parts == 0 && kind == Kind::Dropped {

@@ -11,6 +11,7 @@ mod arrival;
 mod connection;
 mod failing;
 mod handing;
+mod handover;
 mod machine;
 mod opening;
 mod pipeline;
@@ -22,6 +23,7 @@ mod turns;
 mod worker;
 
 pub use ejector::{Field, Settings, Trip};
+pub use handover::Handover;
 pub use journal_core::{Journal, Step};
 pub use proxy_history::{Answer, Event, Kind, Local, Refusal, Request};
 pub use refused::Refused;

@@ -9,6 +9,7 @@ use journal_core::{Journal, JournalError};
 use ketama::Ring;
 use proxy_history::{Answer, Event, Refusal};
 use std::alloc::Global;
+use std::snapshot::Snapshot;
 
 /// The ring and what the events so far left.
 #[derive(Drop)]
@@ -17,6 +18,8 @@ pub(crate) struct Machine {
     pub ring: Ring,
     // Its rules are the core's.
     pub ejector: Ejector,
+    // How outlier detection stood before the first step. Clauses alone read it, and it takes no bytes.
+    pub opening: Snapshot<Ejector>,
     pub journal: Journal<Event, Answer>,
     // By their numbers; `None` in the place of one that is closed.
     pub connections: Vec<Option<Connection>>,

@@ -1,7 +1,8 @@
 //! It is time to look at the hosts that are out, and at those that answer badly.
-ghost use Rattle.std.specs.Prelude.{◌≡◌, ◌∷◌, List, IfOk, IfErr, OnOk, ◌<◌};
+ghost use Rattle.std.specs.Prelude.{◌≡◌, ◌∷◌, List, IfOk, IfErr, OnOk};
 ghost use Rattle.ejector.specs.declared.mark.Mark.{Mark};
 ghost use Rattle.ejector.specs.declared.mark.Mark.TheVariants as marks';
+ghost use Rattle.ejector.specs.State.{State};
 ghost use Rattle.ejector.specs.Ejection.{state, swept};
 ghost use Rattle.proxy_history.specs.Answer.{counts_of};
 ghost use Rattle.proxy_history.specs.declared.event.Event.TheVariants as events;
@@ -18,10 +19,10 @@ impl Machine {
     pub(crate) fn sweep(&mut self, pass: u64, t: u64) -> Result<Answer, Refused>
         ensures answered { IfOk result (λ a. IsTurned self.old self.new pass (events.Swept t) a
             (record (memory_in self.old) { hosts = self.new.ejector.state })) }
-        ensures swept { IfOk result (λ a. (marks : List Mark) → state self.old.ejector.rules marks ≡ self.old.ejector.state
-            → a ≡ counts_of (swept self.old.ejector.rules (marks'.Sweep t) marks)) }
-        ensures hosts { OnOk result ((marks : List Mark) → state self.old.ejector.rules marks ≡ self.old.ejector.state
-            → self.new.ejector.state ≡ state self.old.ejector.rules (marks'.Sweep t ∷ marks)) }
+        ensures swept { IfOk result (λ a. (O : State) (marks : List Mark) → state self.old.ejector.rules O marks ≡ self.old.ejector.state
+            → a ≡ counts_of (swept self.old.ejector.rules O (marks'.Sweep t) marks)) }
+        ensures hosts { OnOk result ((O : State) (marks : List Mark) → state self.old.ejector.rules O marks ≡ self.old.ejector.state
+            → self.new.ejector.state ≡ state self.old.ejector.rules O (marks'.Sweep t ∷ marks)) }
         ensures refused { IfErr result (λ r. (r.event ≡ events.Swept t) × IsSame self.old self.new
             × HasCauseIn self.old (events.Swept t) r.cause) }
     {
@@ -44,31 +45,24 @@ impl Machine {
     // Makes room.
     fn ready_to_sweep(&mut self, t: u64) -> Result<(), Refusal>
         ensures ready { OnOk result (IsReady self.old self.new (events.Swept t)) }
-        ensures place { OnOk result (0 < self.new.ejector.room) }
         ensures refused { IfErr result (λ r. IsSame self.old self.new × HasCauseIn self.old (events.Swept t) r) }
     {
-        make_room(&mut self.journal, 0)?;
-        if self.ejector.room().is_err() {
-            return Err(Refusal::NoMemory);
-        }
-        Ok(())
+        make_room(&mut self.journal, 0)
     }
 }
 
-// Sweeps the hosts. There has to be room for a mark.
+// Sweeps the hosts.
 fn swept(ejector: &mut Ejector, t: u64) -> Swept
-    requires { 0 < ejector.old.room }
-    ensures state { (marks : List Mark) → state ejector.old.rules marks ≡ ejector.old.state
-        → ejector.new.state ≡ state ejector.old.rules (marks'.Sweep t ∷ marks) }
-    ensures swept { (marks : List Mark) → state ejector.old.rules marks ≡ ejector.old.state
-        → result ≡ swept ejector.old.rules (marks'.Sweep t) marks }
+    ensures state { (O : State) (marks : List Mark) → state ejector.old.rules O marks ≡ ejector.old.state
+        → ejector.new.state ≡ state ejector.old.rules O (marks'.Sweep t ∷ marks) }
+    ensures swept { (O : State) (marks : List Mark) → state ejector.old.rules O marks ≡ ejector.old.state
+        → result ≡ swept ejector.old.rules O (marks'.Sweep t) marks }
     ensures rules { ejector.new.rules ≡ ejector.old.rules }
 {
-    ejector.sweep(t).unwrap_or(Swept {
-        returned: 0,
-        ejected: 0,
-        kept: 0,
-    })
+    match ejector.sweep(t) {
+        Ok(swept) => swept,
+        Err(_) => unreachable!(),
+    }
 }
 
 // The answer to a sweep that had this result.

@@ -1,26 +1,29 @@
 //! The core: each event is a turn.
-ghost use Rattle.std.specs.Prelude.{◌≡◌, ◌≤◌, ◌<◌, [], map, replicate, IfOk, IfErr, IsErrOf, IsOk, OnErr, MatchOption};
-ghost use Rattle.ejector.specs.Settings.{IsInRange, first_fault};
+ghost use Rattle.std.specs.Prelude.{◌≡◌, ◌≤◌, ◌<◌, [], length, map, replicate, IfOk, IfErr, IsErrOf, IsOk, OnErr, MatchOption};
+ghost use Rattle.ejector.specs.Settings.{IsInRange, first_difference, first_fault};
+ghost use Rattle.ejector.specs.Opening.{IsOpening};
 ghost use Rattle.ejector.specs.State.{is_out};
 ghost use Rattle.ejector.specs.Usable.{is_panic};
 ghost use Rattle.proxy_history.specs.Setting.{hosts};
 ghost use Rattle.proxy_history.specs.History.{epoch};
 ghost use Rattle.proxy_history.specs.Legal.{IsLegal, IsCause};
 ghost use Rattle.proxy_history.specs.Payload.{payload};
-ghost use Rattle.proxy_history.specs.Proxy.{history_in, setting_of, IsStep};
+ghost use Rattle.proxy_history.specs.Proxy.{history_in, rules_of, setting_from, setting_of, IsStep};
 ghost use Rattle.proxy_core.specs.Pipelines.{state_of};
 ghost use Rattle.proxy_core.specs.Machine.{IsKept, no_pipeline};
 ghost use Rattle.proxy_core.specs.Core.{IsMade, IsLeft, IsTurn, IsRun, detected};
 
+use crate::handover::Handover;
 use crate::machine::Machine;
 use crate::pipeline::Pipeline;
 use crate::refused::Refused;
-use ejector::{EjectError, Ejector, Rules, Settings};
+use ejector::{EjectError, EjectState, Ejector, Rules, Settings};
 use journal_core::Journal;
 use ketama::{MAX_HOSTS, Ring};
 use proxy_history::{Answer, Event, Refusal};
 use std::alloc::{AllocError, Global};
 use std::marker::Model;
+use std::snapshot::Snapshot;
 use ticket_gate::Recorded;
 use upstream_pipe::Pipe;
 
@@ -58,22 +61,77 @@ impl Core {
         ensures refused { MatchOption (first_fault (setting_of ring settings).rules)
             (IfErr result (λ e. e ≡ Refusal.NoMemory)) (λ field. IsErrOf result (Refusal.BadSettings field)) }
     {
-        let hosts = ring.hosts();
-        let ejector = match Ejector::new(alloc, hosts, settings) {
-            Ok(ejector) => ejector,
-            Err(EjectError::BadSettings { field }) => return Err(Refusal::BadSettings { field }),
-            Err(EjectError::NoMemory) => unreachable!(),
+        match Ejector::new(alloc, ring.hosts(), settings) {
+            Ok(ejector) => Ok(Core::with(alloc, ring, ejector)?),
+            Err(EjectError::BadSettings { field }) => Err(Refusal::BadSettings { field }),
+            Err(EjectError::NoMemory) => Err(Refusal::NoMemory),
+        }
+    }
+
+    /// A core that goes on from what another handed over: its journal is empty, and its hosts are out, with their streaks,
+    /// tallies and multipliers, as they were. Epochs and the numbers of connections begin at 0.
+    ///
+    /// Refused 1011 with the first field in which ring and settings differ from those of the handover: `hosts`, and then
+    /// the settings in their order. Where none does, it is refused only 1001, for want of memory.
+    pub fn new_from(
+        alloc: Global,
+        ring: Ring,
+        settings: Settings,
+        from: Handover,
+    ) -> Result<Core, Refusal>
+        ensures made { IfOk result (λ c. (c.setting ≡ setting_from ring from.detection) × (c.steps ≡ [])) }
+        ensures rules { IfOk result (λ c. c.setting.rules ≡ rules_of ring settings) }
+        ensures state { IfOk result (λ c. detected c ≡ from.detection.state) }
+        ensures refused { MatchOption (first_difference (rules_of ring settings) from.detection.rules)
+            (IfErr result (λ e. e ≡ Refusal.NoMemory)) (λ field. IsErrOf result (Refusal.BadSettings field)) }
+    {
+        let rules = Rules {
+            hosts: ring.hosts(),
+            settings,
         };
+        if let Some(field) = rules.first_difference(from.rules()) {
+            return Err(Refusal::BadSettings { field });
+        }
+        match Ejector::new_from(alloc, from.into_detection()) {
+            Ok(ejector) => Ok(Core::with(alloc, ring, ejector)?),
+            Err(_) => Err(Refusal::NoMemory),
+        }
+    }
+
+    // A core with an empty journal that goes on from where outlier detection stands.
+    fn with(alloc: Global, ring: Ring, ejector: Ejector) -> Result<Core, AllocError>
+        requires { ejector.rules.hosts ≡ ring.hosts }
+        ensures { IfOk result (λ c. (c.setting ≡ setting_from ring ejector) × (c.steps ≡ [])) }
+    {
+        let rules = ejector.rules();
+        let pipelines = fresh_pipelines(alloc, rules.hosts)?;
         let machine = Machine {
             alloc,
             ring,
+            opening: Snapshot::of(&ejector),
             ejector,
             journal: Journal::new(alloc),
             connections: Vec::new(alloc),
             closed: 0,
-            pipelines: fresh_pipelines(alloc, hosts)?,
+            pipelines,
         };
         Ok(Core { machine })
+    }
+
+    /// What another core needs to go on from here: the state of outlier detection after all steps so far, with the number of
+    /// hosts and the settings, and how long the journal is. It takes no memory.
+    pub fn hand_over(&self) -> Handover
+        ensures rules { result.detection.rules ≡ self.now.setting.rules }
+        ensures state { result.detection.state ≡ detected self.now }
+        ensures steps { result.steps ≡ length self.now.steps }
+        ensures bytes { result.bytes ≡ payload (history_in self.now) }
+    {
+        let journal = &self.machine.journal;
+        Handover::new(
+            self.machine.ejector.snapshot(),
+            journal.len() as u64,
+            journal.bytes(),
+        )
     }
 
     /// Takes one event of the pass `pass`: it is answered as a legal history has it, and its step with this answer is added.
@@ -131,11 +189,13 @@ impl Core {
         &self.machine.journal
     }
 
-    /// How many hosts the ring has, 1 to 64. Their numbers count from 0. No setting of the core is out of its range.
+    /// How many hosts the ring has, 1 to 64. Their numbers count from 0. No setting of the core is out of its range, and its
+    /// opening state is one that the settings allow.
     pub fn hosts(&self) -> usize
         ensures hosts { result ≡ hosts self.now.setting }
         ensures ring { result ≡ self.now.setting.ring.hosts }
         ensures range { IsInRange self.now.setting.rules }
+        ensures opening { IsOpening self.now.setting.rules self.now.setting.opening }
         ensures some { 1 ≤ result }
         ensures few { result ≤ MAX_HOSTS }
     {
@@ -218,8 +278,8 @@ impl Recorded for Core {
 
     type Refusal = Refusal;
 
-    // The ring, and the rules of outlier detection.
-    type Setting = (Ring, Rules);
+    // The ring, and the rules of outlier detection with the state that it found.
+    type Setting = (Ring, EjectState);
 
     ghost journal = { journal_of };
 

@@ -2,19 +2,19 @@
 ghost use Rattle.proxy_core.specs.CoreTurns.{AnswersFit, AreFewSteps, AreHistories, EpochsArePresent, FinishingTakesNothing, OpeningsAreNew, RefusalsMean};
 
 use crate::turns::Core;
-use ejector::Rules;
+use ejector::EjectState;
 use ketama::Ring;
 use proxy_history::{Answer, Event, Refusal};
 use ticket_gate::{Alone, Seated, Turns};
 
 /// Turns of a core, which a worker makes without knowing whether others make turns too, with what holds of what it sees.
 ///
-/// The setting is the ring, and the rules of outlier detection.
+/// The setting is the ring, and the rules of outlier detection with the state that it found.
 pub trait CoreTurns: Turns<
     Event = Event,
     Answer = Answer,
     Refusal = Refusal,
-    Setting = (Ring, Rules),
+    Setting = (Ring, EjectState),
 > {
     /// What a pass sees is a legal history, in the other order.
     ghost are_histories: { AreHistories Self.legal };

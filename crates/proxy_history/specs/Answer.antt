@@ -46,7 +46,7 @@ text_of_first (p ∷ _) = p.text
 -- what the mark of a step does to its host, if it has one
 abbrev pub trip_of : Setting → Past → List Mark → Trip
 trip_of S past [] = trips.None
-trip_of S past (m ∷ _) = trip S.rules m past.marks
+trip_of S past (m ∷ _) = trip S.rules S.opening m past.marks
 
 abbrev pub counts_of : SweptHosts → Answer
 counts_of n = answer.Swept n.returned n.ejected n.kept
@@ -62,6 +62,6 @@ answer_to S past (Taken host) =
 answer_to S past (Answered host e value t) = answer.Matched (trip_of S past (mark_by past (Answered host e value t)))
 answer_to S past (Failed host e kind t) =
     answer.Lost (length (waiting host past) + flying host past) (trip_of S past (mark_by past (Failed host e kind t)))
-answer_to S past (Swept t) = counts_of (swept S.rules (Sweep t) past.marks)
+answer_to S past (Swept t) = counts_of (swept S.rules S.opening (Sweep t) past.marks)
 answer_to S past (Handed conn) = answer.Bytes (text (unwrap_or (outcome conn (handed conn past.steps) past) null_bulk))
 answer_to S past (Closed conn) = answer.Closed

@@ -36,7 +36,7 @@ with_host past placed (Some h) p =
 
 -- for each host, whether it is usable at this moment
 abbrev pub usable : Setting → Past → List Bool
-usable S past = map (is_usable S.rules (state S.rules past.marks)) (hosts_of S.rules)
+usable S past = map (is_usable S.rules (state S.rules S.opening past.marks)) (hosts_of S.rules)
 
 -- the host of a key at this moment: the owner of its point among the usable hosts
 abbrev pub host_for : Setting → Past → List ℕ → Option ℕ

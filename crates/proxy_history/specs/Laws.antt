@@ -7,6 +7,7 @@ use Rattle.resp_core.specs.Text.{text}
 use Rattle.ketama.specs.Owner.{owner_of, is_usable}
 use Rattle.ketama.specs.OwnerLaws.{all_usable}
 use Rattle.ejector.specs.State.{out_count}
+use Rattle.ejector.specs.Opening.{IsOpening}
 use Rattle.ejector.specs.Ejection.{state}
 use Rattle.ejector.specs.Trips.{most_out}
 use Rattle.splitter.specs.Plan.{parts}
@@ -63,10 +64,10 @@ RepliesAreInOrder = (S : Setting) (H : History) (c : ℕ) → IsLegal S H
     → (transcript c H ≡ first_outcomes (past S H) c (handed c H))
     × HaveCome (past S H) c (handed c H)
 
--- no more hosts are out than the limit allows, at each beginning
+-- no more hosts are out than the limit allows, at each beginning, where the opening state allows no more
 abbrev pub FewAreOut : Type 0
-FewAreOut = (S : Setting) (H : History)
-    → out_count (state S.rules (past S H).marks) ≤ most_out S.rules
+FewAreOut = (S : Setting) (H : History) → IsOpening S.rules S.opening
+    → out_count (state S.rules S.opening (past S H).marks) ≤ most_out S.rules
 
 -- a key whose owner among all hosts is usable goes to that owner, whatever else is out
 abbrev pub OwnersStay : Type 0

@@ -1,7 +1,10 @@
 -- What contracts see of a proxy that keeps a history.
 use Rattle.std.specs.Prelude.{◌≡◌, ◌⊎◌, ℕ, List, ◌∷◌, reverse}
 use Rattle.ketama.specs.Continuum.{Continuum}
+use Rattle.ejector.specs.declared.settings.Rules.{Rules}
 use Rattle.ejector.specs.declared.settings.Settings.{Settings}
+use Rattle.ejector.specs.Ejector.{Ejection}
+use Rattle.ejector.specs.State.{fresh_state}
 use Rattle.proxy_history.specs.Setting.{Setting}
 use Rattle.proxy_history.specs.History.{History, Step}
 use Rattle.proxy_history.specs.Past.{past}
@@ -15,9 +18,17 @@ pub record Kept : Type 0 where
   pub setting : Setting
   pub steps : List Step
 
--- the setting of a ring and these settings
+-- the setting of a ring, and of outlier detection that goes on from what was handed on
+abbrev pub setting_from : Continuum → Ejection → Setting
+setting_from ring from = record { ring = ring; rules = from.rules; opening = from.state }
+
+-- the rules for the hosts of a ring
+abbrev pub rules_of : Continuum → Settings → Rules
+rules_of ring settings = record { hosts = ring.hosts; settings = settings }
+
+-- the setting of a ring and these settings, where nothing was told of the hosts
 abbrev pub setting_of : Continuum → Settings → Setting
-setting_of ring settings = record { ring = ring; rules = record { hosts = ring.hosts; settings = settings } }
+setting_of ring settings = setting_from ring (record { rules = rules_of ring settings; state = fresh_state (rules_of ring settings) })
 
 abbrev pub history_in : Kept → History
 history_in k = reverse k.steps

@@ -1,4 +1,4 @@
--- What stays the same as long as a proxy runs: its ring, and the rules of its outlier detection.
+-- What stays the same as long as a proxy runs: its ring, and the rules of its outlier detection with the state that it found.
 use Rattle.std.specs.Prelude.{ℕ, List}
 use Rattle.upstream_pipe.specs.declared.pipe.TheConstants.{MAX_WAITING}
 use Rattle.reply_queue.specs.declared.queue.TheConstants.{MAX_COMMANDS}
@@ -6,11 +6,14 @@ use Rattle.journal_core.specs.declared.journal.TheConstants.{MAX_STEPS, MAX_BYTE
 use Rattle.ketama.specs.Continuum.{Continuum}
 use Rattle.ketama.specs.Key.{point_of}
 use Rattle.ejector.specs.declared.settings.Rules.{Rules}
+use Rattle.ejector.specs.State.{State}
 use Rattle.proxy_history.specs.declared.limits.TheConstants.{MAX_CONNECTIONS}
 
 pub record Setting : Type 0 where
   pub ring : Continuum
   pub rules : Rules
+  -- the ejection state before the first step
+  pub opening : State
 
 abbrev pub hosts : Setting → ℕ
 hosts S = S.rules.hosts

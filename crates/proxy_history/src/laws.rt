@@ -153,7 +153,7 @@ pub fn faults_raise_epochs()
     ensures { FaultsRaiseEpochs }
 {}
 
-/// No more hosts are out than the limit allows.
+/// No more hosts are out than the limit allows, from every opening state on in which no more are.
 pub fn few_are_out()
     ensures { FewAreOut }
 {}

@@ -4,6 +4,7 @@ mod answers;
 mod ejection;
 mod joins;
 mod journal;
+mod marks;
 mod messages;
 mod pieces;
 mod pipe;

@@ -6,7 +6,7 @@ mod events;
 mod outcome;
 mod proxy;
 mod questions;
-mod random;
+pub mod random;
 mod random_runs;
 mod run;
 pub mod setting;
@@ -34,6 +34,8 @@ const FIRST_PASS: u64 = 7;
 #[derive(Drop)]
 pub struct Proxies {
     core: Option<Core>,
+    // The core that goes on from this one, or that this one goes on from.
+    other: Option<Core>,
     plain: Option<Reference>,
     pass: u64,
     // The events of a run that hasn't ended.
@@ -54,6 +56,7 @@ impl Proxies {
         };
         Ok(Proxies {
             core,
+            other: None,
             plain,
             pass: FIRST_PASS,
             run: None,
@@ -64,7 +67,8 @@ impl Proxies {
     ///
     /// `new ARGUMENTS` begins anew, `pass N` is the pass of all events behind it, the events between `run` and `end` are
     /// taken by one call, `random SEED EVENTS` makes so many random events, `random_runs SEEDS EVENTS` as many on fresh
-    /// proxies for each seed, and `refusals` tells all refusals.
+    /// proxies for each seed, and `refusals` tells all refusals. `hand_over ARGUMENTS` makes a core that goes on from
+    /// this one on the setting of these arguments, and `other` turns to that core, and back.
     pub(crate) fn act(&mut self, alloc: Global, line: &str) -> Result<String> {
         let (name, rest) = first_word(line);
         match name {
@@ -78,6 +82,8 @@ impl Proxies {
                 run_each(alloc, number(seeds)?, number(events)?)
             }
             "refusals" => all_refusals(alloc),
+            "hand_over" => self.hand_over(alloc, rest),
+            "other" => self.turn_to_other(alloc),
             "hosts" | "epoch" | "is_out" | "in_panic" | "journal" | "pass_of" => {
                 self.question(alloc, line)
             }
@@ -97,6 +103,29 @@ impl Proxies {
             None => None,
         };
         Answers { core, plain }.text(alloc)
+    }
+
+    // Makes a core that goes on from this one, and tells how long this one's journal is.
+    fn hand_over(&mut self, alloc: Global, arguments: &str) -> Result<String> {
+        let setting = Setting::read(alloc, arguments)?;
+        let Some(core) = &self.core else {
+            bail!("only a core hands over");
+        };
+        let handover = core.hand_over();
+        let (steps, bytes) = (handover.steps(), handover.bytes());
+        let told = match setting.core_from(alloc, core) {
+            Ok(other) => {
+                self.other = Some(other);
+                String::from_str(alloc, "made")?
+            }
+            Err(cause) => refusal_text(alloc, cause)?,
+        };
+        Ok(format!(in alloc; "{steps} steps, {bytes} bytes, {told}")?)
+    }
+
+    fn turn_to_other(&mut self, alloc: Global) -> Result<String> {
+        mem::swap(&mut self.core, &mut self.other);
+        Ok(String::new(alloc))
     }
 
     fn set_pass(&mut self, alloc: Global, pass: &str) -> Result<String> {

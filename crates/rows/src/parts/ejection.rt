@@ -1,6 +1,7 @@
 //! Rows of outlier detection.
 
 use super::answers::{refusal_words, shown};
+use super::marks;
 use crate::again::again;
 use crate::proxies::answers::trip_name;
 use crate::proxies::setting::set_field;
@@ -62,22 +63,34 @@ fn settings_of(fields: &str) -> Result<Settings> {
 }
 
 // What the ejector answers: to `good HOSTS MOMENT`, `bad HOSTS MOMENT` (`HOSTS` is one or the first and the last),
-// `mixed HOST MOMENT` (a good and a bad result), `sweep MOMENT`, `room`, `is_out HOST`, `usable HOST`,
-// `multiplier HOST`, `all_usable`, `in_panic`, `rules`.
+// `mixed HOST MOMENT` (a good and a bad result), `sweep MOMENT`, `marks SEED MARKS MOMENT`, `go_on` (another ejector takes
+// its place, made from its state), `is_out HOST`, `usable HOST`, `multiplier HOST`, `all_usable`, `in_panic`, `rules`.
 fn told(alloc: Global, ejector: &mut Ejector, verb: &str, words: &str) -> Result<String> {
     match verb {
         "good" => results(alloc, ejector, true, words),
         "bad" => results(alloc, ejector, false, words),
         "mixed" => mixed(alloc, ejector, words),
         "sweep" => sweep(alloc, ejector, number(words)?),
-        "room" => match again!(ejector.room()) {
-            Ok(()) => shown(alloc, "Ok"),
-            Err(error) => again!(error_text(alloc, error)),
-        },
+        "marks" => {
+            let tally = marks::played(ejector, words)?;
+            again!(tally.text(alloc))
+        }
+        "go_on" => go_on(alloc, ejector),
         "all_usable" => all_usable(alloc, ejector),
         "in_panic" => shown(alloc, ejector.in_panic()),
         "rules" => again!(rules_text(alloc, ejector)),
         _ => told_of(alloc, ejector, verb, number(words)?),
+    }
+}
+
+// Puts an ejector in its place that goes on from its state.
+fn go_on(alloc: Global, ejector: &mut Ejector) -> Result<String> {
+    match again!(Ejector::new_from(alloc, ejector.snapshot())) {
+        Ok(next) => {
+            *ejector = next;
+            shown(alloc, "Ok")
+        }
+        Err(error) => again!(error_text(alloc, error)),
     }
 }
 

@@ -35,8 +35,8 @@ const REPLIES: [&str; 6] = [
 pub struct Numbers(pub u64);
 
 impl Numbers {
-    // One of the numbers below n.
-    fn below(&mut self, n: u64) -> u64 {
+    /// One of the numbers below n, and 0 where there is none.
+    pub(crate) fn below(&mut self, n: u64) -> u64 {
         let mut x = self.0;
         x ^= x << 13;
         x ^= x >> 7;

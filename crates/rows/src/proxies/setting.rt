@@ -4,7 +4,7 @@ use crate::text::number;
 use anyhow::{Result, bail};
 use ketama::Ring;
 use plain_history::Reference;
-use proxy_core::{Core, Refusal, Settings};
+use proxy_core::{Core, Handover, Refusal, Settings};
 use std::alloc::Global;
 
 // On this ring the key `abc` belongs to host 0, `a` to host 1 and the empty key to host 2.
@@ -59,6 +59,18 @@ impl Setting {
 
     fn one_core(&self, alloc: Global) -> Result<Core, Refusal> {
         Core::new(alloc, self.ring(alloc)?, self.settings)
+    }
+
+    /// A core on this setting that goes on from another, made again where there was no memory.
+    pub(crate) fn core_from(&self, alloc: Global, core: &Core) -> Result<Core, Refusal> {
+        match self.one_core_from(alloc, core.hand_over()) {
+            Err(Refusal::NoMemory) => self.one_core_from(alloc, core.hand_over()),
+            made => made,
+        }
+    }
+
+    fn one_core_from(&self, alloc: Global, from: Handover) -> Result<Core, Refusal> {
+        Core::new_from(alloc, self.ring(alloc)?, self.settings, from)
     }
 
     /// A plain program on this setting, made again where there was no memory.

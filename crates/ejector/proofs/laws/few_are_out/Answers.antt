@@ -1,5 +1,5 @@
-use Rattle.ejector.proofs.Few.{state_out}
+use Rattle.ejector.proofs.Openings.{state_out}
 use Rattle.ejector.proofs.laws.few_are_out.Goals as goal
 
 pub returns : goal.returns
-returns c = λ R later before all e. state_out R before
+returns c = λ R O later before all w e. state_out R O before w

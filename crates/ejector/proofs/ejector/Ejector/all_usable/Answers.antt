@@ -1,32 +1,43 @@
-use Rattle.std.proofs.Common.{◌≡◌, Bool, List, length, map, replicate, reverse, rules, sym, ap, ◌∙◌}
-use Rattle.std.proofs.lemmas.List.{take-replicate}
-use Rattle.std.proofs.lemmas.Simd.{map-map}
-use Rattle.ejector.specs.declared.host.HostState.{HostState}
+use Rattle.std.proofs.Common.{◌≡◌, ℕ, Bool, true, false, ◌||◌, length, map, not, replicate, sym, ap, ◌∙◌}
+use Rattle.std.proofs.lemmas.Simd.{map-map, splat_is_map}
+use Rattle.std.proofs.lemmas.List.FromFn.{length-range_with_len}
 use Rattle.ejector.specs.declared.settings.Rules.{Rules}
-use Rattle.ejector.specs.State.{State, fresh_host, host_of, hosts_of}
+use Rattle.ejector.specs.State.{State, is_out, host_of, hosts_of}
 use Rattle.ejector.specs.Usable.{is_panic, is_usable}
-use Rattle.ejector.specs.Counting.{usable_then}
+use Rattle.ejector.specs.Counting.{is_in, outs}
 use Rattle.ejector.specs.Ejector.{Ejection}
-use Rattle.ejector.proofs.Few.{hosts_are, state_length}
-use Rattle.ejector.proofs.InRange.{few_hosts}
+use Rattle.ejector.proofs.Few.{hosts_are}
 use Rattle.ejector.proofs.ejector.Ejector.all_usable.Goals as goal
 
-pub count-requires : goal.count-requires
-count-requires c =
-    take-replicate c.self.inside.rules.hosts 64 fresh_host (few_hosts c.self.inside.rules c.self.invariant.0)
-    ∙ ap (λ (e : Ejection). replicate e.rules.hosts fresh_host) c.self.view_is
+-- in panic all are usable
+in_panic : (R : Rules) (x : State) (n : ℕ) → n ≡ R.hosts → is_panic R x ≡ true → replicate n true ≡ map (is_usable R x) (hosts_of R)
+in_panic R x n e p =
+    splat_is_map (hosts_of R) n true (length-range_with_len 0 R.hosts ∙ sym e)
+    ∙ ap (λ (b : Bool). map (λ h. b || not (is_out x h)) (hosts_of R)) (sym p)
 
--- what is told of each host's counters is told of each host
-each_host : (R : Rules) (x : State) → length x.hosts ≡ R.hosts → map (usable_then (is_panic R x)) x.hosts ≡ map (is_usable R x) (hosts_of R)
-each_host R x e = ap (map (usable_then (is_panic R x))) (hosts_are R x e) ∙ map-map (usable_then (is_panic R x)) (host_of x) (hosts_of R)
+-- else those that aren't out
+not_in_panic : (R : Rules) (x : State) → length x.hosts ≡ R.hosts → is_panic R x ≡ false → map is_in x.hosts ≡ map (is_usable R x) (hosts_of R)
+not_in_panic R x e p =
+    ap (map is_in) (hosts_are R x e) ∙ map-map is_in (host_of x) (hosts_of R)
+    ∙ ap (λ (b : Bool). map (λ h. b || not (is_out x h)) (hosts_of R)) (sym p)
 
-pub returns : goal.returns
-returns c =
-    let R = c.args.self.now.rules in
-    let x = c.args.self.now.state in
-    let size : length x.hosts ≡ R.hosts =
-    ap (λ (e : Ejection). length e.state.hosts) (sym c.self.view_is) ∙ state_length c.self.inside.rules (reverse c.self.inside.marks.items) ∙ ap (λ (e : Ejection). e.rules.hosts) c.self.view_is in
-    let hosts : c.count.new.hosts ≡ x.hosts = ap (λ (y : State). y.hosts) (sym c.count.ensures.state) in
-    let panic : c.is_panic.result ≡ is_panic R x = search rules in
-    c.set_usable.ensures ∙ ap (λ (b : Bool). map (usable_then b) c.count.new.hosts) panic
-    ∙ ap (λ (hs : List HostState). map (usable_then (is_panic R x)) hs) hosts ∙ each_host R x size
+pub returns-then-is_panic : goal.returns-then-is_panic
+returns-then-is_panic c =
+    let e = c.args.self.now in
+    let kept : c.deref.result.now ≡ e.state.hosts = c.deref.ensures.value ∙ ap (λ (k : Ejection). k.state.hosts) c.self.view_is in
+    let rules : c.self.inside.rules ≡ e.rules = ap (λ (k : Ejection). k.rules) c.self.view_is in
+    let out : c.set_in-out.result ≡ outs e.state.hosts = c.set_in-out.ensures.count ∙ ap outs kept in
+    let panic : is_panic e.rules e.state ≡ true = rw (← rules, ← out) (sym c.is_panic.ensures ∙ c.if-is_panic.true) in
+    let size : length c.set_in-out.new.places ≡ e.rules.hosts = c.set_in-out.auto.places ∙ c.requires in
+    c.set_all.ensures ∙ in_panic e.rules e.state (length c.set_in-out.new.places) size panic
+
+pub returns-else-is_panic : goal.returns-else-is_panic
+returns-else-is_panic c =
+    let e = c.args.self.now in
+    let kept : c.deref.result.now ≡ e.state.hosts = c.deref.ensures.value ∙ ap (λ (k : Ejection). k.state.hosts) c.self.view_is in
+    let rules : c.self.inside.rules ≡ e.rules = ap (λ (k : Ejection). k.rules) c.self.view_is in
+    let out : c.set_in-out.result ≡ outs e.state.hosts = c.set_in-out.ensures.count ∙ ap outs kept in
+    let panic : is_panic e.rules e.state ≡ false = rw (← rules, ← out) (sym c.is_panic.ensures ∙ c.if-is_panic.false) in
+    let size : length e.state.hosts ≡ e.rules.hosts =
+    ap (λ (k : Ejection). length k.state.hosts) (sym c.self.view_is) ∙ c.self.invariant.1.hosts ∙ ap (λ (k : Rules). k.hosts) rules in
+    c.set_in-out.ensures.places ∙ ap (map is_in) kept ∙ not_in_panic e.rules e.state size panic

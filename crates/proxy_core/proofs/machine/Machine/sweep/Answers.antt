@@ -7,9 +7,9 @@ use Rattle.proxy_core.specs.Kept.{Memory}
 use Rattle.proxy_core.proofs.machine.Machine.sweep.Goals as goal
 
 pub returns-clause-hosts : goal.returns-clause-hosts
-returns-clause-hosts c = λ marks e.
+returns-clause-hosts c = λ O marks e.
     let same = c.in_default.ensures.ready.same in
     let rules : c.ready_to_sweep.new.self.ejector.rules ≡ c.args.self.now.ejector.rules = ap (λ (z : Setting). z.rules) same.setting in
     let hosts : c.ready_to_sweep.new.self.ejector.state ≡ c.args.self.now.ejector.state = ap (λ (z : Memory). z.hosts) same.memory in
-    c.swept-hosts.ensures.state marks (ap (λ (r : Rules). state r marks) rules ∙ e ∙ sym hosts)
-    ∙ ap (λ (r : Rules). state r (Sweep c.args.t ∷ marks)) rules
+    c.swept-hosts.ensures.state O marks (ap (λ (r : Rules). state r O marks) rules ∙ e ∙ sym hosts)
+    ∙ ap (λ (r : Rules). state r O (Sweep c.args.t ∷ marks)) rules

@@ -1,5 +1,6 @@
 use Rattle.std.proofs.Common.{◌≡◌, ◌∙◌, ap, subst, arith}
 use Rattle.ejector.specs.Settings.{IsInRange}
+use Rattle.ejector.specs.Opening.{IsOpening}
 use Rattle.ejector.proofs.CallerLemmas.{in_range}
 use Rattle.proxy_history.specs.Setting.{hosts}
 use Rattle.proxy_history.specs.Proxy.{Kept}
@@ -17,6 +18,10 @@ returns-clause-ring c =
 pub returns-clause-range : goal.returns-clause-range
 returns-clause-range c =
     subst (λ (k : Kept). IsInRange k.setting.rules) c.self.view_is (in_range c.self.inside.machine.ejector.rules c.self.invariant.rules)
+
+pub returns-clause-opening : goal.returns-clause-opening
+returns-clause-opening c =
+    subst (λ (k : Kept). IsOpening k.setting.rules k.setting.opening) c.self.view_is c.self.invariant.opening
 
 pub returns-clause-few : goal.returns-clause-few
 returns-clause-few c =

@@ -1,0 +1,45 @@
+-- Rules that differ in no field are the same.
+use Rattle.std.proofs.Common.{◌≡◌, Bool, true, false, ◌==◌, None, ◌∷◌, refl}
+use Rattle.std.proofs.lemmas.Bool.{eqb-true}
+use Rattle.ejector.specs.declared.settings.Rules.{Rules}
+use Rattle.ejector.specs.declared.settings.Field.TheVariants.{Hosts}
+use Rattle.ejector.specs.Settings.{are_same, settings_comparisons, first_difference}
+use Rattle.ejector.proofs.InRange.{all_pass}
+
+same_if : (a b : Bool) → are_same a b ≡ true → a ≡ b
+same_if true true e = refl
+same_if true false e = cc
+same_if false true e = cc
+same_if false false e = refl
+
+pub no_difference : (R P : Rules) → first_difference R P ≡ None → R ≡ P
+no_difference R P e =
+    let s = R.settings in
+    let t = P.settings in
+    let tests = all_pass ((Hosts, R.hosts == P.hosts) ∷ settings_comparisons s t) e in
+    let hosts = eqb-true R.hosts P.hosts tests.0 in
+    let tags = same_if s.tags t.tags tests.1.0 in
+    let interval = eqb-true s.interval_ms t.interval_ms tests.1.1.0 in
+    let base = eqb-true s.base_ms t.base_ms tests.1.1.1.0 in
+    let longest = eqb-true s.max_ms t.max_ms tests.1.1.1.1.0 in
+    let percent = eqb-true s.max_percent t.max_percent tests.1.1.1.1.1.0 in
+    let consecutive = eqb-true s.consecutive t.consecutive tests.1.1.1.1.1.1.0 in
+    let success = eqb-true s.success_hosts t.success_hosts tests.1.1.1.1.1.1.1.0 in
+    let volume = eqb-true s.request_volume t.request_volume tests.1.1.1.1.1.1.1.1.0 in
+    let factor = eqb-true s.factor t.factor tests.1.1.1.1.1.1.1.1.1.0 in
+    let panic = eqb-true s.panic_percent t.panic_percent tests.1.1.1.1.1.1.1.1.1.1.0 in
+    λ i. record {
+      hosts = hosts i;
+      settings = record {
+        tags = tags i;
+        interval_ms = interval i;
+        base_ms = base i;
+        max_ms = longest i;
+        max_percent = percent i;
+        consecutive = consecutive i;
+        success_hosts = success i;
+        request_volume = volume i;
+        factor = factor i;
+        panic_percent = panic i;
+      };
+    }

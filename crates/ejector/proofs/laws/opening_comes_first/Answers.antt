@@ -1,0 +1,5 @@
+use Rattle.ejector.proofs.Openings.{opening_first}
+use Rattle.ejector.proofs.laws.opening_comes_first.Goals as goal
+
+pub returns : goal.returns
+returns c = opening_first

@@ -1,0 +1,5 @@
+use Rattle.ejector.proofs.Openings.{openings_stay}
+use Rattle.ejector.proofs.laws.openings_stay.Goals as goal
+
+pub returns : goal.returns
+returns c = openings_stay

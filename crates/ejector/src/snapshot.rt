@@ -1,0 +1,74 @@
+ghost use Rattle.std.specs.Prelude.{◌≡◌, length, None};
+ghost use Rattle.ejector.specs.Settings.{first_fault};
+ghost use Rattle.ejector.specs.Opening.{IsOpening};
+
+use crate::host::{FRESH, HostState};
+use crate::settings::Rules;
+use rate_core::MAX_HOSTS;
+use std::marker::Model;
+
+/// An ejector's state, to be handed on to another, with its number of hosts and its settings.
+///
+/// It comes from `Ejector::snapshot` alone. No more hosts are out in it than its settings allow.
+#[derive(Drop)]
+pub struct EjectState {
+    rules: Rules,
+    clock: u64,
+    // By their numbers, and fresh ones behind the last host.
+    hosts: [HostState; MAX_HOSTS],
+}
+
+impl Model for EjectState {
+    ghost use Rattle.std.specs.Prelude.{◌≡◌, None, take};
+    ghost use Rattle.ejector.specs.Ejector.{Ejection};
+    ghost use Rattle.ejector.specs.Settings.{first_fault};
+    ghost use Rattle.ejector.specs.Opening.{IsOpening};
+
+    ghost Value = { Ejection };
+
+    ghost view = { λ e. record { rules = e.rules; state = record { clock = e.clock; hosts = take e.rules.hosts e.hosts } } };
+
+    ghost invariant = { λ e. (first_fault e.rules ≡ None)
+        × IsOpening e.rules (record { clock = e.clock; hosts = take e.rules.hosts e.hosts }) };
+}
+
+impl EjectState {
+    /// The state of these hosts at this clock.
+    pub(crate) fn new(rules: Rules, clock: u64, hosts: &[HostState]) -> EjectState
+        requires range { first_fault rules ≡ None }
+        requires opening { IsOpening rules (record { clock = clock; hosts = hosts.now }) }
+        ensures { result ≡ record { rules = rules; state = record { clock = clock; hosts = hosts.now } } }
+    {
+        let mut all = [FRESH; MAX_HOSTS];
+        all[..hosts.len()].copy_from_slice(hosts);
+        EjectState {
+            rules,
+            clock,
+            hosts: all,
+        }
+    }
+
+    /// The number of hosts and the settings, of which no field is out of its range. They allow this state: it has so
+    /// many hosts, each with counters in range, and no more are out than the limit allows.
+    pub fn rules(&self) -> &Rules
+        ensures rules { result.now ≡ self.now.rules }
+        ensures range { first_fault self.now.rules ≡ None }
+        ensures opening { IsOpening self.now.rules self.now.state }
+    {
+        &self.rules
+    }
+
+    /// The clock.
+    pub(crate) fn clock(&self) -> u64
+        ensures { result ≡ self.now.state.clock }
+    {
+        self.clock
+    }
+
+    /// What is counted of each host, by their numbers.
+    pub(crate) fn hosts(&self) -> &[HostState]
+        ensures { result.now ≡ self.now.state.hosts }
+    {
+        &self.hosts[..self.rules.hosts]
+    }
+}

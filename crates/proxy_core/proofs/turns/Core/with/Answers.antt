@@ -1,0 +1,12 @@
+use Rattle.std.proofs.Common.{refl, ap, ◌∙◌, replicate}
+use Rattle.ejector.specs.declared.settings.Rules.{Rules}
+use Rattle.proxy_core.specs.Machine.{no_pipeline}
+use Rattle.proxy_core.proofs.TurnedNew.{fresh_kept}
+use Rattle.proxy_core.proofs.turns.Core.with.Goals as goal
+
+pub invariant_of-result : goal.invariant_of-result
+invariant_of-result c =
+    let hosts = ap (λ (z : Rules). z.hosts) c.rules-rules.ensures.rules ∙ c.requires in
+    fresh_kept _ c.new.ensures.steps c.new.ensures.bytes c.new-2.ensures.items refl
+    (c.in_ok-pipelines.ensures ∙ ap (λ n. replicate n no_pipeline) hosts)
+    c.requires c.of.ensures c.rules-rules.ensures.range c.rules-rules.ensures.opening

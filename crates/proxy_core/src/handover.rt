@@ -1,0 +1,67 @@
+//! What one core hands over to another.
+ghost use Rattle.std.specs.Prelude.{◌≡◌};
+ghost use Rattle.ejector.specs.Opening.{IsOpening};
+
+use ejector::{EjectState, Rules};
+use std::marker::Model;
+
+/// What a core hands over to the next: where outlier detection stands, the number of hosts and the settings, and how long
+/// the journal was.
+///
+/// It comes from `Core::hand_over` alone.
+#[derive(Drop)]
+pub struct Handover {
+    detection: EjectState,
+    steps: u64,
+    bytes: u64,
+}
+
+impl Model for Handover {
+    ghost use Rattle.proxy_core.specs.Handover.{Handed};
+
+    ghost Value = { Handed };
+
+    ghost view = { λ h. record { detection = h.detection; steps = h.steps; bytes = h.bytes } };
+}
+
+impl Handover {
+    /// What is handed over.
+    pub(crate) fn new(detection: EjectState, steps: u64, bytes: u64) -> Handover
+        ensures { result ≡ record { detection = detection; steps = steps; bytes = bytes } }
+    {
+        Handover {
+            detection,
+            steps,
+            bytes,
+        }
+    }
+
+    /// How many steps the journal had.
+    pub fn steps(&self) -> u64
+        ensures { result ≡ self.now.steps }
+    {
+        self.steps
+    }
+
+    /// How many bytes of payload its steps kept.
+    pub fn bytes(&self) -> u64
+        ensures { result ≡ self.now.bytes }
+    {
+        self.bytes
+    }
+
+    /// The number of hosts and the settings, which allow the state that is handed over.
+    pub fn rules(&self) -> &Rules
+        ensures rules { result.now ≡ self.now.detection.rules }
+        ensures opening { IsOpening self.now.detection.rules self.now.detection.state }
+    {
+        self.detection.rules()
+    }
+
+    /// Where outlier detection stands.
+    pub(crate) fn into_detection(self) -> EjectState
+        ensures { result ≡ self.detection }
+    {
+        self.detection
+    }
+}
