@@ -1,16 +1,15 @@
 -- Pairs in ascending order: how a sort leaves them, and what the first usable one of them is.
-use Rattle.std.proofs.Common.{◌≡◌, ℕ, ◌<◌, ◌+◌, ◌-◌, Bool, true, false, ltb, ◌==◌, ◌&&◌, inl, inr, Option, Some, None, List, [], ◌∷◌, length, drop, get_or, sym, ◌∙◌, ap, subst, All, AllPairs, Less, Ordering, nat_cmp, arith}
+use Rattle.std.proofs.Common.{◌≡◌, ℕ, ◌<◌, ◌≤◌, ◌+◌, ◌-◌, Bool, true, false, ◌==◌, ◌&&◌, inl, inr, Option, Some, None, List, [], ◌∷◌, length, drop, get_or, sym, ◌∙◌, ap, subst, All, AllPairs, Less, Ordering, nat_cmp, arith}
 use Rattle.std.specs.Cmp.{IsTotalOrder, IsEquivalence}
 use Rattle.std.specs.Ordering.{ordering_then}
-use Rattle.std.specs.List.{AllByRecursion}
-use Rattle.std.specs.List.Sorted.{IsStrictlySortedBy, IsPartitionedBy, IsPartitionPoint, IsNonDecreasingBy}
-use Rattle.std.proofs.lemmas.Bool.{cases_eq, cases_lt, cases_order, both_ways, ltb-true, ltb-false}
+use Rattle.std.specs.List.{AllByRecursion, AllWithin}
+use Rattle.std.specs.List.Sorted.{IsStrictlySortedBy, IsPartitionPoint, IsNonDecreasingBy}
+use Rattle.std.proofs.lemmas.Bool.{cases_eq, cases_lt, cases_order, both_ways}
 use Rattle.std.proofs.lemmas.Bool.Decides.{nat_tests}
 use Rattle.std.proofs.lemmas.Cmp.{nat_cmp_total, nat_eq_equiv, on_total, then_total, on_equiv, and_equiv}
 use Rattle.std.proofs.lemmas.List.{get_or_default, get_or-drop, length-drop}
 use Rattle.std.proofs.lemmas.List.Elements.{All-cons, Contains-get_or}
 use Rattle.std.proofs.lemmas.List.Kept.{AllPairs-cons}
-use Rattle.std.proofs.lemmas.List.Sorted.{IsPartitionedBy-ltb}
 use Rattle.ketama.specs.Continuum.{IsBefore}
 use Rattle.ketama.specs.Owner.{is_usable, IsUsablePair, IsUsablePairFrom, IsAtOrBefore, IsLeast, IsLeastIfAny, HasNone, IsOwner}
 use Rattle.ketama.proofs.Least.{IsAtOrBefore-refl, IsLeastIfAny-same}
@@ -83,26 +82,36 @@ points_ascend pairs in_order i j d upto within = elim (cases_eq i j) [
   | inr apart ↦ (in_order i j d (omega (arith, apart)) within).0
 ]
 
-pub points-IsPartitionedBy : (pairs : List (ℕ × ℕ)) (point : ℕ) → AllPairs IsBefore pairs → IsPartitionedBy (λ pair. ltb pair.0 point) pairs
-points-IsPartitionedBy pairs point in_order = IsPartitionedBy-ltb (λ pair. pair.0) pairs point (points_ascend pairs in_order)
+-- a pair is below the point, and so are all before it
+pub all_below : (pairs : List (ℕ × ℕ)) (point last : ℕ) → AllPairs IsBefore pairs → last < length pairs → (get_or pairs last (0, 0)).0 < point → AllWithin (λ pair. pair.0 < point) pairs 0 (last + 1)
+all_below pairs point last in_order within below k d first upto =
+    let ascend = points_ascend pairs in_order k last d (omega arith) within in
+    let same = get_or_default pairs last d (0, 0) within in
+    omega (arith, rw same at ascend, below)
+
+-- a pair is not below the point, and neither are those behind it
+pub none_below : (pairs : List (ℕ × ℕ)) (point from : ℕ) → AllPairs IsBefore pairs → from < length pairs → point ≤ (get_or pairs from (0, 0)).0 → AllWithin (λ pair. point ≤ pair.0) pairs from (length pairs)
+none_below pairs point from in_order within above k d behind upto =
+    let ascend = points_ascend pairs in_order from k d behind upto in
+    let same = get_or_default pairs from d (0, 0) within in
+    omega (arith, rw same at ascend, above)
 
 -- the usable pairs from a place on are those at the point or above
-pub from_place : (pairs : List (ℕ × ℕ)) (point place : ℕ) (usable : List Bool) (least : Option (ℕ × ℕ)) → IsPartitionPoint (λ pair. ltb pair.0 point ≡ true) (λ pair. ltb pair.0 point ≡ false) pairs place → IsLeastIfAny (IsUsablePair (drop place pairs) usable) least → IsLeastIfAny (IsUsablePairFrom pairs point usable) least
+pub from_place : (pairs : List (ℕ × ℕ)) (point place : ℕ) (usable : List Bool) (least : Option (ℕ × ℕ)) → IsPartitionPoint (λ pair. pair.0 < point) (λ pair. point ≤ pair.0) pairs place → IsLeastIfAny (IsUsablePair (drop place pairs) usable) least → IsLeastIfAny (IsUsablePairFrom pairs point usable) least
 from_place pairs point place usable least parts is =
     IsLeastIfAny-same (IsUsablePair (drop place pairs) usable) (IsUsablePairFrom pairs point usable)
     (λ pair u.
     let k = u.member.0 in
     let within : place + k < length pairs = omega (arith, u.member.1, length-drop place pairs) in
     let there : get_or pairs (place + k) pair ≡ pair = sym (get_or-drop place pairs k pair) ∙ u.member.2 in
-    let above : ltb pair.0 point ≡ false = subst (λ (p : ℕ × ℕ). ltb p.0 point ≡ false) there (parts.1 (place + k) pair (omega arith) within) in
-    record { at_or_above = ltb-false pair.0 point above; usable_pair = record { member = (place + k, within, there); host_usable = u.host_usable } })
+    let above : point ≤ pair.0 = subst (λ (p : ℕ × ℕ). point ≤ p.0) there (parts.1 (place + k) pair (omega arith) within) in
+    record { at_or_above = above; usable_pair = record { member = (place + k, within, there); host_usable = u.host_usable } })
     (λ pair u.
     let k = u.usable_pair.member.0 in
     let within = u.usable_pair.member.1 in
     elim (cases_lt k place) [
       | inl before ↦
-          let below : ltb pair.0 point ≡ true = subst (λ (p : ℕ × ℕ). ltb p.0 point ≡ true) u.usable_pair.member.2 (parts.0 k pair (omega arith) before) in
-          let less : pair.0 < point = ltb-true pair.0 point below in
+          let less : pair.0 < point = subst (λ (p : ℕ × ℕ). p.0 < point) u.usable_pair.member.2 (parts.0 k pair (omega arith) before) in
           absurd (omega (arith, less, u.at_or_above))
       | inr from ↦
           let e : place + (k - place) ≡ k = omega arith in

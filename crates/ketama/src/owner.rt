@@ -1,4 +1,5 @@
-ghost use Rattle.std.specs.Prelude.{◌≡◌, ◌<◌, All, AllPairs, length};
+ghost use Rattle.std.specs.Prelude.{◌≡◌, ◌<◌, ◌≤◌, All, AllPairs, if◌then◌else◌, length};
+ghost use Rattle.std.specs.List.Sorted.{IsPartitionPoint};
 ghost use Rattle.ketama.specs.Continuum.{IsBefore};
 ghost use Rattle.ketama.specs.Owner.{IsLeastIfAny, IsUsablePair, IsOwner};
 
@@ -11,7 +12,7 @@ pub(crate) fn owner(pairs: &[Pair], point: u32, usable: &[bool]) -> Option<usize
     requires in_order { AllPairs IsBefore pairs.now }
     ensures { IsOwner pairs.now point usable.now result }
 {
-    let from = pairs.partition_point(|pair| pair.0 < point);
+    let from = count_below(pairs, point);
     if let Some((_, host)) = first_usable(&pairs[from..], usable) {
         return Some(host);
     }
@@ -19,6 +20,32 @@ pub(crate) fn owner(pairs: &[Pair], point: u32, usable: &[bool]) -> Option<usize
     // Past the last point the ring goes on with its first.
     let (_, host) = first_usable(pairs, usable)?;
     Some(host)
+}
+
+// How many of the pairs are below the point: they are the first ones. Each turn halves those of which
+// it isn't known. No jump depends on a point, since none could be foreseen.
+fn count_below(pairs: &[Pair], point: u32) -> usize
+    requires { AllPairs IsBefore pairs.now }
+    ensures bound { result ≤ length pairs.now }
+    ensures parted { IsPartitionPoint (λ pair. pair.0 < point) (λ pair. point ≤ pair.0) pairs.now
+        result }
+{
+    let mut below = 0;
+    let mut unknown = pairs.len();
+    while unknown > 0 {
+        let half = unknown - unknown / 2;
+        let all_below = pairs[below + half - 1].0 < point;
+        below = one_of(below, below + half, all_below);
+        unknown -= half;
+    }
+    below
+}
+
+// The second number if it is wanted, else the first, without a jump.
+fn one_of(first: usize, second: usize, wants_second: bool) -> usize
+    ensures { result ≡ if wants_second then second else first }
+{
+    [first, second][usize::from(wants_second)]
 }
 
 // The first of some pairs, in their order, whose host is usable.

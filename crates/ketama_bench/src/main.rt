@@ -67,7 +67,7 @@ fn count_owned(ring: &Ring, usable: &[bool]) -> u32
     let mut owned = 0u32;
     let mut point = 0u32;
     for _ in 0..ASKED {
-        point = point.wrapping_add(2_654_435_761);
+        point = point.wrapping_mul(1_664_525).wrapping_add(1_013_904_223);
         if ring.owner(point, usable).is_some() {
             owned = owned.saturating_add(1);
         }
