@@ -2,6 +2,7 @@
 
 mod answers;
 mod ejection;
+mod files;
 mod joins;
 mod journal;
 mod messages;
@@ -49,6 +50,8 @@ pub enum Part {
     Rates,
     /// Outlier detection.
     Ejector(EjectorSubject),
+    /// Settings files.
+    Files,
     /// The texts of refusals.
     Messages,
 }
@@ -67,6 +70,7 @@ impl Part {
             "ring" => Ok(Part::Ring(RingSubject::open())),
             "rates" => Ok(Part::Rates),
             "ejector" => Ok(Part::Ejector(EjectorSubject::open())),
+            "settings" => Ok(Part::Files),
             "messages" => Ok(Part::Messages),
             _ => bail!("no subject is named {name:?}"),
         }
@@ -85,6 +89,7 @@ impl Part {
             Part::Ring(ring) => ring.act(alloc, line),
             Part::Rates => rates::act(alloc, line),
             Part::Ejector(ejector) => ejector.act(alloc, line),
+            Part::Files => files::act(alloc, line),
             Part::Messages => messages::act(alloc, line),
         }
     }
