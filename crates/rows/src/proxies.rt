@@ -78,9 +78,15 @@ impl Proxies {
                 run_each(alloc, number(seeds)?, number(events)?)
             }
             "refusals" => all_refusals(alloc),
-            "hosts" | "epoch" | "is_out" | "in_panic" | "journal" | "pass_of" => {
-                self.question(alloc, line)
-            }
+            "hosts"
+            | "epoch"
+            | "is_out"
+            | "in_panic"
+            | "journal"
+            | "pass_of"
+            | "counts"
+            | "twice"
+            | "counts_of" => { self.question(alloc, line) }
             _ => self.event(alloc, line),
         }
     }
