@@ -2,7 +2,7 @@
 #![tactic(auto)]
 
 use clap::error::ErrorKind;
-use clap::{Command, Error};
+use clap::{Arg, ArgAction, Command, Error};
 use std::alloc::{AllocError, Global};
 use std::io;
 
@@ -11,6 +11,11 @@ use std::io;
 pub enum Asked {
     /// Serve one client on standard input and output.
     Local,
+    /// Tell what a settings file says.
+    Check {
+        /// The file's path.
+        config: String,
+    },
 }
 
 /// Why the words of the command line ask for nothing that can be done.
@@ -60,14 +65,30 @@ fn command<'a>(alloc: Global) -> Result<Command<'a>, AllocError> {
     let local = Command::new(alloc, "local").about(
         "Serves one client on standard input and output",
     );
+    let config = Arg::new(alloc, "config")
+        .long("config")
+        .value_name("FILE")
+        .help("The settings file")
+        .required(true)
+        .action(ArgAction::Set);
+    let check = Command::new(alloc, "check")
+        .about("Reads a settings file, and tells its hosts and digests, or its first fault")
+        .arg(config)?;
     Command::new(alloc, "redproxy")
         .about("A proxy that clients speak to as to one Redis server")
         .subcommand_required(true)
-        .subcommand(local)
+        .subcommand(local)?
+        .subcommand(check)
 }
 
 /// Reads the words of the command line, of which the first is the program's name.
 pub fn read(alloc: Global, words: &[String]) -> Result<Asked, Refused> {
-    command(alloc)?.try_get_matches_from(words)?;
-    Ok(Asked::Local)
+    let matches = command(alloc)?.try_get_matches_from(words)?;
+    match matches.subcommand() {
+        Some(("check", matches)) => {
+            let config = String::from_str(alloc, matches.get_str("config").unwrap_or(""))?;
+            Ok(Asked::Check { config })
+        }
+        _ => Ok(Asked::Local),
+    }
 }

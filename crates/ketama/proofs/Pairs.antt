@@ -1,10 +1,11 @@
 -- The pairs of libketama as lists, and what they have.
 use Rattle.std.proofs.Common.{◌≡◌, ◌↔◌, ℕ, zero, suc, ◌+◌, ◌<◌, inl, inr, List, [], ◌++◌, length, get_or, refl, sym, ap, subst, Contains, All, add-one, lit<, arith}
-use Rattle.std.proofs.lemmas.Bool.{cases_eq}
+use Rattle.std.proofs.lemmas.Bool.{cases_eq, cases_lt}
 use Rattle.std.proofs.lemmas.Option.{slice_get-get_or, slice_get_within, get_or_from_slice_get}
 use Rattle.std.proofs.lemmas.List.Elements.{Contains-get_or, Contains-append_left, Contains-append_right, Contains-append_cases}
 use Rattle.md5.specs.Md5.{md5}
 use Rattle.ketama.specs.Point.{point_in}
+use Rattle.ketama.specs.GivenPoints.{HasBadPoint}
 use Rattle.ketama.specs.Ketama.{label_of, IsPointOf, IsKetamaPair, digest_pairs, host_pairs, ring_pairs}
 
 -- one more digest
@@ -17,13 +18,13 @@ unfolding host_pairs
 host_pairs-none name host = refl
 
 -- one more host
-pub ring_pairs-more : (names : List (List ℕ)) (n : ℕ) → ring_pairs names (n + 1) ≡ ring_pairs names n ++ host_pairs (get_or names n []) n 40
+pub ring_pairs-more : (names : List (List ℕ)) (counts : List ℕ) (n : ℕ) → ring_pairs names counts (n + 1) ≡ ring_pairs names counts n ++ host_pairs (get_or names n []) n (get_or counts n 0)
 unfolding ring_pairs
-ring_pairs-more names n = rw (add-one n) refl
+ring_pairs-more names counts n = rw (add-one n) refl
 
-pub ring_pairs-none : (names : List (List ℕ)) → ring_pairs names 0 ≡ []
+pub ring_pairs-none : (names : List (List ℕ)) (counts : List ℕ) → ring_pairs names counts 0 ≡ []
 unfolding ring_pairs
-ring_pairs-none names = refl
+ring_pairs-none names counts = refl
 
 -- ---- what the lists have
 
@@ -74,41 +75,51 @@ host_pairs-cases name host (suc n) pair is = elim (Contains-append_cases (host_p
       record { k = n; j = p.0; digest = omega arith; place = p.1; point = p.2; owner = p.3 }
 ]
 
-ring_pairs-has : (names : List (List ℕ)) (n point host : ℕ) → host < n → IsPointOf (get_or names host []) point → Contains (ring_pairs names n) (point, host)
+ring_pairs-has : (names : List (List ℕ)) (counts : List ℕ) (n point host : ℕ) → host < n → IsPointOf (get_or names host []) (get_or counts host 0) point → Contains (ring_pairs names counts n) (point, host)
 unfolding ring_pairs
-ring_pairs-has names zero point host below is = absurd (omega arith)
-ring_pairs-has names (suc n) point host below is = elim (cases_eq host n) [
+ring_pairs-has names counts zero point host below is = absurd (omega arith)
+ring_pairs-has names counts (suc n) point host below is = elim (cases_eq host n) [
   | inl last ↦
-      let here = host_pairs-has (get_or names host []) host 40 is.k is.j is.digest is.place in
-      let pair = subst (λ p. Contains (host_pairs (get_or names host []) host 40) (p, host)) (sym is.value) here in
-      Contains-append_right (ring_pairs names n) (host_pairs (get_or names n []) n 40) (point, host)
-      (subst (λ h. Contains (host_pairs (get_or names h []) h 40) (point, host)) last pair)
+      let here = host_pairs-has (get_or names host []) host (get_or counts host 0) is.k is.j is.digest is.place in
+      let pair = subst (λ p. Contains (host_pairs (get_or names host []) host (get_or counts host 0)) (p, host)) (sym is.value) here in
+      Contains-append_right (ring_pairs names counts n) (host_pairs (get_or names n []) n (get_or counts n 0)) (point, host)
+      (subst (λ h. Contains (host_pairs (get_or names h []) h (get_or counts h 0)) (point, host)) last pair)
   | inr earlier ↦
-      Contains-append_left (ring_pairs names n) (host_pairs (get_or names n []) n 40) (point, host) (ring_pairs-has names n point host (omega arith) is)
+      Contains-append_left (ring_pairs names counts n) (host_pairs (get_or names n []) n (get_or counts n 0)) (point, host) (ring_pairs-has names counts n point host (omega arith) is)
 ]
 
-ring_pairs-cases : (names : List (List ℕ)) (n : ℕ) (pair : ℕ × ℕ) → Contains (ring_pairs names n) pair → (pair.1 < n) × IsPointOf (get_or names pair.1 []) pair.0
+ring_pairs-cases : (names : List (List ℕ)) (counts : List ℕ) (n : ℕ) (pair : ℕ × ℕ) → Contains (ring_pairs names counts n) pair → (pair.1 < n) × IsPointOf (get_or names pair.1 []) (get_or counts pair.1 0) pair.0
 unfolding ring_pairs
-ring_pairs-cases names zero pair (k, within, e) = absurd (omega arith)
-ring_pairs-cases names (suc n) pair is = elim (Contains-append_cases (ring_pairs names n) (host_pairs (get_or names n []) n 40) pair is) [
-  | inl earlier ↦ let p = ring_pairs-cases names n pair earlier in (omega arith, p.1)
+ring_pairs-cases names counts zero pair (k, within, e) = absurd (omega arith)
+ring_pairs-cases names counts (suc n) pair is = elim (Contains-append_cases (ring_pairs names counts n) (host_pairs (get_or names n []) n (get_or counts n 0)) pair is) [
+  | inl earlier ↦ let p = ring_pairs-cases names counts n pair earlier in (omega arith, p.1)
   | inr last ↦
-      let p = host_pairs-cases (get_or names n []) n 40 pair last in
-      let of_last : IsPointOf (get_or names n []) pair.0 = record { k = p.k; j = p.j; digest = p.digest; place = p.place; value = p.point } in
-      (omega arith, subst (λ h. IsPointOf (get_or names h []) pair.0) (sym p.owner) of_last)
+      let p = host_pairs-cases (get_or names n []) n (get_or counts n 0) pair last in
+      let of_last : IsPointOf (get_or names n []) (get_or counts n 0) pair.0 = record { k = p.k; j = p.j; digest = p.digest; place = p.place; value = p.point } in
+      (omega arith, subst (λ h. IsPointOf (get_or names h []) (get_or counts h 0) pair.0) (sym p.owner) of_last)
 ]
 
 -- ---- the ring
 
-pub ring_pairs-IsKetamaPair : (names : List (List ℕ)) (pair : ℕ × ℕ) → Contains (ring_pairs names (length names)) pair ↔ IsKetamaPair names pair
-ring_pairs-IsKetamaPair names pair = (
-  (λ is. let p = ring_pairs-cases names (length names) pair is in
+pub ring_pairs-IsKetamaPair : (names : List (List ℕ)) (counts : List ℕ) (pair : ℕ × ℕ) → Contains (ring_pairs names counts (length names)) pair ↔ IsKetamaPair names counts pair
+ring_pairs-IsKetamaPair names counts pair = (
+  (λ is. let p = ring_pairs-cases names counts (length names) pair is in
       record { name = get_or names pair.1 []; host = slice_get-get_or names pair.1 [] p.0; point = p.1 }),
-  (λ is. ring_pairs-has names (length names) pair.0 pair.1 (slice_get_within names pair.1 is.name is.host)
-      (subst (λ name. IsPointOf name pair.0) (sym (get_or_from_slice_get names pair.1 is.name [] is.host)) is.point)),
+  (λ is. ring_pairs-has names counts (length names) pair.0 pair.1 (slice_get_within names pair.1 is.name is.host)
+      (subst (λ name. IsPointOf name (get_or counts pair.1 0) pair.0) (sym (get_or_from_slice_get names pair.1 is.name [] is.host)) is.point)),
 )
 
 -- each pair is of one of the hosts
-pub ring_pairs-in_range : (names : List (List ℕ)) (n : ℕ) → All (λ pair. pair.1 < n) (ring_pairs names n)
-ring_pairs-in_range names n = λ k d within.
-    (ring_pairs-cases names n (get_or (ring_pairs names n) k d) (Contains-get_or (ring_pairs names n) k d within)).0
+pub IsKetamaPair-in_range : (names : List (List ℕ)) (counts : List ℕ) (pairs : List (ℕ × ℕ)) → ((pair : ℕ × ℕ) → Contains pairs pair ↔ IsKetamaPair names counts pair) → All (λ pair. pair.1 < length names) pairs
+IsKetamaPair-in_range names counts pairs same = λ k d within.
+    let pair = get_or pairs k d in
+    let is = (same pair).0 (Contains-get_or pairs k d within) in
+    slice_get_within names pair.1 is.name is.host
+
+-- ---- points that are given
+
+pub no_bad_point : (hosts : ℕ) (points pairs : List (ℕ × ℕ)) → ¬ HasBadPoint hosts points → ((pair : ℕ × ℕ) → Contains pairs pair → Contains points pair) → All (λ pair. pair.1 < hosts) pairs
+no_bad_point hosts points pairs good of_them k d within = elim (cases_lt (get_or pairs k d).1 hosts) [
+  | inl below ↦ below
+  | inr above ↦ let there = of_them (get_or pairs k d) (Contains-get_or pairs k d within) in absurd (good (there.0, get_or pairs k d, there.1, there.2, above))
+]

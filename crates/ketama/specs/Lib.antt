@@ -6,4 +6,5 @@ pub mod Continuum
 pub mod Owner
 pub mod OwnerLaws
 pub mod Ketama
+pub mod Shares
 pub mod GivenPoints

@@ -20,7 +20,7 @@ pub enum RingError {
     #[error("there are more than 64 hosts")]
     TooManyHosts,
 
-    /// 304: the weights are not as many as the hosts, not in range, or not all the same.
+    /// 304: the weights are not as many as the hosts, or one is not from 1 to 100.
     #[error("the weights do not fit the hosts")]
     BadWeights,
 

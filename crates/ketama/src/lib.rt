@@ -3,11 +3,12 @@
 //! Each host has points on a ring of 32-bit numbers, made from the MD5 of its name and a number. A
 //! key has one point, from its own MD5, and belongs to the host of the first point at or above it,
 //! or past the last point to the host of the first point of all. Hosts, points and owners are those
-//! of each other client of libketama that uses MD5 (RFC 1321) and equal weights.
+//! of each other client of libketama that uses MD5 (RFC 1321), where all weigh the same; a host that
+//! weighs more has more of the points.
 //!
 //! ```text
 //! let names = [HostName::read(alloc, b"127.0.0.1:7001")?, HostName::read(alloc, b"127.0.0.1:7002")?];
-//! let ring = Ring::build(alloc, &names, &[1, 1])?;
+//! let ring = Ring::build(alloc, &names, &[1, 2])?;
 //! let owner = ring.owner(point_of_key(b"user:1", false), &[true, true]);
 //! ```
 #![tactic(auto)]
@@ -17,6 +18,7 @@ pub use key::point_of_key;
 pub use name::{HostName, MAX_NAME_LEN};
 pub use rate_core::MAX_HOSTS;
 pub use ring::Ring;
+pub use share::{DIGESTS_OF_HOST, MAX_WEIGHT};
 
 mod error;
 mod key;
@@ -25,3 +27,4 @@ mod name;
 mod owner;
 mod point;
 mod ring;
+mod share;

@@ -1,42 +1,63 @@
-ghost use Rattle.std.specs.Prelude.{◌≡◌, ◌<◌, List, ℕ, All, length};
-ghost use Rattle.ketama.specs.Owner.{IsLeastIfAny, IsUsablePairFrom, IsOwner, lesser, owner_of};
+ghost use Rattle.std.specs.Prelude.{◌≡◌, ◌<◌, ◌≤◌, All, AllPairs, if◌then◌else◌, length};
+ghost use Rattle.std.specs.List.Sorted.{IsPartitionPoint};
+ghost use Rattle.ketama.specs.Continuum.{IsBefore};
+ghost use Rattle.ketama.specs.Owner.{IsLeastIfAny, IsUsablePair, IsOwner};
 
 /// A point of a ring, and the number of the host that it belongs to.
 pub type Pair = (u32, usize);
 
 /// The usable host that owns the point, by the ring's pairs.
 pub(crate) fn owner(pairs: &[Pair], point: u32, usable: &[bool]) -> Option<usize>
-    requires { All (λ pair. pair.1 < length usable.now) pairs.now }
+    requires in_range { All (λ pair. pair.1 < length usable.now) pairs.now }
+    requires in_order { AllPairs IsBefore pairs.now }
     ensures { IsOwner pairs.now point usable.now result }
 {
-    if let Some((_, host)) = least_from(pairs, point, usable) {
+    let from = count_below(pairs, point);
+    if let Some((_, host)) = first_usable(&pairs[from..], usable) {
         return Some(host);
     }
 
     // Past the last point the ring goes on with its first.
-    let (_, host) = least_from(pairs, 0, usable)?;
+    let (_, host) = first_usable(pairs, usable)?;
     Some(host)
 }
 
-// The least pair, by point and then host, of those at `from` or above whose host is usable.
-fn least_from(pairs: &[Pair], from: u32, usable: &[bool]) -> Option<Pair>
-    requires { All (λ pair. pair.1 < length usable.now) pairs.now }
-    ensures { IsLeastIfAny (IsUsablePairFrom pairs.now from usable.now) result }
+// How many of the pairs are below the point: they are the first ones. Each turn halves those of which
+// it isn't known. No jump depends on a point, since none could be foreseen.
+fn count_below(pairs: &[Pair], point: u32) -> usize
+    requires { AllPairs IsBefore pairs.now }
+    ensures bound { result ≤ length pairs.now }
+    ensures parted { IsPartitionPoint (λ pair. pair.0 < point) (λ pair. point ≤ pair.0) pairs.now
+        result }
 {
-    let mut least = None;
-    for &(at, host) in pairs {
-        if from <= at && usable[host] {
-            least = Some(lesser((at, host), least));
-        }
+    let mut below = 0;
+    let mut unknown = pairs.len();
+    while unknown > 0 {
+        let half = unknown - unknown / 2;
+        let all_below = pairs[below + half - 1].0 < point;
+        below = one_of(below, below + half, all_below);
+        unknown -= half;
     }
-    least
+    below
 }
 
-fn lesser(pair: Pair, other: Option<Pair>) -> Pair
-    ensures { result ≡ lesser pair other }
+// The second number if it is wanted, else the first, without a jump.
+fn one_of(first: usize, second: usize, wants_second: bool) -> usize
+    ensures { result ≡ if wants_second then second else first }
 {
-    match other {
-        Some(other) if other.0 < pair.0 || (other.0 == pair.0 && other.1 < pair.1) => other,
-        _ => pair,
+    [first, second][usize::from(wants_second)]
+}
+
+// The first of some pairs, in their order, whose host is usable.
+fn first_usable(pairs: &[Pair], usable: &[bool]) -> Option<Pair>
+    requires in_range { All (λ pair. pair.1 < length usable.now) pairs.now }
+    requires in_order { AllPairs IsBefore pairs.now }
+    ensures { IsLeastIfAny (IsUsablePair pairs.now usable.now) result }
+{
+    for &(at, host) in pairs {
+        if usable[host] {
+            return Some((at, host));
+        }
     }
+    None
 }

@@ -1,16 +1,15 @@
-ghost use Rattle.std.specs.Prelude.{◌≡◌, ◌^◌, ◌++◌, ◌<◌, IfOk, OnOk, length};
+ghost use Rattle.std.specs.Prelude.{◌≡◌, ◌↔◌, ◌^◌, ◌++◌, ◌<◌, ℕ, IfOk, OnOk, AllPairs, Contains, length, sum};
 ghost use Rattle.md5.specs.Md5.{md5};
 ghost use Rattle.ketama.specs.Point.{point_in};
-ghost use Rattle.ketama.specs.Ketama.{label_of, digest_pairs, host_pairs, ring_pairs};
+ghost use Rattle.ketama.specs.Continuum.{IsBefore};
+ghost use Rattle.ketama.specs.Ketama.{IsKetamaPair, label_of, digest_pairs, host_pairs, ring_pairs};
 
 use crate::name::HostName;
 use crate::owner::Pair;
+use crate::share::sum;
 use itoa::Buffer;
 use md5::{DIGEST_LEN, Digest, Md5};
 use std::alloc::{AllocError, Global};
-
-/// How many digests each host has, where all weigh the same.
-pub const DIGESTS_OF_HOST: u32 = 40;
 
 /// How many points each digest gives.
 const POINTS_OF_DIGEST: usize = 4;
@@ -29,23 +28,60 @@ pub(crate) fn point_at(digest: &[u8; DIGEST_LEN], index: usize) -> u32
     ])
 }
 
-/// The points of all hosts, with the numbers of their hosts.
-pub(crate) fn pairs_of(alloc: Global, names: &[HostName]) -> Result<Vec<Pair>, AllocError>
-    requires { length names.now < 2 ^ 32 }
-    ensures { IfOk result (λ pairs. pairs.items ≡ ring_pairs names.now (length names.now)) }
+/// The points of all hosts, which have so many digests each, with the numbers of their hosts: in
+/// ascending order, each once.
+pub(crate) fn pairs_of(
+    alloc: Global,
+    names: &[HostName],
+    counts: &[u32],
+) -> Result<Vec<Pair>, AllocError>
+    requires each { length counts.now ≡ length names.now }
+    requires few { sum counts.now < 2 ^ 32 }
+    ensures in_order { IfOk result (λ pairs. AllPairs IsBefore pairs.items) }
+    ensures members { IfOk result (λ pairs. (pair : ℕ × ℕ) → Contains pairs.items pair
+        ↔ IsKetamaPair names.now counts.now pair) }
 {
-    let per_host = DIGESTS_OF_HOST as usize * POINTS_OF_DIGEST;
-    let mut pairs = Vec::with_capacity(alloc, names.len() * per_host)?;
+    let mut pairs = unordered_pairs(alloc, names, counts)?;
+    put_in_order(&mut pairs);
+    Ok(pairs)
+}
+
+/// Puts pairs in ascending order, by point and then by host, each once.
+pub(crate) fn put_in_order(pairs: &mut Vec<Pair>)
+    ensures in_order { AllPairs IsBefore pairs.new.items }
+    ensures members { (pair : ℕ × ℕ) → Contains pairs.new.items pair ↔ Contains pairs.old.items pair }
+{
+    pairs.sort_unstable();
+    pairs.dedup();
+}
+
+// The same points host by host.
+fn unordered_pairs(
+    alloc: Global,
+    names: &[HostName],
+    counts: &[u32],
+) -> Result<Vec<Pair>, AllocError>
+    requires each { length counts.now ≡ length names.now }
+    requires few { sum counts.now < 2 ^ 32 }
+    ensures { IfOk result (λ pairs. pairs.items ≡ ring_pairs names.now counts.now (length names.now)) }
+{
+    let points = sum(counts) as usize * POINTS_OF_DIGEST;
+    let mut pairs = Vec::with_capacity(alloc, points)?;
     for (host, name) in names.iter().enumerate() {
-        push_host(&mut pairs, name.as_bytes(), host)?;
+        push_host(&mut pairs, name.as_bytes(), host, counts[host])?;
     }
     Ok(pairs)
 }
 
-fn push_host(pairs: &mut Vec<Pair>, name: &[u8], host: usize) -> Result<(), AllocError>
-    ensures { OnOk result (pairs.new.items ≡ pairs.old.items ++ host_pairs name.now host 40) }
+fn push_host(
+    pairs: &mut Vec<Pair>,
+    name: &[u8],
+    host: usize,
+    digests: u32,
+) -> Result<(), AllocError>
+    ensures { OnOk result (pairs.new.items ≡ pairs.old.items ++ host_pairs name.now host digests) }
 {
-    for k in 0..DIGESTS_OF_HOST {
+    for k in 0..digests {
         push_digest(pairs, &digest_of(name, k), host)?;
     }
     Ok(())

@@ -6,7 +6,8 @@ ghost use Rattle.ketama.specs.GivenPoints.{HasBadPoint, IsRingOfPoints};
 use crate::error::RingError;
 use crate::name::HostName;
 use crate::owner::{Pair, owner};
-use crate::point::{DIGESTS_OF_HOST, pairs_of};
+use crate::point::{pairs_of, put_in_order};
+use crate::share::{MAX_WEIGHT, digest_counts, sum};
 use rate_core::MAX_HOSTS;
 use std::alloc::Global;
 use std::marker::Model;
@@ -33,16 +34,19 @@ impl Model for Ring {
 }
 
 impl Ring {
-    /// The ring of libketama of the hosts with these names, which all weigh the same.
+    /// The ring of libketama of the hosts with these names and weights.
     ///
-    /// Host `h`, whose name is `s`, has 40 digests, the MD5 of the texts `s-0` to `s-39`. Each gives
-    /// four points of four bytes, the least significant first. A ring of no hosts has no points.
+    /// Of `n` hosts with weights of the sum `W` one of weight `w` has `40 * n * w / W` digests, rounded
+    /// down: 40 where all weigh the same. Digest `k`, from 0, of the host whose name is `s` is the MD5
+    /// of the text `s-k`, and gives four points of four bytes, the least significant first. A host
+    /// that weighs little beside the others may have no point, and counts among the hosts all the
+    /// same. A ring of no hosts has no points.
     ///
     /// Refused, and told in this order: `TooManyHosts` (303) with more than 64 names, `BadWeights`
-    /// (304) unless each name has a weight, each from 1 to 100 and all the same, `SameName` (302) if
-    /// two names are the same, and `NoMemory` (301).
+    /// (304) unless each name has a weight, each from 1 to 100, `SameName` (302) if two names are the
+    /// same, and `NoMemory` (301).
     pub fn build(alloc: Global, names: &[HostName], weights: &[u32]) -> Result<Ring, RingError>
-        ensures ok { IfOk result (IsKetamaRing names.now) }
+        ensures ok { IfOk result (IsKetamaRing names.now weights.now) }
 
         // The errors, and that there are no others.
         ensures too_many { IsErrOf result RingError.TooManyHosts ↔ (MAX_HOSTS < length names.now) }
@@ -63,10 +67,11 @@ impl Ring {
         if has_same_name(names) {
             return Err(RingError::SameName);
         }
-        let pairs = pairs_of(alloc, names)?;
+        let counts = digest_counts(alloc, weights)?;
+        let pairs = pairs_of(alloc, names, &counts)?;
         Ok(Ring {
             hosts: names.len(),
-            digests: DIGESTS_OF_HOST * names.len() as u32,
+            digests: sum(&counts),
             pairs,
         })
     }
@@ -95,7 +100,8 @@ impl Ring {
         if has_bad_point(hosts, points) {
             return Err(RingError::BadPoint);
         }
-        let pairs = Vec::from_slice(alloc, points)?;
+        let mut pairs = Vec::from_slice(alloc, points)?;
+        put_in_order(&mut pairs);
         Ok(Ring {
             hosts,
             digests: 0,
@@ -111,8 +117,8 @@ impl Ring {
         self.hosts
     }
 
-    /// From how many digests the ring was made: 40 for each host of `build`, and 0 after `of_points`.
-    /// Takes no memory.
+    /// From how many digests the ring was made: after `build` those of all its hosts, 40 a host at most,
+    /// and 0 after `of_points`. Takes no memory.
     pub fn digests(&self) -> u32
         ensures { result ≡ self.now.digests }
     {
@@ -136,10 +142,7 @@ impl Ring {
 fn are_weights(weights: &[u32], hosts: usize) -> bool
     ensures { IsTrue result ↔ AreWeights hosts weights.now }
 {
-    weights.len() == hosts
-        && weights
-            .iter()
-            .all(|w| (1..=100).contains(w) && *w == weights[0])
+    weights.len() == hosts && weights.iter().all(|w| (1..=MAX_WEIGHT).contains(w))
 }
 
 fn has_same_name(names: &[HostName]) -> bool

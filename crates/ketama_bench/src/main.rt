@@ -1,6 +1,6 @@
-//! Measures how many owners a second a ring tells.
+//! Measures how many owners a second a ring tells, and how long it takes to build one.
 //!
-//! `ketama_bench run` prints the rate on this machine for 3 and for 64 hosts. With no argument it
+//! `ketama_bench run` prints both on this machine for 3 and for 64 hosts. With no argument it
 //! prints how to run it, so that its output is always the same.
 #![tactic(auto)]
 
@@ -11,10 +11,13 @@ use ketama::{HostName, Ring, RingError};
 use std::alloc::Global;
 use std::env;
 use std::rt::Clock;
-use std::time::Instant;
+use std::time::{Duration, Instant};
 
 /// How many owners are asked for in one measurement.
-const ASKED: u32 = 200_000;
+const ASKED: u32 = 20_000_000;
+
+/// How many rings are built in one measurement.
+const BUILT: u64 = 20;
 
 fn main(rt: HostRuntime) -> Result<()> {
     let asked_to_run = env::args(&rt)?
@@ -25,23 +28,36 @@ fn main(rt: HostRuntime) -> Result<()> {
         return Ok(());
     }
     for hosts in [3, 64] {
-        let rate = owners_a_second(&rt, rt.alloc(), hosts)?;
-        println!(rt; "{hosts} hosts: {rate} owners a second")?;
+        let ring = ring_of(rt.alloc(), hosts)?;
+        let built = micros_to_build(&rt, rt.alloc(), hosts)?;
+        let rate = owners_a_second(&rt, rt.alloc(), &ring)?;
+        println!(rt; "{hosts} hosts: built in {built} microseconds, {rate} owners a second")?;
     }
     Ok(())
 }
 
-fn owners_a_second(rt: &impl Clock, alloc: Global, hosts: usize) -> Result<u64> {
-    let ring = ring_of(alloc, hosts)?;
+fn owners_a_second(rt: &impl Clock, alloc: Global, ring: &Ring) -> Result<u64> {
     let usable = vec![in alloc; true; ring.hosts()]?;
     let start = Instant::now(rt)?;
-    let owned = count_owned(&ring, &usable);
-    let elapsed = start.elapsed(rt)?;
-    let micros = elapsed
+    let owned = count_owned(ring, &usable);
+    let micros = micros(start.elapsed(rt)?);
+    Ok(u64::from(owned) * 1_000_000 / micros.max(1))
+}
+
+/// The mean over some rings of these hosts, in microseconds.
+fn micros_to_build(rt: &impl Clock, alloc: Global, hosts: usize) -> Result<u64> {
+    let start = Instant::now(rt)?;
+    for _ in 0..BUILT {
+        ring_of(alloc, hosts)?;
+    }
+    Ok(micros(start.elapsed(rt)?) / BUILT)
+}
+
+fn micros(elapsed: Duration) -> u64 {
+    elapsed
         .as_secs()
         .saturating_mul(1_000_000)
-        .saturating_add(u64::from(elapsed.subsec_micros()));
-    Ok(u64::from(owned) * 1_000_000 / micros.max(1))
+        .saturating_add(u64::from(elapsed.subsec_micros()))
 }
 
 /// How many of some points all over the ring have an owner.
@@ -51,7 +67,7 @@ fn count_owned(ring: &Ring, usable: &[bool]) -> u32
     let mut owned = 0u32;
     let mut point = 0u32;
     for _ in 0..ASKED {
-        point = point.wrapping_add(2_654_435_761);
+        point = point.wrapping_mul(1_664_525).wrapping_add(1_013_904_223);
         if ring.owner(point, usable).is_some() {
             owned = owned.saturating_add(1);
         }

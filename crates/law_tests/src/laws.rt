@@ -35,6 +35,9 @@ fn laws_of_the_ring() {
     ketama::laws::others_keep_their_points();
     ketama::laws::first_choice_stands();
     ketama::laws::owners_go_by_members();
+    ketama::laws::equal_weights_give_forty();
+    ketama::laws::digests_are_few();
+    ketama::laws::heaviest_has_forty();
 }
 
 #[test]

@@ -2,19 +2,46 @@
 #![tactic(auto)]
 
 use command_line::{Asked, Refused};
+use proxy_config::{ConfigError, check_line};
 use proxy_run::{Ending, local_run};
 use std::process::ExitCode;
 use std::rt::Runtime;
-use std::{env, io};
+use std::{env, fs, io};
 
 // The status of a command line that asks for nothing that can be done.
 const BAD_COMMAND_LINE: u8 = 2;
+
+// The status of settings that have a fault.
+const BAD_SETTINGS: u8 = 3;
 
 // Serves the one client on standard input and output, and gives the status.
 fn run_local<R: Runtime + AllocGlobal>(rt: &R) -> u8 {
     match local_run(rt.alloc(), &mut rt.reader(), &mut io::writer(rt)) {
         Ok(()) => 0,
         Err(ending) => ended(rt, ending),
+    }
+}
+
+// Tells what a settings file says, or its first fault, and gives the status.
+fn run_check<R: Runtime + AllocGlobal>(rt: &R, config: &str) -> u8 {
+    match checked(rt, config) {
+        Ok(line) => match print!(rt; "{line}") {
+            Ok(()) => 0,
+            Err(_) => ended(rt, Ending::Socket),
+        },
+        Err(ConfigError::Memory) => ended(rt, Ending::Memory),
+        Err(fault) => {
+            let _ = eprintln!(rt; "{fault}");
+            BAD_SETTINGS
+        }
+    }
+}
+
+fn checked<R: Runtime + AllocGlobal>(rt: &R, config: &str) -> Result<String, ConfigError> {
+    match fs::read(rt, config) {
+        Ok(bytes) => check_line(rt.alloc(), bytes.as_slice()),
+        Err(error) if error.kind() == io::ErrorKind::OutOfMemory => Err(ConfigError::Memory),
+        Err(_) => Err(ConfigError::Fault("file")),
     }
 }
 
@@ -34,6 +61,7 @@ fn run<R: Runtime + AllocGlobal>(rt: &R) -> u8 {
     };
     match command_line::read(rt.alloc(), words.as_slice()) {
         Ok(Asked::Local) => run_local(rt),
+        Ok(Asked::Check { config }) => run_check(rt, config.as_str()),
         Err(Refused::Memory) => ended(rt, Ending::Memory),
         Err(Refused::Told(told)) => match told.print(rt) {
             Ok(()) if told.is_help() => 0,

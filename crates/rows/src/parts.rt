@@ -2,6 +2,7 @@
 
 mod answers;
 mod ejection;
+mod files;
 mod joins;
 mod journal;
 mod marks;
@@ -50,6 +51,8 @@ pub enum Part {
     Rates,
     /// Outlier detection.
     Ejector(EjectorSubject),
+    /// Settings files.
+    Files,
     /// The texts of refusals.
     Messages,
 }
@@ -68,6 +71,7 @@ impl Part {
             "ring" => Ok(Part::Ring(RingSubject::open())),
             "rates" => Ok(Part::Rates),
             "ejector" => Ok(Part::Ejector(EjectorSubject::open())),
+            "settings" => Ok(Part::Files),
             "messages" => Ok(Part::Messages),
             _ => bail!("no subject is named {name:?}"),
         }
@@ -86,6 +90,7 @@ impl Part {
             Part::Ring(ring) => ring.act(alloc, line),
             Part::Rates => rates::act(alloc, line),
             Part::Ejector(ejector) => ejector.act(alloc, line),
+            Part::Files => files::act(alloc, line),
             Part::Messages => messages::act(alloc, line),
         }
     }

@@ -82,11 +82,17 @@ impl Proxies {
                 run_each(alloc, number(seeds)?, number(events)?)
             }
             "refusals" => all_refusals(alloc),
-            "hand_over" => self.hand_over(alloc, rest),
+"hand_over" => self.hand_over(alloc, rest),
             "other" => self.turn_to_other(alloc),
-            "hosts" | "epoch" | "is_out" | "in_panic" | "journal" | "pass_of" => {
-                self.question(alloc, line)
-            }
+            "hosts"
+            | "epoch"
+            | "is_out"
+            | "in_panic"
+            | "journal"
+            | "pass_of"
+            | "counts"
+            | "twice"
+            | "counts_of" => { self.question(alloc, line) }
             _ => self.event(alloc, line),
         }
     }

@@ -3,7 +3,8 @@ use command_line::{Asked, Refused, read};
 use std::alloc::Global;
 use std::test::Fail;
 
-// What the words ask for: 0 to serve, 1 for help, 2 for nothing that can be done, 6 where memory was refused.
+// What the words ask for: 0 to serve on the standard streams, 1 for help, 2 for nothing that can be done, 3 to check settings,
+// 6 where memory was refused.
 fn asked(alloc: Global, words: &[&str]) -> Result<u8, Fail> {
     let mut owned = Vec::new(alloc);
     for word in words {
@@ -11,6 +12,7 @@ fn asked(alloc: Global, words: &[&str]) -> Result<u8, Fail> {
     }
     match read(alloc, &owned) {
         Ok(Asked::Local) => Ok(0),
+        Ok(Asked::Check { .. }) => Ok(3),
         Err(Refused::Told(told)) if told.is_help() => Ok(1),
         Err(Refused::Told(_)) => Ok(2),
         Err(Refused::Memory) => Ok(6),
@@ -19,13 +21,17 @@ fn asked(alloc: Global, words: &[&str]) -> Result<u8, Fail> {
 
 #[test]
 fn command_lines_are_read(rt: HostRuntime) -> Result<(), Fail> {
-    let rows: [(&[&str], u8); 6] = [
+    let rows: [(&[&str], u8); 10] = [
         (&["redproxy", "local"], 0),
         (&["redproxy", "--help"], 1),
         (&["redproxy", "help", "local"], 1),
         (&["redproxy"], 2),
         (&["redproxy", "serve"], 2),
         (&["redproxy", "local", "x"], 2),
+        (&["redproxy", "check", "--config", "a"], 3),
+        (&["redproxy", "check"], 2),
+        (&["redproxy", "check", "--config"], 2),
+        (&["redproxy", "check", "a"], 2),
     ];
     for (words, expected) in rows {
         assert_eq!(rt; asked(rt.alloc(), words)?, expected);

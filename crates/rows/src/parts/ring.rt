@@ -2,7 +2,7 @@
 
 use super::answers::{refusal_words, shown};
 use crate::again::again;
-use crate::proxies::setting::points_of;
+use crate::proxies::setting::{numbered_ring, points_of, weights_of};
 use crate::text::{first_word, number, put_escaped, word_bytes};
 use anyhow::{Result, bail};
 use ketama::{HostName, Ring, RingError, point_of_key};
@@ -31,7 +31,7 @@ impl RingSubject {
             "tagged" => point_text(alloc, rest, true),
             "of_points" => self.keep(alloc, again!(ring_of_points(alloc, rest))?),
             "build" => self.keep(alloc, again!(built_ring(alloc, rest))?),
-            "many" => self.keep(alloc, again!(numbered_ring(alloc, rest))?),
+            "many" => self.keep(alloc, again!(equal_ring(alloc, rest))?),
             "owner" => self.owner(alloc, rest),
             "key" => self.key(alloc, rest),
             _ => bail!("a ring takes no action {verb:?}"),
@@ -131,25 +131,11 @@ fn built_ring(alloc: Global, words: &str) -> Result<Result<Ring, RingError>> {
     with_memory(Ring::build(alloc, names.as_slice(), weights.as_slice()))
 }
 
-fn weights_of(alloc: Global, numbers: &str) -> Result<Vec<u32>> {
-    let mut weights = Vec::new(alloc);
-    for word in numbers.split(',').filter(|word| *word != "none") {
-        weights.push(number(word)?)?;
-    }
-    Ok(weights)
-}
-
 // Hosts `host-0`, `host-1` and so on, all of one weight.
-fn numbered_ring(alloc: Global, words: &str) -> Result<Result<Ring, RingError>> {
+fn equal_ring(alloc: Global, words: &str) -> Result<Result<Ring, RingError>> {
     let (hosts, weight) = first_word(words);
-    let hosts: usize = number(hosts)?;
-    let mut names = Vec::new(alloc);
-    for host in 0..hosts {
-        let name = format!(in alloc; "host-{host}")?;
-        names.push(HostName::read(alloc, name.as_bytes())?)?;
-    }
-    let weights = vec![in alloc; number(weight)?; hosts]?;
-    with_memory(Ring::build(alloc, names.as_slice(), weights.as_slice()))
+    let weights = vec![in alloc; number(weight)?; number(hosts)?]?;
+    with_memory(numbered_ring(alloc, weights.as_slice()))
 }
 
 // Want of memory is a failure, so that the call is made again.

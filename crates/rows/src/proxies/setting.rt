@@ -2,7 +2,7 @@
 
 use crate::text::number;
 use anyhow::{Result, bail};
-use ketama::Ring;
+use ketama::{HostName, Ring, RingError};
 use plain_history::Reference;
 use proxy_core::{Core, Handover, Refusal, Settings};
 use std::alloc::Global;
@@ -10,11 +10,12 @@ use std::alloc::Global;
 // On this ring the key `abc` belongs to host 0, `a` to host 1 and the empty key to host 2.
 const POINTS: &[(u32, usize)] = &[(2_555_380_112, 0), (3_111_502_092, 1), (3_649_838_548, 2)];
 
-/// The ring's hosts and points, and the settings.
+/// What the ring is made from, and the settings.
 #[derive(Drop)]
 pub struct Setting {
     hosts: usize,
     points: Vec<(u32, usize)>,
+    weights: Option<Vec<u32>>,
     settings: Settings,
 }
 
@@ -24,12 +25,14 @@ impl Setting {
         Ok(Setting {
             hosts: 3,
             points: POINTS.to_vec(alloc)?,
+            weights: None,
             settings,
         })
     }
 
     /// The setting of a row's arguments, of which each is `tags`, `hosts=N`, `points=POINT:HOST,..` (`points=none` for
-    /// none) or `KEY=N` with a key of the settings. What isn't given is as in `of` and as in the default settings.
+    /// none), `weights=N,..` (hosts `host-0`, `host-1` and so on of these weights, in place of points) or `KEY=N` with
+    /// a key of the settings. What isn't given is as in `of` and as in the default settings.
     pub(crate) fn read(alloc: Global, arguments: &str) -> Result<Setting> {
         let mut setting = Setting::of(alloc, Settings::default())?;
         for argument in arguments.split_whitespace() {
@@ -42,6 +45,7 @@ impl Setting {
         match argument.split_once('=') {
             Some(("hosts", hosts)) => self.hosts = number(hosts)?,
             Some(("points", points)) => self.points = points_of(alloc, points)?,
+            Some(("weights", weights)) => self.weights = Some(weights_of(alloc, weights)?),
             Some((key, text)) => set_field(&mut self.settings, key, number(text)?)?,
             None if argument == "tags" => self.settings.tags = true,
             None => bail!("{argument:?} is no argument"),
@@ -87,11 +91,33 @@ impl Setting {
 
     // The script's rings fit their hosts, so that only memory can be missing.
     fn ring(&self, alloc: Global) -> Result<Ring, Refusal> {
-        match Ring::of_points(alloc, self.hosts, self.points.as_slice()) {
-            Ok(ring) => Ok(ring),
-            Err(_) => Err(Refusal::NoMemory),
-        }
+        let ring = match &self.weights {
+            Some(weights) => numbered_ring(alloc, weights.as_slice()),
+            None => Ring::of_points(alloc, self.hosts, self.points.as_slice()),
+        };
+        ring.map_err(|_| Refusal::NoMemory)
     }
+}
+
+/// The ring of hosts `host-0`, `host-1` and so on, of these weights.
+pub(crate) fn numbered_ring(alloc: Global, weights: &[u32]) -> Result<Ring, RingError> {
+    let mut names = Vec::with_capacity(alloc, weights.len())?;
+    for host in 0..weights.len() {
+        let name = format!(in alloc; "host-{host}")?;
+        names
+            .push(HostName::read(alloc, name.as_bytes())?)
+            .map_err(|_| RingError::NoMemory)?;
+    }
+    Ring::build(alloc, names.as_slice(), weights)
+}
+
+/// The weights of a list `N,..`, or of `none`.
+pub(crate) fn weights_of(alloc: Global, text: &str) -> Result<Vec<u32>> {
+    let mut weights = Vec::new(alloc);
+    for word in text.split(',').filter(|word| *word != "none") {
+        weights.push(number(word)?)?;
+    }
+    Ok(weights)
 }
 
 /// The points of a list `POINT:HOST,..`, or of `none`.

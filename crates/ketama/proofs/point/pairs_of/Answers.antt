@@ -1,16 +1,11 @@
-use Rattle.std.proofs.Common.{◌++◌, [], ap, sym, ◌∙◌}
-use Rattle.std.proofs.lemmas.List.{get_or_read}
-use Rattle.ketama.specs.Ketama.{host_pairs}
-use Rattle.ketama.proofs.Pairs.{ring_pairs-none, ring_pairs-more}
+use Rattle.std.proofs.Common.{sym, subst, Contains}
+use Rattle.ketama.proofs.Pairs.{ring_pairs-IsKetamaPair}
 use Rattle.ketama.proofs.point.pairs_of.Goals as goal
 
-pub loop-host-init : goal.loop-host-init
-loop-host-init c = c.in_ok-pairs.ensures.items ∙ sym (ring_pairs-none c.args.names.now)
-
-pub loop-host-preserved : goal.loop-host-preserved
-loop-host-preserved c =
-    let names = c.args.names.now in
-    let host = c.loop-host.host in
-    let name = get_or_read names host c.index-names-host.result c.loop-host-test.true c.index-names-host.is [] in
-    rw (ring_pairs-more names host, ← c.loop-host.invariant)
-    (c.in_ok-push_host.ensures ∙ ap (λ name. c.loop-host.pairs.items ++ host_pairs name host 40) (c.as_bytes.ensures.value ∙ name))
+pub returns-clause-members : goal.returns-clause-members
+returns-clause-members c pair =
+    let there = ring_pairs-IsKetamaPair c.args.names.now c.args.counts.now pair in
+    let same = c.put_in_order.ensures.members pair in (
+      (λ h. there.0 (subst (λ pairs. Contains pairs pair) c.in_ok-pairs.ensures (same.0 h))),
+      λ h. same.1 (subst (λ pairs. Contains pairs pair) (sym c.in_ok-pairs.ensures) (there.1 h)),
+    )

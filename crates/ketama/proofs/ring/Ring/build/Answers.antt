@@ -1,16 +1,21 @@
-use Rattle.std.proofs.Common.{◌<◌, ℕ, All, length, sym, subst, refl, arith}
-use Rattle.ketama.proofs.Pairs.{ring_pairs-IsKetamaPair, ring_pairs-in_range}
+use Rattle.std.proofs.Common.{ℕ, ◌↔◌, Contains, refl, ◌∙◌, ap, subst, arith}
+use Rattle.std.specs.List.{sum}
+use Rattle.ketama.specs.Ketama.{IsKetamaPair}
+use Rattle.ketama.proofs.Pairs.{IsKetamaPair-in_range}
 use Rattle.ketama.proofs.ring.Ring.build.Goals as goal
 
 pub invariant_of-result : goal.invariant_of-result
-invariant_of-result c =
-    let names = c.args.names.now in
-    record {
-      few = omega arith;
-      in_range = subst (λ pairs. All (λ (pair : ℕ × ℕ). pair.1 < length names) pairs) (sym c.in_ok-pairs.ensures) (ring_pairs-in_range names (length names));
-    }
+invariant_of-result c = record {
+  few = omega arith;
+  in_range = IsKetamaPair-in_range c.args.names.now _ _ c.in_ok-pairs.ensures.members;
+  in_order = c.in_ok-pairs.ensures.in_order;
+}
 
 pub returns-clause-ok : goal.returns-clause-ok
 returns-clause-ok c =
-    let names = c.args.names.now in
-    record { hosts = refl; digests = refl; pairs = λ pair. rw c.in_ok-pairs.ensures (ring_pairs-IsKetamaPair names pair) }
+    let counts = c.deref.ensures.value ∙ c.in_ok-counts.ensures.value in
+    record {
+      hosts = refl;
+      digests = c.sum.ensures ∙ ap (λ xs. sum xs) (c.deref-2.ensures.value ∙ c.in_ok-counts.ensures.value);
+      pairs = subst (λ counts. (pair : ℕ × ℕ) → Contains c.in_ok-pairs.pairs.items pair ↔ IsKetamaPair c.args.names.now counts pair) counts c.in_ok-pairs.ensures.members;
+    }

@@ -1,0 +1,35 @@
+ghost use Rattle.std.specs.Prelude.{◌≡◌, ◌<◌, ◌≤◌, ◌^◌, All, IfOk, length, sum};
+ghost use Rattle.ketama.specs.Ketama.{AreWeights, digest_counts};
+
+use rate_core::MAX_HOSTS;
+use std::alloc::{AllocError, Global};
+
+/// How many digests a ring has for each of its hosts, before they are shared out by weight.
+pub const DIGESTS_OF_HOST: u32 = 40;
+
+/// The greatest weight of a host.
+pub const MAX_WEIGHT: u32 = 100;
+
+/// How many digests each host has, by the weights of all.
+pub(crate) fn digest_counts(alloc: Global, weights: &[u32]) -> Result<Vec<u32>, AllocError>
+    requires few { length weights.now ≤ MAX_HOSTS }
+    requires weights { AreWeights (length weights.now) weights.now }
+    ensures value { IfOk result (λ counts. counts.items ≡ digest_counts weights.now) }
+    ensures few { IfOk result (λ counts. sum counts.items < 2 ^ 32) }
+{
+    let shared = DIGESTS_OF_HOST * weights.len() as u32;
+    let total = sum(weights);
+    let mut counts = Vec::with_capacity(alloc, weights.len())?;
+    for weight in weights {
+        counts.push(shared * weight / total)?;
+    }
+    Ok(counts)
+}
+
+/// The sum of some numbers.
+pub(crate) fn sum(numbers: &[u32]) -> u32
+    requires { sum numbers.now < 2 ^ 32 }
+    ensures { result ≡ sum numbers.now }
+{
+    numbers.iter().sum()
+}

@@ -1,0 +1,6 @@
+mod Elements
+mod Entries
+mod KnownNames
+mod FirstFaults
+mod RingParts
+mod Objects

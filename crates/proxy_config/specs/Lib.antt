@@ -1,0 +1,6 @@
+pub mod Told
+pub mod Values
+pub mod Table
+pub mod RingParts
+pub mod File
+pub mod Line

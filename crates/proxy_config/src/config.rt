@@ -1,0 +1,179 @@
+ghost use Rattle.std.specs.Prelude.{◌≡◌, IfOk, IfErr, map};
+ghost use Rattle.serde_json.specs.View.{view};
+ghost use Rattle.ketama.specs.Ketama.{IsKetamaRing};
+ghost use Rattle.proxy_config.specs.File.{AllFit, IsSettings, IsRefusal, IsFaultOf, MemoryOr};
+ghost use Rattle.proxy_config.specs.RingParts.{AreRingParts};
+ghost use Rattle.proxy_config.specs.Table.{keys};
+ghost use Rattle.proxy_config.specs.Values.{values_of};
+
+use crate::entry::{address, flag, number};
+use crate::error::ConfigError;
+use crate::hosts::hosts;
+use crate::keys::has_unknown_key;
+use crate::weights::weights;
+use ketama::{HostName, Ring, RingError};
+use serde_json::Value;
+use std::alloc::Global;
+use std::net::SocketAddr;
+
+/// A host to which commands are sent.
+#[derive(Debug, Drop)]
+pub struct Host {
+    /// Its name on the ring: the text of its address, as the file has it.
+    pub name: HostName,
+
+    /// Where it listens.
+    pub address: SocketAddr,
+}
+
+/// The settings, under the names that their keys have in the file.
+#[derive(Debug, Drop)]
+pub struct Config {
+    /// Where clients are listened for. By default 127.0.0.1:6379.
+    pub listen: SocketAddr,
+
+    /// 1 to 64 hosts, no two of which have the same name. There is no default.
+    pub hosts: Vec<Host>,
+
+    /// The weight of each host on the ring, from 1 to 100. By default 1 for each.
+    pub weights: Vec<u32>,
+
+    /// How many threads serve, 1 to 64. By default 4.
+    pub workers: u32,
+
+    /// After how long a host's reply is late, 1 to 600,000 milliseconds. By default 5,000.
+    pub reply_ms: u32,
+
+    /// Whether keys are hashed by their hash tags. By default they aren't.
+    pub tags: bool,
+
+    /// The time between two sweeps of outlier detection, 1 to 3,600,000 milliseconds. By default
+    /// 10,000.
+    pub interval_ms: u32,
+
+    /// How long a first ejection lasts, 1 to 3,600,000 milliseconds. By default 30,000.
+    pub base_ms: u32,
+
+    /// How long an ejection lasts at most, `base_ms` to 86,400,000 milliseconds. By default 300,000,
+    /// or `base_ms` where that is more.
+    pub max_ms: u32,
+
+    /// Up to which share of the hosts may be ejected, 0 to 100 percent; one host may always be. By
+    /// default 10.
+    pub max_percent: u32,
+
+    /// How many bad results in a row trip a host, 0 to 1,000,000, where 0 turns this off. By default
+    /// 5.
+    pub consecutive: u32,
+
+    /// From how many hosts with a success rate on rates are compared, 1 to 65, where more than there
+    /// are hosts turns this off. By default 5.
+    pub success_hosts: u32,
+
+    /// From how many results in an interval on a host has a success rate, 1 to 1,000,000. By default
+    /// 100.
+    pub request_volume: u32,
+
+    /// How far below the mean a rate is an outlier, in thousandths of the standard deviation, 0 to
+    /// 100,000. By default 1,900.
+    pub factor: u32,
+
+    /// Below which share of available hosts all are used, 0 to 100 percent, where 0 turns this off.
+    /// By default 50.
+    pub panic_percent: u32,
+}
+
+impl Config {
+    /// The settings that the bytes of a file stand for.
+    ///
+    /// Refused with `Fault` and the words that tell the fault: `json` if the bytes are no JSON object,
+    /// else `unknown key` if it gives a key that the table hasn't, else the first key of the table,
+    /// in its order, whose value is out of its range or of another kind. Of a key that stands twice
+    /// the last counts. Refused with `Memory`, in place of any answer, where memory is refused.
+    pub fn read(alloc: Global, bytes: &[u8]) -> Result<Config, ConfigError>
+        ensures ok { IfOk result (λ config. IsSettings bytes.now (values_of config)) }
+        ensures refused { IfErr result (λ e. IsRefusal bytes.now e) }
+    {
+        let file = match Value::from_slice(alloc, bytes) {
+            Ok(file) => file,
+            Err(error) if error.is_memory() => return Err(ConfigError::Memory),
+            Err(_) => return Err(ConfigError::Fault("json")),
+        };
+        let Some(members) = file.as_object() else {
+            return Err(ConfigError::Fault("json"));
+        };
+        if has_unknown_key(members) {
+            return Err(ConfigError::Fault("unknown key"));
+        }
+        Config::from_object(alloc, &file)
+    }
+
+    /// The ring of the hosts, by their names and weights: those of settings that were read can
+    /// always have one. Refused with `Memory` alone.
+    pub fn ring(&self, alloc: Global) -> Result<Ring, ConfigError>
+        requires { AreRingParts self.now.hosts.items self.now.weights.items }
+        ensures ok { IfOk result
+            (IsKetamaRing (map (λ h. h.name) self.now.hosts.items) self.now.weights.items) }
+        ensures memory { IfErr result (λ e. e ≡ ConfigError.Memory) }
+    {
+        let mut names = Vec::with_capacity(alloc, self.hosts.len())?;
+        for host in &self.hosts {
+            names.push(copy_of(alloc, &host.name)?)?;
+        }
+        match Ring::build(alloc, &names, &self.weights) {
+            Ok(ring) => Ok(ring),
+            Err(RingError::NoMemory) => Err(ConfigError::Memory),
+            Err(_) => unreachable!(),
+        }
+    }
+
+    // The settings that a JSON object gives: this is the table, line by line.
+    fn from_object(alloc: Global, file: &Value) -> Result<Config, ConfigError>
+        ensures ok { IfOk result (λ config. AllFit keys (view file.now) (values_of config)) }
+        ensures refused { IfErr result (λ e. MemoryOr (IsFaultOf (view file.now)) e) }
+    {
+        let listen = address(file, "listen", "127.0.0.1:6379")?;
+        let hosts = hosts(alloc, file)?;
+        let weights = weights(alloc, file, &hosts)?;
+        let workers = number(file, "workers", 1, 64, 4)?;
+        let reply_ms = number(file, "reply_ms", 1, 600_000, 5_000)?;
+        let tags = flag(file, "tags", false)?;
+        let interval_ms = number(file, "interval_ms", 1, 3_600_000, 10_000)?;
+        let base_ms = number(file, "base_ms", 1, 3_600_000, 30_000)?;
+        let max_ms = number(file, "max_ms", base_ms, 86_400_000, base_ms.max(300_000))?;
+        let max_percent = number(file, "max_percent", 0, 100, 10)?;
+        let consecutive = number(file, "consecutive", 0, 1_000_000, 5)?;
+        let success_hosts = number(file, "success_hosts", 1, 65, 5)?;
+        let request_volume = number(file, "request_volume", 1, 1_000_000, 100)?;
+        let factor = number(file, "factor", 0, 100_000, 1_900)?;
+        let panic_percent = number(file, "panic_percent", 0, 100, 50)?;
+        Ok(Config {
+            listen,
+            hosts,
+            weights,
+            workers,
+            reply_ms,
+            tags,
+            interval_ms,
+            base_ms,
+            max_ms,
+            max_percent,
+            consecutive,
+            success_hosts,
+            request_volume,
+            factor,
+            panic_percent,
+        })
+    }
+}
+
+fn copy_of(alloc: Global, name: &HostName) -> Result<HostName, ConfigError>
+    ensures ok { IfOk result (λ copy. copy ≡ name.now) }
+    ensures memory { IfErr result (λ e. e ≡ ConfigError.Memory) }
+{
+    match HostName::read(alloc, name.as_bytes()) {
+        Ok(copy) => Ok(copy),
+        Err(RingError::NoMemory) => Err(ConfigError::Memory),
+        Err(_) => unreachable!(),
+    }
+}

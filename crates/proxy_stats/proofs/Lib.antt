@@ -1,0 +1,3 @@
+mod Small
+mod Writes
+mod Growing

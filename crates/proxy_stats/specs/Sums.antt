@@ -1,0 +1,85 @@
+-- Counts as sums over the steps of a journal.
+use Rattle.std.specs.Prelude.{◌≡◌, ℕ, ◌+◌, ◌-◌, ◌^◌, ◌<◌, ◌==◌, min, if◌then◌else◌, List, sum_by, slice_index, slice_index_or}
+use Rattle.proxy_history.specs.History.{Step}
+use Rattle.proxy_stats.specs.declared.tally.Counts.{Counts}
+use Rattle.proxy_stats.specs.declared.tally.HostCounts.{HostCounts}
+use Rattle.proxy_stats.specs.Amounts.{arrivals, handings, takings, replies, failures, lost_parts, ejected_hosts, kept_hosts, hostless_parts, busy_parts, own_answers, of_host}
+
+-- the counts of host h, each the sum over the steps, as `told` tells it
+pub record AreHostCountsBy (told : ℕ → ℕ) (steps : List Step) (h : ℕ) (c : HostCounts) : Type 0 where
+  pub sent : c.sent ≡ told (sum_by (of_host h takings) steps)
+  pub answered : c.answered ≡ told (sum_by (of_host h replies) steps)
+  pub faults : c.faults ≡ told (sum_by (of_host h failures) steps)
+  pub lost : c.lost ≡ told (sum_by (of_host h lost_parts) steps)
+
+-- the counts, each the sum over the steps, as `told` tells it
+pub record AreCountsBy (told : ℕ → ℕ) (steps : List Step) (c : Counts) : Type 0 where
+  pub accepted : c.accepted ≡ told (sum_by arrivals steps)
+  pub handed : c.handed ≡ told (sum_by handings steps)
+  pub sent : c.sent ≡ told (sum_by takings steps)
+  pub answered : c.answered ≡ told (sum_by replies steps)
+  pub lost : c.lost ≡ told (sum_by lost_parts steps)
+  pub ejections : c.ejections ≡ told (sum_by ejected_hosts steps)
+  pub kept : c.kept ≡ told (sum_by kept_hosts steps)
+  pub no_host : c.no_host ≡ told (sum_by hostless_parts steps)
+  pub busy : c.busy ≡ told (sum_by busy_parts steps)
+  pub local : (place : ℕ) → place < 7 → slice_index c.local place ≡ told (sum_by (own_answers place) steps)
+  pub hosts : (h : ℕ) (d : HostCounts) → h < 64 → AreHostCountsBy told steps h (slice_index_or c.hosts h d)
+
+-- each count is the sum over the steps
+abbrev pub AreCounts : List Step → Counts → Type 0
+AreCounts = AreCountsBy (λ n. n)
+
+-- the number, or the greatest `u64` where it is more
+abbrev pub capped : ℕ → ℕ
+capped n = min n (2 ^ 64 - 1)
+
+-- the counts of two together
+pub record AreHostsJoined (a b c : HostCounts) : Type 0 where
+  pub sent : c.sent ≡ capped (a.sent + b.sent)
+  pub answered : c.answered ≡ capped (a.answered + b.answered)
+  pub faults : c.faults ≡ capped (a.faults + b.faults)
+  pub lost : c.lost ≡ capped (a.lost + b.lost)
+
+pub record AreJoined (a b c : Counts) : Type 0 where
+  pub accepted : c.accepted ≡ capped (a.accepted + b.accepted)
+  pub handed : c.handed ≡ capped (a.handed + b.handed)
+  pub sent : c.sent ≡ capped (a.sent + b.sent)
+  pub answered : c.answered ≡ capped (a.answered + b.answered)
+  pub lost : c.lost ≡ capped (a.lost + b.lost)
+  pub ejections : c.ejections ≡ capped (a.ejections + b.ejections)
+  pub kept : c.kept ≡ capped (a.kept + b.kept)
+  pub no_host : c.no_host ≡ capped (a.no_host + b.no_host)
+  pub busy : c.busy ≡ capped (a.busy + b.busy)
+  pub local : (i : ℕ) → i < 7 → slice_index c.local i ≡ capped (slice_index a.local i + slice_index b.local i)
+  pub hosts : (h : ℕ) (d : HostCounts) → h < 64 → AreHostsJoined (slice_index_or a.hosts h d) (slice_index_or b.hosts h d) (slice_index_or c.hosts h d)
+
+-- ---- one step more
+
+-- each count is the sum over the steps, or the greatest `u64`
+abbrev pub AreCapped : List Step → Counts → Type 0
+AreCapped = AreCountsBy capped
+
+-- a count that stands in a list goes up by so much, as far as it can
+abbrev pub grown : ℕ → ℕ → ℕ
+grown n more = if more == 0 then n else capped (n + more)
+
+pub record AreHostsGrown (old : HostCounts) (h : ℕ) (step : Step) (new : HostCounts) : Type 0 where
+  pub sent : new.sent ≡ grown old.sent (of_host h takings step)
+  pub answered : new.answered ≡ grown old.answered (of_host h replies step)
+  pub faults : new.faults ≡ grown old.faults (of_host h failures step)
+  pub lost : new.lost ≡ grown old.lost (of_host h lost_parts step)
+
+-- the counts with one step more
+pub record AreGrown (old : Counts) (step : Step) (new : Counts) : Type 0 where
+  pub accepted : new.accepted ≡ capped (old.accepted + arrivals step)
+  pub handed : new.handed ≡ capped (old.handed + handings step)
+  pub sent : new.sent ≡ capped (old.sent + takings step)
+  pub answered : new.answered ≡ capped (old.answered + replies step)
+  pub lost : new.lost ≡ capped (old.lost + lost_parts step)
+  pub ejections : new.ejections ≡ capped (old.ejections + ejected_hosts step)
+  pub kept : new.kept ≡ capped (old.kept + kept_hosts step)
+  pub no_host : new.no_host ≡ capped (old.no_host + hostless_parts step)
+  pub busy : new.busy ≡ capped (old.busy + busy_parts step)
+  pub local : (place : ℕ) → place < 7 → slice_index new.local place ≡ grown (slice_index old.local place) (own_answers place step)
+  pub hosts : (h : ℕ) (d : HostCounts) → h < 64 → AreHostsGrown (slice_index_or old.hosts h d) h step (slice_index_or new.hosts h d)
