@@ -8,8 +8,11 @@
 
 mod command;
 mod error;
+mod head;
 mod laws;
+mod begun;
 mod parse;
+mod progress;
 mod reader;
 mod text;
 mod value;

@@ -1,9 +1,11 @@
 //! Reading a value from the front of bytes.
-ghost use Rattle.std.specs.Prelude.{◌≡◌, ◌≤◌, ◌^◌, pos, neg_ℤ, IfOk, []};
+ghost use Rattle.std.specs.Prelude.{◌≡◌, ◌≤◌, ◌^◌, pos, neg_ℤ, IfOk, [], Some};
 ghost use Rattle.resp_core.specs.Gives.{Gives};
+ghost use Rattle.resp_core.specs.Seen.{IsSeen};
+ghost use Rattle.resp_core.specs.Tree.{bulk};
 ghost use Rattle.resp_core.specs.declared.parse.Stop.TheVariants.{NoMemory};
 ghost use Rattle.resp_core.specs.Value.{tree_of};
-ghost use Rattle.resp_core.specs.Reading.{byte_at, end_at, null_end_at, digits_at, of_integer, text_at, integer_at, count_at, bulk_at, many_at, list_at, leaf_at, value_at};
+ghost use Rattle.resp_core.specs.Reading.{byte_at, end_at, null_end_at, digits_at, of_integer, text_at, integer_at, count_at, bulk_at, payload_at, many_at, list_at, leaf_at, value_at};
 
 use crate::error::Refusal;
 use crate::value::{Value, Values};
@@ -79,12 +81,12 @@ fn take_null_end(bytes: &[u8]) -> Result<&[u8], Stop<'_>>
 // many, a digit that makes the number too great, and one that does both.
 #[derive(Clone, Copy, Drop)]
 pub(crate) struct Digits {
-    limit: u64,
-    most: usize,
-    bad: Refusal,
-    full: Refusal,
-    over: Refusal,
-    both: Refusal,
+    pub(crate) limit: u64,
+    pub(crate) most: usize,
+    pub(crate) bad: Refusal,
+    pub(crate) full: Refusal,
+    pub(crate) over: Refusal,
+    pub(crate) both: Refusal,
 }
 
 // A number in digits, and its line end.
@@ -145,7 +147,7 @@ fn take_count(bytes: &[u8], limit: u64) -> Result<(Option<u64>, &[u8]), Stop<'_>
 }
 
 // The digits of a whole number.
-fn of_integer(limit: u64, most: usize) -> Digits
+pub(crate) fn of_integer(limit: u64, most: usize) -> Digits
     ensures { result ≡ of_integer limit most }
 {
     Digits {
@@ -159,7 +161,7 @@ fn of_integer(limit: u64, most: usize) -> Digits
 }
 
 // The number with a minus in front.
-fn negated(n: u64) -> i64
+pub(crate) fn negated(n: u64) -> i64
     requires { n ≤ 2 ^ 63 }
     ensures { result ≡ neg_ℤ (pos n) }
 {
@@ -201,6 +203,41 @@ fn take_text(bytes: &[u8]) -> Result<(&[u8], &[u8]), Stop<'_>>
         }
     }
     Err(Stop::Unfinished)
+}
+
+// The bytes of a line of which `seen` were looked at.
+#[tactic(auto, unfolding(crate::specs::Reading::text_at))]
+pub(crate) fn take_rest_of_text(bytes: &[u8], seen: usize) -> Result<(&[u8], &[u8]), Stop<'_>>
+    requires seen { IsSeen seen bytes.now }
+    ensures { Gives (λ x. x.0.now) (λ x. x.1.now) result (text_at [] bytes.now) }
+{
+    for i in seen..bytes.len() {
+        let byte = bytes[i];
+        if byte == b'\r' {
+            let rest = take_byte(&bytes[i + 1..], b'\n', Refusal::BadLineEnd)?;
+            return Ok((&bytes[..i], rest));
+        }
+        if byte == b'\n' {
+            return Err(Stop::Refused(Refusal::BadLineEnd, &bytes[i..]));
+        }
+        if i == MAX_LINE {
+            return Err(Stop::Refused(Refusal::TooLong, &bytes[i..]));
+        }
+    }
+    Err(Stop::Unfinished)
+}
+
+// The bytes of a payload, and its line end.
+#[tactic(auto, unfolding(crate::specs::Reading::payload_at, crate::specs::Reading::bytes_at))]
+pub(crate) fn take_payload(bytes: &[u8], n: u64) -> Result<(&[u8], &[u8]), Stop<'_>>
+    ensures { Gives (λ x. bulk x.0.now) (λ x. x.1.now) result (payload_at (Some n) bytes.now) }
+{
+    if (bytes.len() as u64) < n {
+        return Err(Stop::Unfinished);
+    }
+    let (payload, rest) = bytes.split_at(n as usize);
+    let rest = take_end(rest)?;
+    Ok((payload, rest))
 }
 
 // What follows the type byte of a bulk.

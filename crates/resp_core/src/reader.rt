@@ -175,7 +175,7 @@ impl Reader {
 
 // Why no value was read: the byte at this place is refused, or memory ran out.
 #[derive(Drop)]
-enum Halt {
+pub(crate) enum Halt {
     NoMemory,
     Refused(Refusal, usize),
 }

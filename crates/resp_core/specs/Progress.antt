@@ -1,0 +1,54 @@
+-- How far a reader has come in an unfinished value.
+use Rattle.std.specs.Prelude.{◌≡◌, ℕ, ◌-◌, ◌+◌, ◌<◌, ◌≤◌, List, ◌++◌, length, take, drop, Option, Some, None}
+use Rattle.resp_core.specs.Tree.{Tree}
+use Rattle.resp_core.specs.Value.{tree_of}
+use Rattle.resp_core.specs.Grammar.{max_depth, max_text}
+use Rattle.resp_core.specs.Reading.{Outcome, found, unfinished, refused, value_at}
+use Rattle.resp_core.specs.Going.{next_at, IsGoodNext}
+use Rattle.resp_core.specs.Begun.{nested}
+use Rattle.resp_core.specs.Seen.{IsSeen}
+use Rattle.resp_core.specs.declared.value.Value.{Value}
+use Rattle.resp_core.specs.declared.head.Next.{Next}
+use Rattle.resp_core.specs.declared.reader.Halt.{Halt}
+use Rattle.resp_core.specs.declared.reader.Halt.TheVariants as halts
+use Rattle.resp_core.specs.declared.progress.Progress.{Progress}
+
+-- what is read in the innermost list: the member that came, or what comes next
+abbrev pub due_at : ℕ → ℕ → Option Value → Next → List ℕ → Outcome Tree
+due_at most left (Some v) next b = found (tree_of v) b
+due_at most left None next b = next_at most left next b
+
+-- what is read of the outermost value, from the next byte on
+abbrev pub resume : ℕ → Progress → List ℕ → Outcome Tree
+resume most p b = nested most max_depth p.opens.items (due_at most (max_depth - length p.opens.items) p.done p.next b)
+
+-- The bytes are those of the value that were taken, and those that were fed behind them; and what was taken is read as the
+-- progress says, whatever follows it.
+pub record Reads (most : ℕ) (held : List ℕ) (p : Progress) : Type 0 where
+  pub taken : List ℕ
+  pub split : held ≡ taken ++ p.pending.items
+  pub came : length taken ≡ p.came
+  pub same : (y : List ℕ) → value_at most max_depth (taken ++ y) ≡ resume most p y
+
+-- the value that was found, and the bytes behind it
+pub record Finds (most : ℕ) (held : List ℕ) (p : Progress) (t : Tree) : Type 0 where
+  pub taken : List ℕ
+  pub split : held ≡ taken ++ p.pending.items
+  pub came : length taken ≡ p.came
+  pub same : (y : List ℕ) → value_at most max_depth (taken ++ y) ≡ found t y
+
+-- what holds of the fields
+pub record IsGood (most : ℕ) (p : Progress) : Type 0 where
+  pub few : length p.opens.items ≤ max_depth
+  pub next : IsGoodNext most (max_depth - length p.opens.items) p.next
+  pub seen : IsSeen p.seen p.pending.items
+  pub came : p.came ≤ max_text + 1
+
+-- the bytes that are looked at
+abbrev pub seen_of : List ℕ → List ℕ
+seen_of held = take (max_text + 1) held
+
+-- why it goes no further: memory, or the byte at this place of the value
+abbrev pub HaltsAt : ℕ → List ℕ → Halt → Type 0
+HaltsAt most held halts.NoMemory = Unit {0}
+HaltsAt most held (halts.Refused r place) = value_at most max_depth (seen_of held) ≡ refused r (drop place (seen_of held))
