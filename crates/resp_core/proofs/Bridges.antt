@@ -9,8 +9,7 @@ use Rattle.resp_core.specs.declared.progress.Progress.{Progress}
 use Rattle.resp_core.specs.Offset.{refusal_number}
 use Rattle.resp_core.specs.Reading.{found, unfinished, refused, value_at}
 use Rattle.resp_core.specs.Front.{IsFirstValue, IsUnfinished, IsFault}
-use Rattle.resp_core.specs.Progress.{Reads, Finds, seen_of}
-use Rattle.resp_core.specs.Standing.{held_of}
+use Rattle.resp_core.specs.Progress.{Reads, Finds, seen_of, held_of}
 use Rattle.resp_core.proofs.Firsts.{first_unfinished, first_unfinished_long, first_too_long, first_told}
 use Rattle.resp_core.proofs.Whole.{value-reads}
 

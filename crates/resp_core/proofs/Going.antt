@@ -121,10 +121,6 @@ reads_along most held p q e f same r = record {
   same = λ y. r.same y ∙ same y;
 }
 
-pub empty_along : (most n : ℕ) (p q : Progress) (v : Value) → p.done ≡ None → p.next ≡ nexts.Found (founds.Members n) → n ≡ 0 → q.opens.items ≡ p.opens.items → q.done ≡ Some v → tree_of v ≡ list (trees_of []) → (y : List ℕ) → resume most p y ≡ resume most q y
-empty_along most n p q v none is n_is opens done t y =
-    rw (none, is, n_is, opens, done, t) (ap (nested most max_depth p.opens.items) (list_is_empty most (max_depth - length p.opens.items - 1) y))
-
 pub opens_along : (most n : ℕ) (p q : Progress) (begun : Begun) → p.done ≡ None → p.next ≡ nexts.Found (founds.Members n) → q.opens.items ≡ p.opens.items ++ begun ∷ [] → begun.due + 1 ≡ n → begun.members ≡ [] → q.done ≡ None → q.next ≡ nexts.Head heads.Type → (y : List ℕ) → resume most p y ≡ resume most q y
 opens_along most n p q begun none is e f g done next y = rw (none, is, done, next) (opens_more most n p.opens.items q.opens.items begun y e f g)
 
@@ -169,3 +165,9 @@ pub payload_unfinished : (most n v : ℕ) (held : List ℕ) (p : Progress) (b : 
 payload_unfinished most n v held p b none is b_is few v_is e r =
     let f : payload_at (Some n) (take v p.pending.items) ≡ unfinished = ap (payload_at (Some n)) (sym b_is) ∙ e in
     reads_unfinished most held p v few v_is (rw (none, is) f) r
+
+-- a value came behind the last head, and nothing was taken for it
+pub reads_found : (most : ℕ) (held : List ℕ) (p q : Progress) (v : Value) → p.done ≡ None → q.pending ≡ p.pending → q.opens ≡ p.opens → q.came ≡ p.came → q.done ≡ Some v → ((left : ℕ) (y : List ℕ) → next_at most left p.next y ≡ found (tree_of v) y) → Reads most held p → Reads most held q
+reads_found most held p q v none pending opens came done same r =
+    reads_along most held p q (ap (λ z. z.items) pending) came
+    (λ y. rw (none, opens, done) (ap (nested most max_depth p.opens.items) (same (max_depth - length p.opens.items) y))) r

@@ -1,12 +1,13 @@
 -- Heads that are read a byte at a time.
 use Rattle.std.proofs.Common.{◌≡◌, ℕ, zero, suc, add-one, ◌+◌, ◌<◌, List, [], ◌∷◌, ◌++◌, length, get_or, take, drop, drop-cons, refl, sym, ap, ◌∙◌, append_assoc, append-nil, arith}
-use Rattle.std.proofs.lemmas.List.{take-append-drop}
+use Rattle.std.proofs.lemmas.List.{take-append-drop, take_all}
 use Rattle.resp_core.specs.declared.error.Refusal.{Refusal}
 use Rattle.resp_core.specs.declared.head.Head.{Head}
 use Rattle.resp_core.specs.declared.head.Next.{Next}
 use Rattle.resp_core.specs.declared.head.Next.TheVariants as nexts
 use Rattle.resp_core.specs.Tree.{Tree}
-use Rattle.resp_core.specs.Reading.{Outcome, refused}
+use Rattle.resp_core.specs.declared.head.Head.TheVariants as heads
+use Rattle.resp_core.specs.Reading.{Outcome, unfinished, refused, value_at, leaf_at, byte_at, null_end_at, count_at, digits_at, integer_at}
 use Rattle.resp_core.specs.Going.{head_at, next_at, GoesOn}
 
 front_suc : (b : List ℕ) (i : ℕ) (y : List ℕ) → i < length b → take (suc i) b ++ y ≡ take i b ++ get_or b i 0 ∷ y
@@ -25,3 +26,21 @@ pub stops_there : (most left : ℕ) (h k : Head) (r : Refusal) (b : List ℕ) (i
 stops_there most left h k r b i lt g s =
     let parts : drop i b ≡ get_or b i 0 ∷ drop (suc i) b = drop-cons b i 0 lt in
     ap (head_at most left h) (sym (take-append-drop i b)) ∙ g (drop i b) ∙ ap (head_at most left k) parts ∙ s (drop (suc i) b) ∙ ap (refused r) (sym parts)
+
+-- a head with nothing behind it
+pub head_at_nil : (most left : ℕ) (h : Head) → head_at most left h [] ≡ unfinished
+unfolding value_at leaf_at byte_at null_end_at count_at digits_at integer_at
+head_at_nil most zero heads.Type = refl
+head_at_nil most (suc left) heads.Type = refl
+head_at_nil most left (heads.Length s) = refl
+head_at_nil most left (heads.One s) = refl
+head_at_nil most left (heads.Return s) = refl
+head_at_nil most left (heads.Digits s count n) = refl
+head_at_nil most left heads.Sign = refl
+head_at_nil most left (heads.Number minus digits count n) = refl
+head_at_nil most left (heads.Feed f) = refl
+
+-- a head that has not ended at the end of the bytes
+pub head_unfinished : (most left k : ℕ) (h next : Head) (b : List ℕ) → GoesOn most left h (take k b) (nexts.Head next) → k ≡ length b → head_at most left h b ≡ unfinished
+head_unfinished most left k h next b g e =
+    ap (head_at most left h) (sym (append-nil (take k b) ∙ take_all k b (omega (arith, e)))) ∙ g [] ∙ head_at_nil most left next

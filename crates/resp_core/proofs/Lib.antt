@@ -24,3 +24,4 @@ pub mod Going
 pub mod Bridges
 pub mod TextLines
 pub mod Seen
+pub mod Standing

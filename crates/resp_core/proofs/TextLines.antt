@@ -1,7 +1,8 @@
 -- How a line of text is taken.
 use Rattle.std.proofs.Common.{◌≡◌, ℕ, ◌+◌, ◌-◌, ◌≤◌, min, List, [], ◌∷◌, ◌++◌, length, take, drop, Some, None, refl, sym, ap, ◌∙◌, append_assoc, arith}
 use Rattle.std.proofs.lemmas.List.{length-append, length-take, length-take-le, take_at}
-use Rattle.resp_core.specs.Tree.{simple}
+use Rattle.resp_core.specs.declared.head.Line.{Line}
+use Rattle.resp_core.specs.Going.{line_tree}
 use Rattle.resp_core.specs.Value.{tree_of}
 use Rattle.resp_core.specs.Text.{line_end}
 use Rattle.resp_core.specs.declared.error.Refusal.{Refusal}
@@ -43,24 +44,24 @@ cuts_line_at v b items rest s b_is few e =
       front = sym (take_of_take (length s) v items (omega (arith, l))) ∙ ap (take (length s)) (parts ∙ append_assoc s line_end rest) ∙ take_at s (line_end ++ rest) (length s) refl;
     }
 
-pub line_along : (most k : ℕ) (p q : Progress) (b rest s : List ℕ) (w : Value) → p.done ≡ None → p.next ≡ nexts.Found (founds.Simple) → q.opens.items ≡ p.opens.items → q.done ≡ Some w → tree_of w ≡ simple s → text_at [] b ≡ found s rest → take k p.pending.items ≡ s ++ line_end → (y : List ℕ) → resume most p (take k p.pending.items ++ y) ≡ resume most q y
-line_along most k p q b rest s w none is opens done t e all y =
-    rw (none, is, opens, done, t, all) (ap (nested most max_depth p.opens.items) (ap (λ o. and_then o (λ s rest. found (simple s) rest)) ((line_cut b rest s e).same y)))
+pub line_along : (k : Line) (most l : ℕ) (p q : Progress) (b rest s : List ℕ) (w : Value) → p.done ≡ None → p.next ≡ nexts.Found (founds.Line k) → q.opens.items ≡ p.opens.items → q.done ≡ Some w → tree_of w ≡ line_tree k s → text_at [] b ≡ found s rest → take l p.pending.items ≡ s ++ line_end → (y : List ℕ) → resume most p (take l p.pending.items ++ y) ≡ resume most q y
+line_along k most l p q b rest s w none is opens done t e all y =
+    rw (none, is, opens, done, t, all) (ap (nested most max_depth p.opens.items) (ap (λ o. and_then o (λ s rest. found (line_tree k s) rest)) ((line_cut b rest s e).same y)))
 
--- a payload that is refused
-pub line_refused : (most v : ℕ) (held : List ℕ) (p : Progress) (b rest : List ℕ) (w : Refusal) → p.done ≡ None → p.next ≡ nexts.Found (founds.Simple) → b ≡ take v p.pending.items → p.came ≤ max_text + 1 → v ≡ min (length p.pending.items) (max_text + 1 - p.came) → text_at [] b ≡ refused w rest → Reads most held p → value_at most max_depth (seen_of held) ≡ refused w (drop (p.came + (v - length rest)) (seen_of held))
-line_refused most v held p b rest w none is b_is few v_is e r =
+-- a line that is refused
+pub line_refused : (k : Line) (most v : ℕ) (held : List ℕ) (p : Progress) (b rest : List ℕ) (w : Refusal) → p.done ≡ None → p.next ≡ nexts.Found (founds.Line k) → b ≡ take v p.pending.items → p.came ≤ max_text + 1 → v ≡ min (length p.pending.items) (max_text + 1 - p.came) → text_at [] b ≡ refused w rest → Reads most held p → value_at most max_depth (seen_of held) ≡ refused w (drop (p.came + (v - length rest)) (seen_of held))
+line_refused k most v held p b rest w none is b_is few v_is e r =
     let q = refused_end IsTextLine InLine (text_at []) text-reads b rest w e in
     let len : length b ≡ v = omega (arith, ap length b_is, length-take-le v p.pending.items (omega (arith, v_is))) in
     let f : text_at [] (take v p.pending.items) ≡ refused w (drop (v - length rest) (take v p.pending.items)) = ap (text_at []) (sym b_is) ∙ e ∙ ap (refused w) (q.1 ∙ ap (λ z. drop (z - length rest) b) len ∙ ap (drop (v - length rest)) b_is) in
-    reads_refused most held p v (v - length rest) w few v_is (rw (none, is) (ap (λ o. and_then o (λ s rest. found (simple s) rest)) f)) r
+    reads_refused most held p v (v - length rest) w few v_is (rw (none, is) (ap (λ o. and_then o (λ s rest. found (line_tree k s) rest)) f)) r
 
 pub line_end_inside : (v : ℕ) (xs rest : List ℕ) (w : Refusal) → text_at [] (take v xs) ≡ refused w rest → length rest ≤ v
 line_end_inside v xs rest w e =
     let h = (refused_end IsTextLine InLine (text_at []) text-reads (take v xs) rest w e).0 in
     omega (arith, h, length-take v xs)
 
-pub line_unfinished : (most v : ℕ) (held : List ℕ) (p : Progress) (b : List ℕ) → p.done ≡ None → p.next ≡ nexts.Found (founds.Simple) → b ≡ take v p.pending.items → p.came ≤ max_text + 1 → v ≡ min (length p.pending.items) (max_text + 1 - p.came) → text_at [] b ≡ unfinished → Reads most held p → value_at most max_depth (seen_of held) ≡ unfinished
-line_unfinished most v held p b none is b_is few v_is e r =
+pub line_unfinished : (k : Line) (most v : ℕ) (held : List ℕ) (p : Progress) (b : List ℕ) → p.done ≡ None → p.next ≡ nexts.Found (founds.Line k) → b ≡ take v p.pending.items → p.came ≤ max_text + 1 → v ≡ min (length p.pending.items) (max_text + 1 - p.came) → text_at [] b ≡ unfinished → Reads most held p → value_at most max_depth (seen_of held) ≡ unfinished
+line_unfinished k most v held p b none is b_is few v_is e r =
     let f : text_at [] (take v p.pending.items) ≡ unfinished = ap (text_at []) (sym b_is) ∙ e in
-    reads_unfinished most held p v few v_is (rw (none, is) (ap (λ o. and_then o (λ s rest. found (simple s) rest)) f)) r
+    reads_unfinished most held p v few v_is (rw (none, is) (ap (λ o. and_then o (λ s rest. found (line_tree k s) rest)) f)) r

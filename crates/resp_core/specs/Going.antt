@@ -3,11 +3,13 @@ use Rattle.std.specs.Prelude.{◌≡◌, ℕ, ℤ, pos, neg_ℤ, Bool, true, fal
 use Rattle.resp_core.specs.Tree.{Tree, simple, fault, whole, null_bulk, null_list, list, trees_of}
 use Rattle.resp_core.specs.Grammar.{max_bulk, max_line}
 use Rattle.resp_core.specs.Reading.{Outcome, found, unfinished, refused, and_then, byte_at, null_end_at, count_at, digits_at, of_length, of_integer, text_at, integer_at, payload_at, members_at, many_at, value_at}
-use Rattle.resp_core.specs.declared.parse.Digits.{Digits}
+use Rattle.resp_core.specs.declared.digits.Digits.{Digits}
 use Rattle.resp_core.specs.declared.error.Refusal.{Refusal}
 use Rattle.resp_core.specs.declared.error.Refusal.TheVariants.{BadLength, BadLineEnd}
 use Rattle.resp_core.specs.declared.head.Sized.{Sized}
 use Rattle.resp_core.specs.declared.head.Sized.TheVariants as sized
+use Rattle.resp_core.specs.declared.head.Line.{Line}
+use Rattle.resp_core.specs.declared.head.Line.TheVariants as lines
 use Rattle.resp_core.specs.declared.head.Found.{Found}
 use Rattle.resp_core.specs.declared.head.Found.TheVariants as founds
 use Rattle.resp_core.specs.declared.head.Head.{Head}
@@ -15,10 +17,14 @@ use Rattle.resp_core.specs.declared.head.Head.TheVariants as heads
 use Rattle.resp_core.specs.declared.head.Next.{Next}
 use Rattle.resp_core.specs.declared.head.Next.TheVariants as nexts
 
+-- the value with the text of a line
+abbrev pub line_tree : Line → List ℕ → Tree
+line_tree lines.Simple s = simple s
+line_tree lines.Fault s = fault s
+
 -- what stands behind a head, where so many more lists may stand one within the other
 abbrev pub found_at : ℕ → ℕ → Found → List ℕ → Outcome Tree
-found_at most left founds.Simple b = and_then (text_at [] b) (λ s rest. found (simple s) rest)
-found_at most left founds.Fault b = and_then (text_at [] b) (λ s rest. found (fault s) rest)
+found_at most left (founds.Line k) b = and_then (text_at [] b) (λ s rest. found (line_tree k s) rest)
 found_at most left (founds.Payload n) b = payload_at (Some n) b
 found_at most left (founds.Members n) b = members_at (value_at most (left - 1)) (Some n) b
 found_at most left founds.NullBulk b = found null_bulk b
@@ -69,8 +75,7 @@ DigitSteps d count n c (Ok (Some m)) = (count < d.most) × (m ≤ d.limit) × ((
 DigitSteps d count n c (Err r) = (cs : List ℕ) → digits_at d count n (c ∷ cs) ≡ refused r (c ∷ cs)
 
 abbrev pub IsGoodFound : ℕ → ℕ → Found → Type 0
-IsGoodFound most left founds.Simple = Unit {0}
-IsGoodFound most left founds.Fault = Unit {0}
+IsGoodFound most left (founds.Line k) = Unit {0}
 IsGoodFound most left (founds.Payload n) = n ≤ max_bulk
 IsGoodFound most left (founds.Members n) = (0 < left) × (n ≤ most)
 IsGoodFound most left founds.NullBulk = Unit {0}

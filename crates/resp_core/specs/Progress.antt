@@ -1,5 +1,5 @@
 -- How far a reader has come in an unfinished value.
-use Rattle.std.specs.Prelude.{◌≡◌, ℕ, ◌-◌, ◌+◌, ◌<◌, ◌≤◌, List, ◌++◌, length, take, drop, Option, Some, None}
+use Rattle.std.specs.Prelude.{◌≡◌, ℕ, ◌-◌, ◌+◌, ◌<◌, ◌≤◌, List, [], ◌++◌, length, take, drop, Option, Some, None, IfSome}
 use Rattle.resp_core.specs.Tree.{Tree}
 use Rattle.resp_core.specs.Value.{tree_of}
 use Rattle.resp_core.specs.Grammar.{max_depth, max_text}
@@ -7,10 +7,14 @@ use Rattle.resp_core.specs.Reading.{Outcome, found, unfinished, refused, value_a
 use Rattle.resp_core.specs.Going.{next_at, IsGoodNext}
 use Rattle.resp_core.specs.Begun.{nested}
 use Rattle.resp_core.specs.Seen.{IsSeen}
+use Rattle.resp_core.specs.Front.{IsFirstValue, IsFault}
+use Rattle.resp_core.specs.Offset.{refusal_number}
 use Rattle.resp_core.specs.declared.value.Value.{Value}
 use Rattle.resp_core.specs.declared.head.Next.{Next}
-use Rattle.resp_core.specs.declared.reader.Halt.{Halt}
-use Rattle.resp_core.specs.declared.reader.Halt.TheVariants as halts
+use Rattle.resp_core.specs.declared.head.Next.TheVariants as nexts
+use Rattle.resp_core.specs.declared.head.Head.TheVariants as heads
+use Rattle.resp_core.specs.declared.progress.Halt.{Halt}
+use Rattle.resp_core.specs.declared.progress.Halt.TheVariants as halts
 use Rattle.resp_core.specs.declared.progress.Progress.{Progress}
 
 -- what is read in the innermost list: the member that came, or what comes next
@@ -42,7 +46,22 @@ pub record IsGood (most : ℕ) (p : Progress) : Type 0 where
   pub few : length p.opens.items ≤ max_depth
   pub next : IsGoodNext most (max_depth - length p.opens.items) p.next
   pub seen : IsSeen p.seen p.pending.items
-  pub came : p.came ≤ max_text + 1
+  pub came : p.came + p.seen ≤ max_text + 1
+  pub done : IfSome p.done (λ _. p.next ≡ nexts.Head heads.Type)
+
+-- the bytes of the value that came: those that were taken, and those that are pending
+abbrev pub held_of : Progress → ℕ
+held_of p = p.came + length p.pending.items
+
+-- the same but for the room behind the bytes
+abbrev pub shown : Progress → Progress
+shown p = record { pending = record { items = p.pending.items; spare = 0 }; room = 0; opens = p.opens; done = p.done; next = p.next; seen = p.seen; came = p.came }
+
+-- nothing is read, and no list is open
+pub record IsFresh (p : Progress) : Type 0 where
+  pub opens : p.opens.items ≡ []
+  pub done : p.done ≡ None
+  pub next : p.next ≡ nexts.Head heads.Type
 
 -- the bytes that are looked at
 abbrev pub seen_of : List ℕ → List ℕ
@@ -52,3 +71,13 @@ seen_of held = take (max_text + 1) held
 abbrev pub HaltsAt : ℕ → List ℕ → Halt → Type 0
 HaltsAt most held halts.NoMemory = Unit {0}
 HaltsAt most held (halts.Refused r place) = value_at most max_depth (seen_of held) ≡ refused r (drop place (seen_of held))
+
+-- The value at the front of the bytes was given, of so many of them, and nothing is read of the others.
+pub record Gave (most : ℕ) (held : List ℕ) (t : Tree) (len : ℕ) (p : Progress) : Type 0 where
+  pub first : IsFirstValue most held t len
+  pub reads : Reads most (drop len held) p
+
+-- no value was given: for want of memory, and then it goes on from there; or the byte at this place is refused
+abbrev pub Stopped : ℕ → List ℕ → Progress → Halt → Type 0
+Stopped most held p halts.NoMemory = Reads most held p
+Stopped most held p (halts.Refused r place) = IsFault most held place (refusal_number r)

@@ -1,28 +1,51 @@
--- A reader that was fed bytes and has given values, and no longer has those bytes.
-use Rattle.std.specs.Prelude.{◌≡◌, ℕ, ◌-◌, ◌+◌, List, length, Option, None, IfSome, IfNone}
+-- A reader that was fed bytes and has given values.
+use Rattle.std.specs.Prelude.{◌≡◌, ℕ, ◌-◌, ◌+◌, List, [], length, Option, Some, None, IfSome, IfNone}
 use Rattle.resp_core.specs.Tree.{Tree}
 use Rattle.resp_core.specs.declared.error.RespError.{RespError}
 use Rattle.resp_core.specs.declared.progress.Progress.{Progress}
 use Rattle.resp_core.specs.Offset.{offset_of, number_of}
 use Rattle.resp_core.specs.Stream.{Splits, HasRefusal, told_offset}
-use Rattle.resp_core.specs.Progress.{Reads}
+use Rattle.resp_core.specs.Progress.{Reads, held_of}
 
--- what clauses see of a reader: how many members an array may have, the offset of the unfinished value, how far it has come in
--- that value, and the refusal that was told
-pub record NextState : Type 0 where
+-- what clauses see of a reader: how many members an array may have, how many bytes came before the unfinished value, how
+-- far it has come in that value, and the refusal that was told
+pub record ReaderState : Type 0 where
   pub most : ℕ
   pub consumed : ℕ
   pub progress : Progress
   pub refusal : Option RespError
 
--- The bytes are the texts of the values, and then those of an unfinished value, in which the reader has come so far.
-pub record NextStands (r : NextState) (b : List ℕ) (ts : List Tree) : Type 0 where
+-- how many bytes behind the values given a reader has been fed, and 0 after a refusal
+abbrev pub unread_by : Option RespError → Progress → ℕ
+unread_by None p = held_of p
+unread_by (Some e) p = 0
+
+abbrev pub unread : ReaderState → ℕ
+unread r = unread_by r.refusal r.progress
+
+-- the bytes are the texts of these values, each of at most as many bytes as a text may have, and then so many others
+pub record Leaves (most : ℕ) (b : List ℕ) (ts : List Tree) (n : ℕ) : Type 0 where
+  pub rest : List ℕ
+  pub splits : Splits most b ts rest
+  pub length_is : n ≡ length rest
+
+-- A reader that was fed these bytes and has given these values: behind the texts of the values stand those bytes of an
+-- unfinished value in which it has come so far; or it has told of this stream what is refused in it.
+pub record Stands (r : ReaderState) (b : List ℕ) (ts : List Tree) : Type 0 where
   pub rest : List ℕ
   pub splits : Splits r.most b ts rest
   pub reads : IfNone r.refusal (Reads r.most rest r.progress)
-  pub consumed_is : r.consumed ≡ told_offset (length b - length rest)
+  pub consumed_is : IfNone r.refusal (r.consumed ≡ told_offset (length b - length rest))
   pub told : IfSome r.refusal (λ e. HasRefusal r.most b ts (offset_of e) (number_of e))
 
--- the bytes of the unfinished value: those that were taken, and those that were not
-abbrev pub held_of : Progress → ℕ
-held_of p = p.came + length p.pending.items
+-- what holds of the fields of a reader: some bytes lead to how far it has come
+pub record IsReached (most : ℕ) (p : Progress) : Type 0 where
+  pub held : List ℕ
+  pub reads : Reads most held p
+
+-- From one state to the next the reader has given nothing: it stands for the same bytes and values, and holds as many bytes.
+pub record Unmoved (r s : ReaderState) : Type 0 where
+  pub most : s.most ≡ r.most
+  pub refusal : s.refusal ≡ r.refusal
+  pub unread : unread s ≡ unread r
+  pub stands : (b : List ℕ) (ts : List Tree) → Stands r b ts → Stands s b ts

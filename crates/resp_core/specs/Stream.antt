@@ -54,21 +54,3 @@ pub record HasNoRefusal (most : ℕ) (b : List ℕ) (ts : List Tree) : Type 0 wh
   pub rest : List ℕ
   pub values : AreValues most b ts rest
   pub none : (place : ℕ) → IsRefusedAt most rest place → ⊥
-
--- what clauses see of a reader: how many members an array may have, how many bytes came before the value that is read
--- next, the bytes from there on, and the refusal that was told
-pub record ReaderState : Type 0 where
-  pub most : ℕ
-  pub consumed : ℕ
-  pub held : List ℕ
-  pub refusal : Option RespError
-
--- how many bytes behind the values given a reader has been fed
-abbrev pub unread : ReaderState → ℕ
-unread r = length r.held
-
--- a reader that was fed these bytes and has given these values
-pub record Stands (r : ReaderState) (b : List ℕ) (ts : List Tree) : Type 0 where
-  pub splits : Splits r.most b ts r.held
-  pub consumed_is : r.consumed ≡ told_offset (length b - length r.held)
-  pub told : IfSome r.refusal (λ e. HasRefusal r.most b ts (offset_of e) (number_of e))

@@ -1,10 +1,14 @@
 //! The head of a value, which is read a byte at a time: all of it but the bytes of a text, a payload and the members.
-ghost use Rattle.std.specs.Prelude.{◌≡◌, ◌≤◌, length, take, drop, IfOk, IfErr};
-ghost use Rattle.resp_core.specs.Going.{Steps, DigitSteps, IsNullOf, GoesOn, IsHead, head_at, IsGoodHead, IsGoodNext, IsGoodSized, limit_of, limit_signed, signed};
+ghost use Rattle.std.specs.Prelude.{◌≡◌, ◌≤◌, ◌<◌, length, take, drop, IfOk, IfErr};
+ghost use Rattle.resp_core.specs.Going.{Steps, DigitSteps, IsNullOf, GoesOn, IsHead, head_at, IsGoodHead, IsGoodNext, IsGoodSized, limit_of, limit_signed, line_tree, signed};
 ghost use Rattle.resp_core.specs.Reading.{of_length, of_integer, refused};
+ghost use Rattle.resp_core.specs.Value.{tree_of};
 
+use crate::digits::{negated, of_integer, of_length, step_digits};
 use crate::error::Refusal;
-use crate::parse::{Digits, negated, of_integer};
+use crate::limits::{MAX_BULK, MAX_LINE};
+use crate::value::Value;
+use bytes::Bytes;
 
 // What the length of it is read for.
 #[derive(Clone, Copy, Drop)]
@@ -13,12 +17,30 @@ pub(crate) enum Sized {
     List,
 }
 
+// What the text of a line is read for.
+#[derive(Clone, Copy, Drop)]
+pub(crate) enum Line {
+    Simple,
+    Fault,
+}
+
+impl Line {
+    // The value with this text.
+    pub(crate) fn value(self, text: Bytes) -> Value
+        ensures { tree_of result ≡ line_tree self text }
+    {
+        match self {
+            Line::Simple => Value::Simple(text),
+            Line::Fault => Value::Fault(text),
+        }
+    }
+}
+
 // What a head was found to be.
 #[derive(Clone, Copy, Drop)]
 pub(crate) enum Found {
-    // A line of text, from its first byte on.
-    Simple,
-    Fault,
+    // A text, from its first byte on, and a line end.
+    Line(Line),
     // So many bytes and a line end.
     Payload(u64),
     // So many values.
@@ -63,12 +85,6 @@ pub(crate) enum Next {
     Found(Found),
 }
 
-// Bytes of a bulk string.
-const MAX_BULK: u64 = 1_048_576;
-
-// Bytes between the type byte and the CR of a line.
-const MAX_LINE: usize = 65_536;
-
 // The head behind one byte more.
 #[tactic(auto, unfolding(crate::specs::Reading::value_at, crate::specs::Reading::leaf_at, crate::specs::Reading::byte_at, crate::specs::Reading::list_at, crate::specs::Reading::bulk_at))]
 fn step_type(byte: u8, most: u64, left: u32) -> Result<Next, Refusal>
@@ -78,54 +94,12 @@ fn step_type(byte: u8, most: u64, left: u32) -> Result<Next, Refusal>
     match byte {
         b'*' if left > 0 => Ok(Next::Head(Head::Length(Sized::List))),
         b'$' => Ok(Next::Head(Head::Length(Sized::Bulk))),
-        b'+' => Ok(Next::Found(Found::Simple)),
-        b'-' => Ok(Next::Found(Found::Fault)),
+        b'+' => Ok(Next::Found(Found::Line(Line::Simple))),
+        b'-' => Ok(Next::Found(Found::Line(Line::Fault))),
         b':' => Ok(Next::Head(Head::Sign)),
         b'*' => Err(Refusal::TooDeep),
         _ => Err(Refusal::BadType),
     }
-}
-
-// The digits of a length.
-fn of_length(limit: u64) -> Digits
-    ensures { result ≡ of_length limit }
-{
-    Digits {
-        limit,
-        most: 10,
-        bad: Refusal::BadLength,
-        full: Refusal::BadLength,
-        over: Refusal::TooLong,
-        both: Refusal::BadLength,
-    }
-}
-
-// The number that the digits write with one more, or `None` where they end.
-#[tactic(auto, unfolding(crate::specs::Reading::digits_at))]
-fn step_digits(digits: Digits, count: usize, n: u64, byte: u8) -> Result<Option<u64>, Refusal>
-    requires few { count ≤ digits.most }
-    requires within { n ≤ digits.limit }
-    ensures { DigitSteps digits count n byte result }
-{
-    if byte == b'\r' {
-        return if count == 0 {
-            Err(digits.bad)
-        } else {
-            Ok(None)
-        };
-    }
-    if byte < b'0' || byte > b'9' {
-        return Err(digits.bad);
-    }
-    let next = n as u128 * 10 + (byte - b'0') as u128;
-    let is_over = next > digits.limit as u128;
-    if count == digits.most {
-        return Err(if is_over { digits.both } else { digits.full });
-    }
-    if is_over {
-        return Err(digits.over);
-    }
-    Ok(Some(next as u64))
 }
 
 fn step_length(
@@ -277,6 +251,7 @@ pub(crate) fn read_head(
     ensures inside { IfOk result (λ x. x.1 ≤ length bytes.now) }
     ensures gives { IfOk result (λ x. GoesOn most left head (take x.1 bytes.now) x.0) }
     ensures all { IfOk result (λ x. IsHead x.0 → x.1 ≡ length bytes.now) }
+    ensures some { IfOk result (λ x. (IsHead x.0 → ⊥) → 0 < x.1) }
     ensures refused { IfErr result (λ e. (e.1 ≤ length bytes.now) × (head_at most left head bytes.now ≡ refused e.0 (drop e.1 bytes.now))) }
     ensures good { IfOk result (λ x. IsGoodNext most left x.0) }
 {

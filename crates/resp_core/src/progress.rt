@@ -1,32 +1,42 @@
 //! How far a reader has come in an unfinished value.
-ghost use Rattle.std.specs.Prelude.{true, false, ◌≡◌, ◌≤◌, ◌-◌, ◌+◌, List, ℕ, [], length, take, drop, Some, None, IfOk, IfErr, IfSome, IfNone, OnOk, OnErr, IsOk};
-ghost use Rattle.resp_core.specs.Progress.{Reads, Finds, IsGood, HaltsAt, seen_of};
+ghost use Rattle.std.specs.Prelude.{true, false, ◌≡◌, ◌≢◌, ◌⊎◌, ◌≤◌, ◌<◌, ◌-◌, ◌+◌, ◌++◌, List, ℕ, [], length, take, drop, Some, None, IfOk, IfErr, IfSome, IfNone, OnOk, OnErr, IsOk};
+ghost use Rattle.resp_core.specs.Progress.{Reads, Finds, IsGood, IsFresh, HaltsAt, Gave, Stopped, seen_of, shown};
+ghost use Rattle.resp_core.specs.Front.{IsUnfinished};
 ghost use Rattle.resp_core.specs.Value.{tree_of};
-ghost use Rattle.resp_core.specs.Grammar.{max_depth};
+ghost use Rattle.resp_core.specs.Grammar.{max_depth, max_text};
 ghost use Rattle.resp_core.specs.Reading.{value_at, refused, unfinished};
+ghost use Rattle.resp_core.specs.declared.error.Refusal.TheVariants.{TooLong, TooDeep};
 
 use crate::begun::{Begun, put};
 use crate::error::Refusal;
-use crate::head::{Found, Head, Next, Refused, read_head};
-use crate::parse::{Stop, take_payload, take_rest_of_text};
-use crate::reader::Halt;
+use crate::head::{Found, Head, Line, Next, Refused, read_head};
+use crate::limits::{MAX_DEPTH, MAX_TEXT};
+use crate::parse::{Stop, take_payload, take_text};
 use crate::value::{Value, Values};
 use bytes::{Bytes, BytesMut};
 use std::alloc::{AllocError, Global};
 
-// Bytes in the text of one outermost value.
-const MAX_TEXT: usize = 8_388_608;
-
-// Arrays, one within the other.
-const MAX_DEPTH: u32 = 8;
-
-// Payloads of fewer bytes are copied, so that they do not keep the bytes fed beside them.
+// Payloads and texts of fewer bytes are copied, and so are those of less than one in `MAX_KEPT` bytes of the buffer: those
+// that are shared keep no more than `MAX_KEPT` times their bytes.
 const LEAST_SHARED: usize = 4_096;
+const MAX_KEPT: usize = 8;
+
+// Bytes of a buffer that is kept while no byte is pending.
+const MOST_IDLE: usize = 32_768;
+
+// Why no value was read: memory ran out, or the byte at this place of the value is refused.
+#[derive(Drop)]
+pub(crate) enum Halt {
+    NoMemory,
+    Refused(Refusal, usize),
+}
 
 #[derive(Drop)]
 pub(crate) struct Progress {
     // Fed, and not taken: from the next byte of a head on, or from the first one of a text or a payload.
     pub(crate) pending: BytesMut,
+    // The most bytes for which there was room since nothing was pending.
+    pub(crate) room: usize,
     // The lists that are open, the outermost first.
     pub(crate) opens: Vec<Begun>,
     // A whole value that is not yet in its list.
@@ -39,13 +49,19 @@ pub(crate) struct Progress {
 }
 
 // Takes so many bytes from the front, of which the first ones are given.
-fn cut(alloc: Global, pending: &mut BytesMut, len: usize, taken: usize) -> Result<Bytes, AllocError>
+fn cut(
+    alloc: Global,
+    pending: &mut BytesMut,
+    room: usize,
+    len: usize,
+    taken: usize,
+) -> Result<Bytes, AllocError>
     requires inside { (len ≤ taken) × (taken ≤ length pending.old.items) }
     ensures front { IfOk result (λ b. b ≡ take len pending.old.items) }
     ensures rest { OnOk result (pending.new.items ≡ drop taken pending.old.items) }
     ensures err { OnErr result (pending.new.items ≡ pending.old.items) }
 {
-    if len < LEAST_SHARED {
+    if len < LEAST_SHARED || len < room / MAX_KEPT {
         let front = Bytes::copy_from_slice(alloc, &pending.as_slice()[..len])?;
         pending.advance(taken);
         return Ok(front);
@@ -55,14 +71,129 @@ fn cut(alloc: Global, pending: &mut BytesMut, len: usize, taken: usize) -> Resul
     Ok(front)
 }
 
+// How a refusal at this place of a value is told: at the byte that makes the value too long, by no higher number.
+fn told_at(refusal: Refusal, place: usize) -> Refusal
+    ensures { ((refusal ≡ TooDeep) × (place ≡ max_text) × (result ≡ TooLong)) ⊎ ((place ≡ max_text → refusal ≢ TooDeep) × (result ≡ refusal)) }
+{
+    match refusal {
+        Refusal::TooDeep if place == MAX_TEXT => Refusal::TooLong,
+        other => other,
+    }
+}
+
 impl Progress {
-    // Reads on in a head, to its end or as far as the bytes go.
-    fn go_on_in_head(&mut self, head: Head, most: u64) -> Result<(), Refused>
+    // Nothing came.
+    pub(crate) fn new(alloc: Global) -> Progress
+        ensures good { (most : ℕ) → IsGood most result }
+        ensures reads { (most : ℕ) → Reads most [] result }
+    {
+        Progress {
+            pending: BytesMut::new(alloc),
+            room: 0,
+            opens: Vec::new(alloc),
+            done: None,
+            next: Next::Head(Head::Type),
+            seen: 0,
+            came: 0,
+        }
+    }
+
+    // Bytes of the value that came: those that were taken, and those that are pending.
+    pub(crate) fn held(&self) -> u64
+        requires good { (most : ℕ) × IsGood most self.now }
+        ensures { result ≡ self.now.came + length self.now.pending.items }
+    {
+        self.came as u64 + self.pending.len() as u64
+    }
+
+    // Takes the bytes that come behind those pending.
+    pub(crate) fn feed(&mut self, piece: &[u8]) -> Result<(), AllocError>
+        ensures good { (most : ℕ) → IsGood most self.old → IsGood most self.new }
+        ensures reads { OnOk result ((most : ℕ) (held : List ℕ) → Reads most held self.old → Reads most (held ++ piece.now) self.new) }
+        ensures same { OnErr result (shown self.new ≡ shown self.old) }
+    {
+        self.pending.extend_from_slice(piece)?;
+        self.room = self.room.max(self.pending.capacity());
+        Ok(())
+    }
+
+    // Gives back a large buffer if no byte is pending.
+    fn give_back(&mut self, alloc: Global)
+        ensures good { (most : ℕ) → IsGood most self.old → IsGood most self.new }
+        ensures same { shown self.new ≡ shown self.old }
+    {
+        if self.room > MOST_IDLE && self.pending.is_empty() {
+            self.pending = BytesMut::new(alloc);
+            self.room = 0;
+        }
+    }
+
+    // The outermost value and the length of its text, if all of it has come.
+    pub(crate) fn next_value(
+        &mut self,
+        alloc: Global,
+        most: u64,
+    ) -> Result<Option<(Value, usize)>, Halt>
         requires good { IsGood most self.old }
-        requires head { (self.old.done ≡ None) × (self.old.next ≡ Next.Head head) × (self.old.seen ≡ 0) }
-        ensures good { OnOk result (IsGood most self.new) }
-        ensures reads { OnOk result ((held : List ℕ) → Reads most held self.old → Reads most held self.new) }
-        ensures refused { IfErr result (λ e. (held : List ℕ) → Reads most held self.old → value_at most max_depth (seen_of held) ≡ refused e.0 (drop e.1 (seen_of held))) }
+        ensures good { IsGood most self.new }
+        ensures value { IfOk result (λ o. IfSome o (λ x. (held : List ℕ) → Reads most held self.old → Gave most held (tree_of x.0) x.1 self.new)) }
+        ensures none { IfOk result (λ o. IfNone o ((held : List ℕ) → Reads most held self.old → Reads most held self.new × IsUnfinished most held)) }
+        ensures halts { IfErr result (λ e. (held : List ℕ) → Reads most held self.old → Stopped most held self.new e) }
+    {
+        match self.go_on(alloc, most) {
+            Ok(Some(_)) if self.came > MAX_TEXT => Err(Halt::Refused(Refusal::TooLong, MAX_TEXT)),
+            Ok(Some(value)) => {
+                let len = self.came;
+                self.came = 0;
+                Ok(Some((value, len)))
+            }
+            Ok(None) if self.held() > MAX_TEXT as u64 => {
+                Err(Halt::Refused(Refusal::TooLong, MAX_TEXT))
+            }
+            Ok(None) => {
+                self.give_back(alloc);
+                Ok(None)
+            }
+            Err(Halt::NoMemory) => Err(Halt::NoMemory),
+            Err(Halt::Refused(refusal, place)) => {
+                Err(Halt::Refused(told_at(refusal, place), place))
+            }
+        }
+    }
+
+    // Reads on, to the end of the outermost value or as far as the bytes go.
+    fn go_on(&mut self, alloc: Global, most: u64) -> Result<Option<Value>, Halt>
+        requires good { IsGood most self.old }
+        ensures good { IsGood most self.new }
+        ensures value { IfOk result (λ o. IfSome o (λ v. IsFresh self.new × ((held : List ℕ) → Reads most held self.old → Finds most held self.new (tree_of v)))) }
+        ensures none { IfOk result (λ o. IfNone o ((held : List ℕ) → Reads most held self.old → Reads most held self.new × (value_at most max_depth (seen_of held) ≡ unfinished))) }
+        ensures halts { IfErr result (λ e. (held : List ℕ) → Reads most held self.old → Reads most held self.new × HaltsAt most held e) }
+    {
+        loop {
+            match self.put_done() {
+                Ok(Some(value)) => return Ok(Some(value)),
+                Ok(None) => {}
+                Err(_) => return Err(Halt::NoMemory),
+            }
+            let goes_on = match self.next {
+                Next::Head(head) => self.go_on_in_head(head, most)?,
+                Next::Found(found) => self.take_found(alloc, found, most)?,
+            };
+            if !goes_on {
+                return Ok(None);
+            }
+        }
+    }
+
+    // Reads on in a head, to its end or as far as the bytes go: whether the end came.
+    fn go_on_in_head(&mut self, head: Head, most: u64) -> Result<bool, Halt>
+        requires good { IsGood most self.old }
+        requires head { (self.old.done ≡ None) × (self.old.next ≡ Next.Head head) }
+        ensures good { IsGood most self.new }
+        ensures reads { (held : List ℕ) → Reads most held self.old → Reads most held self.new }
+        ensures fewer { IfOk result (λ goes_on. goes_on ≡ true → length self.new.pending.items < length self.old.pending.items) }
+        ensures none { IfOk result (λ goes_on. goes_on ≡ false → (held : List ℕ) → Reads most held self.old → value_at most max_depth (seen_of held) ≡ unfinished) }
+        ensures halts { IfErr result (λ e. (held : List ℕ) → Reads most held self.old → HaltsAt most held e) }
     {
         let left = MAX_DEPTH - self.opens.len() as u32;
         let visible = self.pending.len().min(MAX_TEXT + 1 - self.came);
@@ -70,20 +201,63 @@ impl Progress {
             Ok((next, taken)) => {
                 self.pending.advance(taken);
                 self.came += taken;
+                self.seen = 0;
                 self.next = next;
-                Ok(())
+                match next {
+                    Next::Head(_) => Ok(false),
+                    Next::Found(_) => Ok(true),
+                }
             }
-            Err(Refused(refusal, place)) => Err(Refused(refusal, self.came + place)),
+            Err(Refused(refusal, place)) => Err(Halt::Refused(refusal, self.came + place)),
         }
+    }
+
+    // Takes what a head was found to be, if all of it has come: whether it has.
+    fn take_found(&mut self, alloc: Global, found: Found, most: u64) -> Result<bool, Halt>
+        requires good { IsGood most self.old }
+        requires next { (self.old.done ≡ None) × (self.old.next ≡ Next.Found found) }
+        ensures good { IsGood most self.new }
+        ensures fewer { length self.new.pending.items ≤ length self.old.pending.items }
+        ensures next { IfOk result (λ came. came ≡ true → self.new.next ≡ Next.Head Head.Type) }
+        ensures reads { (held : List ℕ) → Reads most held self.old → Reads most held self.new }
+        ensures none { IfOk result (λ came. came ≡ false → (held : List ℕ) → Reads most held self.old → value_at most max_depth (seen_of held) ≡ unfinished) }
+        ensures halts { IfErr result (λ e. (held : List ℕ) → Reads most held self.old → HaltsAt most held e) }
+    {
+        match found {
+            Found::Line(line) => return self.take_line(alloc, line, most),
+            Found::Payload(n) => return self.take_bulk(alloc, n, most),
+            Found::Members(n) => {
+                if self.open_list(alloc, most, n).is_err() {
+                    return Err(Halt::NoMemory);
+                }
+            }
+            Found::NullBulk => self.finish(Value::NullBulk),
+            Found::NullList => self.finish(Value::NullList),
+            Found::Whole(n) => self.finish(Value::Whole(n)),
+        }
+        Ok(true)
+    }
+
+    // The value that came behind the last head, of which no byte is pending.
+    fn finish(&mut self, value: Value)
+        ensures done { self.new.done ≡ Some value }
+        ensures next { self.new.next ≡ Next.Head Head.Type }
+        ensures same { (self.new.pending ≡ self.old.pending) × (self.new.opens ≡ self.old.opens) }
+        ensures seen { (self.new.seen ≡ self.old.seen) × (self.new.came ≡ self.old.came) }
+    {
+        self.done = Some(value);
+        self.next = Next::Head(Head::Type);
     }
 
     // Puts the value that came into its list, and closes those that are whole with it: the outermost value, if it is whole.
     fn put_done(&mut self) -> Result<Option<Value>, AllocError>
-        requires few { length self.old.opens.items ≤ max_depth }
-        requires next { IfSome self.old.done (λ _. self.old.next ≡ Next.Head Head.Type) }
-        ensures value { IfOk result (λ o. IfSome o (λ v. (most : ℕ) (held : List ℕ) → Reads most held self.old → Finds most held self.new (tree_of v))) }
-        ensures reads { IfOk result (λ o. IfNone o ((most : ℕ) (held : List ℕ) → Reads most held self.old → Reads most held self.new)) }
-        ensures err { OnErr result ((most : ℕ) (held : List ℕ) → Reads most held self.old → Reads most held self.new) }
+        ensures good { (most : ℕ) → IsGood most self.old → IsGood most self.new }
+        ensures fresh { (most : ℕ) → IsGood most self.old → IfOk result (λ o. IfSome o (λ _. IsFresh self.new)) }
+        ensures value { (most : ℕ) → IsGood most self.old → IfOk result (λ o. IfSome o (λ v. (held : List ℕ) → Reads most held self.old → Finds most held self.new (tree_of v))) }
+        ensures reads { (most : ℕ) → IsGood most self.old → IfOk result (λ o. IfNone o ((held : List ℕ) → Reads most held self.old → Reads most held self.new)) }
+        ensures err { (most : ℕ) → IsGood most self.old → OnErr result ((held : List ℕ) → Reads most held self.old → Reads most held self.new) }
+        ensures none { OnOk result (self.new.done ≡ None) }
+        ensures same { (self.new.pending ≡ self.old.pending) × (self.new.next ≡ self.old.next) × (self.new.came ≡ self.old.came) }
     {
         let Some(value) = self.done.take() else {
             return Ok(None);
@@ -98,15 +272,17 @@ impl Progress {
     }
 
     // Opens a list of so many members, or gives the empty one.
-    fn open_list(&mut self, alloc: Global, n: u64) -> Result<(), AllocError>
+    fn open_list(&mut self, alloc: Global, most: u64, n: u64) -> Result<(), AllocError>
+        requires good { IsGood most self.old }
         requires next { (self.old.done ≡ None) × (self.old.next ≡ Next.Found (Found.Members n)) }
-        ensures reads { OnOk result ((most : ℕ) (held : List ℕ) → Reads most held self.old → Reads most held self.new) }
-        ensures err { OnErr result ((most : ℕ) (held : List ℕ) → Reads most held self.old → Reads most held self.new) }
+        ensures good { IsGood most self.new }
+        ensures next { OnOk result (self.new.next ≡ Next.Head Head.Type) }
+        ensures fewer { self.new.pending ≡ self.old.pending }
+        ensures reads { (held : List ℕ) → Reads most held self.old → Reads most held self.new }
     {
         let members = Values(Vec::new(alloc));
         if n == 0 {
-            self.done = Some(Value::List(members));
-            self.next = Next::Head(Head::Type);
+            self.finish(Value::List(members));
             return Ok(());
         }
         let list = Begun {
@@ -123,31 +299,28 @@ impl Progress {
     // Takes a payload, if all of it and its line end have come.
     fn take_bulk(&mut self, alloc: Global, n: u64, most: u64) -> Result<bool, Halt>
         requires good { IsGood most self.old }
-        requires next { (self.old.done ≡ None) × (self.old.next ≡ Next.Found (Found.Payload n)) × (self.old.seen ≡ 0) }
+        requires next { (self.old.done ≡ None) × (self.old.next ≡ Next.Found (Found.Payload n)) }
         ensures good { IsGood most self.new }
         ensures fewer { length self.new.pending.items ≤ length self.old.pending.items }
-        ensures came { IfOk result (λ came. came ≡ true → self.new.next ≡ Next.Head Head.Type) }
-        ensures reads { IfOk result (λ came. came ≡ true → (held : List ℕ) → Reads most held self.old → Reads most held self.new) }
-        ensures none { IfOk result (λ came. came ≡ false → (self.new ≡ self.old) × ((held : List ℕ) → Reads most held self.old → value_at most max_depth (seen_of held) ≡ unfinished)) }
-        ensures halts { IfErr result (λ e. (held : List ℕ) → Reads most held self.old → Reads most held self.new × HaltsAt most held e) }
+        ensures next { IfOk result (λ came. came ≡ true → self.new.next ≡ Next.Head Head.Type) }
+        ensures reads { (held : List ℕ) → Reads most held self.old → Reads most held self.new }
+        ensures none { IfOk result (λ came. came ≡ false → (held : List ℕ) → Reads most held self.old → value_at most max_depth (seen_of held) ≡ unfinished) }
+        ensures halts { IfErr result (λ e. (held : List ℕ) → Reads most held self.old → HaltsAt most held e) }
     {
         let visible = self.pending.len().min(MAX_TEXT + 1 - self.came);
         match take_payload(&self.pending.as_slice()[..visible], n) {
             Ok((payload, rest)) => {
                 let len = payload.len();
                 let taken = visible - rest.len();
-                match cut(alloc, &mut self.pending, len, taken) {
-                    Ok(payload) => {
-                        self.done = Some(Value::Bulk(payload));
-                        self.next = Next::Head(Head::Type);
-                        self.came += taken;
-                        Ok(true)
-                    }
-                    Err(_) => Err(Halt::NoMemory),
-                }
+                let Ok(payload) = cut(alloc, &mut self.pending, self.room, len, taken) else {
+                    return Err(Halt::NoMemory);
+                };
+                self.came += taken;
+                self.seen = 0;
+                self.finish(Value::Bulk(payload));
+                Ok(true)
             }
             Err(Stop::Unfinished) => Ok(false),
-            Err(Stop::NoMemory) => Err(Halt::NoMemory),
             Err(Stop::Refused(refusal, rest)) => {
                 let place = visible - rest.len();
                 Err(Halt::Refused(refusal, self.came + place))
@@ -156,34 +329,34 @@ impl Progress {
     }
 
     // Takes a line of text, if all of it has come.
-    fn take_line(&mut self, alloc: Global, most: u64) -> Result<bool, Halt>
+    fn take_line(&mut self, alloc: Global, line: Line, most: u64) -> Result<bool, Halt>
         requires good { IsGood most self.old }
-        requires next { (self.old.done ≡ None) × (self.old.next ≡ Next.Found Found.Simple) }
+        requires next { (self.old.done ≡ None) × (self.old.next ≡ Next.Found (Found.Line line)) }
         ensures good { IsGood most self.new }
         ensures fewer { length self.new.pending.items ≤ length self.old.pending.items }
-        ensures came { IfOk result (λ came. came ≡ true → self.new.next ≡ Next.Head Head.Type) }
-        ensures reads { IfOk result (λ came. came ≡ true → (held : List ℕ) → Reads most held self.old → Reads most held self.new) }
-        ensures none { IfOk result (λ came. came ≡ false → (self.new ≡ self.old) × ((held : List ℕ) → Reads most held self.old → value_at most max_depth (seen_of held) ≡ unfinished)) }
-        ensures halts { IfErr result (λ e. (held : List ℕ) → Reads most held self.old → Reads most held self.new × HaltsAt most held e) }
+        ensures next { IfOk result (λ came. came ≡ true → self.new.next ≡ Next.Head Head.Type) }
+        ensures reads { (held : List ℕ) → Reads most held self.old → Reads most held self.new }
+        ensures none { IfOk result (λ came. came ≡ false → (held : List ℕ) → Reads most held self.old → value_at most max_depth (seen_of held) ≡ unfinished) }
+        ensures halts { IfErr result (λ e. (held : List ℕ) → Reads most held self.old → HaltsAt most held e) }
     {
         let visible = self.pending.len().min(MAX_TEXT + 1 - self.came);
-        match take_rest_of_text(&self.pending.as_slice()[..visible], 0) {
+        match take_text(&self.pending.as_slice()[..visible], self.seen) {
             Ok((text, rest)) => {
                 let len = text.len();
                 let taken = visible - rest.len();
-                match cut(alloc, &mut self.pending, len, taken) {
-                    Ok(text) => {
-                        self.done = Some(Value::Simple(text));
-                        self.next = Next::Head(Head::Type);
-                        self.came += taken;
-                        self.seen = 0;
-                        Ok(true)
-                    }
-                    Err(_) => Err(Halt::NoMemory),
-                }
+                let Ok(text) = cut(alloc, &mut self.pending, self.room, len, taken) else {
+                    return Err(Halt::NoMemory);
+                };
+                self.came += taken;
+                self.seen = 0;
+                self.finish(line.value(text));
+                Ok(true)
             }
-            Err(Stop::Unfinished) => Ok(false),
-            Err(Stop::NoMemory) => Err(Halt::NoMemory),
+            Err(Stop::Unfinished) => {
+                // The last byte can be the CR of the line's end.
+                self.seen = visible.saturating_sub(1);
+                Ok(false)
+            }
             Err(Stop::Refused(refusal, rest)) => {
                 let place = visible - rest.len();
                 Err(Halt::Refused(refusal, self.came + place))
