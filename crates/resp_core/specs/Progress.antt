@@ -1,5 +1,5 @@
 -- How far a reader has come in an unfinished value.
-use Rattle.std.specs.Prelude.{◌≡◌, ℕ, ◌-◌, ◌+◌, ◌<◌, ◌≤◌, List, [], ◌++◌, length, take, drop, Option, Some, None, IfSome}
+use Rattle.std.specs.Prelude.{◌≡◌, ℕ, ◌-◌, ◌+◌, ◌*◌, ◌<◌, ◌≤◌, List, [], ◌++◌, length, take, drop, Option, Some, None, IfSome}
 use Rattle.resp_core.specs.Tree.{Tree}
 use Rattle.resp_core.specs.Value.{tree_of}
 use Rattle.resp_core.specs.Grammar.{max_depth, max_text}
@@ -56,6 +56,15 @@ held_of p = p.came + length p.pending.items
 -- the same but for the room behind the bytes
 abbrev pub shown : Progress → Progress
 shown p = record { pending = record { items = p.pending.items; spare = 0 }; room = 0; opens = p.opens; done = p.done; next = p.next; seen = p.seen; came = p.came }
+
+-- 1 where a head was read to its end
+abbrev pub behind_head : Next → ℕ
+behind_head (nexts.Head h) = 0
+behind_head (nexts.Found f) = 1
+
+-- a number that falls with each head that is read, and with what each is found to be
+abbrev pub to_read : Progress → ℕ
+to_read p = length p.pending.items * 2 + behind_head p.next
 
 -- nothing is read, and no list is open
 pub record IsFresh (p : Progress) : Type 0 where

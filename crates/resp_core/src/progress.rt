@@ -1,6 +1,6 @@
 //! How far a reader has come in an unfinished value.
 ghost use Rattle.std.specs.Prelude.{true, false, ◌≡◌, ◌≢◌, ◌⊎◌, ◌≤◌, ◌<◌, ◌-◌, ◌+◌, ◌++◌, List, ℕ, [], length, take, drop, Some, None, IfOk, IfErr, IfSome, IfNone, OnOk, OnErr, IsOk};
-ghost use Rattle.resp_core.specs.Progress.{Reads, Finds, IsGood, IsFresh, HaltsAt, Gave, Stopped, seen_of, shown};
+ghost use Rattle.resp_core.specs.Progress.{Reads, Finds, IsGood, IsFresh, HaltsAt, Gave, Stopped, seen_of, shown, to_read};
 ghost use Rattle.resp_core.specs.Front.{IsUnfinished};
 ghost use Rattle.resp_core.specs.Value.{tree_of};
 ghost use Rattle.resp_core.specs.Grammar.{max_depth, max_text};
@@ -175,13 +175,25 @@ impl Progress {
                 Ok(None) => {}
                 Err(_) => return Err(Halt::NoMemory),
             }
-            let goes_on = match self.next {
-                Next::Head(head) => self.go_on_in_head(head, most)?,
-                Next::Found(found) => self.take_found(alloc, found, most)?,
-            };
-            if !goes_on {
+            if !self.turn(alloc, most)? {
                 return Ok(None);
             }
+        }
+    }
+
+    // Reads a head, or takes what the last one was found to be: whether all of it has come.
+    fn turn(&mut self, alloc: Global, most: u64) -> Result<bool, Halt>
+        requires good { IsGood most self.old }
+        requires done { self.old.done ≡ None }
+        ensures good { IsGood most self.new }
+        ensures reads { (held : List ℕ) → Reads most held self.old → Reads most held self.new }
+        ensures falls { IfOk result (λ came. came ≡ true → to_read self.new < to_read self.old) }
+        ensures none { IfOk result (λ came. came ≡ false → (held : List ℕ) → Reads most held self.old → value_at most max_depth (seen_of held) ≡ unfinished) }
+        ensures halts { IfErr result (λ e. (held : List ℕ) → Reads most held self.old → HaltsAt most held e) }
+    {
+        match self.next {
+            Next::Head(head) => self.go_on_in_head(head, most),
+            Next::Found(found) => self.take_found(alloc, found, most),
         }
     }
 
@@ -191,8 +203,8 @@ impl Progress {
         requires head { (self.old.done ≡ None) × (self.old.next ≡ Next.Head head) }
         ensures good { IsGood most self.new }
         ensures reads { (held : List ℕ) → Reads most held self.old → Reads most held self.new }
-        ensures fewer { IfOk result (λ goes_on. goes_on ≡ true → length self.new.pending.items < length self.old.pending.items) }
-        ensures none { IfOk result (λ goes_on. goes_on ≡ false → (held : List ℕ) → Reads most held self.old → value_at most max_depth (seen_of held) ≡ unfinished) }
+        ensures falls { IfOk result (λ came. came ≡ true → to_read self.new < to_read self.old) }
+        ensures none { IfOk result (λ came. came ≡ false → (held : List ℕ) → Reads most held self.old → value_at most max_depth (seen_of held) ≡ unfinished) }
         ensures halts { IfErr result (λ e. (held : List ℕ) → Reads most held self.old → HaltsAt most held e) }
     {
         let left = MAX_DEPTH - self.opens.len() as u32;
@@ -217,8 +229,7 @@ impl Progress {
         requires good { IsGood most self.old }
         requires next { (self.old.done ≡ None) × (self.old.next ≡ Next.Found found) }
         ensures good { IsGood most self.new }
-        ensures fewer { length self.new.pending.items ≤ length self.old.pending.items }
-        ensures next { IfOk result (λ came. came ≡ true → self.new.next ≡ Next.Head Head.Type) }
+        ensures falls { IfOk result (λ came. came ≡ true → to_read self.new < to_read self.old) }
         ensures reads { (held : List ℕ) → Reads most held self.old → Reads most held self.new }
         ensures none { IfOk result (λ came. came ≡ false → (held : List ℕ) → Reads most held self.old → value_at most max_depth (seen_of held) ≡ unfinished) }
         ensures halts { IfErr result (λ e. (held : List ℕ) → Reads most held self.old → HaltsAt most held e) }
@@ -301,8 +312,7 @@ impl Progress {
         requires good { IsGood most self.old }
         requires next { (self.old.done ≡ None) × (self.old.next ≡ Next.Found (Found.Payload n)) }
         ensures good { IsGood most self.new }
-        ensures fewer { length self.new.pending.items ≤ length self.old.pending.items }
-        ensures next { IfOk result (λ came. came ≡ true → self.new.next ≡ Next.Head Head.Type) }
+        ensures falls { IfOk result (λ came. came ≡ true → to_read self.new < to_read self.old) }
         ensures reads { (held : List ℕ) → Reads most held self.old → Reads most held self.new }
         ensures none { IfOk result (λ came. came ≡ false → (held : List ℕ) → Reads most held self.old → value_at most max_depth (seen_of held) ≡ unfinished) }
         ensures halts { IfErr result (λ e. (held : List ℕ) → Reads most held self.old → HaltsAt most held e) }
@@ -333,8 +343,7 @@ impl Progress {
         requires good { IsGood most self.old }
         requires next { (self.old.done ≡ None) × (self.old.next ≡ Next.Found (Found.Line line)) }
         ensures good { IsGood most self.new }
-        ensures fewer { length self.new.pending.items ≤ length self.old.pending.items }
-        ensures next { IfOk result (λ came. came ≡ true → self.new.next ≡ Next.Head Head.Type) }
+        ensures falls { IfOk result (λ came. came ≡ true → to_read self.new < to_read self.old) }
         ensures reads { (held : List ℕ) → Reads most held self.old → Reads most held self.new }
         ensures none { IfOk result (λ came. came ≡ false → (held : List ℕ) → Reads most held self.old → value_at most max_depth (seen_of held) ≡ unfinished) }
         ensures halts { IfErr result (λ e. (held : List ℕ) → Reads most held self.old → HaltsAt most held e) }
