@@ -6,20 +6,14 @@ use Rattle.resp_core.specs.Tree.{Tree}
 use Rattle.resp_core.specs.Grammar.{max_text}
 use Rattle.resp_core.specs.Stream.{Splits, told_offset, HasRefusal, HasNoRefusal}
 use Rattle.resp_core.specs.Standing.{ReaderState, IsReached, Stands, Unmoved, Leaves, unread}
-use Rattle.resp_core.specs.Progress.{Reads, Gave, held_of, shown}
+use Rattle.resp_core.specs.Progress.{Reads, Gave, held_of}
 use Rattle.resp_core.specs.Offset.{offset_of, number_of}
 use Rattle.resp_core.specs.declared.error.RespError.{RespError}
 use Rattle.resp_core.specs.declared.progress.Progress.{Progress}
 use Rattle.resp_core.specs.Readable.{IsReadable}
 use Rattle.resp_core.proofs.Readable.{first_readable}
-use Rattle.resp_core.proofs.Bridges.{held_is}
+use Rattle.resp_core.proofs.Bridges.{held_is, reads_shown, shown_reads}
 use Rattle.resp_core.proofs.Streams.{splits_fed, splits_more, splits_shorter, told_later, first_value_some, no_refusal_of, refusal_of_fault}
-
-pub reads_shown : (most : ℕ) (held : List ℕ) (p : Progress) → Reads most held p → Reads most held (shown p)
-reads_shown most held p r = record { taken = r.taken; split = r.split; came = r.came; same = r.same }
-
-pub shown_reads : (most : ℕ) (held : List ℕ) (p : Progress) → Reads most held (shown p) → Reads most held p
-shown_reads most held p r = record { taken = r.taken; split = r.split; came = r.came; same = r.same }
 
 -- what holds where nothing was refused
 pub if_none : {A : Type 0} {o : Option RespError} → o ≡ None → IfNone o A → A
