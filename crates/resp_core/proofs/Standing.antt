@@ -6,7 +6,7 @@ use Rattle.resp_core.specs.Tree.{Tree}
 use Rattle.resp_core.specs.Grammar.{max_text}
 use Rattle.resp_core.specs.Stream.{Splits, told_offset, HasRefusal, HasNoRefusal}
 use Rattle.resp_core.specs.Standing.{ReaderState, IsReached, Stands, Unmoved, Leaves, unread}
-use Rattle.resp_core.specs.Progress.{Reads, Gave, held_of}
+use Rattle.resp_core.specs.Progress.{Reads, Gave, held_of, shown}
 use Rattle.resp_core.specs.Offset.{offset_of, number_of}
 use Rattle.resp_core.specs.declared.error.RespError.{RespError}
 use Rattle.resp_core.specs.declared.progress.Progress.{Progress}
@@ -96,6 +96,24 @@ gives_readable most len p q t on g = first_readable most g.held t len (on g.held
 -- how many bytes a reader holds
 pub leaves : (r : ReaderState) (b : List ℕ) (ts : List Tree) (n : ℕ) → n ≡ held_of r.progress → Stands r b ts → r.refusal ≡ None → Leaves r.most b ts n
 leaves r b ts n e g none = record { rest = g.rest; splits = g.splits; length_is = e ∙ held_is r.most g.rest r.progress (if_none none g.reads) }
+
+-- how far it has come, without the room behind its bytes
+pub shown_gave : (most len : ℕ) (t : Tree) (p q : Progress) → ((held : List ℕ) → Reads most held p → Gave most held t len q) → (held : List ℕ) → Reads most held (shown p) → Gave most held t len (shown q)
+shown_gave most len t p q on held r =
+    let g = on held (shown_reads most held p r) in
+    record { first = g.first; reads = reads_shown most (drop len held) q g.reads }
+
+pub shown_on : (most : ℕ) (p q : Progress) (f : List ℕ → List ℕ) → ((held : List ℕ) → Reads most held p → Reads most (f held) q) → (held : List ℕ) → Reads most held (shown p) → Reads most (f held) (shown q)
+shown_on most p q f on held r = reads_shown most (f held) q (on held (shown_reads most held p r))
+
+pub shown_reached : (most : ℕ) (p : Progress) → IsReached most p → IsReached most (shown p)
+shown_reached most p g = record { held = g.held; reads = reads_shown most g.held p g.reads }
+
+pub given_reached : (most len : ℕ) (t : Tree) (p q : Progress) → ((held : List ℕ) → Reads most held p → Gave most held t len q) → IsReached most p → IsReached most q
+given_reached most len t p q on g = record { held = drop len g.held; reads = (on g.held g.reads).reads }
+
+pub on_reached : (most : ℕ) (p q : Progress) (f : List ℕ → List ℕ) → ((held : List ℕ) → Reads most held p → Reads most (f held) q) → IsReached most p → IsReached most q
+on_reached most p q f on g = record { held = f g.held; reads = on g.held g.reads }
 
 -- the values that a reader has given stand at the front of what it was fed
 pub splits-Stands : (r : ReaderState) (b : List ℕ) (ts : List Tree) → Stands r b ts → (rest : List ℕ) × Splits r.most b ts rest

@@ -22,7 +22,7 @@ module _ (most : ℕ) where
   splits_more b rest x y [] t g e f h = (x, y, g ∙ e, f, h, refl)
   splits_more b rest x y (u ∷ us) t g e f h = (g.0, g.1, g.2, g.3, g.4, splits_more g.1 rest x y us t g.5 e f h)
 
-  splits_shorter : (b rest : List ℕ) (ts : List Tree) → Splits most b ts rest → length rest ≤ length b
+  pub splits_shorter : (b rest : List ℕ) (ts : List Tree) → Splits most b ts rest → length rest ≤ length b
   splits_shorter b rest [] g = omega (arith, ap length g)
   splits_shorter b rest (t ∷ ts) g = omega (arith, ap length g.2, length-append g.0 g.1, splits_shorter g.1 rest ts g.5)
 

@@ -5,7 +5,7 @@ use Rattle.resp_core.specs.declared.error.RespError.{RespError}
 use Rattle.resp_core.specs.declared.progress.Progress.{Progress}
 use Rattle.resp_core.specs.Offset.{offset_of, number_of}
 use Rattle.resp_core.specs.Stream.{Splits, HasRefusal, told_offset}
-use Rattle.resp_core.specs.Progress.{Reads, held_of}
+use Rattle.resp_core.specs.Progress.{Reads, held_of, shown}
 
 -- what clauses see of a reader: how many members an array may have, how many bytes came before the unfinished value, how
 -- far it has come in that value, and the refusal that was told
@@ -14,6 +14,10 @@ pub record ReaderState : Type 0 where
   pub consumed : ℕ
   pub progress : Progress
   pub refusal : Option RespError
+
+-- the state of a reader whose unfinished value has come so far, whatever room there is behind its bytes
+abbrev pub state_of : ℕ → ℕ → Progress → Option RespError → ReaderState
+state_of most consumed p refusal = record { most = most; consumed = consumed; progress = shown p; refusal = refusal }
 
 -- how many bytes behind the values given a reader has been fed, and 0 after a refusal
 abbrev pub unread_by : Option RespError → Progress → ℕ

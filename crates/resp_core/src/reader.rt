@@ -59,12 +59,17 @@ pub struct Reader {
 }
 
 impl Model for Reader {
-    ghost use Rattle.resp_core.specs.Standing.{ReaderState, IsReached};
-    ghost use Rattle.resp_core.specs.Progress.{IsGood, shown};
+    ghost use Rattle.resp_core.specs.Standing.{ReaderState, IsReached, state_of};
+    ghost use Rattle.resp_core.specs.Progress.{IsGood};
+
+    ghost use Rattle.std.specs.Coded.{codes};
+    ghost use Rattle.resp_core.specs.Code.{tree_code};
 
     ghost Value = { ReaderState };
 
-    ghost view = { λ r. record { most = r.array; consumed = r.consumed; progress = shown r.progress; refusal = r.refusal } };
+    ghost coded = { Prim.hlevel (codes, tree_code) };
+
+    ghost view = { λ r. state_of r.array r.consumed r.progress r.refusal };
 
     ghost invariant = { λ r. IsGood r.array r.progress × IsReached r.array r.progress };
 }
@@ -117,9 +122,7 @@ impl Reader {
         if let Some(refusal) = self.refusal {
             return Err(refusal);
         }
-        if self.progress.feed(piece).is_err() {
-            return Err(RespError::NoMemory);
-        }
+        self.progress.feed(piece)?;
         Ok(())
     }
 
