@@ -1,9 +1,9 @@
 -- How a reader goes on in an unfinished value.
-use Rattle.std.proofs.Common.{◌≡◌, ◌⊎◌, inl, inr, ℕ, zero, suc, ◌+◌, ◌-◌, ◌<◌, ◌≤◌, min, List, [], ◌∷◌, ◌++◌, length, take, drop, Option, Some, None, refl, sym, ap, ◌∙◌, subst, append_assoc, arith}
+use Rattle.std.proofs.Common.{◌≡◌, inl, inr, ℕ, zero, suc, ◌+◌, ◌-◌, ◌≤◌, min, List, [], ◌∷◌, ◌++◌, length, take, drop, Some, None, refl, sym, ap, ◌∙◌, append_assoc, arith}
 use Rattle.std.proofs.lemmas.List.{take-append-drop, length-append, length-take, length-take-le, take_all, take_at}
 use Rattle.std.proofs.lemmas.Bool.{cases_lt}
 use Rattle.std.proofs.Math.Seq.{drop-append-add}
-use Rattle.resp_core.specs.Tree.{Tree, bulk, list, trees_of}
+use Rattle.resp_core.specs.Tree.{bulk}
 use Rattle.resp_core.specs.Value.{tree_of}
 use Rattle.resp_core.specs.declared.error.Refusal.{Refusal}
 use Rattle.resp_core.specs.declared.value.Value.{Value}
@@ -15,12 +15,12 @@ use Rattle.resp_core.specs.declared.head.Found.TheVariants as founds
 use Rattle.resp_core.specs.declared.progress.Progress.{Progress}
 use Rattle.resp_core.specs.Grammar.{max_depth, max_text}
 use Rattle.resp_core.specs.Reading.{payload_at, members_at, Outcome, found, unfinished, refused, value_at}
-use Rattle.resp_core.specs.Going.{head_at, found_at, next_at, GoesOn}
+use Rattle.resp_core.specs.Going.{head_at, next_at, GoesOn}
 use Rattle.resp_core.specs.declared.begun.Begun.{Begun}
 use Rattle.resp_core.specs.Text.{line_end}
 use Rattle.resp_core.specs.Begun.{nested, in_list}
-use Rattle.resp_core.specs.Progress.{Reads, Finds, resume, due_at, seen_of}
-use Rattle.resp_core.proofs.Nested.{nested_refused, nested_unfinished, nested_push, list_opens, list_is_empty}
+use Rattle.resp_core.specs.Progress.{Reads, resume, due_at, seen_of}
+use Rattle.resp_core.proofs.Nested.{nested_refused, nested_unfinished, nested_push, list_opens}
 use Rattle.resp_core.proofs.Whole.{IsPayload, InPayload, payload-reads}
 use Rattle.resp_core.proofs.Readers.{IsReader}
 

@@ -1,13 +1,12 @@
 -- Heads that are read a byte at a time.
-use Rattle.std.proofs.Common.{◌≡◌, ℕ, zero, suc, add-one, ◌+◌, ◌<◌, List, [], ◌∷◌, ◌++◌, length, get_or, take, drop, drop-cons, refl, sym, ap, ◌∙◌, append_assoc, append-nil, arith}
+use Rattle.std.proofs.Common.{◌≡◌, ℕ, zero, suc, ◌+◌, ◌<◌, List, [], ◌∷◌, ◌++◌, length, get_or, take, drop, drop-cons, refl, sym, ap, ◌∙◌, append-nil, arith}
 use Rattle.std.proofs.lemmas.List.{take-append-drop, take_all}
 use Rattle.resp_core.specs.declared.error.Refusal.{Refusal}
 use Rattle.resp_core.specs.declared.head.Head.{Head}
 use Rattle.resp_core.specs.declared.head.Next.{Next}
 use Rattle.resp_core.specs.declared.head.Next.TheVariants as nexts
-use Rattle.resp_core.specs.Tree.{Tree}
 use Rattle.resp_core.specs.declared.head.Head.TheVariants as heads
-use Rattle.resp_core.specs.Reading.{Outcome, unfinished, refused, value_at, leaf_at, byte_at, null_end_at, count_at, digits_at, integer_at}
+use Rattle.resp_core.specs.Reading.{unfinished, refused, value_at, leaf_at, byte_at, null_end_at, count_at, digits_at, integer_at}
 use Rattle.resp_core.specs.Going.{head_at, next_at, GoesOn}
 
 front_suc : (b : List ℕ) (i : ℕ) (y : List ℕ) → i < length b → take (suc i) b ++ y ≡ take i b ++ get_or b i 0 ∷ y

@@ -1,5 +1,5 @@
 -- Lists that are begun: how they grow, go on and close.
-use Rattle.std.proofs.Common.{◌≡◌, ℕ, zero, suc, ◌+◌, ◌-◌, List, [], ◌∷◌, ◌++◌, length, Some, refl, sym, ap, ◌∙◌, append_assoc, ◌≤◌, ◌<◌, arith}
+use Rattle.std.proofs.Common.{◌≡◌, ℕ, suc, ◌-◌, List, [], ◌∷◌, ◌++◌, length, Some, refl, sym, ap, ◌∙◌, append_assoc, ◌<◌, arith}
 use Rattle.std.proofs.lemmas.List.{length-append}
 use Rattle.resp_core.specs.declared.error.Refusal.{Refusal}
 use Rattle.resp_core.specs.declared.begun.Begun.{Begun}

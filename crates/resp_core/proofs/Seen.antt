@@ -5,7 +5,7 @@ use Rattle.resp_core.specs.declared.error.Refusal.TheVariants.{BadLineEnd}
 use Rattle.resp_core.specs.Grammar.{max_line}
 use Rattle.resp_core.specs.Reading.{found, unfinished, and_then, byte_at, text_at}
 use Rattle.resp_core.specs.Seen.{IsSeen}
-use Rattle.resp_core.proofs.Parts.{TextStep, stops, ends, goes, text_step, line_end_behind}
+use Rattle.resp_core.proofs.Parts.{stops, ends, goes, text_step, line_end_behind}
 use Rattle.resp_core.proofs.Going.{take_of_take}
 
 -- a line whose next byte is CR
@@ -54,9 +54,10 @@ looked_at acc (x ∷ xs) c few e =
       | stops r p ↦ let f = p (xs ++ c ∷ []) in cc
       | ends x_is p ↦ absurd (end_looks acc xs c (sym (p (xs ++ c ∷ [])) ∙ e))
       | goes t less p ↦
-          let q = looked_at (acc ++ x ∷ []) xs c (omega (arith, length-append acc (x ∷ []))) (sym (p (xs ++ c ∷ [])) ∙ e) in
-          ((λ y. ap (λ z. text_at z y) (sym (append_assoc acc (x ∷ []) xs)) ∙ q.0 y ∙ sym (p (xs ++ y))),
-          omega (arith, q.1, ap length (append_assoc acc (x ∷ []) xs)))
+          let q = looked_at (acc ++ x ∷ []) xs c (omega (arith, length-append acc (x ∷ []))) (sym (p (xs ++ c ∷ [])) ∙ e) in (
+            (λ y. ap (λ z. text_at z y) (sym (append_assoc acc (x ∷ []) xs)) ∙ q.0 y ∙ sym (p (xs ++ y))),
+            omega (arith, q.1, ap length (append_assoc acc (x ∷ []) xs)),
+          )
     ]
 
 last_of : (v : ℕ) (b : List ℕ) → suc v ≤ length b → (c : ℕ) × (take (suc v) b ≡ take v b ++ c ∷ [])

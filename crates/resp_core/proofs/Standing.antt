@@ -1,7 +1,7 @@
 -- Laws of readers: how a reader comes to stand after more bytes and more values.
-use Rattle.std.proofs.Common.{◌≡◌, ℕ, ◌+◌, ◌-◌, ◌<◌, ◌≤◌, List, [], ◌∷◌, ◌++◌, length, take, drop, Option, Some, None, IfNone, refl, sym, ap, ◌∙◌, subst, arith}
+use Rattle.std.proofs.Common.{◌≡◌, ℕ, ◌+◌, ◌-◌, ◌<◌, ◌≤◌, List, [], ◌∷◌, ◌++◌, length, take, drop, Option, Some, None, IfNone, sym, ap, ◌∙◌, subst, arith}
 use Rattle.std.proofs.lemmas.List.{length-append, length-take, length-drop, take-append-drop}
-use Rattle.resp_core.specs.Front.{IsFirstValue, IsUnfinished, IsFault}
+use Rattle.resp_core.specs.Front.{IsUnfinished, IsFault}
 use Rattle.resp_core.specs.Tree.{Tree}
 use Rattle.resp_core.specs.Grammar.{max_text}
 use Rattle.resp_core.specs.Stream.{Splits, told_offset, HasRefusal, HasNoRefusal}

@@ -1,14 +1,12 @@
 -- Laws of streams and readers.
-use Rattle.std.proofs.Common.{◌≡◌, ◌⊎◌, inl, inr, ⊎_elim, ℕ, ◌+◌, ◌-◌, ◌<◌, ◌≤◌, List, [], ◌∷◌, ◌++◌, length, take, drop, Some, None, refl, sym, ap, ◌∙◌, subst, append_assoc, arith}
-use Rattle.std.proofs.lemmas.List.{length-append, length-take, length-drop, take-append-drop}
+use Rattle.std.proofs.Common.{◌≡◌, ◌⊎◌, inl, inr, ⊎_elim, ℕ, ◌+◌, ◌-◌, ◌<◌, ◌≤◌, List, [], ◌∷◌, ◌++◌, length, take, refl, sym, ap, ◌∙◌, subst, append_assoc, arith}
+use Rattle.std.proofs.lemmas.List.{length-append, length-take}
 use Rattle.resp_core.specs.Front.{IsFirstValue, IsUnfinished, IsFault}
 use Rattle.resp_core.specs.Tree.{Tree}
 use Rattle.resp_core.specs.Grammar.{IsText, max_text, max_depth}
 use Rattle.resp_core.specs.Reading.{found, value_at}
 use Rattle.resp_core.specs.Stream.{HasWhole, Splits, AreValues, Begins, told_offset, HasRefusal, HasNoRefusal}
 use Rattle.resp_core.specs.Laws.{OneReading}
-use Rattle.resp_core.specs.Offset.{offset_of, number_of}
-use Rattle.resp_core.specs.declared.error.RespError.{RespError}
 use Rattle.resp_core.proofs.Whole.{value-reads, text_nonempty}
 
 module _ (most : ℕ) where

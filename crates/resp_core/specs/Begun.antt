@@ -1,5 +1,5 @@
 -- Lists whose members have not all come, one within the other.
-use Rattle.std.specs.Prelude.{◌≡◌, ℕ, ◌-◌, ◌+◌, suc, zero, List, [], ◌∷◌, ◌++◌, length}
+use Rattle.std.specs.Prelude.{ℕ, ◌-◌, List, [], ◌∷◌, ◌++◌}
 use Rattle.resp_core.specs.Tree.{Tree, list, trees_of}
 use Rattle.resp_core.specs.Reading.{Outcome, found, and_then, many_at, value_at}
 use Rattle.resp_core.specs.declared.begun.Begun.{Begun}

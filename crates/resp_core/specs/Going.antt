@@ -1,8 +1,8 @@
 -- Reading that goes on from the middle of a value.
-use Rattle.std.specs.Prelude.{◌≡◌, ℕ, ℤ, pos, neg_ℤ, Bool, true, false, ◌+◌, ◌-◌, ◌^◌, ◌<◌, ◌≤◌, zero, suc, List, [], ◌∷◌, ◌++◌, Option, Some, None, Result, Ok, Err}
-use Rattle.resp_core.specs.Tree.{Tree, simple, fault, whole, null_bulk, null_list, list, trees_of}
+use Rattle.std.specs.Prelude.{◌≡◌, ℕ, ℤ, pos, neg_ℤ, Bool, true, false, ◌+◌, ◌-◌, ◌^◌, ◌<◌, ◌≤◌, List, [], ◌∷◌, ◌++◌, Option, Some, None, Result, Ok, Err}
+use Rattle.resp_core.specs.Tree.{Tree, simple, fault, whole, null_bulk, null_list}
 use Rattle.resp_core.specs.Grammar.{max_bulk, max_line}
-use Rattle.resp_core.specs.Reading.{Outcome, found, unfinished, refused, and_then, byte_at, null_end_at, count_at, digits_at, of_length, of_integer, text_at, integer_at, payload_at, members_at, many_at, value_at}
+use Rattle.resp_core.specs.Reading.{Outcome, found, refused, and_then, byte_at, null_end_at, count_at, digits_at, of_length, of_integer, text_at, integer_at, payload_at, members_at, value_at}
 use Rattle.resp_core.specs.declared.digits.Digits.{Digits}
 use Rattle.resp_core.specs.declared.error.Refusal.{Refusal}
 use Rattle.resp_core.specs.declared.error.Refusal.TheVariants.{BadLength, BadLineEnd}

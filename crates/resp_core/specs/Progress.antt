@@ -1,9 +1,9 @@
 -- How far a reader has come in an unfinished value.
-use Rattle.std.specs.Prelude.{◌≡◌, ℕ, ◌-◌, ◌+◌, ◌*◌, ◌<◌, ◌≤◌, List, [], ◌++◌, length, take, drop, Option, Some, None, IfSome}
+use Rattle.std.specs.Prelude.{◌≡◌, ℕ, ◌-◌, ◌+◌, ◌*◌, ◌≤◌, List, [], ◌++◌, length, take, drop, Option, Some, None, IfSome}
 use Rattle.resp_core.specs.Tree.{Tree}
 use Rattle.resp_core.specs.Value.{tree_of}
 use Rattle.resp_core.specs.Grammar.{max_depth, max_text}
-use Rattle.resp_core.specs.Reading.{Outcome, found, unfinished, refused, value_at}
+use Rattle.resp_core.specs.Reading.{Outcome, found, refused, value_at}
 use Rattle.resp_core.specs.Going.{next_at, IsGoodNext}
 use Rattle.resp_core.specs.Begun.{nested}
 use Rattle.resp_core.specs.Seen.{IsSeen}

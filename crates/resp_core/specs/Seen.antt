@@ -1,5 +1,5 @@
 -- Bytes of a line that need not be looked at again.
-use Rattle.std.specs.Prelude.{◌≡◌, ℕ, ◌≤◌, List, [], length, take, drop, ◌++◌}
+use Rattle.std.specs.Prelude.{◌≡◌, ℕ, ◌≤◌, List, [], length, take, ◌++◌}
 use Rattle.resp_core.specs.Grammar.{max_line}
 use Rattle.resp_core.specs.Reading.{text_at}
 

@@ -1,5 +1,5 @@
 -- A reader that was fed bytes and has given values.
-use Rattle.std.specs.Prelude.{◌≡◌, ℕ, ◌-◌, ◌+◌, List, [], length, Option, Some, None, IfSome, IfNone}
+use Rattle.std.specs.Prelude.{◌≡◌, ℕ, ◌-◌, List, length, Option, Some, None, IfSome, IfNone}
 use Rattle.resp_core.specs.Tree.{Tree}
 use Rattle.resp_core.specs.declared.error.RespError.{RespError}
 use Rattle.resp_core.specs.declared.progress.Progress.{Progress}

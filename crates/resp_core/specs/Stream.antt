@@ -1,9 +1,7 @@
 -- A stream of bytes as the texts of values, one after the other, and what is refused in it.
-use Rattle.std.specs.Prelude.{◌≡◌, ◌⊎◌, ℕ, ◌+◌, ◌-◌, ◌^◌, min, ◌≤◌, List, [], ◌∷◌, ◌++◌, length, Option, IfSome}
+use Rattle.std.specs.Prelude.{◌≡◌, ◌⊎◌, ℕ, ◌+◌, ◌-◌, ◌^◌, min, ◌≤◌, List, [], ◌∷◌, ◌++◌, length}
 use Rattle.resp_core.specs.Tree.{Tree}
 use Rattle.resp_core.specs.Grammar.{IsText, max_text, max_depth}
-use Rattle.resp_core.specs.declared.error.RespError.{RespError}
-use Rattle.resp_core.specs.Offset.{offset_of, number_of}
 use Rattle.resp_core.specs.Refusals.{IsTold}
 
 -- the bytes are the texts of these values, each of at most so many bytes, and then these bytes

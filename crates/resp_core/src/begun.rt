@@ -34,7 +34,13 @@ pub(crate) fn put(opens: &mut Vec<Begun>, value: Value) -> Result<Option<Value>,
             return Err(failed);
         }
         if due > 0 {
-            put_back(opens, Begun { members, due: due - 1 });
+            put_back(
+                opens,
+                Begun {
+                    members,
+                    due: due - 1,
+                },
+            );
             return Ok(None);
         }
         value = Value::List(members);

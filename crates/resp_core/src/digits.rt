@@ -55,7 +55,12 @@ pub(crate) fn negated(n: u64) -> i64
 
 // The number that the digits write with one more, or `None` where they end.
 #[tactic(auto, unfolding(crate::specs::Reading::digits_at))]
-pub(crate) fn step_digits(digits: Digits, count: usize, n: u64, byte: u8) -> Result<Option<u64>, Refusal>
+pub(crate) fn step_digits(
+    digits: Digits,
+    count: usize,
+    n: u64,
+    byte: u8,
+) -> Result<Option<u64>, Refusal>
     requires few { count ≤ digits.most }
     requires within { n ≤ digits.limit }
     ensures { DigitSteps digits count n byte result }

@@ -19,6 +19,7 @@ use std::alloc::{AllocError, Global};
 // Payloads and texts of fewer bytes are copied, and so are those of less than one in `MAX_KEPT` bytes of the buffer: those
 // that are shared keep no more than `MAX_KEPT` times their bytes.
 const LEAST_SHARED: usize = 4_096;
+
 const MAX_KEPT: usize = 8;
 
 // Bytes of a buffer that is kept while no byte is pending.

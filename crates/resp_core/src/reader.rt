@@ -61,7 +61,6 @@ pub struct Reader {
 impl Model for Reader {
     ghost use Rattle.resp_core.specs.Standing.{ReaderState, IsReached, state_of};
     ghost use Rattle.resp_core.specs.Progress.{IsGood};
-
     ghost use Rattle.std.specs.Coded.{codes};
     ghost use Rattle.resp_core.specs.Code.{tree_code};
 

@@ -1,5 +1,4 @@
-use Rattle.std.proofs.Common.{◌≡◌, ℕ, List, ◌∷◌, refl, sym, ap, ◌∙◌}
-use Rattle.resp_core.specs.declared.error.Refusal.{Refusal}
+use Rattle.std.proofs.Common.{◌≡◌, ℕ, List, ◌∷◌, refl}
 use Rattle.resp_core.specs.declared.error.Refusal.TheVariants.{BadLineEnd}
 use Rattle.resp_core.specs.declared.head.Sized.{Sized}
 use Rattle.resp_core.specs.declared.head.Found.{Found}

@@ -1,6 +1,4 @@
-use Rattle.std.proofs.Common.{◌≡◌, ℕ, List, refl, sym, ap, ◌∙◌}
 use Rattle.std.proofs.lemmas.Result.{err_from_is_err_and}
-use Rattle.resp_core.specs.Progress.{Reads}
 use Rattle.resp_core.proofs.progress.Progress.go_on.Goals as goal
 
 pub returns-in-Ok-Some-clause-good : goal.returns-in-Ok-Some-clause-good

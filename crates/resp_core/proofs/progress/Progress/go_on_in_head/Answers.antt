@@ -1,13 +1,12 @@
-use Rattle.std.proofs.Common.{◌≡◌, ◌≤◌, ◌+◌, ◌-◌, min, ℕ, List, length, take, drop, None, refl, sym, ap, ◌∙◌, subst, arith}
+use Rattle.std.proofs.Common.{◌≡◌, ◌≤◌, ◌+◌, ◌-◌, min, ℕ, List, length, take, drop, None, refl, ap, arith}
 use Rattle.std.proofs.lemmas.List.{length-take}
 use Rattle.resp_core.specs.Grammar.{max_depth, max_text}
 use Rattle.resp_core.specs.declared.progress.Progress.{Progress}
 use Rattle.resp_core.specs.declared.head.Head.{Head}
 use Rattle.resp_core.specs.declared.head.Next.{Next}
 use Rattle.resp_core.specs.declared.head.Next.TheVariants as nexts
-use Rattle.resp_core.specs.Going.{GoesOn, head_at}
+use Rattle.resp_core.specs.Going.{GoesOn}
 use Rattle.resp_core.specs.Progress.{Reads}
-use Rattle.resp_core.specs.Reading.{refused}
 use Rattle.resp_core.proofs.Going.{reads_on, head_goes_on, reads_refused, reads_unfinished}
 use Rattle.resp_core.proofs.Heads.{head_unfinished}
 use Rattle.resp_core.proofs.progress.Progress.go_on_in_head.Goals as goal

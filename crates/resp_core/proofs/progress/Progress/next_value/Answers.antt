@@ -1,6 +1,4 @@
-use Rattle.std.proofs.Common.{◌≡◌, ◌≤◌, ◌<◌, ◌+◌, ℕ, List, length, refl, sym, ap, ◌∙◌, arith}
-use Rattle.resp_core.specs.Grammar.{max_text}
-use Rattle.resp_core.specs.Value.{tree_of}
+use Rattle.std.proofs.Common.{refl, arith}
 use Rattle.resp_core.specs.Progress.{seen_of}
 use Rattle.resp_core.proofs.Bridges.{held_is, same_shown, starts_anew, gives_value, value_too_long, none_yet, none_too_long, byte_refused, place_inside}
 use Rattle.resp_core.proofs.progress.Progress.next_value.Goals as goal
@@ -26,9 +24,10 @@ returns-in-Ok-None-clause-halts c = λ held r.
 
 pub returns-in-Ok-None-2-clause-none : goal.returns-in-Ok-None-2-clause-none
 returns-in-Ok-None-2-clause-none c = λ held r.
-    let e = (rw c.in-Ok-None.field-0-is at c.in-Ok-None.ensures.none) held r in
-    (same_shown c.args.most held c.go_on.new.self c.give_back.new.self c.give_back.ensures.same e.0,
-    none_yet c.args.most held e.1 (omega (arith, held_is c.args.most held c.go_on.new.self e.0, c.held.ensures, c.if-held.false)))
+    let e = (rw c.in-Ok-None.field-0-is at c.in-Ok-None.ensures.none) held r in (
+      same_shown c.args.most held c.go_on.new.self c.give_back.new.self c.give_back.ensures.same e.0,
+      none_yet c.args.most held e.1 (omega (arith, held_is c.args.most held c.go_on.new.self e.0, c.held.ensures, c.if-held.false)),
+    )
 
 pub returns-in-Err-Refused-clause-halts : goal.returns-in-Err-Refused-clause-halts
 returns-in-Err-Refused-clause-halts c = λ held r.

@@ -1,12 +1,8 @@
-use Rattle.std.proofs.Common.{◌≡◌, ◌≤◌, ◌+◌, ◌-◌, min, ℕ, List, length, take, drop, Some, refl, sym, ap, ◌∙◌, subst, arith}
-use Rattle.std.proofs.lemmas.List.{length-take}
+use Rattle.std.proofs.Common.{◌≡◌, ◌≤◌, ◌+◌, ◌-◌, min, length, take, refl, ap, ◌∙◌, arith}
 use Rattle.resp_core.specs.Tree.{bulk}
 use Rattle.resp_core.specs.Grammar.{max_text}
 use Rattle.resp_core.specs.declared.value.Value.TheVariants as variants
-use Rattle.resp_core.specs.declared.head.Next.TheVariants as nexts
-use Rattle.resp_core.specs.declared.head.Head.TheVariants as heads
-use Rattle.resp_core.specs.declared.progress.Progress.{Progress}
-use Rattle.resp_core.proofs.Going.{CutsAt, cuts_at, reads_on, bulk_along, payload_refused, payload_end_inside, payload_unfinished}
+use Rattle.resp_core.proofs.Going.{cuts_at, reads_on, bulk_along, payload_refused, payload_end_inside, payload_unfinished}
 use Rattle.resp_core.proofs.progress.Progress.take_bulk.Goals as goal
 
 pub overflow_sub-taken : goal.overflow_sub-taken

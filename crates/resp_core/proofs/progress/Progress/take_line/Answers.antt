@@ -1,11 +1,6 @@
-use Rattle.std.proofs.Common.{◌≡◌, ◌≤◌, ◌+◌, ◌-◌, min, ℕ, List, [], length, take, drop, Some, refl, sym, ap, ◌∙◌, subst, arith}
-use Rattle.std.proofs.lemmas.List.{length-take}
+use Rattle.std.proofs.Common.{◌≡◌, ◌≤◌, ◌+◌, ◌-◌, min, ℕ, [], length, take, refl, sym, ap, ◌∙◌, subst, arith}
 use Rattle.resp_core.specs.Going.{line_tree}
 use Rattle.resp_core.specs.Grammar.{max_text}
-use Rattle.resp_core.specs.declared.value.Value.TheVariants as variants
-use Rattle.resp_core.specs.declared.head.Next.TheVariants as nexts
-use Rattle.resp_core.specs.declared.head.Head.TheVariants as heads
-use Rattle.resp_core.specs.declared.progress.Progress.{Progress}
 use Rattle.resp_core.specs.Reading.{text_at, unfinished}
 use Rattle.resp_core.specs.Seen.{IsSeen}
 use Rattle.resp_core.proofs.Seen.{seen_but_last}

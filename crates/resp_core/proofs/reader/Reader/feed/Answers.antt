@@ -1,4 +1,4 @@
-use Rattle.std.proofs.Common.{◌≡◌, ◌++◌, ℕ, List, refl, sym, ap, ◌∙◌, subst}
+use Rattle.std.proofs.Common.{◌++◌, ℕ, List, refl, subst}
 use Rattle.resp_core.specs.Tree.{Tree}
 use Rattle.resp_core.specs.Standing.{ReaderState, Stands, state_of}
 use Rattle.resp_core.proofs.Standing.{stands_fed, shown_on, on_reached}

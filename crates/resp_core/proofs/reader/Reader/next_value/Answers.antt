@@ -1,11 +1,10 @@
-use Rattle.std.proofs.Common.{◌≡◌, ◌≢◌, ◌≤◌, ◌<◌, ◌+◌, ◌∷◌, ◌++◌, [], ℕ, List, Some, refl, sym, ap, ◌∙◌, subst, arith}
-use Rattle.resp_core.specs.Grammar.{max_text}
+use Rattle.std.proofs.Common.{◌<◌, ◌∷◌, ◌++◌, [], ℕ, List, Some, refl, sym, ◌∙◌, subst}
 use Rattle.resp_core.specs.Tree.{Tree}
 use Rattle.resp_core.specs.Value.{tree_of}
 use Rattle.resp_core.specs.Front.{IsFault}
 use Rattle.resp_core.specs.Readable.{IsReadable}
-use Rattle.resp_core.specs.Offset.{offset_of, number_of, refusal_number}
-use Rattle.resp_core.specs.Stream.{HasRefusal, HasNoRefusal, told_offset}
+use Rattle.resp_core.specs.Offset.{offset_of, number_of}
+use Rattle.resp_core.specs.Stream.{HasRefusal, HasNoRefusal}
 use Rattle.resp_core.specs.Standing.{ReaderState, state_of, Stands, Unmoved, unread}
 use Rattle.resp_core.proofs.Bridges.{shown_reads}
 use Rattle.resp_core.proofs.Standing.{stands_given, stands_told, unmoved, falls, few_left, no_refusal, has_refusal, gives_readable, shown_gave, shown_on, shown_reached, given_reached, on_reached}
