@@ -3,7 +3,7 @@ use Rattle.std.specs.Prelude.{◌≡◌, ℕ, ◌-◌, ◌+◌, ◌*◌, ◌≤�
 use Rattle.resp_core.specs.Tree.{Tree}
 use Rattle.resp_core.specs.Value.{tree_of}
 use Rattle.resp_core.specs.Grammar.{max_depth, max_text}
-use Rattle.resp_core.specs.Reading.{Outcome, found, refused, value_at}
+use Rattle.resp_core.specs.Reading.{Outcome, found, unfinished, refused, value_at}
 use Rattle.resp_core.specs.Going.{next_at, IsGoodNext}
 use Rattle.resp_core.specs.Begun.{nested}
 use Rattle.resp_core.specs.Seen.{IsSeen}
@@ -90,3 +90,19 @@ pub record Gave (most : ℕ) (held : List ℕ) (t : Tree) (len : ℕ) (p : Progr
 abbrev pub Stopped : ℕ → List ℕ → Progress → Halt → Type 0
 Stopped most held p halts.NoMemory = Reads most held p
 Stopped most held p (halts.Refused r place) = IsFault most held place (refusal_number r)
+
+-- whatever bytes the one has come so far in, the other has come so far in
+abbrev pub LeadsTo : ℕ → Progress → Progress → Type 0
+LeadsTo most p q = (held : List ℕ) → Reads most held p → Reads most held q
+
+-- and they are a value
+abbrev pub LeadsToValue : ℕ → Progress → Progress → Tree → Type 0
+LeadsToValue most p q t = (held : List ℕ) → Reads most held p → Finds most held q t
+
+-- they are less than a value
+abbrev pub IsShort : ℕ → Progress → Type 0
+IsShort most p = (held : List ℕ) → Reads most held p → value_at most max_depth (seen_of held) ≡ unfinished
+
+-- they are read no further
+abbrev pub HaltsIn : ℕ → Progress → Halt → Type 0
+HaltsIn most p e = (held : List ℕ) → Reads most held p → HaltsAt most held e

@@ -17,11 +17,15 @@ pub(crate) struct Begun {
 // Puts a value that came into the innermost list. Where that is whole, it goes into the next one, and so on: the outermost
 // value, if it is whole. Where memory is refused the lists may be fewer, and the value is a greater one.
 pub(crate) fn put(opens: &mut Vec<Begun>, value: Value) -> Result<Option<Value>, AllocFailed<Value>>
-    ensures due { IfOk result (λ o. IfNone o ((most left : ℕ) (rest : List ℕ) → length opens.old.items ≤ left → nested most left opens.old.items (found (tree_of value) rest)
+    ensures due { IfOk result (λ o. IfNone o ((most left : ℕ) (rest : List ℕ)
+        → length opens.old.items ≤ left → nested most left opens.old.items (found (tree_of value) rest)
         ≡ nested most left opens.new.items (value_at most (left - length opens.new.items) rest))) }
-    ensures whole { IfOk result (λ o. IfSome o (λ v. (opens.new.items ≡ []) × ((most left : ℕ) (rest : List ℕ) → length opens.old.items ≤ left → nested most left opens.old.items (found (tree_of value) rest)
+    ensures whole { IfOk result (λ o. IfSome o (λ v. (opens.new.items ≡ [])
+        × ((most left : ℕ) (rest : List ℕ)
+        → length opens.old.items ≤ left → nested most left opens.old.items (found (tree_of value) rest)
         ≡ found (tree_of v) rest))) }
-    ensures err { IfErr result (λ e. (most left : ℕ) (rest : List ℕ) → length opens.old.items ≤ left → nested most left opens.old.items (found (tree_of value) rest)
+    ensures err { IfErr result (λ e. (most left : ℕ) (rest : List ℕ)
+        → length opens.old.items ≤ left → nested most left opens.old.items (found (tree_of value) rest)
         ≡ nested most left opens.new.items (found (tree_of e.value) rest)) }
     ensures fewer { length opens.new.items ≤ length opens.old.items }
 {

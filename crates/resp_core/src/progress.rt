@@ -1,10 +1,9 @@
 //! How far a reader has come in an unfinished value.
 ghost use Rattle.std.specs.Prelude.{true, false, ◌≡◌, ◌≢◌, ◌⊎◌, ◌≤◌, ◌<◌, ◌-◌, ◌+◌, ◌++◌, List, ℕ, [], length, take, drop, Some, None, IfOk, IfErr, IfSome, IfNone, OnOk, OnErr, IsOk};
-ghost use Rattle.resp_core.specs.Progress.{Reads, Finds, IsGood, IsFresh, HaltsAt, Gave, Stopped, seen_of, shown, to_read};
+ghost use Rattle.resp_core.specs.Progress.{Reads, IsGood, IsFresh, LeadsTo, LeadsToValue, IsShort, HaltsIn, Gave, Stopped, shown, to_read};
 ghost use Rattle.resp_core.specs.Front.{IsUnfinished};
 ghost use Rattle.resp_core.specs.Value.{tree_of};
-ghost use Rattle.resp_core.specs.Grammar.{max_depth, max_text};
-ghost use Rattle.resp_core.specs.Reading.{value_at, refused, unfinished};
+ghost use Rattle.resp_core.specs.Grammar.{max_text};
 ghost use Rattle.resp_core.specs.declared.error.Refusal.TheVariants.{TooLong, TooDeep};
 
 use crate::begun::{Begun, put};
@@ -16,8 +15,8 @@ use crate::value::{Value, Values};
 use bytes::{Bytes, BytesMut};
 use std::alloc::{AllocError, Global};
 
-// Payloads and texts of fewer bytes are copied, and so are those of less than one in `MAX_KEPT` bytes of the buffer: those
-// that are shared keep no more than `MAX_KEPT` times their bytes.
+// Payloads and texts of fewer bytes are copied, and so are those of less than one in `MAX_KEPT`
+// bytes of the buffer: what is shared keeps no more than `MAX_KEPT` times its bytes.
 const LEAST_SHARED: usize = 4_096;
 
 const MAX_KEPT: usize = 8;
@@ -34,7 +33,8 @@ pub(crate) enum Halt {
 
 #[derive(Drop)]
 pub(crate) struct Progress {
-    // Fed, and not taken: from the next byte of a head on, or from the first one of a text or a payload.
+    // Fed, and not taken: from the next byte of a head on, or from the first one of a text or a
+    // payload.
     pub(crate) pending: BytesMut,
     // The most bytes for which there was room since nothing was pending.
     pub(crate) room: usize,
@@ -74,7 +74,8 @@ fn cut(
 
 // How a refusal at this place of a value is told: at the byte that makes the value too long, by no higher number.
 fn told_at(refusal: Refusal, place: usize) -> Refusal
-    ensures { ((refusal ≡ TooDeep) × (place ≡ max_text) × (result ≡ TooLong)) ⊎ ((place ≡ max_text → refusal ≢ TooDeep) × (result ≡ refusal)) }
+    ensures { ((refusal ≡ TooDeep) × (place ≡ max_text) × (result ≡ TooLong))
+        ⊎ ((place ≡ max_text → refusal ≢ TooDeep) × (result ≡ refusal)) }
 {
     match refusal {
         Refusal::TooDeep if place == MAX_TEXT => Refusal::TooLong,
@@ -110,7 +111,8 @@ impl Progress {
     // Takes the bytes that come behind those pending.
     pub(crate) fn feed(&mut self, piece: &[u8]) -> Result<(), AllocError>
         ensures good { (most : ℕ) → IsGood most self.old → IsGood most self.new }
-        ensures reads { OnOk result ((most : ℕ) (held : List ℕ) → Reads most held self.old → Reads most (held ++ piece.now) self.new) }
+        ensures reads { OnOk result ((most : ℕ) (held : List ℕ) → Reads most held self.old
+            → Reads most (held ++ piece.now) self.new) }
         ensures same { OnErr result (shown self.new ≡ shown self.old) }
     {
         self.pending.extend_from_slice(piece)?;
@@ -137,9 +139,12 @@ impl Progress {
     ) -> Result<Option<(Value, usize)>, Halt>
         requires good { IsGood most self.old }
         ensures good { IsGood most self.new }
-        ensures value { IfOk result (λ o. IfSome o (λ x. (held : List ℕ) → Reads most held self.old → Gave most held (tree_of x.0) x.1 self.new)) }
-        ensures none { IfOk result (λ o. IfNone o ((held : List ℕ) → Reads most held self.old → Reads most held self.new × IsUnfinished most held)) }
-        ensures halts { IfErr result (λ e. (held : List ℕ) → Reads most held self.old → Stopped most held self.new e) }
+        ensures value { IfOk result (λ o. IfSome o (λ x. (held : List ℕ) → Reads most held self.old
+            → Gave most held (tree_of x.0) x.1 self.new)) }
+        ensures none { IfOk result (λ o. IfNone o ((held : List ℕ) → Reads most held self.old
+            → Reads most held self.new × IsUnfinished most held)) }
+        ensures halts { IfErr result (λ e. (held : List ℕ) → Reads most held self.old
+            → Stopped most held self.new e) }
     {
         match self.go_on(alloc, most) {
             Ok(Some(_)) if self.came > MAX_TEXT => Err(Halt::Refused(Refusal::TooLong, MAX_TEXT)),
@@ -166,9 +171,11 @@ impl Progress {
     fn go_on(&mut self, alloc: Global, most: u64) -> Result<Option<Value>, Halt>
         requires good { IsGood most self.old }
         ensures good { IsGood most self.new }
-        ensures value { IfOk result (λ o. IfSome o (λ v. IsFresh self.new × ((held : List ℕ) → Reads most held self.old → Finds most held self.new (tree_of v)))) }
-        ensures none { IfOk result (λ o. IfNone o ((held : List ℕ) → Reads most held self.old → Reads most held self.new × (value_at most max_depth (seen_of held) ≡ unfinished))) }
-        ensures halts { IfErr result (λ e. (held : List ℕ) → Reads most held self.old → Reads most held self.new × HaltsAt most held e) }
+        ensures value { IfOk result (λ o. IfSome o (λ v. IsFresh self.new
+            × LeadsToValue most self.old self.new (tree_of v))) }
+        ensures none { IfOk result (λ o. IfNone o (LeadsTo most self.old self.new
+            × IsShort most self.old)) }
+        ensures halts { IfErr result (λ e. LeadsTo most self.old self.new × HaltsIn most self.old e) }
     {
         loop {
             match self.put_done() {
@@ -187,10 +194,10 @@ impl Progress {
         requires good { IsGood most self.old }
         requires done { self.old.done ≡ None }
         ensures good { IsGood most self.new }
-        ensures reads { (held : List ℕ) → Reads most held self.old → Reads most held self.new }
+        ensures reads { LeadsTo most self.old self.new }
         ensures falls { IfOk result (λ came. came ≡ true → to_read self.new < to_read self.old) }
-        ensures none { IfOk result (λ came. came ≡ false → (held : List ℕ) → Reads most held self.old → value_at most max_depth (seen_of held) ≡ unfinished) }
-        ensures halts { IfErr result (λ e. (held : List ℕ) → Reads most held self.old → HaltsAt most held e) }
+        ensures none { IfOk result (λ came. came ≡ false → IsShort most self.old) }
+        ensures halts { IfErr result (λ e. HaltsIn most self.old e) }
     {
         match self.next {
             Next::Head(head) => self.go_on_in_head(head, most),
@@ -203,10 +210,10 @@ impl Progress {
         requires good { IsGood most self.old }
         requires head { (self.old.done ≡ None) × (self.old.next ≡ Next.Head head) }
         ensures good { IsGood most self.new }
-        ensures reads { (held : List ℕ) → Reads most held self.old → Reads most held self.new }
+        ensures reads { LeadsTo most self.old self.new }
         ensures falls { IfOk result (λ came. came ≡ true → to_read self.new < to_read self.old) }
-        ensures none { IfOk result (λ came. came ≡ false → (held : List ℕ) → Reads most held self.old → value_at most max_depth (seen_of held) ≡ unfinished) }
-        ensures halts { IfErr result (λ e. (held : List ℕ) → Reads most held self.old → HaltsAt most held e) }
+        ensures none { IfOk result (λ came. came ≡ false → IsShort most self.old) }
+        ensures halts { IfErr result (λ e. HaltsIn most self.old e) }
     {
         let left = MAX_DEPTH - self.opens.len() as u32;
         let visible = self.pending.len().min(MAX_TEXT + 1 - self.came);
@@ -231,9 +238,9 @@ impl Progress {
         requires next { (self.old.done ≡ None) × (self.old.next ≡ Next.Found found) }
         ensures good { IsGood most self.new }
         ensures falls { IfOk result (λ came. came ≡ true → to_read self.new < to_read self.old) }
-        ensures reads { (held : List ℕ) → Reads most held self.old → Reads most held self.new }
-        ensures none { IfOk result (λ came. came ≡ false → (held : List ℕ) → Reads most held self.old → value_at most max_depth (seen_of held) ≡ unfinished) }
-        ensures halts { IfErr result (λ e. (held : List ℕ) → Reads most held self.old → HaltsAt most held e) }
+        ensures reads { LeadsTo most self.old self.new }
+        ensures none { IfOk result (λ came. came ≡ false → IsShort most self.old) }
+        ensures halts { IfErr result (λ e. HaltsIn most self.old e) }
     {
         match found {
             Found::Line(line) => return self.take_line(alloc, line, most),
@@ -261,15 +268,23 @@ impl Progress {
         self.next = Next::Head(Head::Type);
     }
 
-    // Puts the value that came into its list, and closes those that are whole with it: the outermost value, if it is whole.
+    // Puts the value that came into its list, and closes those that are whole with it: the outermost
+    // value, if it is whole.
     fn put_done(&mut self) -> Result<Option<Value>, AllocError>
         ensures good { (most : ℕ) → IsGood most self.old → IsGood most self.new }
-        ensures fresh { (most : ℕ) → IsGood most self.old → IfOk result (λ o. IfSome o (λ _. IsFresh self.new)) }
-        ensures value { (most : ℕ) → IsGood most self.old → IfOk result (λ o. IfSome o (λ v. (held : List ℕ) → Reads most held self.old → Finds most held self.new (tree_of v))) }
-        ensures reads { (most : ℕ) → IsGood most self.old → IfOk result (λ o. IfNone o ((held : List ℕ) → Reads most held self.old → Reads most held self.new)) }
-        ensures err { (most : ℕ) → IsGood most self.old → OnErr result ((held : List ℕ) → Reads most held self.old → Reads most held self.new) }
+        ensures fresh { (most : ℕ) → IsGood most self.old
+            → IfOk result (λ o. IfSome o (λ _. IsFresh self.new)) }
+        ensures value { (most : ℕ) → IsGood most self.old
+            → IfOk result (λ o. IfSome o (λ v.
+            LeadsToValue most self.old self.new (tree_of v))) }
+        ensures reads { (most : ℕ) → IsGood most self.old
+            → IfOk result (λ o. IfNone o (LeadsTo most self.old self.new)) }
+        ensures err { (most : ℕ) → IsGood most self.old
+            → OnErr result (LeadsTo most self.old self.new) }
         ensures none { OnOk result (self.new.done ≡ None) }
-        ensures same { (self.new.pending ≡ self.old.pending) × (self.new.next ≡ self.old.next) × (self.new.came ≡ self.old.came) }
+        ensures pending { self.new.pending ≡ self.old.pending }
+        ensures next { self.new.next ≡ self.old.next }
+        ensures came { self.new.came ≡ self.old.came }
     {
         let Some(value) = self.done.take() else {
             return Ok(None);
@@ -290,7 +305,7 @@ impl Progress {
         ensures good { IsGood most self.new }
         ensures next { OnOk result (self.new.next ≡ Next.Head Head.Type) }
         ensures fewer { self.new.pending ≡ self.old.pending }
-        ensures reads { (held : List ℕ) → Reads most held self.old → Reads most held self.new }
+        ensures reads { LeadsTo most self.old self.new }
     {
         let members = Values(Vec::new(alloc));
         if n == 0 {
@@ -314,9 +329,9 @@ impl Progress {
         requires next { (self.old.done ≡ None) × (self.old.next ≡ Next.Found (Found.Payload n)) }
         ensures good { IsGood most self.new }
         ensures falls { IfOk result (λ came. came ≡ true → to_read self.new < to_read self.old) }
-        ensures reads { (held : List ℕ) → Reads most held self.old → Reads most held self.new }
-        ensures none { IfOk result (λ came. came ≡ false → (held : List ℕ) → Reads most held self.old → value_at most max_depth (seen_of held) ≡ unfinished) }
-        ensures halts { IfErr result (λ e. (held : List ℕ) → Reads most held self.old → HaltsAt most held e) }
+        ensures reads { LeadsTo most self.old self.new }
+        ensures none { IfOk result (λ came. came ≡ false → IsShort most self.old) }
+        ensures halts { IfErr result (λ e. HaltsIn most self.old e) }
     {
         let visible = self.pending.len().min(MAX_TEXT + 1 - self.came);
         match take_payload(&self.pending.as_slice()[..visible], n) {
@@ -345,9 +360,9 @@ impl Progress {
         requires next { (self.old.done ≡ None) × (self.old.next ≡ Next.Found (Found.Line line)) }
         ensures good { IsGood most self.new }
         ensures falls { IfOk result (λ came. came ≡ true → to_read self.new < to_read self.old) }
-        ensures reads { (held : List ℕ) → Reads most held self.old → Reads most held self.new }
-        ensures none { IfOk result (λ came. came ≡ false → (held : List ℕ) → Reads most held self.old → value_at most max_depth (seen_of held) ≡ unfinished) }
-        ensures halts { IfErr result (λ e. (held : List ℕ) → Reads most held self.old → HaltsAt most held e) }
+        ensures reads { LeadsTo most self.old self.new }
+        ensures none { IfOk result (λ came. came ≡ false → IsShort most self.old) }
+        ensures halts { IfErr result (λ e. HaltsIn most self.old e) }
     {
         let visible = self.pending.len().min(MAX_TEXT + 1 - self.came);
         match take_text(&self.pending.as_slice()[..visible], self.seen) {

@@ -94,7 +94,8 @@ impl Reader {
     /// At most 8,388,608 after `next_value` has answered `None`.
     pub fn held(&self) -> u64
         ensures is { result ≡ unread self.now }
-        ensures left { (b : List ℕ) (ts : List Tree) → Stands self.now b ts → IfNone self.now.refusal (Leaves self.now.most b ts result) }
+        ensures left { (b : List ℕ) (ts : List Tree) → Stands self.now b ts
+            → IfNone self.now.refusal (Leaves self.now.most b ts result) }
         ensures told { IfSome self.now.refusal (λ _. result ≡ 0) }
     {
         match self.refusal {

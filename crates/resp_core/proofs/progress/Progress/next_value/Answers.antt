@@ -19,18 +19,18 @@ returns-in-Ok-Some-2-clause-value c = λ held r.
 
 pub returns-in-Ok-None-clause-halts : goal.returns-in-Ok-None-clause-halts
 returns-in-Ok-None-clause-halts c = λ held r.
-    let e = (rw c.in-Ok-None.field-0-is at c.in-Ok-None.ensures.none) held r in
-    none_too_long c.args.most held e.1 (omega (arith, held_is c.args.most held c.go_on.new.self e.0, c.held.ensures, c.if-held.true))
+    let e = rw c.in-Ok-None.field-0-is at c.in-Ok-None.ensures.none in
+    none_too_long c.args.most held (e.1 held r) (omega (arith, held_is c.args.most held c.go_on.new.self (e.0 held r), c.held.ensures, c.if-held.true))
 
 pub returns-in-Ok-None-2-clause-none : goal.returns-in-Ok-None-2-clause-none
 returns-in-Ok-None-2-clause-none c = λ held r.
-    let e = (rw c.in-Ok-None.field-0-is at c.in-Ok-None.ensures.none) held r in (
-      same_shown c.args.most held c.go_on.new.self c.give_back.new.self c.give_back.ensures.same e.0,
-      none_yet c.args.most held e.1 (omega (arith, held_is c.args.most held c.go_on.new.self e.0, c.held.ensures, c.if-held.false)),
+    let e = rw c.in-Ok-None.field-0-is at c.in-Ok-None.ensures.none in (
+      same_shown c.args.most held c.go_on.new.self c.give_back.new.self c.give_back.ensures.same (e.0 held r),
+      none_yet c.args.most held (e.1 held r) (omega (arith, held_is c.args.most held c.go_on.new.self (e.0 held r), c.held.ensures, c.if-held.false)),
     )
 
 pub returns-in-Err-Refused-clause-halts : goal.returns-in-Err-Refused-clause-halts
 returns-in-Err-Refused-clause-halts c = λ held r.
-    let e = ((rw c.in-Err-Refused.field-0-is at c.in-Err-Refused.ensures.halts) held r).1 in
+    let e = (rw c.in-Err-Refused.field-0-is at c.in-Err-Refused.ensures.halts).1 held r in
     rw c.in-Err-Refused.place-is (byte_refused c.args.most held c.in-Err-Refused.refusal c.told_at.result c.in-Err-Refused.place e (place_inside c.args.most (seen_of held) _ _ e)
     (rw (c.in-Err-Refused.refusal-is, c.in-Err-Refused.place-is) at c.told_at.ensures))
