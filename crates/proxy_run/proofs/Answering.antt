@@ -4,7 +4,8 @@ use Rattle.std.specs.List.{list_any}
 use Rattle.std.specs.Io.KnownBytes.{Consumes, Appends, IsAtEnd}
 use Rattle.std.proofs.lemmas.List.{map-append, length-append}
 use Rattle.resp_core.specs.Tree.{Tree}
-use Rattle.resp_core.specs.Stream.{ReaderState, Stands, Splits, HasNoRefusal}
+use Rattle.resp_core.specs.Standing.{ReaderState, Stands}
+use Rattle.resp_core.specs.Stream.{Splits, HasNoRefusal}
 use Rattle.resp_core.proofs.CallerLemmas.{splits-Stands, each_stream_holds, one_holding, refusal_stays, values_stay}
 use Rattle.splitter.specs.Request.{Request, read, broken}
 use Rattle.splitter.specs.Requests.{end_of, AreRequests, AreFirst, finishes, up_to_last}
@@ -83,7 +84,8 @@ module _ (r s s' : ReaderState) (m m' m'' : Map) (out mid out' : List ℕ) (q : 
 pub answered_whole : (r s s' : ReaderState) (m m' : Map) (out mid : List ℕ) → Answered r s m m' out mid → IsAnswered s s' → AnswersWhole r s' m m' out mid
 answered_whole r s s' m m' out mid so_far end b ts h =
     let f = so_far b ts h in
-    (f.0, subst (λ (z : ReaderState). Stands z b (ts ++ f.0)) (sym end.0) f.1, end.1 b (ts ++ f.0) f.1, f.2, f.3, f.4)
+    let e = end b (ts ++ f.0) f.1 in
+    (f.0, e.0, e.1, f.2, f.3, f.4)
 
 -- nothing came, so nothing is refused
 pub nothing_refused : HasNoRefusal CLIENT_MEMBERS [] []

@@ -4,7 +4,8 @@ use Rattle.std.specs.List.{list_any}
 use Rattle.std.specs.Io.KnownBytes.{Appends}
 use Rattle.resp_core.specs.Tree.{Tree}
 use Rattle.stub_server.specs.Map.{Map}
-use Rattle.resp_core.specs.Stream.{ReaderState, Stands, HasNoRefusal, HasRefusal, unread}
+use Rattle.resp_core.specs.Standing.{ReaderState, Stands, unread}
+use Rattle.resp_core.specs.Stream.{HasNoRefusal, HasRefusal}
 use Rattle.splitter.specs.Request.{Request, read, broken}
 use Rattle.splitter.specs.Requests.{AreRequests, AreFirst, finishes, up_to_last}
 use Rattle.resp_core.specs.declared.reader.TheConstants.{CLIENT_MEMBERS}
@@ -15,9 +16,10 @@ abbrev pub IsNext : ReaderState → ReaderState → Request → Type 0
 IsNext r s (read t) = (unread s < unread r) × ((b : List ℕ) (ts : List Tree) → Stands r b ts → Stands s b (ts ++ t ∷ []))
 IsNext r s broken = (b : List ℕ) (ts : List Tree) → Stands r b ts → (offset number : ℕ) × HasRefusal CLIENT_MEMBERS b ts offset number
 
--- The reader has given all values that came whole, and nothing behind them is refused.
+-- The reader has given all values that came whole, nothing behind them is refused, and it stands for the same bytes and
+-- values as before.
 abbrev pub IsAnswered : ReaderState → ReaderState → Type 0
-IsAnswered r s = (s ≡ r) × ((b : List ℕ) (ts : List Tree) → Stands r b ts → HasNoRefusal CLIENT_MEMBERS b ts)
+IsAnswered r s = (b : List ℕ) (ts : List Tree) → Stands r b ts → Stands s b ts × HasNoRefusal CLIENT_MEMBERS b ts
 
 -- From one state of a reader to the next its whole values were answered, and none of them finishes: `out` was the bytes to
 -- write, and `out'` is.

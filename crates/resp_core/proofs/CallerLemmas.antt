@@ -7,6 +7,6 @@ pub use Rattle.resp_core.proofs.TreeLemmas.{length_members, trees_of-members}
 -- the laws of texts
 pub use Rattle.resp_core.proofs.Spelling.{spelling_is_shortest, read_values_are_plain}
 -- what a reader stands after
-pub use Rattle.resp_core.proofs.Streams.{splits-Stands}
+pub use Rattle.resp_core.proofs.Standing.{splits-Stands}
 -- the laws of streams
 pub use Rattle.resp_core.proofs.StreamLaws.{each_stream_holds, one_holding, refusal_stays, values_stay, text_is_read_back}

@@ -18,3 +18,10 @@ pub mod Examples
 pub mod Lengths
 pub mod CallerLemmas
 pub mod Readable
+pub mod Nested
+pub mod Heads
+pub mod Going
+pub mod Bridges
+pub mod TextLines
+pub mod Seen
+pub mod Standing

@@ -4,7 +4,7 @@ use Rattle.std.specs.List.{AllByRecursion}
 use Rattle.std.proofs.lemmas.Bool.{cases_Bool, and_parts}
 use Rattle.resp_core.specs.declared.error.Refusal.{Refusal}
 use Rattle.resp_core.specs.declared.error.Refusal.TheVariants.{BadLineEnd}
-use Rattle.resp_core.specs.declared.parse.Digits.{Digits}
+use Rattle.resp_core.specs.declared.digits.Digits.{Digits}
 use Rattle.resp_core.specs.Offset.{refusal_number}
 use Rattle.resp_core.specs.Grammar.{IsDigit, number_after}
 use Rattle.resp_core.specs.Reading.{Outcome, found, unfinished, refused, and_then, byte_at, digits_at}

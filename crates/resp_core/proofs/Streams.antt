@@ -1,14 +1,12 @@
 -- Laws of streams and readers.
-use Rattle.std.proofs.Common.{◌≡◌, ◌⊎◌, inl, inr, ⊎_elim, ℕ, ◌+◌, ◌-◌, ◌<◌, ◌≤◌, List, [], ◌∷◌, ◌++◌, length, take, drop, Some, None, refl, sym, ap, ◌∙◌, subst, append_assoc, arith}
-use Rattle.std.proofs.lemmas.List.{length-append, length-take, length-drop, take-append-drop}
+use Rattle.std.proofs.Common.{◌≡◌, ◌⊎◌, inl, inr, ⊎_elim, ℕ, ◌+◌, ◌-◌, ◌<◌, ◌≤◌, List, [], ◌∷◌, ◌++◌, length, take, refl, sym, ap, ◌∙◌, subst, append_assoc, arith}
+use Rattle.std.proofs.lemmas.List.{length-append, length-take}
 use Rattle.resp_core.specs.Front.{IsFirstValue, IsUnfinished, IsFault}
 use Rattle.resp_core.specs.Tree.{Tree}
 use Rattle.resp_core.specs.Grammar.{IsText, max_text, max_depth}
 use Rattle.resp_core.specs.Reading.{found, value_at}
-use Rattle.resp_core.specs.Stream.{HasWhole, Splits, AreValues, Begins, told_offset, HasRefusal, HasNoRefusal, ReaderState, Stands}
+use Rattle.resp_core.specs.Stream.{HasWhole, Splits, AreValues, Begins, told_offset, HasRefusal, HasNoRefusal}
 use Rattle.resp_core.specs.Laws.{OneReading}
-use Rattle.resp_core.specs.Offset.{offset_of, number_of}
-use Rattle.resp_core.specs.declared.error.RespError.{RespError}
 use Rattle.resp_core.proofs.Whole.{value-reads, text_nonempty}
 
 module _ (most : ℕ) where
@@ -22,7 +20,7 @@ module _ (most : ℕ) where
   splits_more b rest x y [] t g e f h = (x, y, g ∙ e, f, h, refl)
   splits_more b rest x y (u ∷ us) t g e f h = (g.0, g.1, g.2, g.3, g.4, splits_more g.1 rest x y us t g.5 e f h)
 
-  splits_shorter : (b rest : List ℕ) (ts : List Tree) → Splits most b ts rest → length rest ≤ length b
+  pub splits_shorter : (b rest : List ℕ) (ts : List Tree) → Splits most b ts rest → length rest ≤ length b
   splits_shorter b rest [] g = omega (arith, ap length g)
   splits_shorter b rest (t ∷ ts) g = omega (arith, ap length g.2, length-append g.0 g.1, splits_shorter g.1 rest ts g.5)
 
@@ -44,29 +42,14 @@ module _ (most : ℕ) where
   }
 
 -- an offset that is told, and one that lies so many bytes behind it
-told_later : (told n more : ℕ) → told ≡ told_offset n → told_offset (told + more) ≡ told_offset (n + more)
+pub told_later : (told n more : ℕ) → told ≡ told_offset n → told_offset (told + more) ≡ told_offset (n + more)
 told_later told n more e = omega (arith, e)
-
-pub stands_fed : (r : ReaderState) (b x : List ℕ) (ts : List Tree) → Stands r b ts → r.refusal ≡ None → (s : ReaderState) → s.most ≡ r.most → s.consumed ≡ r.consumed → s.held ≡ r.held ++ x → s.refusal ≡ None → Stands s (b ++ x) ts
-stands_fed r b x ts g e s most consumed held refusal = record {
-  splits = rw (most, held) (splits_fed r.most b r.held x ts g.splits);
-  consumed_is = consumed ∙ g.consumed_is ∙ ap told_offset (omega (arith, splits_shorter r.most b r.held ts g.splits, length-append b x, length-append r.held x, ap length held));
-  told = rw refusal tt;
-}
 
 -- the value at the front takes a byte at least
 pub first_value_some : (most : ℕ) (held : List ℕ) (t : Tree) (len : ℕ) → IsFirstValue most held t len → 0 < len
 first_value_some most held t len f = omega (arith, length-take len held, text_nonempty most max_depth (take len held) t f.text)
 
--- a reader that gives the value at the front
-pub stands_given : (r : ReaderState) (b : List ℕ) (ts : List Tree) (t : Tree) (len : ℕ) → Stands r b ts → r.refusal ≡ None → IsFirstValue r.most r.held t len → (s : ReaderState) → s.most ≡ r.most → s.consumed ≡ told_offset (r.consumed + len) → s.held ≡ drop len r.held → s.refusal ≡ None → Stands s b (ts ++ t ∷ [])
-stands_given r b ts t len g e f s most consumed held refusal = record {
-  splits = rw (most, held) (splits_more r.most b r.held (take len r.held) (drop len r.held) ts t g.splits (sym (take-append-drop len r.held)) f.text (omega (arith, length-take len r.held, f.few)));
-  consumed_is = consumed ∙ told_later r.consumed (length b - length r.held) len g.consumed_is ∙ ap told_offset (omega (arith, splits_shorter r.most b r.held ts g.splits, ap length held, length-drop len r.held, f.inside));
-  told = rw refusal tt;
-}
-
--- a reader that has no value to give, and refuses none
+-- behind these values nothing is whole, and nothing is refused
 pub no_refusal_of : (most : ℕ) (b held : List ℕ) (ts : List Tree) → Splits most b ts held → IsUnfinished most held → HasNoRefusal most b ts
 no_refusal_of most b held ts g f = record {
   rest = held;
@@ -78,9 +61,6 @@ no_refusal_of most b held ts g f = record {
     goes_on x c y e =
         (y ++ f.begins.0, f.begins.1, subst (λ (z : List ℕ). IsText most max_depth z f.begins.1) (ap (λ z. z ++ f.begins.0) e ∙ append_assoc x (c ∷ y) f.begins.0 ∙ sym (append_assoc x (c ∷ []) (y ++ f.begins.0))) f.begins.2)
 
-pub no_refusal : (r : ReaderState) (b : List ℕ) (ts : List Tree) → Stands r b ts → IsUnfinished r.most r.held → HasNoRefusal r.most b ts
-no_refusal r b ts g f = no_refusal_of r.most b r.held ts g.splits f
-
 -- a stream in which a byte is refused
 pub refusal_of_fault : (most : ℕ) (b held : List ℕ) (ts : List Tree) (place number : ℕ) → Splits most b ts held → IsFault most held place number → HasRefusal most b ts (told_offset (length b - length held + place)) number
 refusal_of_fault most b held ts place number g f = record {
@@ -90,18 +70,6 @@ refusal_of_fault most b held ts place number g f = record {
   refused = f.refused;
   told = f.told;
   offset_is = refl;
-}
-
--- a reader that refuses a byte
-pub has_refusal : (r : ReaderState) (b : List ℕ) (ts : List Tree) (place at number : ℕ) → Stands r b ts → IsFault r.most r.held place number → at ≡ told_offset (r.consumed + place) → HasRefusal r.most b ts at number
-has_refusal r b ts place at number g f e =
-    subst (λ (z : ℕ). HasRefusal r.most b ts z number) (sym (e ∙ told_later r.consumed (length b - length r.held) place g.consumed_is)) (refusal_of_fault r.most b r.held ts place number g.splits f)
-
-pub stands_told : (r : ReaderState) (b : List ℕ) (ts : List Tree) (e : RespError) → Stands r b ts → (s : ReaderState) → s.most ≡ r.most → s.consumed ≡ r.consumed → s.held ≡ r.held → s.refusal ≡ Some e → HasRefusal r.most b ts (offset_of e) (number_of e) → Stands s b ts
-stands_told r b ts e g s most consumed held refusal h = record {
-  splits = rw (most, held) g.splits;
-  consumed_is = consumed ∙ g.consumed_is ∙ ap (λ z. told_offset (length b - length z)) (sym held);
-  told = rw (refusal, most) h;
 }
 
 -- of two readings of one stream the one that leaves less goes on from the other
@@ -119,7 +87,3 @@ begins_with most b (t ∷ ts) (u ∷ us) rest left g h l =
 
 pub one_reading : OneReading
 one_reading most b ts us rest left g h = begins_with most b ts us rest left g.splits h (g.longest us left h)
-
--- the values that a reader has given stand at the front of what it was fed
-pub splits-Stands : (r : ReaderState) (b : List ℕ) (ts : List Tree) → Stands r b ts → (rest : List ℕ) × Splits r.most b ts rest
-splits-Stands r b ts h = (r.held, h.splits)

@@ -6,6 +6,11 @@ pub mod Text
 pub mod Grammar
 pub mod Reading
 pub mod Gives
+pub mod Going
+pub mod Begun
+pub mod Seen
+pub mod Progress
+pub mod Standing
 pub mod Offset
 pub mod Refusals
 pub mod Stream

@@ -1,9 +1,7 @@
 -- A stream of bytes as the texts of values, one after the other, and what is refused in it.
-use Rattle.std.specs.Prelude.{◌≡◌, ◌⊎◌, ℕ, ◌+◌, ◌-◌, ◌^◌, min, ◌≤◌, List, [], ◌∷◌, ◌++◌, length, Option, IfSome}
+use Rattle.std.specs.Prelude.{◌≡◌, ◌⊎◌, ℕ, ◌+◌, ◌-◌, ◌^◌, min, ◌≤◌, List, [], ◌∷◌, ◌++◌, length}
 use Rattle.resp_core.specs.Tree.{Tree}
 use Rattle.resp_core.specs.Grammar.{IsText, max_text, max_depth}
-use Rattle.resp_core.specs.declared.error.RespError.{RespError}
-use Rattle.resp_core.specs.Offset.{offset_of, number_of}
 use Rattle.resp_core.specs.Refusals.{IsTold}
 
 -- the bytes are the texts of these values, each of at most so many bytes, and then these bytes
@@ -54,21 +52,3 @@ pub record HasNoRefusal (most : ℕ) (b : List ℕ) (ts : List Tree) : Type 0 wh
   pub rest : List ℕ
   pub values : AreValues most b ts rest
   pub none : (place : ℕ) → IsRefusedAt most rest place → ⊥
-
--- what clauses see of a reader: how many members an array may have, how many bytes came before the value that is read
--- next, the bytes from there on, and the refusal that was told
-pub record ReaderState : Type 0 where
-  pub most : ℕ
-  pub consumed : ℕ
-  pub held : List ℕ
-  pub refusal : Option RespError
-
--- how many bytes behind the values given a reader has been fed
-abbrev pub unread : ReaderState → ℕ
-unread r = length r.held
-
--- a reader that was fed these bytes and has given these values
-pub record Stands (r : ReaderState) (b : List ℕ) (ts : List Tree) : Type 0 where
-  pub splits : Splits r.most b ts r.held
-  pub consumed_is : r.consumed ≡ told_offset (length b - length r.held)
-  pub told : IfSome r.refusal (λ e. HasRefusal r.most b ts (offset_of e) (number_of e))

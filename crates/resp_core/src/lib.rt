@@ -6,10 +6,15 @@
 //! and the offsets and numbers of refusals are this project's own.
 #![tactic(auto)]
 
+mod begun;
 mod command;
+mod digits;
 mod error;
+mod head;
 mod laws;
+mod limits;
 mod parse;
+mod progress;
 mod reader;
 mod text;
 mod value;

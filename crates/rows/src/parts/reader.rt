@@ -35,13 +35,17 @@ impl ReaderSubject {
         })
     }
 
-    /// Makes one action: `feed BYTES`, `next`, `read PIECES` (a stream of its own), `measure VALUE`, `simple BYTES`,
-    /// `error BYTES`, `words VALUE`.
+    /// Makes one action: `feed BYTES`, `next`, `held`, `read PIECES` (a stream of its own), `measure VALUE`,
+    /// `simple BYTES`, `error BYTES`, `words VALUE`.
     pub(crate) fn act(&mut self, alloc: Global, line: &str) -> Result<String> {
         let (verb, rest) = first_word(line);
         match verb {
             "feed" => self.feed(alloc, rest),
             "next" => self.next(alloc),
+            "held" => {
+                let held = self.reader.held();
+                Ok(again!(format!(in alloc; "{held} bytes"))?)
+            }
             "read" => self.read(alloc, rest),
             "measure" => measured(alloc, &again!(value_of(alloc, rest))?),
             "simple" => measured(alloc, &Value::Simple(again!(line_of(alloc, rest))?)),
@@ -70,21 +74,45 @@ impl ReaderSubject {
         }
     }
 
-    // Reads a stream in pieces of several lengths, which all have to give the same.
+    // Reads a stream whole, in pieces of several lengths, and a short one cut in two at each place: all have to give the
+    // same.
     fn read(&self, alloc: Global, words: &str) -> Result<String> {
         let stream = again!(stream_of(alloc, words))?;
-        let mut told = String::new(alloc);
+        let stream = stream.as_slice();
+        let told = self.read_in_pieces(alloc, stream, stream.len())?;
         for length in piece_lengths(stream.len()) {
-            let reading = Reading::of(alloc, self.limits, stream.as_slice(), *length)?;
-            let text = again!(reading.text(alloc, stream.as_slice()))?;
-            if !told.is_empty() && told.as_str() != text.as_str() {
+            let text = self.read_in_pieces(alloc, stream, *length)?;
+            if told.as_str() != text.as_str() {
                 return Ok(again!(format!(in alloc;
                     "DIFFER: {told}, in pieces of {length}: {text}"
                 ))?);
             }
-            told = text;
+        }
+        for place in 0..places(stream.len()) {
+            let text = self.read_cut_at(alloc, stream, place)?;
+            if told.as_str() != text.as_str() {
+                return Ok(again!(format!(in alloc; "DIFFER: {told}, cut at {place}: {text}"))?);
+            }
         }
         Ok(told)
+    }
+
+    fn read_in_pieces(&self, alloc: Global, stream: &[u8], length: usize) -> Result<String> {
+        let mut reader = Reader::new(alloc, self.limits);
+        let mut reading = Reading::new(alloc);
+        for piece in stream.chunks(length.max(1)) {
+            reading.take_piece(alloc, &mut reader, piece)?;
+        }
+        again!(reading.text(alloc, stream))
+    }
+
+    fn read_cut_at(&self, alloc: Global, stream: &[u8], place: usize) -> Result<String> {
+        let mut reader = Reader::new(alloc, self.limits);
+        let mut reading = Reading::new(alloc);
+        let (front, back) = stream.split_at(place.min(stream.len()));
+        reading.take_piece(alloc, &mut reader, front)?;
+        reading.take_piece(alloc, &mut reader, back)?;
+        again!(reading.text(alloc, stream))
     }
 }
 
@@ -97,6 +125,11 @@ fn piece_lengths(bytes: usize) -> &'static [usize] {
     }
 }
 
+// How many places of a stream of so many bytes it is cut in two at.
+fn places(bytes: usize) -> usize {
+    if bytes <= SHOWN { bytes } else { 0 }
+}
+
 // What a reader gives of a stream: the values, written one behind the other, and then the refusal, if one comes.
 #[derive(Drop)]
 struct Reading {
@@ -105,19 +138,20 @@ struct Reading {
 }
 
 impl Reading {
-    // Reads a stream in pieces of this length.
-    fn of(alloc: Global, limits: Limits, stream: &[u8], length: usize) -> Result<Reading> {
-        let mut reader = Reader::new(alloc, limits);
-        let mut reading = Reading {
+    // Of nothing.
+    fn new(alloc: Global) -> Reading {
+        Reading {
             written: Vec::new(alloc),
             refusal: None,
-        };
-        for piece in stream.chunks(length.max(1)) {
-            if again!(reader.feed(piece)).is_ok() {
-                reading.take_values(alloc, &mut reader, piece.len())?;
-            }
         }
-        Ok(reading)
+    }
+
+    // Feeds one piece and takes what came with it, if the reader takes any more.
+    fn take_piece(&mut self, alloc: Global, reader: &mut Reader, piece: &[u8]) -> Result<()> {
+        if again!(reader.feed(piece)).is_ok() {
+            self.take_values(alloc, reader, piece.len())?;
+        }
+        Ok(())
     }
 
     // Takes the values that have come, which are no more than the bytes of the piece and one.

@@ -1,6 +1,6 @@
 use Rattle.std.proofs.Common.{◌≡◌, []}
 use Rattle.resp_core.specs.declared.reader.TheConstants.{CLIENT_MEMBERS}
-use Rattle.resp_core.specs.Stream.{unread}
+use Rattle.resp_core.specs.Standing.{unread}
 use Rattle.proxy_run.proofs.Answering.{Answered}
 use Rattle.proxy_run.proofs.local.answer_requests.Given as goal
 

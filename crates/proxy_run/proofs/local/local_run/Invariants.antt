@@ -2,7 +2,8 @@ use Rattle.std.proofs.Common.{◌≡◌, ℕ, List, [], false, map, length}
 use Rattle.std.specs.List.{list_any}
 use Rattle.std.specs.Io.KnownBytes.{Consumes, Appends}
 use Rattle.resp_core.specs.Tree.{Tree}
-use Rattle.resp_core.specs.Stream.{Stands, HasNoRefusal}
+use Rattle.resp_core.specs.Standing.{Stands}
+use Rattle.resp_core.specs.Stream.{HasNoRefusal}
 use Rattle.splitter.specs.Request.{read}
 use Rattle.splitter.specs.Requests.{finishes}
 use Rattle.resp_core.specs.declared.reader.TheConstants.{CLIENT_MEMBERS}

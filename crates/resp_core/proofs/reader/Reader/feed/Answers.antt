@@ -1,16 +1,17 @@
-use Rattle.std.proofs.Common.{◌≡◌, ◌++◌, sym, ap, ◌∙◌, drop, if◌then◌else◌}
-use Rattle.std.proofs.lemmas.List.{drop-append-le}
-use Rattle.resp_core.proofs.Streams.{stands_fed}
+use Rattle.std.proofs.Common.{◌++◌, ℕ, List, refl, subst}
+use Rattle.resp_core.specs.Tree.{Tree}
+use Rattle.resp_core.specs.Standing.{ReaderState, Stands, state_of}
+use Rattle.resp_core.proofs.Standing.{stands_fed, shown_on, on_reached}
 use Rattle.resp_core.proofs.reader.Reader.feed.Goals as goal
+
+pub invariant_of-self-2 : goal.invariant_of-self-2
+invariant_of-self-2 c =
+    let i = c.self.inside in
+    (c.feed.ensures.good i.array c.self.invariant.0, on_reached i.array i.progress c.feed.new.self (λ held. held ++ c.args.piece.now) (c.in_ok-feed.ensures.reads i.array) c.self.invariant.1)
 
 pub returns-clause-ok : goal.returns-clause-ok
 returns-clause-ok c =
-    let i = c.self-2.inside in
-    let v = c.self-2.view_is ∙ c.give_back.ensures in
-    let grown : c.extend_from_slice.new.self.items ≡ i.bytes.items ++ c.args.piece.now =
-    c.extend_from_slice.ensures.items ∙ ap (λ z. if z then i.bytes.items ++ c.args.piece.now else i.bytes.items) c.if-is_err.ensures.negation in
-    let held : drop i.start c.extend_from_slice.new.self.items ≡ c.args.self.now.held ++ c.args.piece.now =
-    ap (λ z. drop i.start z) grown ∙ drop-append-le i.start i.bytes.items c.args.piece.now c.self-2.invariant ∙ ap (λ z. z.held ++ c.args.piece.now) v in
-    let none = sym (ap (λ z. z.refusal) c.self.view_is) ∙ c.in_default.is in
-    λ b ts h.
-    stands_fed c.args.self.now b c.args.piece.now ts h none _ (ap (λ z. z.most) v) (ap (λ z. z.consumed) v) held (ap (λ z. z.refusal) v ∙ none)
+    let i = c.self.inside in
+    subst (λ (z : ReaderState). (b : List ℕ) (ts : List Tree) → Stands z b ts → Stands (state_of i.array i.consumed c.feed.new.self i.refusal) (b ++ c.args.piece.now) ts) c.self.view_is
+    (λ b ts h. stands_fed (state_of i.array i.consumed i.progress i.refusal) (state_of i.array i.consumed c.feed.new.self i.refusal) refl b c.args.piece.now ts c.in_default.is c.in_default.is refl
+    (shown_on i.array i.progress c.feed.new.self (λ held. held ++ c.args.piece.now) (c.in_ok-feed.ensures.reads i.array)) h)

@@ -1,0 +1,77 @@
+-- From how far a reader has come to what stands in the stream.
+use Rattle.std.proofs.Common.{◌≡◌, ◌≢◌, ◌⊎◌, ℕ, ◌+◌, ◌-◌, ◌≤◌, ◌<◌, List, [], ◌++◌, length, take, drop, refl, sym, ap, ◌∙◌, subst, append-nil, arith}
+use Rattle.std.proofs.lemmas.List.{take-append-drop, length-append, length-take, length-drop, take_all, take_at}
+use Rattle.std.proofs.Math.Seq.{drop-append-add}
+use Rattle.resp_core.specs.Tree.{Tree}
+use Rattle.resp_core.specs.Grammar.{IsText, max_depth, max_text}
+use Rattle.resp_core.specs.declared.error.Refusal.{Refusal}
+use Rattle.resp_core.specs.declared.error.Refusal.TheVariants.{TooLong, TooDeep}
+use Rattle.resp_core.specs.declared.progress.Progress.{Progress}
+use Rattle.resp_core.specs.Offset.{refusal_number}
+use Rattle.resp_core.specs.Reading.{found, unfinished, refused, value_at}
+use Rattle.resp_core.specs.Front.{IsFirstValue, IsUnfinished, IsFault}
+use Rattle.resp_core.specs.Progress.{Reads, Finds, IsFresh, seen_of, held_of, shown}
+use Rattle.resp_core.proofs.Firsts.{first_unfinished, first_unfinished_long, first_too_long, first_told}
+use Rattle.resp_core.proofs.Whole.{value-reads}
+
+pub held_is : (most : ℕ) (held : List ℕ) (p : Progress) → Reads most held p → held_of p ≡ length held
+held_is most held p r = omega (arith, ap length r.split, length-append r.taken p.pending.items, r.came)
+
+pub none_yet : (most : ℕ) (held : List ℕ) → value_at most max_depth (seen_of held) ≡ unfinished → length held ≤ max_text → IsUnfinished most held
+none_yet most held e h = first_unfinished most held (ap (value_at most max_depth) (sym (take_all (max_text + 1) held (omega (arith, h)))) ∙ e) h
+
+parts : (held : List ℕ) → held ≡ seen_of held ++ drop (max_text + 1) held
+parts held = sym (take-append-drop (max_text + 1) held)
+
+pub none_too_long : (most : ℕ) (held : List ℕ) → value_at most max_depth (seen_of held) ≡ unfinished → max_text < length held → IsFault most held max_text 106
+none_too_long most held e h = first_unfinished_long most held (seen_of held) (drop (max_text + 1) held) (parts held) e (omega (arith, length-take (max_text + 1) held, h))
+
+pub gives_value : (most : ℕ) (held : List ℕ) (p : Progress) (t : Tree) → Finds most held p t → p.came ≤ max_text → IsFirstValue most held t p.came
+gives_value most held p t f few =
+    let e : value_at most max_depth f.taken ≡ found t [] = ap (value_at most max_depth) (sym (append-nil f.taken)) ∙ f.same [] in
+    let q = (value-reads most max_depth).sound f.taken [] t e in
+    let whole : f.taken ≡ q.0 = q.1 ∙ append-nil q.0 in
+    record {
+      inside = omega (arith, ap length f.split, length-append f.taken p.pending.items, f.came);
+      text = subst (λ (z : List ℕ). IsText most max_depth z t) (sym (ap (take p.came) f.split ∙ take_at f.taken p.pending.items p.came f.came ∙ whole)) q.2;
+      few = few;
+    }
+
+pub value_too_long : (most : ℕ) (held : List ℕ) (p : Progress) (t : Tree) → Finds most held p t → p.came ≡ max_text + 1 → IsFault most held max_text 106
+value_too_long most held p t f e =
+    let g : value_at most max_depth f.taken ≡ found t [] = ap (value_at most max_depth) (sym (append-nil f.taken)) ∙ f.same [] in
+    first_too_long most held f.taken p.pending.items f.split t [] g (omega (arith, f.came, e)) (omega (arith, f.came, e))
+
+pub byte_refused : (most : ℕ) (held : List ℕ) (r w : Refusal) (place : ℕ) → value_at most max_depth (seen_of held) ≡ refused r (drop place (seen_of held)) → place ≤ length (seen_of held) → ((r ≡ TooDeep) × (place ≡ max_text) × (w ≡ TooLong)) ⊎ ((place ≡ max_text → r ≢ TooDeep) × (w ≡ r)) → IsFault most held place (refusal_number w)
+byte_refused most held r w place e h told =
+    let l : length (seen_of held) - length (drop place (seen_of held)) ≡ place = omega (arith, length-drop place (seen_of held), h) in
+    subst (λ (z : ℕ). IsFault most held z (refusal_number w)) l
+    (first_told most held (seen_of held) (drop (max_text + 1) held) (parts held) r w (drop place (seen_of held)) e (omega (arith, length-take (max_text + 1) held))
+    (subst (λ (z : ℕ). ((r ≡ TooDeep) × (z ≡ max_text) × (w ≡ TooLong)) ⊎ ((z ≡ max_text → r ≢ TooDeep) × (w ≡ r))) (sym l) told))
+
+-- how much room there is changes nothing
+pub reads_shown : (most : ℕ) (held : List ℕ) (p : Progress) → Reads most held p → Reads most held (shown p)
+reads_shown most held p r = record { taken = r.taken; split = r.split; came = r.came; same = r.same }
+
+pub shown_reads : (most : ℕ) (held : List ℕ) (p : Progress) → Reads most held (shown p) → Reads most held p
+shown_reads most held p r = record { taken = r.taken; split = r.split; came = r.came; same = r.same }
+
+pub same_shown : (most : ℕ) (held : List ℕ) (p q : Progress) → shown q ≡ shown p → Reads most held p → Reads most held q
+same_shown most held p q e r = shown_reads most held q (subst (λ (z : Progress). Reads most held z) (sym e) (reads_shown most held p r))
+
+-- nothing is read of the bytes behind a value that was given
+pub starts_anew : (most : ℕ) (held : List ℕ) (p q : Progress) (t : Tree) → Finds most held p t → IsFresh p → q.pending.items ≡ p.pending.items → q.opens.items ≡ p.opens.items → q.done ≡ p.done → q.next ≡ p.next → q.came ≡ 0 → Reads most (drop p.came held) q
+starts_anew most held p q t f fresh pending opens done next came =
+    let n : p.came ≡ length f.taken + 0 = omega (arith, f.came) in
+    record {
+      taken = [];
+      split = ap (drop p.came) f.split ∙ ap (λ z. drop z (f.taken ++ p.pending.items)) n ∙ drop-append-add f.taken p.pending.items 0 ∙ sym pending;
+      came = sym came;
+      same = λ y. rw (opens ∙ fresh.opens, done ∙ fresh.done, next ∙ fresh.next) refl;
+    }
+
+-- the byte that is refused is one of those that are looked at
+pub place_inside : (most : ℕ) (b : List ℕ) (r : Refusal) (place : ℕ) → value_at most max_depth b ≡ refused r (drop place b) → place ≤ length b
+place_inside most b r place e =
+    let q = (value-reads most max_depth).first b (drop place b) r e in
+    omega (arith, ap length q.rest_is, length-drop place b)

@@ -1,0 +1,55 @@
+-- A reader that was fed bytes and has given values.
+use Rattle.std.specs.Prelude.{◌≡◌, ℕ, ◌-◌, List, length, Option, Some, None, IfSome, IfNone}
+use Rattle.resp_core.specs.Tree.{Tree}
+use Rattle.resp_core.specs.declared.error.RespError.{RespError}
+use Rattle.resp_core.specs.declared.progress.Progress.{Progress}
+use Rattle.resp_core.specs.Offset.{offset_of, number_of}
+use Rattle.resp_core.specs.Stream.{Splits, HasRefusal, told_offset}
+use Rattle.resp_core.specs.Progress.{Reads, held_of, shown}
+
+-- what clauses see of a reader: how many members an array may have, how many bytes came before the unfinished value, how
+-- far it has come in that value, and the refusal that was told
+pub record ReaderState : Type 0 where
+  pub most : ℕ
+  pub consumed : ℕ
+  pub progress : Progress
+  pub refusal : Option RespError
+
+-- the state of a reader whose unfinished value has come so far, whatever room there is behind its bytes
+abbrev pub state_of : ℕ → ℕ → Progress → Option RespError → ReaderState
+state_of most consumed p refusal = record { most = most; consumed = consumed; progress = shown p; refusal = refusal }
+
+-- how many bytes behind the values given a reader has been fed, and 0 after a refusal
+abbrev pub unread_by : Option RespError → Progress → ℕ
+unread_by None p = held_of p
+unread_by (Some e) p = 0
+
+abbrev pub unread : ReaderState → ℕ
+unread r = unread_by r.refusal r.progress
+
+-- the bytes are the texts of these values, each of at most as many bytes as a text may have, and then so many others
+pub record Leaves (most : ℕ) (b : List ℕ) (ts : List Tree) (n : ℕ) : Type 0 where
+  pub rest : List ℕ
+  pub splits : Splits most b ts rest
+  pub length_is : n ≡ length rest
+
+-- A reader that was fed these bytes and has given these values: behind the texts of the values stand those bytes of an
+-- unfinished value in which it has come so far; or it has told of this stream what is refused in it.
+pub record Stands (r : ReaderState) (b : List ℕ) (ts : List Tree) : Type 0 where
+  pub rest : List ℕ
+  pub splits : Splits r.most b ts rest
+  pub reads : IfNone r.refusal (Reads r.most rest r.progress)
+  pub consumed_is : IfNone r.refusal (r.consumed ≡ told_offset (length b - length rest))
+  pub told : IfSome r.refusal (λ e. HasRefusal r.most b ts (offset_of e) (number_of e))
+
+-- what holds of the fields of a reader: some bytes lead to how far it has come
+pub record IsReached (most : ℕ) (p : Progress) : Type 0 where
+  pub held : List ℕ
+  pub reads : Reads most held p
+
+-- From one state to the next the reader has given nothing: it stands for the same bytes and values, and holds as many bytes.
+pub record Unmoved (r s : ReaderState) : Type 0 where
+  pub most : s.most ≡ r.most
+  pub refusal : s.refusal ≡ r.refusal
+  pub unread : unread s ≡ unread r
+  pub stands : (b : List ℕ) (ts : List Tree) → Stands r b ts → Stands s b ts

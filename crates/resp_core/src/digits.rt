@@ -1,0 +1,87 @@
+//! The digits of a length or an integer, which are read a byte at a time.
+ghost use Rattle.std.specs.Prelude.{◌≡◌, ◌≤◌, ◌^◌, pos, neg_ℤ};
+ghost use Rattle.resp_core.specs.Going.{DigitSteps};
+ghost use Rattle.resp_core.specs.Reading.{of_length, of_integer, digits_at};
+
+use crate::error::Refusal;
+
+// How digits are read: the greatest number, how many there may be, and how a byte is refused that is none, a digit too
+// many, a digit that makes the number too great, and one that does both.
+#[derive(Clone, Copy, Drop)]
+pub(crate) struct Digits {
+    pub(crate) limit: u64,
+    pub(crate) most: usize,
+    pub(crate) bad: Refusal,
+    pub(crate) full: Refusal,
+    pub(crate) over: Refusal,
+    pub(crate) both: Refusal,
+}
+
+// The digits of a length.
+pub(crate) fn of_length(limit: u64) -> Digits
+    ensures { result ≡ of_length limit }
+{
+    Digits {
+        limit,
+        most: 10,
+        bad: Refusal::BadLength,
+        full: Refusal::BadLength,
+        over: Refusal::TooLong,
+        both: Refusal::BadLength,
+    }
+}
+
+// The digits of a whole number.
+pub(crate) fn of_integer(limit: u64, most: usize) -> Digits
+    ensures { result ≡ of_integer limit most }
+{
+    Digits {
+        limit,
+        most,
+        bad: Refusal::BadNumber,
+        full: Refusal::TooLong,
+        over: Refusal::BadNumber,
+        both: Refusal::BadNumber,
+    }
+}
+
+// The number with a minus in front.
+pub(crate) fn negated(n: u64) -> i64
+    requires { n ≤ 2 ^ 63 }
+    ensures { result ≡ neg_ℤ (pos n) }
+{
+    if n == 0 { 0 } else { -((n - 1) as i64) - 1 }
+}
+
+// The number that the digits write with one more, or `None` where they end.
+#[tactic(auto, unfolding(crate::specs::Reading::digits_at))]
+pub(crate) fn step_digits(
+    digits: Digits,
+    count: usize,
+    n: u64,
+    byte: u8,
+) -> Result<Option<u64>, Refusal>
+    requires few { count ≤ digits.most }
+    requires within { n ≤ digits.limit }
+    ensures { DigitSteps digits count n byte result }
+{
+    if byte == b'\r' {
+        return if count == 0 {
+            Err(digits.bad)
+        } else {
+            Ok(None)
+        };
+    }
+    if byte < b'0' || byte > b'9' {
+        return Err(digits.bad);
+    }
+    let next = n as u128 * 10 + (byte - b'0') as u128;
+    let is_over = next > digits.limit as u128;
+    if count == digits.most {
+        return Err(if is_over { digits.both } else { digits.full });
+    }
+    if is_over {
+        return Err(digits.over);
+    }
+    Ok(Some(next as u64))
+}

@@ -1,0 +1,267 @@
+//! The head of a value, which is read a byte at a time: all of it but the bytes of a text, a payload and the members.
+ghost use Rattle.std.specs.Prelude.{◌≡◌, ◌≤◌, ◌<◌, length, take, drop, IfOk, IfErr};
+ghost use Rattle.resp_core.specs.Going.{Steps, DigitSteps, IsNullOf, GoesOn, IsHead, head_at, IsGoodHead, IsGoodNext, IsGoodSized, limit_of, limit_signed, line_tree, signed};
+ghost use Rattle.resp_core.specs.Reading.{of_length, of_integer, refused};
+ghost use Rattle.resp_core.specs.Value.{tree_of};
+
+use crate::digits::{negated, of_integer, of_length, step_digits};
+use crate::error::Refusal;
+use crate::limits::{MAX_BULK, MAX_LINE};
+use crate::value::Value;
+use bytes::Bytes;
+
+// What the length of it is read for.
+#[derive(Clone, Copy, Drop)]
+pub(crate) enum Sized {
+    Bulk,
+    List,
+}
+
+// What the text of a line is read for.
+#[derive(Clone, Copy, Drop)]
+pub(crate) enum Line {
+    Simple,
+    Fault,
+}
+
+impl Line {
+    // The value with this text.
+    pub(crate) fn value(self, text: Bytes) -> Value
+        ensures { tree_of result ≡ line_tree self text }
+    {
+        match self {
+            Line::Simple => Value::Simple(text),
+            Line::Fault => Value::Fault(text),
+        }
+    }
+}
+
+// What a head was found to be.
+#[derive(Clone, Copy, Drop)]
+pub(crate) enum Found {
+    // A text, from its first byte on, and a line end.
+    Line(Line),
+    // So many bytes and a line end.
+    Payload(u64),
+    // So many values.
+    Members(u64),
+    NullBulk,
+    NullList,
+    Whole(i64),
+}
+
+// Where in a head the next byte stands.
+#[derive(Clone, Copy, Drop)]
+pub(crate) enum Head {
+    // The type byte.
+    Type,
+    // The first byte of a length.
+    Length(Sized),
+    // Behind the minus sign of a null: 1, and then CR.
+    One(Sized),
+    Return(Sized),
+    // Behind so many digits of a length, which write this number.
+    Digits {
+        sized: Sized,
+        count: usize,
+        n: u64,
+    },
+    // The first byte of an integer.
+    Sign,
+    // Behind so many digits of an integer, of which there may be so many, and which write this number.
+    Number {
+        is_negative: bool,
+        most: usize,
+        count: usize,
+        n: u64,
+    },
+    // LF, and then this is found.
+    Feed(Found),
+}
+
+#[derive(Clone, Copy, Drop)]
+pub(crate) enum Next {
+    Head(Head),
+    Found(Found),
+}
+
+// The head behind one byte more.
+#[tactic(auto, unfolding(crate::specs::Reading::value_at, crate::specs::Reading::leaf_at, crate::specs::Reading::byte_at, crate::specs::Reading::list_at, crate::specs::Reading::bulk_at))]
+fn step_type(byte: u8, most: u64, left: u32) -> Result<Next, Refusal>
+    ensures steps { Steps most left Head.Type byte result }
+    ensures good { IfOk result (λ next. IsGoodNext most left next) }
+{
+    match byte {
+        b'*' if left > 0 => Ok(Next::Head(Head::Length(Sized::List))),
+        b'$' => Ok(Next::Head(Head::Length(Sized::Bulk))),
+        b'+' => Ok(Next::Found(Found::Line(Line::Simple))),
+        b'-' => Ok(Next::Found(Found::Line(Line::Fault))),
+        b':' => Ok(Next::Head(Head::Sign)),
+        b'*' => Err(Refusal::TooDeep),
+        _ => Err(Refusal::BadType),
+    }
+}
+
+fn step_length(
+    sized: Sized,
+    count: usize,
+    n: u64,
+    byte: u8,
+    most: u64,
+    left: u32,
+) -> Result<Next, Refusal>
+    requires good { IsGoodHead most left (Head.Digits sized count n) }
+    ensures steps { Steps most left (Head.Digits sized count n) byte result }
+    ensures good { IfOk result (λ next. IsGoodNext most left next) }
+{
+    let limit = match sized {
+        Sized::Bulk => MAX_BULK,
+        Sized::List => most,
+    };
+    match step_digits(of_length(limit), count, n, byte)? {
+        Some(n) => Ok(Next::Head(Head::Digits {
+            sized,
+            count: count + 1,
+            n,
+        })),
+        None => Ok(Next::Head(Head::Feed(match sized {
+            Sized::Bulk => Found::Payload(n),
+            Sized::List => Found::Members(n),
+        }))),
+    }
+}
+
+fn step_number(
+    is_negative: bool,
+    most_digits: usize,
+    count: usize,
+    n: u64,
+    byte: u8,
+    most: u64,
+    left: u32,
+) -> Result<Next, Refusal>
+    requires good { IsGoodHead most left (Head.Number is_negative most_digits count n) }
+    ensures steps { Steps most left (Head.Number is_negative most_digits count n) byte result }
+    ensures good { IfOk result (λ next. IsGoodNext most left next) }
+{
+    let limit = if is_negative {
+        i64::MAX as u64 + 1
+    } else {
+        i64::MAX as u64
+    };
+    match step_digits(of_integer(limit, most_digits), count, n, byte)? {
+        Some(n) => Ok(Next::Head(Head::Number {
+            is_negative,
+            most: most_digits,
+            count: count + 1,
+            n,
+        })),
+        None => Ok(Next::Head(Head::Feed(Found::Whole(if is_negative {
+            negated(n)
+        } else {
+            n as i64
+        })))),
+    }
+}
+
+// What a null is.
+#[tactic(auto, unfolding(crate::specs::Reading::payload_at, crate::specs::Reading::members_at))]
+fn null_of(sized: Sized) -> Found
+    ensures { IsNullOf sized result }
+{
+    match sized {
+        Sized::Bulk => Found::NullBulk,
+        Sized::List => Found::NullList,
+    }
+}
+
+// What comes next behind one byte more of a head.
+#[tactic(auto, unfolding(crate::specs::Reading::byte_at, crate::specs::Reading::null_end_at, crate::specs::Reading::count_at, crate::specs::Reading::integer_at))]
+pub(crate) fn step(head: Head, byte: u8, most: u64, left: u32) -> Result<Next, Refusal>
+    requires good { IsGoodHead most left head }
+    ensures steps { Steps most left head byte result }
+    ensures good { IfOk result (λ next. IsGoodNext most left next) }
+{
+    match head {
+        Head::Type => step_type(byte, most, left),
+        Head::Length(sized) => {
+            if byte == b'-' {
+                Ok(Next::Head(Head::One(sized)))
+            } else {
+                step_length(sized, 0, 0, byte, most, left)
+            }
+        }
+        Head::One(sized) => {
+            if byte == b'1' {
+                Ok(Next::Head(Head::Return(sized)))
+            } else {
+                Err(Refusal::BadLength)
+            }
+        }
+        Head::Return(sized) => {
+            if byte == b'\r' {
+                Ok(Next::Head(Head::Feed(null_of(sized))))
+            } else {
+                Err(Refusal::BadLength)
+            }
+        }
+        Head::Digits { sized, count, n } => step_length(sized, count, n, byte, most, left),
+        Head::Sign => match byte {
+            b'+' => Ok(Next::Head(Head::Number {
+                is_negative: false,
+                most: MAX_LINE - 1,
+                count: 0,
+                n: 0,
+            })),
+            b'-' => Ok(Next::Head(Head::Number {
+                is_negative: true,
+                most: MAX_LINE - 1,
+                count: 0,
+                n: 0,
+            })),
+            _ => step_number(false, MAX_LINE, 0, 0, byte, most, left),
+        },
+        Head::Number {
+            is_negative,
+            most: digits,
+            count,
+            n,
+        } => step_number(is_negative, digits, count, n, byte, most, left),
+        Head::Feed(found) => {
+            if byte == b'\n' {
+                Ok(Next::Found(found))
+            } else {
+                Err(Refusal::BadLineEnd)
+            }
+        }
+    }
+}
+
+// Why a head goes no further: the byte at this place is refused.
+pub(crate) struct Refused(pub(crate) Refusal, pub(crate) usize);
+
+// Reads a head as far as it has come, and the number of bytes read.
+pub(crate) fn read_head(
+    head: Head,
+    bytes: &[u8],
+    most: u64,
+    left: u32,
+) -> Result<(Next, usize), Refused>
+    requires good { IsGoodHead most left head }
+    ensures inside { IfOk result (λ x. x.1 ≤ length bytes.now) }
+    ensures gives { IfOk result (λ x. GoesOn most left head (take x.1 bytes.now) x.0) }
+    ensures all { IfOk result (λ x. IsHead x.0 → x.1 ≡ length bytes.now) }
+    ensures some { IfOk result (λ x. (IsHead x.0 → ⊥) → 0 < x.1) }
+    ensures refused { IfErr result (λ e. (e.1 ≤ length bytes.now) × (head_at most left head bytes.now ≡ refused e.0 (drop e.1 bytes.now))) }
+    ensures good { IfOk result (λ x. IsGoodNext most left x.0) }
+{
+    let mut head = head;
+    for i in 0..bytes.len() {
+        match step(head, bytes[i], most, left) {
+            Ok(Next::Head(next)) => head = next,
+            Ok(Next::Found(found)) => return Ok((Next::Found(found), i + 1)),
+            Err(refusal) => return Err(Refused(refusal, i)),
+        }
+    }
+    Ok((Next::Head(head), bytes.len()))
+}

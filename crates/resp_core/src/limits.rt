@@ -1,0 +1,13 @@
+//! The limits of what is read, which are the same for all streams.
+
+/// Bytes of a bulk string.
+pub(crate) const MAX_BULK: u64 = 1_048_576;
+
+/// Bytes between the type byte and the CR of a line.
+pub(crate) const MAX_LINE: usize = 65_536;
+
+/// Bytes in the text of one outermost value.
+pub(crate) const MAX_TEXT: usize = 8_388_608;
+
+/// Arrays, one within the other.
+pub(crate) const MAX_DEPTH: u32 = 8;
