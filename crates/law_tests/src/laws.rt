@@ -45,6 +45,9 @@ fn laws_of_outlier_detection() {
     rate_core::spread_is_variance();
     rate_core::far_below_is_by_deviation();
     rate_core::hosts_are_limited();
+    ejector::opening_comes_first();
+    ejector::openings_stay();
+    ejector::state_goes_on();
     ejector::few_are_out();
     ejector::state_decides_next();
     ejector::out_until_time_is_over();
