@@ -17,12 +17,14 @@ clock_of O (d ∷ before) = max (clock_of O before) (moment d.mark)
 -- a host is out if it was ejected or was out at the opening, and no deed after that returned it
 abbrev pub is_out_after : State → ℕ → List Deed → Bool
 is_out_after O h deeds =
-    (list_any (ejects h) deeds || is_out O h) && not (list_any (returns h) (after_last (ejects h) deeds))
+    (list_any (ejects h) deeds || is_out O h)
+    && not (list_any (returns h) (after_last (ejects h) deeds))
 
 -- the clock at its last ejection, and the opening's start where none was
 abbrev pub start_of : State → ℕ → List Deed → ℕ
 start_of O h deeds =
-    if list_any (ejects h) deeds then clock_of O (up_to_last (ejects h) deeds) else (host_of O h).start
+    if list_any (ejects h) deeds then clock_of O (up_to_last (ejects h) deeds)
+    else (host_of O h).start
 
 -- STREAKS
 
@@ -35,7 +37,8 @@ opening_streak O h deeds = if list_any (ends_streak h) deeds then 0 else (host_o
 abbrev pub streak_of : Rules → State → ℕ → List Deed → ℕ
 streak_of R O h deeds =
     if is_out_after O h deeds || (R.settings.consecutive == 0) then 0
-    else opening_streak O h deeds + count_by (λ (d : Deed). is_bad h d.mark) (after_last (ends_streak h) deeds)
+    else opening_streak O h deeds
+    + count_by (λ (d : Deed). is_bad h d.mark) (after_last (ends_streak h) deeds)
 
 -- TALLIES
 
@@ -45,7 +48,8 @@ max_results = 2 ^ 32 - 1
 
 -- what is left of the opening's tallies: all of them until a sweep
 abbrev pub opening_good_results : State → ℕ → List Deed → ℕ
-opening_good_results O h deeds = if list_any ends_interval deeds then 0 else (host_of O h).good_results
+opening_good_results O h deeds =
+    if list_any ends_interval deeds then 0 else (host_of O h).good_results
 
 abbrev pub opening_results : State → ℕ → List Deed → ℕ
 opening_results O h deeds = if list_any ends_interval deeds then 0 else (host_of O h).results
@@ -73,7 +77,8 @@ lowered not_out m = if not_out then m - 1 else m
 -- from the opening's on
 abbrev pub multiplier_of : Rules → State → ℕ → List Deed → ℕ
 multiplier_of R O h [] = (host_of O h).multiplier
-multiplier_of R O h (d ∷ before) = raised R (ejects h d) (lowered (lowers h d) (multiplier_of R O h before))
+multiplier_of R O h (d ∷ before) =
+    raised R (ejects h d) (lowered (lowers h d) (multiplier_of R O h before))
 
 -- THE STATE AFTER DEEDS
 
@@ -88,4 +93,5 @@ host_after R O deeds h = record {
 }
 
 abbrev pub state_after : Rules → State → List Deed → State
-state_after R O deeds = record { clock = clock_of O deeds; hosts = map (host_after R O deeds) (hosts_of R) }
+state_after R O deeds =
+    record { clock = clock_of O deeds; hosts = map (host_after R O deeds) (hosts_of R) }

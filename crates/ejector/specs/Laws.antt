@@ -18,7 +18,8 @@ OpeningComesFirst = (R : Rules) (O : State) → IsOpening R O → state R O [] �
 
 -- what marks lead to from an opening state is one again
 abbrev pub OpeningsStay : Type 0
-OpeningsStay = (R : Rules) (O : State) (marks : List Mark) → IsOpening R O → IsOpening R (state R O marks)
+OpeningsStay = (R : Rules) (O : State) (marks : List Mark) → IsOpening R O
+    → IsOpening R (state R O marks)
 
 -- a state may be handed on at any mark: later marks lead from it where they lead from the opening after the marks before
 abbrev pub StateGoesOn : Type 0
@@ -60,7 +61,8 @@ pub record BringsBack (R : Rules) (O : State) (marks : List Mark) (h t : ℕ) : 
 -- a sweep at which the time of a host that is out is over brings it back
 abbrev pub BackOnceTimeIsOver : Type 0
 BackOnceTimeIsOver = (R : Rules) (O : State) (marks : List Mark) (h t : ℕ)
-    → is_out (state R O marks) h ≡ true → IsTimeOver R (state R O marks) h t → BringsBack R O marks h t
+    → is_out (state R O marks) h ≡ true → IsTimeOver R (state R O marks) h t
+    → BringsBack R O marks h t
 
 -- one good result puts a streak to 0
 abbrev pub GoodEndsStreak : Type 0
@@ -86,7 +88,8 @@ FindsTheSame R h (Sweep t) x y = (rates R (at_moment t x) ≡ rates R (at_moment
 
 -- what becomes of a host follows from its own state and the clock; other hosts matter through the limit and the rates of a sweep alone
 abbrev pub OthersMatterByLimitAndRates : Type 0
-OthersMatterByLimitAndRates = (R : Rules) (m : Mark) (O P : State) (marks others : List Mark) (h : ℕ)
+OthersMatterByLimitAndRates =
+    (R : Rules) (m : Mark) (O P : State) (marks others : List Mark) (h : ℕ)
     → host_of (state R O marks) h ≡ host_of (state R P others) h
     → (state R O marks).clock ≡ (state R P others).clock
     → FindsTheSame R h m (state R O marks) (state R P others)

@@ -41,19 +41,24 @@ first_failing (t ∷ ts) = if t.1 then first_failing ts else Some t.0
 abbrev pub first_fault : Rules → Option Field
 first_fault R = first_failing (field_tests R)
 
+-- whether both are so, or neither
 abbrev pub are_same : Bool → Bool → Bool
 are_same a b = if a then b else not b
 
 -- each setting with the answer whether two have the same, in their order
 abbrev pub settings_comparisons : Settings → Settings → List (Field × Bool)
 settings_comparisons s t =
-    (Tags, are_same s.tags t.tags) ∷ (IntervalMs, s.interval_ms == t.interval_ms) ∷ (BaseMs, s.base_ms == t.base_ms) ∷ (MaxMs, s.max_ms == t.max_ms)
-    ∷ (MaxPercent, s.max_percent == t.max_percent) ∷ (Consecutive, s.consecutive == t.consecutive) ∷ (SuccessHosts, s.success_hosts == t.success_hosts)
-    ∷ (RequestVolume, s.request_volume == t.request_volume) ∷ (Factor, s.factor == t.factor) ∷ (PanicPercent, s.panic_percent == t.panic_percent) ∷ []
+    (Tags, are_same s.tags t.tags) ∷ (IntervalMs, s.interval_ms == t.interval_ms)
+    ∷ (BaseMs, s.base_ms == t.base_ms) ∷ (MaxMs, s.max_ms == t.max_ms)
+    ∷ (MaxPercent, s.max_percent == t.max_percent) ∷ (Consecutive, s.consecutive == t.consecutive)
+    ∷ (SuccessHosts, s.success_hosts == t.success_hosts)
+    ∷ (RequestVolume, s.request_volume == t.request_volume)
+    ∷ (Factor, s.factor == t.factor) ∷ (PanicPercent, s.panic_percent == t.panic_percent) ∷ []
 
 -- the first field in which two rules differ
 abbrev pub first_difference : Rules → Rules → Option Field
-first_difference R P = first_failing ((Hosts, R.hosts == P.hosts) ∷ settings_comparisons R.settings P.settings)
+first_difference R P =
+    first_failing ((Hosts, R.hosts == P.hosts) ∷ settings_comparisons R.settings P.settings)
 
 -- what the ranges say of the numbers that are reckoned with
 pub record IsInRange (R : Rules) : Type 0 where

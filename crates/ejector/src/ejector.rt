@@ -40,7 +40,10 @@ impl Model for Ejector {
 
     ghost Value = { Ejection };
 
-    ghost view = { λ e. record { rules = e.rules; state = record { clock = e.clock; hosts = e.hosts.items } } };
+    ghost view = { λ e. record {
+      rules = e.rules;
+      state = record { clock = e.clock; hosts = e.hosts.items };
+    } };
 
     ghost invariant = { λ e. (first_fault e.rules ≡ None)
         × IsOpening e.rules (record { clock = e.clock; hosts = e.hosts.items }) };
@@ -52,9 +55,11 @@ impl Ejector {
     /// Refused 502 exactly where a field is out of its range, with the first that is: `hosts` where `n` is 0 or over
     /// 64, and then the settings in their order. Where none is, it is refused only 501, for want of memory.
     pub fn new(alloc: Global, n: usize, settings: Settings) -> Result<Ejector, EjectError>
-        ensures made { IfOk result (λ e. (e.rules ≡ record { hosts = n; settings = settings }) × (e.state ≡ fresh_state e.rules)) }
+        ensures made { IfOk result (λ e. (e.rules ≡ record { hosts = n; settings = settings })
+            × (e.state ≡ fresh_state e.rules)) }
         ensures refused { MatchOption (first_fault (record { hosts = n; settings = settings }))
-            (IfErr result (λ e. e ≡ EjectError.NoMemory)) (λ field. IsErrOf result (EjectError.BadSettings field)) }
+            (IfErr result (λ e. e ≡ EjectError.NoMemory))
+            (λ field. IsErrOf result (EjectError.BadSettings field)) }
     {
         let rules = Rules { hosts: n, settings };
         if let Some(field) = rules.first_fault() {
@@ -107,9 +112,11 @@ impl Ejector {
     /// marks came before, and looks at all hosts only where the host trips.
     pub fn result(&mut self, host: usize, ok: bool, t: u64) -> Result<Trip, EjectError>
         requires { host < self.old.rules.hosts }
-        ensures state { (O : State) (marks : List Mark) → state self.old.rules O marks ≡ self.old.state
+        ensures state { (O : State) (marks : List Mark)
+            → state self.old.rules O marks ≡ self.old.state
             → self.new.state ≡ state self.old.rules O (result_mark ok host t ∷ marks) }
-        ensures trip { IfOk result (λ answer. (O : State) (marks : List Mark) → state self.old.rules O marks ≡ self.old.state
+        ensures trip { IfOk result (λ answer. (O : State) (marks : List Mark)
+            → state self.old.rules O marks ≡ self.old.state
             → answer ≡ trip self.old.rules O (result_mark ok host t) marks) }
         ensures limit { out_count self.new.state ≤ most_out self.new.rules }
         ensures succeeds { IsOk result }
@@ -128,9 +135,11 @@ impl Ejector {
     /// For every opening and list of marks that has the ejector's state, it then has the state of that list with this
     /// mark, and the answer is what the mark did. It takes no memory, and is always Ok.
     pub fn sweep(&mut self, t: u64) -> Result<Swept, EjectError>
-        ensures state { (O : State) (marks : List Mark) → state self.old.rules O marks ≡ self.old.state
+        ensures state { (O : State) (marks : List Mark)
+            → state self.old.rules O marks ≡ self.old.state
             → self.new.state ≡ state self.old.rules O (Sweep t ∷ marks) }
-        ensures swept { IfOk result (λ answer. (O : State) (marks : List Mark) → state self.old.rules O marks ≡ self.old.state
+        ensures swept { IfOk result (λ answer. (O : State) (marks : List Mark)
+            → state self.old.rules O marks ≡ self.old.state
             → answer ≡ swept self.old.rules O (Sweep t) marks) }
         ensures limit { out_count self.new.state ≤ most_out self.new.rules }
         ensures succeeds { IsOk result }

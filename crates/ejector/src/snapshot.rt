@@ -26,7 +26,10 @@ impl Model for EjectState {
 
     ghost Value = { Ejection };
 
-    ghost view = { λ e. record { rules = e.rules; state = record { clock = e.clock; hosts = take e.rules.hosts e.hosts } } };
+    ghost view = { λ e. record {
+      rules = e.rules;
+      state = record { clock = e.clock; hosts = take e.rules.hosts e.hosts };
+    } };
 
     ghost invariant = { λ e. (first_fault e.rules ≡ None)
         × IsOpening e.rules (record { clock = e.clock; hosts = take e.rules.hosts e.hosts }) };
@@ -37,7 +40,8 @@ impl EjectState {
     pub(crate) fn new(rules: Rules, clock: u64, hosts: &[HostState]) -> EjectState
         requires range { first_fault rules ≡ None }
         requires opening { IsOpening rules (record { clock = clock; hosts = hosts.now }) }
-        ensures { result ≡ record { rules = rules; state = record { clock = clock; hosts = hosts.now } } }
+        ensures { result
+            ≡ record { rules = rules; state = record { clock = clock; hosts = hosts.now } } }
     {
         let mut all = [FRESH; MAX_HOSTS];
         all[..hosts.len()].copy_from_slice(hosts);

@@ -79,10 +79,12 @@ impl Core {
         settings: Settings,
         from: Handover,
     ) -> Result<Core, Refusal>
-        ensures made { IfOk result (λ c. (c.setting ≡ setting_from ring from.detection) × (c.steps ≡ [])) }
+        ensures made { IfOk result (λ c. (c.setting ≡ setting_from ring from.detection)
+            × (c.steps ≡ [])) }
         ensures rules { IfOk result (λ c. c.setting.rules ≡ rules_of ring settings) }
         ensures state { IfOk result (λ c. detected c ≡ from.detection.state) }
-        ensures refused { MatchOption (first_difference (rules_of ring settings) from.detection.rules)
+        ensures refused { MatchOption
+            (first_difference (rules_of ring settings) from.detection.rules)
             (IfErr result (λ e. e ≡ Refusal.NoMemory)) (λ field. IsErrOf result (Refusal.BadSettings field)) }
     {
         let rules = Rules {

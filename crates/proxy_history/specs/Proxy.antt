@@ -28,7 +28,9 @@ rules_of ring settings = record { hosts = ring.hosts; settings = settings }
 
 -- the setting of a ring and these settings, where nothing was told of the hosts
 abbrev pub setting_of : Continuum → Settings → Setting
-setting_of ring settings = setting_from ring (record { rules = rules_of ring settings; state = fresh_state (rules_of ring settings) })
+setting_of ring settings =
+    setting_from ring
+    (record { rules = rules_of ring settings; state = fresh_state (rules_of ring settings) })
 
 abbrev pub history_in : Kept → History
 history_in k = reverse k.steps
