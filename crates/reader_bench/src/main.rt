@@ -31,7 +31,9 @@ fn main(rt: HostRuntime) -> Result<()> {
             let copied = bytes_a_second(bytes.len(), time_copied(&rt, alloc, &bytes, piece)?);
             let name = stream.name();
             let len = bytes.len();
-            println!(rt; "{name}, {len} bytes in pieces of {piece}: {read} bytes a second, a plain copy {copied}")?;
+            println!(rt;
+                "{name}, {len} bytes in pieces of {piece}: {read} bytes a second, a plain copy {copied}"
+            )?;
         }
     }
     Ok(())
@@ -59,8 +61,8 @@ impl Stream {
         match self {
             Stream::Commands => "commands of three words, two of 64 bytes",
             Stream::Bulks => "bulk strings of 1,048,576 bytes",
-            Stream::FewIntegers => "250 arrays of 1,000 integers",
-            Stream::Integers => "1,000 arrays of 1,000 integers",
+            Stream::FewIntegers => "an array of 250 arrays of 1,000 integers",
+            Stream::Integers => "an array of 1,000 arrays of 1,000 integers",
         }
     }
 
@@ -100,9 +102,10 @@ fn bulks(alloc: Global, count: usize) -> Result<Vec<u8>> {
     Ok(bytes)
 }
 
-// So many arrays of a thousand integers.
+// An array of so many arrays of a thousand integers.
 fn integers(alloc: Global, count: usize) -> Result<Vec<u8>> {
     let mut bytes = Vec::new(alloc);
+    bytes.extend_from_slice(format!(in alloc; "*{count}\r\n")?.as_bytes())?;
     for _ in 0..count {
         bytes.extend_from_slice(b"*1000\r\n")?;
         for _ in 0..1_000 {

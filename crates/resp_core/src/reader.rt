@@ -45,10 +45,11 @@ impl Limits {
 
 /// A reader of a stream that comes in pieces, whatever the pieces are.
 ///
-/// It is fed the bytes of the stream in order and gives the values whose texts stand in them, one after the other. It
-/// goes on where it stopped: no byte is read twice, and it keeps the bytes of a text or a payload alone, until that is
-/// whole. A payload is given as a part of the buffer that it was fed into, where it has 4,096 bytes or more and an eighth
-/// of that buffer; else it is copied. While nothing is unfinished it keeps no memory.
+/// It is fed the bytes of the stream in order and gives the values whose texts stand in them, one
+/// after the other. It goes on where it stopped, and of an unfinished value it keeps the members that
+/// came and the bytes of the text or payload that is not whole yet. A payload of at least 4,096 bytes
+/// and an eighth of the buffer that it was fed into is given as a part of that buffer; any other is
+/// copied. While no byte is pending it keeps no buffer of more than 32,768 bytes.
 #[derive(Drop)]
 pub struct Reader {
     progress: Progress,
