@@ -12,9 +12,8 @@ fn asked(alloc: Global, words: &[&str]) -> Result<u8, Fail> {
     }
     match read(alloc, &owned) {
         Ok(Asked::Local) => Ok(0),
-        Ok(Asked::Check { .. }) => Ok(3),
-        Err(Refused::Told(told)) if told.is_help() => Ok(1),
-        Err(Refused::Told(_)) => Ok(2),
+        Ok(Asked::Check { config: _config }) => Ok(3),
+        Err(Refused::Told(told)) => Ok(if told.is_help() { 1 } else { 2 }),
         Err(Refused::Memory) => Ok(6),
     }
 }
