@@ -82,7 +82,7 @@ impl Proxies {
                 run_each(alloc, number(seeds)?, number(events)?)
             }
             "refusals" => all_refusals(alloc),
-"hand_over" => self.hand_over(alloc, rest),
+            "hand_over" => self.hand_over(alloc, rest),
             "other" => self.turn_to_other(alloc),
             "hosts"
             | "epoch"
