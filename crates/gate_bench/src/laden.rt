@@ -45,7 +45,7 @@ fn stirred(seed: u64, rounds: u32) -> u64 {
 
 impl Recorded for Laden {
     ghost use Rattle.ticket_gate.specs.RunningTotal.{journal_of, limit_of, IsDue};
-    ghost use Rattle.ticket_gate.specs.Totals.{AreTotals, totals_at_first, totals_before};
+    ghost use Rattle.ticket_gate.specs.Totals.{AreTotals, amount_sum, totals_at_first, totals_before};
 
     type Event = u64;
 
@@ -55,6 +55,8 @@ impl Recorded for Laden {
 
     type Setting = u64;
 
+    type Sight = u64;
+
     ghost journal = { λ s. journal_of s.total };
 
     ghost setting = { λ s. limit_of s.total };
@@ -62,6 +64,12 @@ impl Recorded for Laden {
     ghost legal = { AreTotals };
 
     ghost cause = { IsDue };
+
+    ghost sight_of = { λ limit journal. amount_sum journal };
+
+    fn sight(&self) -> u64 {
+        self.total.sight()
+    }
 
     fn turn(&mut self, pass: u64, event: u64) -> Result<u64, (AdditionRefusal, u64)> {
         self.stirred = stirred(self.stirred, self.rounds);

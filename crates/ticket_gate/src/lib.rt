@@ -18,6 +18,7 @@ mod recorded;
 mod refusal;
 mod running_total;
 mod seated;
+mod sight;
 mod steps;
 mod turn;
 mod turns;
