@@ -14,7 +14,7 @@ use ticket_gate::{Gate, Pass};
 const SWEEPS: u64 = 200;
 
 // A core with one host.
-fn core(alloc: Global) -> Result<Core, Fail>
+pub(crate) fn core(alloc: Global) -> Result<Core, Fail>
     ensures { IfOk result (λ core. core.steps ≡ []) }
 {
     let ring = Ring::of_points(alloc, 1, &[(1000, 0)])?;

@@ -47,7 +47,8 @@ impl<S: Recorded> Gate<S> {
     ) -> Result<S::Sight, TurnRefusal<S::Refusal, ()>>
         requires { IsPassOf self.now pass.old }
         ensures same { IsSamePass pass.old pass.new }
-        ensures sight { IfOk result (λ sight. sight ≡ S.sight_of self.now.setting pass.new.known.seen) }
+        ensures sight { IfOk result (λ sight.
+            sight ≡ S.sight_of self.now.setting pass.new.known.seen) }
         ensures legal { OnOk result (S.legal self.now.setting pass.new.known.seen) }
         ensures seen { OnOk result (GrowsByOthers pass.old.number
             pass.old.known.seen pass.new.known.seen) }
