@@ -1,25 +1,41 @@
-//! Turns by 1, 2 and 4 threads on one running total: at a ticket gate, and beside it under std's
+//! Turns by 1, 2, 4 and 8 threads on one running total: at a ticket gate, and beside it under std's
 //! `Mutex`.
 //!
 //! Without an argument it makes few turns and prints how many the journals have. With the argument
-//! `time` it makes more, and prints turns a second too.
+//! `time` it makes more, and prints turns a second: of turns that only add, and of turns that take
+//! some 200 ns.
 #![tactic(auto)]
 
 ghost use Rattle.ticket_gate.specs.Gate.{IsSpareOf};
 
+mod laden;
+
 use anyhow::{Result, bail};
+use laden::Laden;
 use std::alloc::Global;
+use std::rt::Clock;
 use std::sync::{Mutex, Wait};
 use std::thread::Threads;
 use std::time::{Duration, Instant};
 use std::{env, thread};
-use ticket_gate::{AdditionRefusal, Gate, Recorded, RunningTotal, Seated, Spare, Turns};
+use ticket_gate::{AdditionRefusal, Gate, Recorded, Seated, Spare, Turns};
 
 /// Turns of all threads together, where nothing is timed.
 const FEW_TURNS: u64 = 20_000;
 
 /// Turns of all threads together, where they are timed.
 const MANY_TURNS: u64 = 400_000;
+
+/// Rounds of work in a turn that takes some 200 ns.
+const LADEN_ROUNDS: u32 = 80;
+
+/// So many turns, shared out among so many threads, with so many rounds of work in each.
+#[derive(Clone, Copy)]
+struct Trial {
+    threads: usize,
+    turns: u64,
+    rounds: u32,
+}
 
 // Adds 1 so many times.
 fn make_turns<T: Turns<Event = u64, Answer = u64, Refusal = AdditionRefusal>, R: Wait>(
@@ -36,10 +52,10 @@ fn make_turns<T: Turns<Event = u64, Answer = u64, Refusal = AdditionRefusal>, R:
 fn seat_passes<'a, R: Wait>(
     rt: &R,
     alloc: Global,
-    gate: &'a Gate<RunningTotal>,
-    spare: Spare<RunningTotal>,
+    gate: &'a Gate<Laden>,
+    spare: Spare<Laden>,
     passes: usize,
-) -> Result<Vec<Seated<'a, RunningTotal>>>
+) -> Result<Vec<Seated<'a, Laden>>>
     requires { IsSpareOf gate.now spare }
 {
     let mut seated = Vec::new(alloc);
@@ -55,58 +71,81 @@ fn seat_passes<'a, R: Wait>(
     Ok(seated)
 }
 
-/// Makes the turns at a gate, each thread with a pass of its own, and gives the journal's length.
-fn turns_at_a_gate<R: Threads + Wait + Sync>(
-    rt: &R,
-    alloc: Global,
-    threads: usize,
-    times: u64,
-) -> Result<usize> {
-    let Ok((gate, spare)) = Gate::new(alloc, RunningTotal::new(alloc, u64::MAX)) else {
-        bail!("there is no memory for a gate");
-    };
-    let (mine, spare) = gate.split(spare);
-    let Ok(mine) = gate.enrol(rt, mine) else {
-        bail!("there is no place at the gate");
-    };
-    let seated = seat_passes(rt, alloc, &gate, spare, threads)?;
-    thread::map_vec(
-        rt,
-        seated,
-        &|turns| {
-            let mut turns = turns;
-            make_turns(rt, &mut turns, times)
-        },
-    )?;
-    match gate.close(mine) {
-        Some(state) => Ok(state.additions().len()),
-        None => bail!("the gate's state is out"),
+impl Trial {
+    fn times(&self) -> u64 {
+        self.turns / (self.threads as u64).max(1)
     }
-}
 
-/// Makes the turns under a mutex, and gives the journal's length.
-fn turns_under_a_mutex<R: Threads + Wait + Sync>(
-    rt: &R,
-    alloc: Global,
-    threads: usize,
-    times: u64,
-) -> Result<usize> {
-    let state = Mutex::new(RunningTotal::new(alloc, u64::MAX));
-    let mut passes = Vec::new(alloc);
-    for pass in 0..threads as u64 {
-        passes.push(pass)?;
+    /// Makes the turns at a gate, each thread with a pass of its own, and gives the journal's
+    /// length.
+    fn at_a_gate<R: Threads + Wait + Sync>(&self, rt: &R, alloc: Global) -> Result<usize> {
+        let Ok((gate, spare)) = Gate::new(alloc, Laden::new(alloc, self.rounds)) else {
+            bail!("there is no memory for a gate");
+        };
+        let (mine, spare) = gate.split(spare);
+        let Ok(mine) = gate.enrol(rt, mine) else {
+            bail!("there is no place at the gate");
+        };
+        let seated = seat_passes(rt, alloc, &gate, spare, self.threads)?;
+        let times = self.times();
+        thread::map_vec(
+            rt,
+            seated,
+            &|turns| {
+                let mut turns = turns;
+                make_turns(rt, &mut turns, times)
+            },
+        )?;
+        match gate.close(mine) {
+            Some(state) => Ok(state.turns()),
+            None => bail!("the gate's state is out"),
+        }
     }
-    let shared = &state;
-    thread::map_vec(
-        rt,
-        passes,
-        &|pass| {
-            for _ in 0..times {
-                let _ = shared.lock(rt).turn(pass, 1);
-            }
-        },
-    )?;
-    Ok(state.into_inner().additions().len())
+
+    /// Makes the turns under a mutex, and gives the journal's length.
+    fn under_a_mutex<R: Threads + Wait + Sync>(&self, rt: &R, alloc: Global) -> Result<usize> {
+        let state = Mutex::new(Laden::new(alloc, self.rounds));
+        let mut passes = Vec::new(alloc);
+        for pass in 0..self.threads as u64 {
+            passes.push(pass)?;
+        }
+        let shared = &state;
+        let times = self.times();
+        thread::map_vec(
+            rt,
+            passes,
+            &|pass| {
+                for _ in 0..times {
+                    let _ = shared.lock(rt).turn(pass, 1);
+                }
+            },
+        )?;
+        Ok(state.into_inner().turns())
+    }
+
+    /// Makes the turns in both ways, and prints how many were made in a second.
+    fn print_speeds<R: Threads + Wait + Sync + Clock + Print>(
+        &self,
+        rt: &R,
+        alloc: Global,
+    ) -> Result<()> {
+        let start = Instant::now(rt)?;
+        let turns = self.at_a_gate(rt, alloc)?;
+        let by_gate = per_second(turns, start.elapsed(rt)?);
+        let start = Instant::now(rt)?;
+        let turns = self.under_a_mutex(rt, alloc)?;
+        let by_mutex = per_second(turns, start.elapsed(rt)?);
+        let work = if self.rounds == 0 {
+            "no work"
+        } else {
+            "200 ns of work"
+        };
+        println!(rt;
+            "threads {}, {work}: {by_gate} a second at a gate, {by_mutex} under a mutex",
+            self.threads
+        )?;
+        Ok(())
+    }
 }
 
 fn per_second(turns: usize, time: Duration) -> u128 {
@@ -117,22 +156,24 @@ fn main(rt: HostRuntime) -> Result<()> {
     let timed = env::args(&rt)?
         .nth(1)
         .is_some_and(|word| word.as_str() == "time");
-    let turns = if timed { MANY_TURNS } else { FEW_TURNS };
-    for threads in [1usize, 2, 4] {
-        let times = turns / threads as u64;
-        let start = Instant::now(&rt)?;
-        let at_gate = turns_at_a_gate(&rt, rt.alloc(), threads, times)?;
-        let gate_time = start.elapsed(&rt)?;
-        let start = Instant::now(&rt)?;
-        let under_mutex = turns_under_a_mutex(&rt, rt.alloc(), threads, times)?;
-        let mutex_time = start.elapsed(&rt)?;
+    for threads in [1usize, 2, 4, 8] {
+        let few = Trial {
+            threads,
+            turns: FEW_TURNS,
+            rounds: 0,
+        };
+        let at_gate = few.at_a_gate(&rt, rt.alloc())?;
+        let under_mutex = few.under_a_mutex(&rt, rt.alloc())?;
         println!(rt; "threads {threads}: {at_gate} turns at a gate, {under_mutex} under a mutex")?;
         if timed {
-            let by_gate = per_second(at_gate, gate_time);
-            let by_mutex = per_second(under_mutex, mutex_time);
-            println!(rt;
-                "threads {threads}: {by_gate} a second at a gate, {by_mutex} under a mutex"
-            )?;
+            for rounds in [0, LADEN_ROUNDS] {
+                let many = Trial {
+                    threads,
+                    turns: MANY_TURNS,
+                    rounds,
+                };
+                many.print_speeds(&rt, rt.alloc())?;
+            }
         }
     }
     Ok(())

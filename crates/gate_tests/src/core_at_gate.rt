@@ -14,7 +14,7 @@ use ticket_gate::{Gate, Pass};
 const SWEEPS: u64 = 200;
 
 // A core with one host.
-fn core(alloc: Global) -> Result<Core, Fail>
+pub(crate) fn core(alloc: Global) -> Result<Core, Fail>
     ensures { IfOk result (λ core. core.steps ≡ []) }
 {
     let ring = Ring::of_points(alloc, 1, &[(1000, 0)])?;
@@ -72,8 +72,10 @@ fn two_passes_sweep(rt: HostRuntime) -> Result<(), Fail> {
         { sweep(&rt, shared, other) },
     );
     assert!(rt; by_one == SWEEPS && by_other == SWEEPS);
-    let (one, other) = gate.meet(one, other);
+    let (mut one, other) = gate.meet(one, other);
     assert!(rt; one.number() == 0 && other.number() == 1);
+    let look = gate.sight(&rt, &mut one);
+    assert!(rt; look.is_ok_and(|handover| handover.steps() == 400 && handover.bytes() == 0));
     let core = gate.close(one).expect(&rt, "all calls have returned");
     assert!(rt; core.journal().len() == 400);
     assert!(rt; sweeps_in_order(&core, 0) == Some(200));

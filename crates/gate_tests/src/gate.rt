@@ -1,7 +1,7 @@
 //! The gate round a running total.
 ghost use Rattle.std.specs.Prelude.{◌≡◌, ◌≤◌, [], IfOk, IfSome};
 ghost use Rattle.ticket_gate.specs.Gate.{IsPassOf, IsSpareOf};
-ghost use Rattle.ticket_gate.specs.Totals.{AreTotals, totals_at_first, totals_before};
+ghost use Rattle.ticket_gate.specs.Totals.{AreTotals, amount_sum, totals_at_first, totals_before};
 ghost use Rattle.ticket_gate.specs.RunningTotal.{journal_of, limit_of};
 
 use std::alloc::Global;
@@ -51,6 +51,8 @@ impl Recorded for HeldTotal {
 
     type Setting = u64;
 
+    type Sight = u64;
+
     ghost journal = { λ s. journal_of s.total };
 
     ghost setting = { λ s. limit_of s.total };
@@ -58,6 +60,12 @@ impl Recorded for HeldTotal {
     ghost legal = { AreTotals };
 
     ghost cause = { λ limit refusal amount journal. Unit {0} };
+
+    ghost sight_of = { λ limit journal. amount_sum journal };
+
+    fn sight(&self) -> u64 {
+        self.total.sight()
+    }
 
     fn turn(&mut self, pass: u64, event: u64) -> Result<u64, (HeldRefusal, u64)> {
         self.entered.store(true, SeqCst);
@@ -330,6 +338,8 @@ fn tickets_end_before_the_greatest_number(rt: HostRuntime) -> Result<(), Fail> {
     assert!(rt; matches!(at_once, Err(TurnRefusal::Spent { event: 5 })));
     let after_waiting = gate.take_turn(&rt, &mut pass, 6);
     assert!(rt; matches!(after_waiting, Err(TurnRefusal::Spent { event: 6 })));
+    let look = gate.sight(&rt, &mut pass);
+    assert!(rt; matches!(look, Err(TurnRefusal::Spent { event: () })));
     let state = gate.close(pass).expect(&rt, "all calls have returned");
     assert!(rt; state.total() == 4);
     Ok(())
@@ -391,6 +401,7 @@ fn a_refused_turn_leaves_the_journal(rt: HostRuntime) -> Result<(), Fail> {
     let refused = gate.try_turn(&mut one, 8);
     assert!(rt; matches!(refused, Err(TurnRefusal::State { event: 8, .. })));
     assert!(rt; matches!(gate.try_turn(&mut other, 6), Ok(10)));
+    assert!(rt; matches!(gate.sight(&rt, &mut one), Ok(10)));
     let state = gate.close(one).expect(&rt, "all calls have returned");
     let additions = state.additions();
     assert!(rt; additions.len() == 2 && state.total() == 10);

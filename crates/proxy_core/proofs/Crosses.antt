@@ -76,10 +76,10 @@ machine_send = search (ring_send, ejector_send, journal_send, connection_send, p
 pub core_send : IsSend Core.the_row
 core_send = search (machine_send, crosses, sendable) depth 20
 
-module _ (S E A R C : RattleType) (g : Ghosts S.Denot E.Denot A.Denot R.Denot C.Denot) where
+module _ (S E A R C T : RattleType) (g : Ghosts S.Denot E.Denot A.Denot R.Denot C.Denot T.Denot) where
   slot_send : IsSend S → IsSend (Option.the_row S)
   slot_send s = search (crosses, sendable) depth 20
 
   -- a gate may be shared where its state may go to another thread
-  pub gate_sync : IsSend S → IsSync (Gate.the_row S E A R C g)
+  pub gate_sync : IsSend S → IsSync (Gate.the_row S E A R C T g)
   gate_sync s = let slot : IsSend (Option.the_row S) = slot_send s in search (shared.the_sync, lease.the_sync, crosses, sendable) depth 20

@@ -1,16 +1,18 @@
 -- The core's journal as a pass sees it, and its history.
 use Rattle.std.proofs.Common.{◌≡◌, List, [], ◌∷◌, ◌++◌, map, sym, ap, ◌∙◌, subst}
-use Rattle.std.specs.Prelude.{reverse}
-use Rattle.std.proofs.lemmas.List.{map-append, reverse-append, reverse-reverse}
+use Rattle.std.specs.Prelude.{length, reverse}
+use Rattle.std.proofs.lemmas.List.{length-map, map-append, reverse-append, reverse-reverse}
 use Rattle.proxy_history.specs.Setting.{Setting}
 use Rattle.proxy_history.specs.History.{History, Step}
 use Rattle.proxy_history.specs.Legal.{IsLegal, IsCause}
+use Rattle.proxy_history.specs.Payload.{payload}
 use Rattle.proxy_history.specs.Proxy.{Kept, history_in}
 use Rattle.proxy_history.specs.Seen.{seen_step, history_of_seen}
 use Rattle.proxy_history.specs.declared.event.Event.{Event}
 use Rattle.proxy_history.specs.declared.refusal.Refusal.{Refusal}
 use Rattle.proxy_history.proofs.CallerLemmas.{OrdersAgree-seen}
-use Rattle.proxy_core.specs.Recorded.{journal_of, made_with, IsLegalJournal, IsCauseIn}
+use Rattle.proxy_core.specs.Handover.{Handed}
+use Rattle.proxy_core.specs.Recorded.{journal_of, made_with, IsLegalJournal, IsCauseIn, detection_after, handed_over}
 
 same_history : (k : Kept) → history_of_seen (journal_of k) ≡ history_in k
 same_history k =
@@ -30,3 +32,14 @@ journal_legal old new e legal =
 
 pub journal_cause : (k : Kept) (r : Refusal) (event : Event) → IsCause k.setting (history_in k) event r → IsCauseIn (made_with k) r event (journal_of k)
 journal_cause k r event cause = subst (λ (H : History). IsCause k.setting H event r) (sym (same_history k)) cause
+
+-- a handover of the core's history is that of its journal
+pub handed_over-journal_of : (k : Kept) (h : Handed) → h.detection ≡ detection_after k.setting (history_in k) → h.steps ≡ length k.steps
+    → h.bytes ≡ payload (history_in k) → h ≡ handed_over (made_with k) (journal_of k)
+handed_over-journal_of k h detection steps bytes =
+    (λ i. record { detection = detection i; steps = steps i; bytes = bytes i })
+    ∙ (λ i. record {
+      detection = detection_after k.setting (sym (same_history k) i);
+      steps = sym (length-map k.steps seen_step) i;
+      bytes = payload (sym (same_history k) i);
+    })

@@ -1,14 +1,19 @@
 -- The core as a state that keeps a journal: its steps as a pass sees them, the oldest first.
-use Rattle.std.specs.Prelude.{List, [], ◌++◌, map}
+use Rattle.std.specs.Prelude.{List, [], ◌++◌, length, map}
 use Rattle.ketama.specs.Continuum.{Continuum}
+use Rattle.ejector.specs.Ejection.{state}
 use Rattle.ejector.specs.Ejector.{Ejection}
 use Rattle.proxy_history.specs.Setting.{Setting}
+use Rattle.proxy_history.specs.History.{History}
+use Rattle.proxy_history.specs.Past.{past}
+use Rattle.proxy_history.specs.Payload.{payload}
 use Rattle.proxy_history.specs.Legal.{IsLegal, IsCause}
 use Rattle.proxy_history.specs.Proxy.{Kept, setting_from}
 use Rattle.proxy_history.specs.Seen.{SeenStep, seen_step, history_of_seen}
 use Rattle.proxy_history.specs.declared.event.Event.{Event}
 use Rattle.proxy_history.specs.declared.refusal.Refusal.{Refusal}
 use Rattle.proxy_history.proofs.CallerLemmas as history
+use Rattle.proxy_core.specs.Handover.{Handed}
 
 -- a core's journal, as the gate and its passes see it
 abbrev pub journal_of : Kept → List SeenStep
@@ -33,6 +38,18 @@ IsLegalJournal made journal = IsLegal (setting_by made) (history_of_seen journal
 -- a refusal of an event is due over a journal where it has its cause in the history
 abbrev pub IsCauseIn : Made → Refusal → Event → List SeenStep → Type 0
 IsCauseIn made r event journal = IsCause (setting_by made) (history_of_seen journal) event r
+
+-- where outlier detection stands after a history, by the rules and from the state that it found
+abbrev pub detection_after : Setting → History → Ejection
+detection_after S history = record { rules = S.rules; state = state S.rules S.opening (past S history).marks }
+
+-- what a core with this journal hands over
+abbrev pub handed_over : Made → List SeenStep → Handed
+handed_over made journal = record {
+  detection = detection_after (setting_by made) (history_of_seen journal);
+  steps = length journal;
+  bytes = payload (history_of_seen journal);
+}
 
 -- the empty journal is legal
 pub legal_at_first : (made : Made) → IsLegalJournal made []

@@ -272,7 +272,7 @@ impl Machine {
 }
 
 impl Recorded for Core {
-    ghost use Rattle.proxy_core.specs.Recorded.{journal_of, made_with, IsLegalJournal, IsCauseIn, legal_at_first, legal_before};
+    ghost use Rattle.proxy_core.specs.Recorded.{journal_of, made_with, IsLegalJournal, IsCauseIn, handed_over, legal_at_first, legal_before};
 
     type Event = Event;
 
@@ -283,6 +283,8 @@ impl Recorded for Core {
     // The ring, and the rules of outlier detection with the state that it found.
     type Setting = (Ring, EjectState);
 
+    type Sight = Handover;
+
     ghost journal = { journal_of };
 
     ghost setting = { made_with };
@@ -290,6 +292,12 @@ impl Recorded for Core {
     ghost legal = { IsLegalJournal };
 
     ghost cause = { IsCauseIn };
+
+    ghost sight_of = { handed_over };
+
+    fn sight(&self) -> Handover {
+        self.hand_over()
+    }
 
     fn turn(&mut self, pass: u64, event: Event) -> Result<Answer, (Refusal, Event)> {
         match Core::turn(self, pass, event) {

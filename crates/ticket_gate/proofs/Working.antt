@@ -8,7 +8,8 @@ use Rattle.ticket_gate.specs.declared.view.Knowledge.{Knowledge}
 use Rattle.ticket_gate.specs.declared.view.View.{View}
 use Rattle.ticket_gate.specs.Rule.{view_of}
 use Rattle.ticket_gate.specs.Steps.{Sitting, with_own, gone_outside}
-use Rattle.ticket_gate.specs.Visit.{HasMadeTurn}
+use Rattle.ticket_gate.specs.Gate.{IsAtRest}
+use Rattle.ticket_gate.specs.Visit.{KeepsSeen, HasMadeTurn}
 use Rattle.ticket_gate.proofs.Journals.{append-nil}
 use Rattle.ticket_gate.proofs.Leaving.{AtMostOneOf}
 
@@ -71,3 +72,16 @@ module _ {S E A C R : Type 0} (journal : S → List (ℕ × E × A)) (setting : 
         has_setting = ap (λ (u : Knowledge E A C). u.setting) own;
         done = outcome_seen outcome k seat.me.0.own.seen was (ap (λ (u : Knowledge E A C). u.seen) own) grown keeps refused known;
       }
+
+module _ {S E A C : Type 0} (journal : S → List (ℕ × E × A)) where
+  -- a place that was inside and put the state back as it was is at rest, and has seen what it saw inside
+  pub has_looked : (k : Knowledge E A C) (t : ℕ) (x : S) (me : Sitting S E A C) (seat : Seat (Option S) (View E A C)) → me ≡ (view_of k, (0, Some x) ∷ [])
+      → ((z : S) (after : List (ℕ × Option S)) → me.1 ≡ (0, Some z) ∷ after → seat.me ≡ (with_own me.0 (gone_outside me.0.own (t + 1) (journal z)), after))
+      → k.seen ≡ journal x → IsAtRest seat × KeepsSeen k seat.me.0.own
+  has_looked k t x me seat is told was =
+      let l : Knowledge E A C = gone_outside k (t + 1) (journal x) in
+      let now : seat.me ≡ (view_of l, []) = told x [] (ap (λ (z : Sitting S E A C). z.1) is) ∙ (λ i. (with_own (is i).0 (gone_outside (is i).0.own (t + 1) (journal x)), [])) in
+      let own : seat.me.0.own ≡ l = ap (λ (z : Sitting S E A C). z.0.own) now in (
+        record { alone = now ∙ ap (λ (u : Knowledge E A C). (view_of u, [])) (sym own); no_ticket = ap (λ (u : Knowledge E A C). u.ticket) own; outside = ap (λ (u : Knowledge E A C). u.inside) own },
+        record { number = ap (λ (u : Knowledge E A C). u.number) own; seen = ap (λ (u : Knowledge E A C). u.seen) own ∙ sym was; setting = ap (λ (u : Knowledge E A C). u.setting) own },
+      )

@@ -4,6 +4,7 @@ pub mod PlainRule
 pub mod Steps
 pub mod Gate
 pub mod Refusal
+pub mod Entry
 pub mod Visit
 pub mod Turns
 pub mod Totals

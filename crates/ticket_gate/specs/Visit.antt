@@ -1,5 +1,6 @@
--- A place on its way through the gate: with a ticket, inside, and outside again.
+-- A place on its way through the gate: at rest, with a ticket, inside, and outside again.
 use Rattle.std.specs.Prelude.{◌≡◌, ℕ, List, [], ◌∷◌, ◌++◌, false, true, Option, Some, Result, MatchResult}
+use Rattle.atomic_table.specs.Seated.{TableId}
 use Rattle.atomic_table.specs.declared.shared.Seat.{Seat}
 use Rattle.ticket_gate.specs.declared.view.Knowledge.{Knowledge}
 use Rattle.ticket_gate.specs.declared.view.View.{View}
@@ -14,6 +15,10 @@ pub record KeepsSeen {E A C : Type 0} (before after : Knowledge E A C) : Type 0 
   pub setting : after.setting ≡ before.setting
 
 module _ {S E A C : Type 0} where
+  -- a place at this gate, at rest and with a number
+  abbrev pub MayEnter : TableId → Seat (Option S) (View E A C) → Type 0
+  MayEnter id seat = (seat.table_id ≡ id) × IsAtRest seat × ((n : ℕ) × (seat.me.0.own.number ≡ Some n))
+
   -- a place that waits with the ticket t
   pub record HoldsTicket (before : Knowledge E A C) (t : ℕ) (seat : Seat (Option S) (View E A C)) : Type 0 where
     pub alone : seat.me ≡ (view_of seat.me.0.own, [])

@@ -1,7 +1,8 @@
 //! A ticket lock round a state that keeps a journal of its turns: one legal journal for all threads.
 //!
-//! A thread's [`Pass`] draws a ticket, waits until it is served, makes one turn of the state and
-//! serves the next ticket. The contracts say more than those of a mutex can: each answered turn
+//! A thread's [`Pass`] enters at once where nobody holds or awaits the gate, or else draws a ticket
+//! and waits until it is served; it makes one turn of the state and serves the next ticket. The
+//! contracts say more than those of a mutex can: each answered turn
 //! added one step of its pass to one legal journal, after all that this pass had seen.
 //! Nothing is promised of the order of arrival, of fairness or of progress.
 #![tactic(auto)]
@@ -9,6 +10,7 @@
 mod alone;
 mod close;
 mod enrol;
+mod entry;
 mod gate;
 mod laws;
 mod meet;
@@ -16,12 +18,14 @@ mod recorded;
 mod refusal;
 mod running_total;
 mod seated;
+mod sight;
 mod steps;
 mod turn;
 mod turns;
 mod view;
 
 pub use alone::Alone;
+pub use entry::MOST_TRIES;
 pub use gate::{Gate, Pass, Spare};
 pub use laws::rule_in_plain_sentences;
 pub use recorded::Recorded;

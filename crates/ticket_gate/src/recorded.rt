@@ -6,7 +6,7 @@ ghost use Rattle.std.specs.Prelude.{◌≡◌, ℕ, List, [], ◌∷◌, ◌++�
 ///
 /// An answered turn adds exactly its own step, and what the setting allows stays so. A refused
 /// turn leaves the journal as it was, hands the event back, and its cause holds. No turn changes
-/// the setting.
+/// the setting. What a look at the state tells is a function of its setting and its journal.
 pub trait Recorded {
     /// What a turn is made of.
     type Event;
@@ -20,6 +20,9 @@ pub trait Recorded {
     /// What the state was made with, which no turn changes.
     type Setting;
 
+    /// What a look at the state tells.
+    type Sight;
+
     /// The steps so far, the oldest first.
     ghost journal: { Self → List (ℕ × Self.Event × Self.Answer) };
 
@@ -31,6 +34,13 @@ pub trait Recorded {
 
     /// When a refusal of an event is due, over the journal so far.
     ghost cause: { Self.Setting → Self.Refusal → Self.Event → List (ℕ × Self.Event × Self.Answer) → Type 0 };
+
+    /// What a look at a state with this setting and this journal tells.
+    ghost sight_of: { Self.Setting → List (ℕ × Self.Event × Self.Answer) → Self.Sight };
+
+    /// A look at the state. It takes no memory.
+    fn sight(&self) -> Self::Sight
+        ensures { result ≡ sight_of (setting self.now) (journal self.now) };
 
     /// One turn of the pass with this number.
     fn turn(

@@ -77,6 +77,9 @@ impl Recorded for RunningTotal {
 
     type Setting = u64;
 
+    /// The total.
+    type Sight = u64;
+
     ghost journal = { journal_of };
 
     ghost setting = { limit_of };
@@ -84,6 +87,12 @@ impl Recorded for RunningTotal {
     ghost legal = { AreTotals };
 
     ghost cause = { IsDue };
+
+    ghost sight_of = { λ limit journal. amount_sum journal };
+
+    fn sight(&self) -> u64 {
+        self.total()
+    }
 
     fn turn(&mut self, pass: u64, event: u64) -> Result<u64, (AdditionRefusal, u64)> {
         if event > self.limit - self.total {

@@ -1,57 +1,18 @@
-//! Turns at a gate: in, one turn of the state, and out.
-ghost use Rattle.std.specs.Prelude.{◌≡◌, ◌+◌, ◌-◌, ◌^◌, ◌<◌, ℕ, Some, IfOk, IfErr, MatchOption};
-ghost use Rattle.ticket_gate.specs.Gate.{IsAtRest, IsPassOf, IsSamePass};
-ghost use Rattle.ticket_gate.specs.Visit.{KeepsSeen, HoldsTicket, IsInside, HasMadeTurn};
+//! Turns at a gate: one turn of the state between the way in and the way out.
+ghost use Rattle.std.specs.Prelude.{◌≡◌, ◌+◌, ◌^◌, ◌<◌, Some, IfOk, IfErr};
+ghost use Rattle.ticket_gate.specs.Gate.{IsPassOf, IsSamePass};
+ghost use Rattle.ticket_gate.specs.Visit.{IsInside, HasMadeTurn};
 ghost use Rattle.ticket_gate.specs.Journal.{AddsTurn};
 ghost use Rattle.ticket_gate.specs.Refusal.{RefusesAtOnce, RefusesAfterWaiting};
 
-use crate::gate::{DRAWN, Gate, Pass, Place, SERVING, STATE};
+use crate::entry::EntryRefusal;
+use crate::gate::{Gate, Pass, Place, SERVING, STATE};
 use crate::recorded::Recorded;
 use crate::refusal::TurnRefusal;
-use crate::steps::{DrawTicket, EnterAtOnce, LookAtServing, ReadDrawn, ServeNext};
-use crossbeam_utils::Backoff;
+use crate::steps::ServeNext;
 use std::sync::Wait;
 
 impl<S: Recorded> Gate<S> {
-    // Draws a ticket. None where all are drawn.
-    fn draw<R: Wait>(&self, rt: &R, seat: &mut Place<S>) -> Option<u64>
-        requires { (seat.old.table_id ≡ self.now.id) × IsAtRest seat.old
-            × ((n : ℕ) × (seat.old.me.0.own.number ≡ Some n)) }
-        ensures gate { seat.new.table_id ≡ seat.old.table_id }
-        ensures ticket { MatchOption result
-            (IsAtRest seat.new × KeepsSeen seat.old.me.0.own seat.new.me.0.own
-            × (seat.new.me.0.own.last_drawn ≡ 2 ^ 64 - 1))
-            (λ t. (t < 2 ^ 64 - 1) × HoldsTicket seat.old.me.0.own t seat.new) }
-    {
-        let shared = &self.table.shared;
-        for _ in rt.forever() {
-            let ticket = shared.load::<ReadDrawn>(seat, DRAWN);
-            if ticket == u64::MAX {
-                return None;
-            }
-            if shared.compare_exchange::<DrawTicket>(seat, DRAWN, ticket, ticket + 1) == ticket {
-                return Some(ticket);
-            }
-        }
-        unreachable!()
-    }
-
-    // Waits until the ticket is served.
-    fn wait<R: Wait>(&self, rt: &R, seat: &mut Place<S>, ticket: u64)
-        requires { (seat.old.table_id ≡ self.now.id) × HoldsTicket seat.old.me.0.own ticket seat.old }
-        ensures gate { seat.new.table_id ≡ seat.old.table_id }
-        ensures inside { IsInside S.journal S.setting S.legal seat.old.me.0.own ticket seat.new }
-    {
-        let backoff = Backoff::new();
-        for _ in rt.forever() {
-            if self.table.shared.load::<LookAtServing>(seat, SERVING) == ticket {
-                return;
-            }
-            backoff.snooze();
-        }
-        unreachable!()
-    }
-
     // Makes the turn, and serves the next ticket.
     fn work(
         &self,
@@ -79,7 +40,9 @@ impl<S: Recorded> Gate<S> {
         outcome
     }
 
-    /// Draws a ticket, waits until it is served, and makes one turn.
+    /// Makes one turn: it tries to enter at once, as `try_turn` does, up to
+    /// [`MOST_TRIES`](crate::MOST_TRIES) times, and else draws a ticket and waits until it is
+    /// served.
     ///
     /// Answered: what the pass sees now is legal, begins with what it saw before, and ends with
     /// its step. Refused `Spent` (1202), where all tickets were drawn: the pass has seen nothing
@@ -98,10 +61,9 @@ impl<S: Recorded> Gate<S> {
         ensures refused { IfErr result (RefusesAfterWaiting (S.cause self.now.setting)
             pass.old.number pass.old.known event pass.new.known) }
     {
-        let Some(ticket) = self.draw(rt, &mut pass.seat) else {
+        let Some(ticket) = self.enter(rt, &mut pass.seat) else {
             return Err(TurnRefusal::Spent { event });
         };
-        self.wait(rt, &mut pass.seat, ticket);
         let number = pass.number;
         match self.work(&mut pass.seat, number, ticket, event) {
             Ok(answer) => Ok(answer),
@@ -125,26 +87,19 @@ impl<S: Recorded> Gate<S> {
         ensures refused { IfErr result (RefusesAtOnce (S.cause self.now.setting)
             pass.old.number pass.old.known event pass.new.known) }
     {
-        let shared = &self.table.shared;
-        let served = shared.load::<LookAtServing>(&mut pass.seat, SERVING);
-        if served == u64::MAX {
-            return Err(TurnRefusal::Spent { event });
-        }
-        let drawn = shared.compare_exchange::<EnterAtOnce>(
-            &mut pass.seat,
-            DRAWN,
-            served,
-            served + 1,
-        );
-        if drawn != served {
-            return Err(TurnRefusal::Busy {
-                served,
-                drawn,
-                event,
-            });
-        }
+        let ticket = match self.enter_at_once(&mut pass.seat) {
+            Ok(ticket) => ticket,
+            Err(EntryRefusal::Busy { served, drawn }) => {
+                return Err(TurnRefusal::Busy {
+                    served,
+                    drawn,
+                    event,
+                });
+            }
+            Err(EntryRefusal::Spent) => return Err(TurnRefusal::Spent { event }),
+        };
         let number = pass.number;
-        match self.work(&mut pass.seat, number, served, event) {
+        match self.work(&mut pass.seat, number, ticket, event) {
             Ok(answer) => Ok(answer),
             Err((cause, event)) => Err(TurnRefusal::State { cause, event }),
         }

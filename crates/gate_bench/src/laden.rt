@@ -1,0 +1,82 @@
+//! A running total whose turns take longer.
+ghost use Rattle.std.specs.Prelude.{◌≡◌, []};
+
+use std::alloc::Global;
+use ticket_gate::{AdditionRefusal, Recorded, RunningTotal};
+
+/// A running total that makes so many rounds of work before each addition.
+#[derive(Drop)]
+pub struct Laden {
+    total: RunningTotal,
+    rounds: u32,
+    stirred: u64,
+}
+
+impl Laden {
+    ghost use Rattle.ticket_gate.specs.RunningTotal.{journal_of};
+
+    /// A total of 0 without a limit, whose turns make so many rounds of work.
+    pub fn new(alloc: Global, rounds: u32) -> Laden
+        ensures { journal_of result.total ≡ [] }
+    {
+        Laden {
+            total: RunningTotal::new(alloc, u64::MAX),
+            rounds,
+            stirred: 1,
+        }
+    }
+
+    /// How many turns were answered.
+    pub fn turns(&self) -> usize {
+        self.total.additions().len()
+    }
+}
+
+/// Each round waits for the one before it: six shifts and sums, some 2.5 ns.
+fn stirred(seed: u64, rounds: u32) -> u64 {
+    let mut stirred = seed;
+    for _ in 0..rounds {
+        stirred ^= stirred << 13;
+        stirred ^= stirred >> 7;
+        stirred ^= stirred << 17;
+    }
+    stirred
+}
+
+impl Recorded for Laden {
+    ghost use Rattle.ticket_gate.specs.RunningTotal.{journal_of, limit_of, IsDue};
+    ghost use Rattle.ticket_gate.specs.Totals.{AreTotals, amount_sum, totals_at_first, totals_before};
+
+    type Event = u64;
+
+    type Answer = u64;
+
+    type Refusal = AdditionRefusal;
+
+    type Setting = u64;
+
+    type Sight = u64;
+
+    ghost journal = { λ s. journal_of s.total };
+
+    ghost setting = { λ s. limit_of s.total };
+
+    ghost legal = { AreTotals };
+
+    ghost cause = { IsDue };
+
+    ghost sight_of = { λ limit journal. amount_sum journal };
+
+    fn sight(&self) -> u64 {
+        self.total.sight()
+    }
+
+    fn turn(&mut self, pass: u64, event: u64) -> Result<u64, (AdditionRefusal, u64)> {
+        self.stirred = stirred(self.stirred, self.rounds);
+        self.total.turn(pass, event)
+    }
+
+    ghost legal_at_first = { totals_at_first };
+
+    ghost legal_before = { totals_before };
+}

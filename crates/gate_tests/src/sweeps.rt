@@ -1,0 +1,57 @@
+//! Sweeps, one at a time, on a core that one pass has for itself.
+use crate::core_at_gate::core;
+use proxy_core::{Core, Event, Kind};
+use std::sync::Wait;
+use std::test::Fail;
+use sweeper::{Pace, SweepRefusal, Swept, sweep_once};
+use ticket_gate::{Alone, Turns};
+
+// So many links to host 0 fail at the moment 0. False where a turn was refused.
+fn fail_links<R: Wait>(rt: &R, turns: &mut Alone<Core>, times: u64) -> bool {
+    for epoch in 0..times {
+        let failed = Event::Failed {
+            host: 0,
+            epoch,
+            kind: Kind::Refused,
+            t: 0,
+        };
+        if turns.turn(rt, failed).is_err() {
+            return false;
+        }
+    }
+    true
+}
+
+#[test]
+fn a_sweep_returns_the_host_at_its_time(rt: HostRuntime) -> Result<(), Fail> {
+    let mut turns = Alone::new(core(rt.alloc())?, 3);
+    assert!(rt; fail_links(&rt, &mut turns, 5));
+    let none = Swept {
+        returned: 0,
+        ejected: 0,
+        kept: 0,
+    };
+    let one = Swept {
+        returned: 1,
+        ..none
+    };
+    assert!(rt; sweep_once(&rt, &mut turns, 29_999) == Ok(none));
+    assert!(rt; sweep_once(&rt, &mut turns, 30_000) == Ok(one));
+    let core = turns.into_state();
+    let journal = core.journal();
+    assert!(rt; journal.len() == 7);
+    let last = journal.get(6).ok_or("a step too few")?;
+    assert!(rt; last.pass == 3 && matches!(last.event, Event::Swept { t: 30_000 }));
+    Ok(())
+}
+
+#[test]
+fn sweeps_keep_their_pace(rt: HostRuntime) -> Result<(), Fail> {
+    let pace = Pace {
+        interval_ms: 10_000,
+    };
+    assert!(rt; pace.due(5, 10_005) && pace.due(5, 10_006));
+    assert!(rt; !pace.due(5, 10_004) && !pace.due(5, 5) && !pace.due(5, 4));
+    assert!(rt; SweepRefusal::JournalFull.number() == 1002);
+    Ok(())
+}

@@ -1,0 +1,89 @@
+//! One sweep, which is one turn of a core.
+ghost use Rattle.std.specs.Prelude.{◌≡◌, IfOk, IfErr};
+ghost use Rattle.ticket_gate.specs.Journal.{AddsTurn};
+ghost use Rattle.proxy_history.specs.Answer.{counts_of};
+ghost use Rattle.proxy_history.specs.declared.event.Event.{Event};
+ghost use Rattle.sweeper.specs.Sweep.{RefusesSweep, number_of};
+
+use ejector::Swept;
+use proxy_core::{Answer, CoreTurns, Event, Refusal};
+use std::sync::Wait;
+use thiserror::Error;
+use ticket_gate::TurnRefusal;
+
+/// Why a sweep was not made.
+#[derive(Clone, Copy, Debug, PartialEq, Eq, Error)]
+pub enum SweepRefusal {
+    /// 1001: memory was refused.
+    #[error("out of memory")]
+    NoMemory,
+    /// 1002: the journal is full.
+    #[error("the journal is full")]
+    JournalFull,
+    /// 1202: the gate has no ticket left.
+    #[error("the gate has no ticket left")]
+    Spent,
+}
+
+impl SweepRefusal {
+    /// 1001, 1002 or 1202.
+    pub fn number(self) -> u16
+        ensures { result ≡ number_of self }
+    {
+        match self {
+            SweepRefusal::NoMemory => 1001,
+            SweepRefusal::JournalFull => 1002,
+            SweepRefusal::Spent => 1202,
+        }
+    }
+}
+
+/// Makes one turn, a sweep at this moment in milliseconds, and no other. It tells how many hosts
+/// the sweep returned, put aside, and let stay though they tripped.
+///
+/// Answered: what the pass sees now is a legal journal, begins with what it saw before and ends
+/// with its step, the sweep at this moment with this answer; of its own steps that is the only new
+/// one. Refused `NoMemory` (1001) or `JournalFull` (1002) where the core refused it: that has its
+/// cause over what the pass sees now, which has no further step of it. Refused `Spent` (1202) where
+/// no ticket is left: the pass has seen nothing new.
+pub fn sweep_once<R: Wait, T: CoreTurns>(
+    rt: &R,
+    turns: &mut T,
+    moment: u64,
+) -> Result<Swept, SweepRefusal>
+    ensures same { (T.home turns.new ≡ T.home turns.old) × (T.pass turns.new ≡ T.pass turns.old)
+        × (T.setting turns.new ≡ T.setting turns.old) }
+    ensures answered { IfOk result (λ swept. AddsTurn (T.legal (T.setting turns.old))
+        (T.pass turns.old) (T.seen turns.old)
+        (Event.Swept moment) (counts_of swept) (T.seen turns.new)) }
+    ensures refused { IfErr result (RefusesSweep (T.cause (T.setting turns.old)) (T.spent turns.new)
+        (T.pass turns.old) (T.seen turns.old) moment (T.seen turns.new)) }
+{
+    match turns.turn(rt, Event::Swept { t: moment }) {
+        Ok(
+            Answer::Swept {
+                returned,
+                ejected,
+                kept,
+            },
+        ) => Ok(Swept {
+            returned,
+            ejected,
+            kept,
+        }),
+        Err(
+            TurnRefusal::State {
+                cause: Refusal::NoMemory,
+                ..
+            },
+        ) => Err(SweepRefusal::NoMemory),
+        Err(
+            TurnRefusal::State {
+                cause: Refusal::JournalFull,
+                ..
+            },
+        ) => Err(SweepRefusal::JournalFull),
+        Err(TurnRefusal::Spent { .. }) => Err(SweepRefusal::Spent),
+        Ok(_) | Err(_) => unreachable!(),
+    }
+}

@@ -1,0 +1,17 @@
+use Rattle.std.proofs.Common.{rules, sym, ap, ◌∙◌, refl}
+use Rattle.ticket_gate.proofs.Seats.{not_none}
+use Rattle.ticket_gate.proofs.Stepping.{alone_after, own_after}
+use Rattle.ticket_gate.proofs.Reading.{looks_without_ticket}
+use Rattle.ticket_gate.proofs.Entering.{enters_at_once}
+use Rattle.ticket_gate.proofs.gate.Gate.enter_at_once.Goals as goal
+
+pub load-served-requires : goal.load-served-requires
+load-served-requires g c = let i = c.requires.1 in (search rules, search rules, looks_without_ticket _ _ _ _ _ _ _ i.alone i.no_ticket)
+
+pub compare_exchange-drawn-requires : goal.compare_exchange-drawn-requires
+compare_exchange-drawn-requires g c =
+    let i = c.requires.1 in
+    let h = c.load-served.ensures.2.1 (λ is. not_none (sym i.no_ticket ∙ is)) in
+    let n = c.requires.2 in
+    let o = own_after c.args.seat.now.me c.load-served.new.seat.me _ h in
+    (search rules, search rules, enters_at_once _ _ _ _ _ _ _ _ n.0 _ (alone_after _ _ _ i.alone h) refl (ap (λ p. p.last_served) o) (ap (λ p. p.number) o ∙ n.1) (ap (λ p. p.inside) o ∙ i.outside))

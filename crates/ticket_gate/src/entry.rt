@@ -1,0 +1,122 @@
+//! The way into a gate: at once, or with a ticket of one's own.
+ghost use Rattle.std.specs.Prelude.{◌≡◌, ◌-◌, ◌^◌, ◌<◌, IfOk, IfErr, MatchOption};
+ghost use Rattle.ticket_gate.specs.Gate.{IsAtRest};
+ghost use Rattle.ticket_gate.specs.Visit.{KeepsSeen, MayEnter, HoldsTicket, IsInside};
+ghost use Rattle.ticket_gate.specs.Entry.{FoundShut};
+
+use crate::gate::{DRAWN, Gate, Place, SERVING};
+use crate::recorded::Recorded;
+use crate::steps::{DrawTicket, EnterAtOnce, LookAtServing, ReadDrawn};
+use crossbeam_utils::Backoff;
+use std::sync::Wait;
+
+/// How often a turn tries to enter at once before it draws a ticket.
+pub const MOST_TRIES: u32 = 16;
+
+/// Why a place didn't enter at once.
+#[derive(Clone, Copy)]
+pub(crate) enum EntryRefusal {
+    /// The ticket that was served, and the number of the next one to be drawn, which is greater.
+    Busy { served: u64, drawn: u64 },
+    /// All tickets were drawn.
+    Spent,
+}
+
+impl<S: Recorded> Gate<S> {
+    // Enters where nobody holds or awaits the gate, and gives the ticket.
+    pub(crate) fn enter_at_once(&self, seat: &mut Place<S>) -> Result<u64, EntryRefusal>
+        requires { MayEnter self.now.id seat.old }
+        ensures gate { seat.new.table_id ≡ seat.old.table_id }
+        ensures inside { IfOk result (λ t. (t < 2 ^ 64 - 1)
+            × IsInside S.journal S.setting S.legal seat.old.me.0.own t seat.new) }
+        ensures refused { IfErr result (λ why. IsAtRest seat.new
+            × KeepsSeen seat.old.me.0.own seat.new.me.0.own
+            × FoundShut seat.old.me.0.own seat.new.me.0.own why) }
+    {
+        let shared = &self.table.shared;
+        let served = shared.load::<LookAtServing>(seat, SERVING);
+        if served == u64::MAX {
+            return Err(EntryRefusal::Spent);
+        }
+        let drawn = shared.compare_exchange::<EnterAtOnce>(seat, DRAWN, served, served + 1);
+        if drawn != served {
+            return Err(EntryRefusal::Busy { served, drawn });
+        }
+        Ok(served)
+    }
+
+    // Tries to enter at once a few times. None where it didn't come in.
+    fn enter_soon(&self, seat: &mut Place<S>) -> Option<u64>
+        requires { MayEnter self.now.id seat.old }
+        ensures gate { seat.new.table_id ≡ seat.old.table_id }
+        ensures entered { MatchOption result
+            (IsAtRest seat.new × KeepsSeen seat.old.me.0.own seat.new.me.0.own)
+            (λ t. (t < 2 ^ 64 - 1)
+            × IsInside S.journal S.setting S.legal seat.old.me.0.own t seat.new) }
+    {
+        let backoff = Backoff::new();
+        for _ in 0..MOST_TRIES {
+            if let Ok(ticket) = self.enter_at_once(seat) {
+                return Some(ticket);
+            }
+            backoff.snooze();
+        }
+        None
+    }
+
+    // Draws a ticket. None where all are drawn.
+    fn draw<R: Wait>(&self, rt: &R, seat: &mut Place<S>) -> Option<u64>
+        requires { MayEnter self.now.id seat.old }
+        ensures gate { seat.new.table_id ≡ seat.old.table_id }
+        ensures ticket { MatchOption result
+            (IsAtRest seat.new × KeepsSeen seat.old.me.0.own seat.new.me.0.own
+            × (seat.new.me.0.own.last_drawn ≡ 2 ^ 64 - 1))
+            (λ t. (t < 2 ^ 64 - 1) × HoldsTicket seat.old.me.0.own t seat.new) }
+    {
+        let shared = &self.table.shared;
+        for _ in rt.forever() {
+            let ticket = shared.load::<ReadDrawn>(seat, DRAWN);
+            if ticket == u64::MAX {
+                return None;
+            }
+            if shared.compare_exchange::<DrawTicket>(seat, DRAWN, ticket, ticket + 1) == ticket {
+                return Some(ticket);
+            }
+        }
+        unreachable!()
+    }
+
+    // Waits until the ticket is served.
+    fn wait<R: Wait>(&self, rt: &R, seat: &mut Place<S>, ticket: u64)
+        requires { (seat.old.table_id ≡ self.now.id) × HoldsTicket seat.old.me.0.own ticket seat.old }
+        ensures gate { seat.new.table_id ≡ seat.old.table_id }
+        ensures inside { IsInside S.journal S.setting S.legal seat.old.me.0.own ticket seat.new }
+    {
+        let backoff = Backoff::new();
+        for _ in rt.forever() {
+            if self.table.shared.load::<LookAtServing>(seat, SERVING) == ticket {
+                return;
+            }
+            backoff.snooze();
+        }
+        unreachable!()
+    }
+
+    // Enters, and gives the ticket. None where all tickets are drawn.
+    pub(crate) fn enter<R: Wait>(&self, rt: &R, seat: &mut Place<S>) -> Option<u64>
+        requires { MayEnter self.now.id seat.old }
+        ensures gate { seat.new.table_id ≡ seat.old.table_id }
+        ensures entered { MatchOption result
+            (IsAtRest seat.new × KeepsSeen seat.old.me.0.own seat.new.me.0.own
+            × (seat.new.me.0.own.last_drawn ≡ 2 ^ 64 - 1))
+            (λ t. (t < 2 ^ 64 - 1)
+            × IsInside S.journal S.setting S.legal seat.old.me.0.own t seat.new) }
+    {
+        if let Some(ticket) = self.enter_soon(seat) {
+            return Some(ticket);
+        }
+        let ticket = self.draw(rt, seat)?;
+        self.wait(rt, seat, ticket);
+        Some(ticket)
+    }
+}

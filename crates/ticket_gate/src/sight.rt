@@ -1,0 +1,64 @@
+//! Looks at the state inside a gate.
+ghost use Rattle.std.specs.Prelude.{◌≡◌, ◌+◌, ◌-◌, ◌^◌, ◌<◌, ℕ, Some, IfOk, IfErr, OnOk};
+ghost use Rattle.ticket_gate.specs.Gate.{IsAtRest, IsPassOf, IsSamePass};
+ghost use Rattle.ticket_gate.specs.Visit.{IsInside, KeepsSeen};
+ghost use Rattle.ticket_gate.specs.Journal.{GrowsByOthers};
+ghost use Rattle.ticket_gate.specs.declared.refusal.TurnRefusal.TheVariants.{Spent};
+
+use crate::gate::{Gate, Pass, Place, SERVING, STATE};
+use crate::recorded::Recorded;
+use crate::refusal::TurnRefusal;
+use crate::steps::ServeNext;
+use std::sync::Wait;
+
+impl<S: Recorded> Gate<S> {
+    // Looks at the state, and serves the next ticket.
+    fn look(&self, seat: &mut Place<S>, ticket: u64) -> S::Sight
+        requires gate { seat.old.table_id ≡ self.now.id }
+        requires inside { IsInside S.journal S.setting S.legal seat.old.me.0.own ticket seat.old }
+        requires ticket { ticket + 1 < 2 ^ 64 }
+        requires setting { seat.old.me.0.own.setting ≡ Some self.now.setting }
+        requires number { (n : ℕ) × (seat.old.me.0.own.number ≡ Some n) }
+        ensures gate { seat.new.table_id ≡ seat.old.table_id }
+        ensures seen { IsAtRest seat.new × KeepsSeen seat.old.me.0.own seat.new.me.0.own }
+        ensures sight { result ≡ S.sight_of self.now.setting seat.old.me.0.own.seen }
+    {
+        let shared = &self.table.shared;
+        let state = shared.exchange(seat, STATE, None).unwrap();
+        let sight = state.sight();
+        match shared.exchange(seat, STATE, Some(state)) {
+            None => {}
+            Some(_) => unreachable!(),
+        }
+        shared.store::<ServeNext>(seat, SERVING, ticket + 1);
+        sight
+    }
+
+    /// Looks at the state, and adds no step to its journal. It enters and leaves as `take_turn`
+    /// does.
+    ///
+    /// Answered: the sight is that of the journal which the pass sees now, which is legal, begins
+    /// with what it saw before, and has no further step of it. Refused `Spent` (1202) alone, where
+    /// all tickets were drawn: the pass has seen nothing new.
+    pub fn sight<R: Wait>(
+        &self,
+        rt: &R,
+        pass: &mut Pass<S>,
+    ) -> Result<S::Sight, TurnRefusal<S::Refusal, ()>>
+        requires { IsPassOf self.now pass.old }
+        ensures same { IsSamePass pass.old pass.new }
+        ensures sight { IfOk result (λ sight.
+            sight ≡ S.sight_of self.now.setting pass.new.known.seen) }
+        ensures legal { OnOk result (S.legal self.now.setting pass.new.known.seen) }
+        ensures seen { OnOk result (GrowsByOthers pass.old.number
+            pass.old.known.seen pass.new.known.seen) }
+        ensures refused { IfErr result (λ why. (why ≡ Spent tt)
+            × (pass.new.known.seen ≡ pass.old.known.seen)
+            × (pass.new.known.last_drawn ≡ 2 ^ 64 - 1)) }
+    {
+        let Some(ticket) = self.enter(rt, &mut pass.seat) else {
+            return Err(TurnRefusal::Spent { event: () });
+        };
+        Ok(self.look(&mut pass.seat, ticket))
+    }
+}
