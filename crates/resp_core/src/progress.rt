@@ -127,9 +127,15 @@ impl Progress {
             → Reads most (held ++ piece.now) self.new) }
         ensures same { OnErr result (shown self.new ≡ shown self.old) }
     {
-        self.pending.extend_from_slice(piece)?;
+        self.pending.extend_from_slice(piece)
+    }
+
+    // Takes note of the room for bytes, before any are taken.
+    fn note_room(&mut self)
+        ensures good { (most : ℕ) → IsGood most self.old → IsGood most self.new }
+        ensures same { shown self.new ≡ shown self.old }
+    {
         self.room = self.room.max(self.pending.capacity());
-        Ok(())
     }
 
     // Gives back a large buffer if no byte is pending.
@@ -189,6 +195,7 @@ impl Progress {
             × IsShort most self.old)) }
         ensures halts { IfErr result (λ e. LeadsTo most self.old self.new × HaltsIn most self.old e) }
     {
+        self.note_room();
         loop {
             match self.put_done() {
                 Ok(Some(value)) => return Ok(Some(value)),
