@@ -127,7 +127,11 @@ impl Progress {
             → Reads most (held ++ piece.now) self.new) }
         ensures same { OnErr result (shown self.new ≡ shown self.old) }
     {
-        self.pending.extend_from_slice(piece)
+        match piece {
+            // A byte alone is stored, without a call that copies any length.
+            [byte] => self.pending.extend_from_slice(&[*byte]),
+            _ => self.pending.extend_from_slice(piece),
+        }
     }
 
     // Takes note of the room for bytes, before any are taken.
