@@ -10,6 +10,7 @@ mod error;
 mod laws;
 mod map;
 mod number;
+mod script;
 mod stub;
 mod words;
 
@@ -18,4 +19,5 @@ pub use laws::{
     a_number_has_one_spelling, a_removed_key_has_no_value, a_set_key_has_its_value,
     keys_stay_distinct,
 };
-pub use stub::Stub;
+pub use script::Act;
+pub use stub::{Response, Stub};
