@@ -8,10 +8,14 @@
 mod command;
 mod error;
 mod laws;
+mod line;
+mod link;
 mod map;
 mod number;
+mod reply;
 mod script;
 mod stub;
+mod unread;
 mod words;
 
 pub use error::StubError;
@@ -19,5 +23,8 @@ pub use laws::{
     a_number_has_one_spelling, a_removed_key_has_no_value, a_set_key_has_its_value,
     keys_stay_distinct,
 };
+pub use line::MAX_TAKEN;
+pub use link::{StubLink, StubReader, StubWriter};
 pub use script::Act;
 pub use stub::{Response, Stub};
+pub use unread::MAX_UNREAD;
