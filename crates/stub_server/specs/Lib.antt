@@ -6,4 +6,4 @@ pub mod Table
 pub mod Refusal
 pub mod Laws
 pub mod Script
-pub mod Line
+pub mod Session

@@ -4,7 +4,7 @@ ghost use Rattle.std.specs.Io.{ReadsAtMost, WritesAtMost};
 ghost use Rattle.std.specs.IoError.{error_kind};
 
 use crate::error::StubError;
-use crate::line::Line;
+use crate::session::Session;
 use crate::stub::Stub;
 use std::alloc::Global;
 use std::io;
@@ -24,7 +24,7 @@ pub struct StubLink {
 /// once the link has ended and all replies before that were read. No other error is answered.
 #[derive(Drop)]
 pub struct StubReader {
-    line: Arc<Mutex<Line>>,
+    session: Arc<Mutex<Session>>,
 }
 
 /// The end to which requests are written, in the texts that a client may send.
@@ -35,7 +35,7 @@ pub struct StubReader {
 /// ended, by `Act::Drop` or at a byte that fits no text, it answers `BrokenPipe`. No other error is answered.
 #[derive(Drop)]
 pub struct StubWriter {
-    line: Arc<Mutex<Line>>,
+    session: Arc<Mutex<Session>>,
 }
 
 impl StubLink {
@@ -55,18 +55,18 @@ impl StubLink {
     pub fn ends(self, alloc: Global) -> Result<(StubReader, StubWriter), (StubError, StubLink)>
         ensures err { IfErr result (λ e. (e.0 ≡ StubError.NoMemory) × (e.1 ≡ self)) }
     {
-        let Ok(line) = Arc::new(alloc, Mutex::new(Line::new(self.alloc))) else {
+        let Ok(session) = Arc::new(alloc, Mutex::new(Session::new(self.alloc))) else {
             return Err((StubError::NoMemory, self));
         };
-        let Ok(other) = Arc::try_clone(&line) else {
+        let Ok(other) = Arc::try_clone(&session) else {
             return Err((StubError::NoMemory, self));
         };
         // Nobody else can have the lock yet.
-        match line.try_lock() {
+        match session.try_lock() {
             Some(mut shared) => shared.stub = self.stub,
             None => return Err((StubError::NoMemory, self)),
         }
-        Ok((StubReader { line }, StubWriter { line: other }))
+        Ok((StubReader { session }, StubWriter { session: other }))
     }
 }
 
@@ -75,8 +75,8 @@ impl Read for StubReader {
         ensures bound { ReadsAtMost result buffer.new }
         ensures kinds { IfErr result (λ e. error_kind e ≡ ErrorKind.WouldBlock) }
     {
-        match self.line.try_lock() {
-            Some(mut line) => Ok(line.read(buffer)?),
+        match self.session.try_lock() {
+            Some(mut session) => Ok(session.read(buffer)?),
             None => Err(io::Error::from(ErrorKind::WouldBlock)),
         }
     }
@@ -87,8 +87,8 @@ impl Write for StubWriter {
         ensures bound { WritesAtMost result bytes.now }
         ensures kinds { IfErr result (λ e. (error_kind e ≡ ErrorKind.WouldBlock) ⊎ (error_kind e ≡ ErrorKind.BrokenPipe)) }
     {
-        match self.line.try_lock() {
-            Some(mut line) => Ok(line.write(bytes)?),
+        match self.session.try_lock() {
+            Some(mut session) => Ok(session.write(bytes)?),
             None => Err(io::Error::from(ErrorKind::WouldBlock)),
         }
     }

@@ -12,7 +12,7 @@ pub enum Act {
     Reply,
     /// It leaves this request and all later ones unanswered.
     Hold,
-    /// It ends the link.
+    /// It ends the link: no later request is served, and what was said before can still be read.
     Drop,
     /// It writes `?\r\n`, which is no reply.
     Garble,

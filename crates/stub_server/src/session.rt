@@ -1,6 +1,6 @@
 //! What the two ends of a link share: the stub, and what stands between it and them.
 ghost use Rattle.std.specs.Prelude.{◌≡◌, ◌≤◌, ◌<◌, ◌⊎◌, IfOk, IfErr, OnOk, IsTrue, length, true, false};
-ghost use Rattle.stub_server.specs.Line.{left_of, steps_of};
+ghost use Rattle.stub_server.specs.Session.{left_of, steps_of};
 
 use crate::error::StubError;
 use crate::reply::Reply;
@@ -27,9 +27,9 @@ pub(crate) enum Next {
     Garble,
 }
 
-// A stub, the requests that were written to it, and the replies that were not read yet.
+// A stub, the requests that were written to it, and the replies that nobody has read yet.
 #[derive(Drop)]
-pub(crate) struct Line {
+pub(crate) struct Session {
     pub(crate) stub: Stub,
     requests: Reader,
     next: Next,
@@ -38,10 +38,10 @@ pub(crate) struct Line {
     is_over: bool,
 }
 
-impl Line {
+impl Session {
     // A link over an empty stub, to which nothing was written.
-    pub(crate) fn new(alloc: Global) -> Line {
-        Line {
+    pub(crate) fn new(alloc: Global) -> Session {
+        Session {
             stub: Stub::new(alloc),
             requests: Reader::new(alloc, Limits::CLIENT),
             next: Next::Read,

@@ -1,5 +1,0 @@
-use Rattle.stub_server.specs.Line.{left_of}
-use Rattle.stub_server.proofs.line.Line.serve_all.Given as goal
-
-abbrev pub decreases-loop-self : goal.decreases-loop-self
-decreases-loop-self l = left_of l.self
