@@ -29,7 +29,7 @@ impl Model for Host {
 
     ghost Value = { Map };
 
-    ghost view = { λ h. h.stub };
+    ghost view = { λ h. h.stub.map };
 
     // Nothing waits and nothing flies between two parts.
     ghost invariant = { λ h. (h.pipe.waiting ≡ []) × (h.pipe.flying ≡ []) };
@@ -75,8 +75,8 @@ impl Host {
 // The stub's answer to the request of this text.
 fn answer_text(alloc: Global, stub: &mut Stub, text: &[u8]) -> Result<Value, Ending>
     requires { IsSendableText text.now }
-    ensures reply { IfOk result (λ reply. (t : Tree) → text.now ≡ spelling t → IsSendable t → tree_of reply ≡ answer_of stub.old t) }
-    ensures map { OnOk result ((t : Tree) → text.now ≡ spelling t → IsSendable t → stub.new ≡ map_after stub.old t) }
+    ensures reply { IfOk result (λ reply. (t : Tree) → text.now ≡ spelling t → IsSendable t → tree_of reply ≡ answer_of stub.old.map t) }
+    ensures map { OnOk result ((t : Tree) → text.now ≡ spelling t → IsSendable t → stub.new.map ≡ map_after stub.old.map t) }
     ensures err { IfErr result (λ e. e ≡ Memory) }
 {
     let request = read_back(alloc, text)?;

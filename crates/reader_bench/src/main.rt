@@ -6,7 +6,7 @@
 #![tactic(auto)]
 
 use anyhow::Result;
-use resp_core::{Limits, Reader};
+use resp_core::{Limits, Reader, RespError};
 use std::alloc::Global;
 use std::env;
 use std::rt::Clock;
@@ -118,16 +118,22 @@ fn integers(alloc: Global, count: usize) -> Result<Vec<u8>> {
 // How long it takes to read the values of the stream in pieces of this length.
 fn time_read(rt: &impl Clock, alloc: Global, bytes: &[u8], piece: usize) -> Result<Duration> {
     let start = Instant::now(rt)?;
+    read(alloc, bytes, piece)?;
+    Ok(start.elapsed(rt)?)
+}
+
+// Reads the values of the stream in pieces of this length.
+fn read(alloc: Global, bytes: &[u8], piece: usize) -> std::result::Result<(), RespError> {
     let mut reader = Reader::new(alloc, Limits::CLIENT);
     for piece in bytes.chunks(piece.max(1)) {
         reader.feed(piece)?;
         take_values(&mut reader, piece.len())?;
     }
-    Ok(start.elapsed(rt)?)
+    Ok(())
 }
 
 // Takes the values that a piece of so many bytes brought.
-fn take_values(reader: &mut Reader, most: usize) -> Result<()> {
+fn take_values(reader: &mut Reader, most: usize) -> std::result::Result<(), RespError> {
     for _ in 0..=most {
         if reader.next_value()?.is_none() {
             break;

@@ -5,3 +5,5 @@ pub mod Number
 pub mod Table
 pub mod Refusal
 pub mod Laws
+pub mod Script
+pub mod Session

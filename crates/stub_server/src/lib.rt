@@ -1,6 +1,8 @@
 //! A Redis host in memory, for tests and for `redproxy local`.
 //!
-//! A `Stub` answers requests by a small table of commands over a map from keys to byte strings, which is empty at first.
+//! A `Stub` answers requests by a small table of commands over a map from keys to byte strings, which is empty at first,
+//! or does with them what a script says. A `StubLink` has two ends in memory, to which requests are written and from which
+//! replies are read.
 //! The commands and their meanings are those of the Redis commands of the same names; which of them the table has, and
 //! the texts of its errors, are this project's own.
 #![tactic(auto)]
@@ -8,9 +10,14 @@
 mod command;
 mod error;
 mod laws;
+mod link;
 mod map;
 mod number;
+mod reply;
+mod script;
+mod session;
 mod stub;
+mod unread;
 mod words;
 
 pub use error::StubError;
@@ -18,4 +25,8 @@ pub use laws::{
     a_number_has_one_spelling, a_removed_key_has_no_value, a_set_key_has_its_value,
     keys_stay_distinct,
 };
-pub use stub::Stub;
+pub use link::{StubLink, StubReader, StubWriter};
+pub use script::Act;
+pub use session::MAX_TAKEN;
+pub use stub::{Response, Stub};
+pub use unread::MAX_UNREAD;

@@ -5,42 +5,92 @@ ghost use Rattle.resp_core.specs.Tree.{whole, fault};
 ghost use Rattle.stub_server.specs.Command.{takes};
 ghost use Rattle.resp_core.specs.Command.{are_words, payload_of};
 ghost use Rattle.stub_server.specs.Map.{value_at, with_value, without, count_among};
+ghost use Rattle.stub_server.specs.Script.{IsResponse, act_of, acts_after, map_by};
 ghost use Rattle.stub_server.specs.Table.{answer_of, map_after, outcome_of_words, outcome_by, incremented, number_at, bulk_of, done};
 
 use crate::command::{Command, command_named};
 use crate::error::StubError;
 use crate::map::{Entry, count_among, count_keys, put, take_out, value_at};
 use crate::number::{number_in, spelling};
+use crate::script::{Act, Script};
 use crate::words::keys_of;
 use bytes::Bytes;
 use resp_core::{Value, Values};
 use std::alloc::Global;
 use std::marker::Model;
 
-/// A Redis host in memory: a map from keys to byte strings, and the answers to requests.
+/// A Redis host in memory: a map from keys to byte strings, the answers to requests, and a script by which requests are
+/// served.
 #[derive(Drop)]
 pub struct Stub {
     alloc: Global,
     entries: Vec<Entry>,
+    script: Script,
 }
 
 impl Model for Stub {
-    ghost use Rattle.stub_server.specs.Map.{Map};
+    ghost use Rattle.stub_server.specs.Script.{StubState};
 
-    ghost Value = { Map };
+    ghost Value = { StubState };
 
-    ghost view = { λ s. s.entries.items };
+    ghost view = { λ s. record { map = s.entries.items; script = s.script } };
+}
+
+/// What a request is given.
+#[derive(Drop)]
+pub enum Response {
+    /// The answer.
+    Answer(Value),
+    /// Nothing: it stays unanswered.
+    Silence,
+    /// The end of the link.
+    End,
+    /// Bytes that are no reply.
+    Garbage,
 }
 
 impl Stub {
-    /// A stub whose map is empty.
+    /// A stub whose map and whose script are empty.
     pub fn new(alloc: Global) -> Stub
-        ensures { result ≡ [] }
+        ensures map { result.map ≡ [] }
+        ensures script { result.script ≡ [] }
     {
         Stub {
             alloc,
             entries: Vec::new(alloc),
+            script: Script::new(Vec::new(alloc)),
         }
+    }
+
+    /// Serves the requests that come next by these acts, one each, and those behind them by `Act::Reply`.
+    ///
+    /// What a script before left over is forgotten: requests that it would still hold are served by this one.
+    pub fn script(&mut self, acts: Vec<Act>)
+        ensures script { self.new.script ≡ acts.items }
+        ensures map { self.new.map ≡ self.old.map }
+    {
+        self.script = Script::new(acts);
+    }
+
+    /// Serves a request as the next act of the script says: with the answer that `answer` gives, or without one, and then
+    /// the map stays as it is.
+    ///
+    /// `Act::Hold` is the act of all later requests too. Refused 1501 (no memory), and then nothing has changed.
+    pub fn serve(&mut self, request: &Value) -> Result<Response, StubError>
+        ensures response { IfOk result (λ response. IsResponse (act_of self.old.script) self.old.map (tree_of request.now) response) }
+        ensures map { IfOk result (λ _. self.new.map ≡ map_by (act_of self.old.script) self.old.map (tree_of request.now)) }
+        ensures script { IfOk result (λ _. self.new.script ≡ acts_after self.old.script) }
+        ensures err { OnErr result (self.new ≡ self.old) }
+        ensures memory { IfErr result (λ e. e ≡ StubError.NoMemory) }
+    {
+        let response = match self.script.act() {
+            Act::Reply => Response::Answer(self.answer(request)?),
+            Act::Hold => Response::Silence,
+            Act::Drop => Response::End,
+            Act::Garble => Response::Garbage,
+        };
+        self.script.advance();
+        Ok(response)
     }
 
     /// The answer to the request, and the map after it, by the table of commands:
@@ -55,10 +105,12 @@ impl Stub {
     /// - One of these with another number of words: the error `ERR wrong number of arguments`.
     /// - Any other request: the error `ERR unknown command`.
     ///
-    /// Names are compared without ASCII case. Refused 1501 (no memory), and then the map is as it was.
+    /// Names are compared without ASCII case. The script is neither asked nor changed. Refused 1501 (no memory), and then
+    /// the map is as it was.
     pub fn answer(&mut self, request: &Value) -> Result<Value, StubError>
-        ensures answer { IfOk result (λ answer. tree_of answer ≡ answer_of self.old (tree_of request.now)) }
-        ensures map { IfOk result (λ _. self.new ≡ map_after self.old (tree_of request.now)) }
+        ensures answer { IfOk result (λ answer. tree_of answer ≡ answer_of self.old.map (tree_of request.now)) }
+        ensures map { IfOk result (λ _. self.new.map ≡ map_after self.old.map (tree_of request.now)) }
+        ensures script { self.new.script ≡ self.old.script }
         ensures err { OnErr result (self.new ≡ self.old) }
         ensures memory { IfErr result (λ e. e ≡ StubError.NoMemory) }
     {

@@ -1,0 +1,99 @@
+//! A link to a stub, and its two ends.
+ghost use Rattle.std.specs.Prelude.{◌≡◌, ◌≤◌, ◌⊎◌, IfErr};
+ghost use Rattle.std.specs.Io.{ReadsAtMost, WritesAtMost};
+ghost use Rattle.std.specs.IoError.{error_kind};
+
+use crate::error::StubError;
+use crate::session::Session;
+use crate::stub::Stub;
+use std::alloc::Global;
+use std::io;
+use std::io::{ErrorKind, Read, Write};
+use std::sync::{Arc, Mutex};
+
+/// A link to a stub, whose ends read and write in memory.
+#[derive(Drop)]
+pub struct StubLink {
+    alloc: Global,
+    stub: Stub,
+}
+
+/// The end from which the stub's replies are read.
+///
+/// A read gives bytes that stand behind those given before. With none it answers `WouldBlock`, and the end of the input
+/// once the link has ended and all replies before that were read. No other error is answered.
+#[derive(Drop)]
+pub struct StubReader {
+    session: Arc<Mutex<Session>>,
+}
+
+/// The end to which requests are written, in the texts that a client may send.
+///
+/// A write takes at most `MAX_TAKEN` bytes, and serves the requests that are whole by the stub's script, as one read or
+/// write after it does with those for which there was no memory, or no room: while `MAX_UNREAD` bytes of replies or more
+/// are unread, no request is served, and while one waits no byte is taken. Then it answers `WouldBlock`. Once the link has
+/// ended, by `Act::Drop` or at a byte that fits no text, it answers `BrokenPipe`. No other error is answered.
+#[derive(Drop)]
+pub struct StubWriter {
+    session: Arc<Mutex<Session>>,
+}
+
+impl StubLink {
+    /// A link to this stub.
+    pub fn new(alloc: Global, stub: Stub) -> StubLink
+        ensures { result.stub ≡ stub }
+    {
+        StubLink { alloc, stub }
+    }
+
+    /// The two ends of the link. They may go to different threads; a call that meets another of the same link answers
+    /// `WouldBlock`.
+    ///
+    /// They hold the stub, at most `MAX_TAKEN` bytes of requests that wait behind an unfinished one of at most 8,388,608,
+    /// and less than `MAX_UNREAD` unread bytes of replies with one reply behind them. Refused 1501 (no memory), and then
+    /// the link comes back.
+    pub fn ends(self, alloc: Global) -> Result<(StubReader, StubWriter), (StubError, StubLink)>
+        ensures err { IfErr result (λ e. (e.0 ≡ StubError.NoMemory) × (e.1 ≡ self)) }
+    {
+        let Ok(session) = Arc::new(alloc, Mutex::new(Session::new(self.alloc))) else {
+            return Err((StubError::NoMemory, self));
+        };
+        let Ok(other) = Arc::try_clone(&session) else {
+            return Err((StubError::NoMemory, self));
+        };
+        // Nobody else can have the lock yet.
+        match session.try_lock() {
+            Some(mut shared) => shared.stub = self.stub,
+            None => return Err((StubError::NoMemory, self)),
+        }
+        Ok((StubReader { session }, StubWriter { session: other }))
+    }
+}
+
+impl Read for StubReader {
+    fn read(&mut self, buffer: &mut [u8]) -> io::Result<usize>
+        ensures bound { ReadsAtMost result buffer.new }
+        ensures kinds { IfErr result (λ e. error_kind e ≡ ErrorKind.WouldBlock) }
+    {
+        match self.session.try_lock() {
+            Some(mut session) => Ok(session.read(buffer)?),
+            None => Err(io::Error::from(ErrorKind::WouldBlock)),
+        }
+    }
+}
+
+impl Write for StubWriter {
+    fn write(&mut self, bytes: &[u8]) -> io::Result<usize>
+        ensures bound { WritesAtMost result bytes.now }
+        ensures kinds { IfErr result (λ e. (error_kind e ≡ ErrorKind.WouldBlock) ⊎ (error_kind e ≡ ErrorKind.BrokenPipe)) }
+    {
+        match self.session.try_lock() {
+            Some(mut session) => Ok(session.write(bytes)?),
+            None => Err(io::Error::from(ErrorKind::WouldBlock)),
+        }
+    }
+
+    fn flush(&mut self) -> io::Result<()> {
+        Ok(())
+    }
+}

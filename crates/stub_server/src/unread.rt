@@ -1,0 +1,116 @@
+//! Texts of replies that wait for their reader.
+ghost use Rattle.std.specs.Prelude.{◌≡◌, ◌++◌, [], OnOk, OnErr, IfErr, length, min, take, drop, codes};
+ghost use Rattle.resp_core.specs.Value.{tree_of};
+ghost use Rattle.resp_core.specs.Text.{text};
+
+use crate::error::StubError;
+use crate::reply::Reply;
+use resp_core::put_text;
+use std::alloc::Global;
+use std::marker::Model;
+
+/// While a link holds so many unread bytes of replies or more, it answers no request.
+pub const MAX_UNREAD: usize = 65_536;
+
+// The bytes that were not read yet, as contracts see it.
+#[derive(Drop)]
+pub struct Unread {
+    alloc: Global,
+    texts: Vec<u8>,
+    // How many bytes of the texts were read.
+    given: usize,
+}
+
+impl Model for Unread {
+    ghost use Rattle.std.specs.Prelude.{List, ℕ, ◌≤◌, length, drop};
+
+    ghost Value = { List ℕ };
+
+    ghost view = { λ u. drop u.given u.texts.items };
+
+    ghost invariant = { λ u. u.given ≤ length u.texts.items };
+}
+
+impl Unread {
+    // With no bytes.
+    pub(crate) fn new(alloc: Global) -> Unread
+        ensures { result ≡ [] }
+    {
+        Unread {
+            alloc,
+            texts: Vec::new(alloc),
+            given: 0,
+        }
+    }
+
+    pub(crate) fn len(&self) -> usize
+        ensures { result ≡ length self.now }
+    {
+        self.texts.len() - self.given
+    }
+
+    // Adds the text of a reply, or nothing where memory is refused.
+    pub(crate) fn put(&mut self, reply: &Reply) -> Result<(), StubError>
+        ensures ok { OnOk result (self.new ≡ self.old ++ text (tree_of reply.now.value)) }
+        ensures err { OnErr result (self.new ≡ self.old) }
+        ensures memory { IfErr result (λ e. e ≡ StubError.NoMemory) }
+    {
+        self.settle();
+        if put_text(self.alloc, &reply.value, &mut self.texts).is_err() {
+            return Err(StubError::NoMemory);
+        }
+        Ok(())
+    }
+
+    // Adds a line that is no reply, or nothing where memory is refused.
+    pub(crate) fn put_garbage(&mut self) -> Result<(), StubError>
+        ensures ok { OnOk result (self.new ≡ self.old ++ codes "?\r\n") }
+        ensures err { OnErr result (self.new ≡ self.old) }
+        ensures memory { IfErr result (λ e. e ≡ StubError.NoMemory) }
+    {
+        self.texts.extend_from_slice(b"?\r\n")?;
+        Ok(())
+    }
+
+    // Moves the unread bytes to the front, once many others stand there.
+    fn settle(&mut self)
+        ensures { self.new ≡ self.old }
+    {
+        if self.given < MAX_UNREAD {
+            return;
+        }
+        let len = self.texts.len() - self.given;
+        self.texts.copy_within(self.given.., 0);
+        self.texts.truncate(len);
+        self.given = 0;
+    }
+
+    // Gives the first bytes, as many as the buffer has room for: how many.
+    pub(crate) fn give(&mut self, buffer: &mut [u8]) -> usize
+        ensures count { result ≡ min (length buffer.old) (length self.old) }
+        ensures bytes { take result buffer.new ≡ take result self.old }
+        ensures rest { self.new ≡ drop result self.old }
+        ensures len { length buffer.new ≡ length buffer.old }
+    {
+        let count = buffer.len().min(self.len());
+        buffer[..count].copy_from_slice(&self.texts[self.given..self.given + count]);
+        self.given += count;
+        self.clear();
+        count
+    }
+
+    // Forgets what was read, where that is all, and gives a large buffer back.
+    fn clear(&mut self)
+        ensures { self.new ≡ self.old }
+    {
+        if self.given < self.texts.len() {
+            return;
+        }
+        if self.texts.capacity() > 2 * MAX_UNREAD {
+            self.texts = Vec::new(self.alloc);
+        } else {
+            self.texts.clear();
+        }
+        self.given = 0;
+    }
+}
