@@ -1,6 +1,7 @@
 -- From how far a reader has come to what stands in the stream.
-use Rattle.std.proofs.Common.{◌≡◌, ◌≢◌, ◌⊎◌, ℕ, ◌+◌, ◌-◌, ◌≤◌, ◌<◌, List, [], ◌++◌, length, take, drop, refl, sym, ap, ◌∙◌, subst, append-nil, arith}
+use Rattle.std.proofs.Common.{◌≡◌, ◌≢◌, ◌⊎◌, ℕ, ◌+◌, ◌-◌, ◌≤◌, ◌<◌, Option, Some, None, IfSome, List, [], ◌++◌, length, take, drop, refl, sym, ap, ◌∙◌, subst, append-nil, arith}
 use Rattle.std.proofs.lemmas.List.{take-append-drop, length-append, length-take, length-drop, take_all, take_at}
+use Rattle.std.proofs.lemmas.Bool.{lt-ltb}
 use Rattle.std.proofs.Math.Seq.{drop-append-add}
 use Rattle.resp_core.specs.Tree.{Tree}
 use Rattle.resp_core.specs.Grammar.{IsText, max_depth, max_text}
@@ -8,11 +9,17 @@ use Rattle.resp_core.specs.declared.error.Refusal.{Refusal}
 use Rattle.resp_core.specs.declared.error.Refusal.TheVariants.{TooLong, TooDeep}
 use Rattle.resp_core.specs.declared.progress.Progress.{Progress}
 use Rattle.resp_core.specs.Offset.{refusal_number}
-use Rattle.resp_core.specs.Reading.{found, unfinished, refused, value_at}
+use Rattle.resp_core.specs.Reading.{found, unfinished, refused, value_at, payload_at, bytes_at}
 use Rattle.resp_core.specs.Front.{IsFirstValue, IsUnfinished, IsFault}
-use Rattle.resp_core.specs.Progress.{Reads, Finds, IsFresh, seen_of, held_of, shown}
+use Rattle.resp_core.specs.Progress.{Reads, Finds, IsFresh, IsGood, payload_due, seen_of, held_of, shown}
 use Rattle.resp_core.proofs.Firsts.{first_unfinished, first_unfinished_long, first_too_long, first_told}
 use Rattle.resp_core.proofs.Whole.{value-reads}
+use Rattle.resp_core.proofs.Going.{payload_unfinished}
+use Rattle.resp_core.specs.declared.value.Value.{Value}
+use Rattle.resp_core.specs.declared.head.Next.{Next}
+use Rattle.resp_core.specs.declared.head.Next.TheVariants as nexts
+use Rattle.resp_core.specs.declared.head.Head.TheVariants as heads
+use Rattle.resp_core.specs.declared.head.Found.TheVariants as founds
 
 pub held_is : (most : ℕ) (held : List ℕ) (p : Progress) → Reads most held p → held_of p ≡ length held
 held_is most held p r = omega (arith, ap length r.split, length-append r.taken p.pending.items, r.came)
@@ -75,3 +82,31 @@ pub place_inside : (most : ℕ) (b : List ℕ) (r : Refusal) (place : ℕ) → v
 place_inside most b r place e =
     let q = (value-reads most max_depth).first b (drop place b) r e in
     omega (arith, ap length q.rest_is, length-drop place b)
+
+-- a payload is due of which not all bytes have come
+payload_is_due : (next : Next) (k : ℕ) → k < payload_due next → (n : ℕ) × (next ≡ nexts.Found (founds.Payload n)) × (k < n)
+payload_is_due (nexts.Head h) k less = absurd (omega (arith, less))
+payload_is_due (nexts.Found (founds.Payload n)) k less = (n, refl, less)
+payload_is_due (nexts.Found (founds.Line l)) k less = absurd (omega (arith, less))
+payload_is_due (nexts.Found (founds.Members n)) k less = absurd (omega (arith, less))
+payload_is_due (nexts.Found founds.NullBulk) k less = absurd (omega (arith, less))
+payload_is_due (nexts.Found founds.NullList) k less = absurd (omega (arith, less))
+payload_is_due (nexts.Found (founds.Whole n)) k less = absurd (omega (arith, less))
+
+done_none : (done : Option Value) (next : Next) (n : ℕ) → IfSome done (λ _. next ≡ nexts.Head heads.Type) → next ≡ nexts.Found (founds.Payload n) → done ≡ None
+done_none None next n good is = refl
+done_none (Some v) next n good is = let e : nexts.Head heads.Type ≡ nexts.Found (founds.Payload n) = sym good ∙ is in cc
+
+short_payload : (n : ℕ) (b : List ℕ) → length b < n → payload_at (Some n) b ≡ unfinished
+unfolding payload_at bytes_at
+short_payload n b less = rw (lt-ltb (length b) n less) refl
+
+pub none_while_short : (most : ℕ) (held : List ℕ) (p : Progress) → IsGood most p → length p.pending.items < p.needed → Reads most held p → IsUnfinished most held
+none_while_short most held p good less r =
+    let d = payload_is_due p.next (length p.pending.items) (omega (arith, less, good.needed.0)) in
+    let none : p.done ≡ None = done_none p.done p.next d.0 good.done d.1 in
+    let v = length p.pending.items in
+    let all : p.pending.items ≡ take v p.pending.items = sym (take_all v p.pending.items (omega arith)) in
+    none_yet most held
+    (payload_unfinished most d.0 v held p p.pending.items none d.1 all (omega (arith, good.came)) (omega (arith, less, good.needed.1)) (short_payload d.0 p.pending.items d.2) r)
+    (omega (arith, held_is most held p r, less, good.needed.1))

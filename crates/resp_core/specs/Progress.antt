@@ -13,6 +13,7 @@ use Rattle.resp_core.specs.declared.value.Value.{Value}
 use Rattle.resp_core.specs.declared.head.Next.{Next}
 use Rattle.resp_core.specs.declared.head.Next.TheVariants as nexts
 use Rattle.resp_core.specs.declared.head.Head.TheVariants as heads
+use Rattle.resp_core.specs.declared.head.Found.TheVariants as founds
 use Rattle.resp_core.specs.declared.progress.Halt.{Halt}
 use Rattle.resp_core.specs.declared.progress.Halt.TheVariants as halts
 use Rattle.resp_core.specs.declared.progress.Progress.{Progress}
@@ -41,6 +42,11 @@ pub record Finds (most : ℕ) (held : List ℕ) (p : Progress) (t : Tree) : Type
   pub came : length taken ≡ p.came
   pub same : (y : List ℕ) → value_at most max_depth (taken ++ y) ≡ found t y
 
+-- the bytes of the payload that is due next
+abbrev pub payload_due : Next → ℕ
+payload_due (nexts.Found (founds.Payload n)) = n
+payload_due next = 0
+
 -- what holds of the fields
 pub record IsGood (most : ℕ) (p : Progress) : Type 0 where
   pub few : length p.opens.items ≤ max_depth
@@ -48,6 +54,7 @@ pub record IsGood (most : ℕ) (p : Progress) : Type 0 where
   pub seen : IsSeen p.seen p.pending.items
   pub came : p.came + p.seen ≤ max_text + 1
   pub done : IfSome p.done (λ _. p.next ≡ nexts.Head heads.Type)
+  pub needed : (p.needed ≤ payload_due p.next) × (p.came + p.needed ≤ max_text + 1)
 
 -- the bytes of the value that came: those that were taken, and those that are pending
 abbrev pub held_of : Progress → ℕ
@@ -55,7 +62,7 @@ held_of p = p.came + length p.pending.items
 
 -- the same but for the room behind the bytes
 abbrev pub shown : Progress → Progress
-shown p = record { pending = record { items = p.pending.items; spare = 0 }; room = 0; opens = p.opens; done = p.done; next = p.next; seen = p.seen; came = p.came }
+shown p = record { pending = record { items = p.pending.items; spare = 0 }; room = 0; opens = p.opens; done = p.done; next = p.next; seen = p.seen; came = p.came; needed = p.needed }
 
 -- 1 where a head was read to its end
 abbrev pub behind_head : Next → ℕ

@@ -47,6 +47,9 @@ pub(crate) struct Progress {
     pub(crate) seen: usize,
     // Bytes of the value that were taken.
     pub(crate) came: usize,
+    // While fewer bytes are pending nothing more is read: the bytes of the payload that is due, 0
+    // where none is known to be.
+    pub(crate) needed: usize,
 }
 
 // Takes so many bytes from the front, of which the first ones are given.
@@ -97,7 +100,16 @@ impl Progress {
             next: Next::Head(Head::Type),
             seen: 0,
             came: 0,
+            needed: 0,
         }
+    }
+
+    // Whether a payload is due of which not all bytes have come, so that there is no whole value.
+    pub(crate) fn is_short(&self) -> bool
+        ensures { result ≡ true → (most : ℕ) → IsGood most self.now → (held : List ℕ)
+            → Reads most held self.now → IsUnfinished most held }
+    {
+        self.pending.len() < self.needed
     }
 
     // Bytes of the value that came: those that were taken, and those that are pending.
@@ -263,9 +275,11 @@ impl Progress {
         ensures next { self.new.next ≡ Next.Head Head.Type }
         ensures same { (self.new.pending ≡ self.old.pending) × (self.new.opens ≡ self.old.opens) }
         ensures seen { (self.new.seen ≡ self.old.seen) × (self.new.came ≡ self.old.came) }
+        ensures needed { self.new.needed ≡ 0 }
     {
         self.done = Some(value);
         self.next = Next::Head(Head::Type);
+        self.needed = 0;
     }
 
     // Puts the value that came into its list, and closes those that are whole with it: the outermost
@@ -346,7 +360,10 @@ impl Progress {
                 self.finish(Value::Bulk(payload));
                 Ok(true)
             }
-            Err(Stop::Unfinished) => Ok(false),
+            Err(Stop::Unfinished) => {
+                self.needed = (n as usize).min(MAX_TEXT + 1 - self.came);
+                Ok(false)
+            }
             Err(Stop::Refused(refusal, rest)) => {
                 let place = visible - rest.len();
                 Err(Halt::Refused(refusal, self.came + place))

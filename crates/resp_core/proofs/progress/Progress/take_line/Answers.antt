@@ -65,4 +65,5 @@ returns-in-Err-Unfinished-clause-good c =
       seen = subst (λ (z : ℕ). IsSeen z p.pending.items) (sym sub) (seen_but_last v p.pending.items few e);
       came = omega (arith, g.came, sub, c.min-visible.ensures);
       done = g.done;
+      needed = g.needed;
     }
