@@ -1,8 +1,12 @@
 -- Why a link broke, over several moves.
-use Rattle.std.proofs.Common.{◌≡◌, ℕ, false, Option, Some, None, inl, inr}
+use Rattle.std.proofs.Common.{◌≡◌, ◌⊎◌, ℕ, false, List, Option, Some, None, inl, inr, refl}
 use Rattle.proxy_history.specs.declared.event.Kind.{Kind}
 use Rattle.proxy_engines.specs.Host.{LineState, LinkState}
-use Rattle.proxy_engines.specs.Faults.{IsCauseOf, IfFault, is_fault}
+use Rattle.proxy_engines.specs.Faults.{IsCauseOf, IfFault, is_fault, either}
+use Rattle.ticket_gate.specs.Journal.{StartsWith}
+use Rattle.proxy_history.specs.Seen.{SeenStep}
+use Rattle.proxy_history.specs.declared.event.Event.{Event}
+use Rattle.proxy_engines.specs.HostStep.{HasHeld}
 use Rattle.proxy_engines.specs.declared.error.EngineError.{EngineError}
 use Rattle.proxy_engines.specs.declared.link.Outcome.{Outcome}
 
@@ -29,3 +33,13 @@ pub no_fault : (o : Outcome) (P : Kind → Option EngineError → Type 0) → is
 no_fault (Outcome.Fault kind error) P e = absurd cc
 no_fault Outcome.Moved P e = tt
 no_fault Outcome.Still P e = tt
+
+pub either_still : (p q : Outcome) → either p q ≡ Outcome.Still → (p ≡ Outcome.Still) × (q ≡ Outcome.Still)
+either_still Outcome.Still q e = (refl, e)
+either_still Outcome.Moved q e = absurd cc
+either_still (Outcome.Fault kind error) q e = absurd cc
+
+-- what held of a list held of one between the first and a later one
+pub idle_then : (cause : Event → List SeenStep → Type 0) (event : Event) (A B : Type 0) (x y z : List SeenStep) → StartsWith y x → StartsWith z y → A ⊎ (B × cause event y) → A ⊎ (B × HasHeld cause event x z)
+idle_then cause event A B x y z later last (inl a) = inl a
+idle_then cause event A B x y z later last (inr b) = inr (b.0, (y, later, last, b.1))

@@ -26,8 +26,10 @@ use Rattle.proxy_history.proofs.CallerLemmas as history
 use Rattle.proxy_engines.specs.Ends.{Receiving, Holds, HasGivenAll, refused}
 use Rattle.proxy_engines.specs.Turned.{step_by}
 use Rattle.proxy_engines.specs.Host.{LineState, LinkState, IsOnLink, CarriesHost, GoesOn, FailsHost, ReadsOn, WritesOn, moments_by, moments_after, waiting, anew}
-use Rattle.proxy_engines.specs.Moves.{has_moved}
-use Rattle.proxy_engines.proofs.MoveLemmas.{has_moved-append, or-false}
+use Rattle.proxy_engines.specs.Moves.{has_moved, AsTold}
+use Rattle.proxy_engines.specs.Faults.{either, told_by_outcome}
+use Rattle.proxy_engines.specs.declared.link.Outcome.{Outcome}
+use Rattle.proxy_engines.proofs.MoveLemmas.{has_moved-append, or-false, or-true}
 use Rattle.proxy_engines.proofs.ClientMoves.{Consumes-none, Appends-none, Consumes-append, Appends-append, read_holds}
 
 -- BYTES
@@ -117,6 +119,41 @@ goes_some a b c i j k x y z m f g p q = ((f || g), goes_on a b c i j k x y z m f
 -- a move that is no move
 pub goes_still : (a b c : LineState) (i j k : Option LinkState) (x y z : History) (m : ℕ) (f : Bool) → GoesOn a b i j x y m f → GoesOn b c j k y z m false → GoesOn a c i k x z m f
 goes_still a b c i j k x y z m f p q = subst (λ (w : Bool). GoesOn a c i k x z m w) (or-false f) (goes_on a b c i j k x y z m f false p q)
+
+-- nothing moved, and then what is told
+pub told_then : (a b c : LineState) (i j k : Option LinkState) (x y z : History) (m : ℕ) (told : Option Bool) → GoesOn a b i j x y m false → AsTold (GoesOn b c j k y z m) told → AsTold (GoesOn a c i k x z m) told
+told_then a b c i j k x y z m None p q = goes_some a b c i j k x y z m false q.0 p q.1
+told_then a b c i j k x y z m (Some g) p q = goes_on a b c i j k x y z m false g p q
+
+pub some_told : (Goes : Bool → Type 0) (told : Option Bool) → AsTold Goes told → (moved : Bool) × Goes moved
+some_told Goes None g = g
+some_told Goes (Some moved) g = (moved, g)
+
+-- what is told, and then nothing that moved
+pub told_still : (a b c : LineState) (i j k : Option LinkState) (x y z : History) (m : ℕ) (told : Option Bool) → AsTold (GoesOn a b i j x y m) told → GoesOn b c j k y z m false → AsTold (GoesOn a c i k x z m) told
+told_still a b c i j k x y z m None p q = (p.0, goes_still a b c i j k x y z m p.0 p.1 q)
+told_still a b c i j k x y z m (Some g) p q = goes_still a b c i j k x y z m g p q
+
+-- what is told, and then something that moved
+pub told_moved : (a b c : LineState) (i j k : Option LinkState) (x y z : History) (m : ℕ) (told : Option Bool) → AsTold (GoesOn a b i j x y m) told → GoesOn b c j k y z m true → GoesOn a c i k x z m true
+told_moved a b c i j k x y z m told p q =
+    let before = some_told (GoesOn a b i j x y m) told p in
+    subst (λ (w : Bool). GoesOn a c i k x z m w) (or-true before.0) (goes_on a b c i j k x y z m before.0 true before.1 q)
+
+-- what is told, and what is told after it
+pub told_both : (a b c : LineState) (i j k : Option LinkState) (x y z : History) (m : ℕ) (told other : Option Bool) → AsTold (GoesOn a b i j x y m) told → AsTold (GoesOn b c j k y z m) other → (moved : Bool) × GoesOn a c i k x z m moved
+told_both a b c i j k x y z m told other p q =
+    let before = some_told (GoesOn a b i j x y m) told p in
+    let after = some_told (GoesOn b c j k y z m) other q in
+    goes_some a b c i j k x y z m before.0 after.0 before.1 after.1
+
+-- two moves, told by the first of them at which anything came
+pub told_either : (a b c : LineState) (i j k : Option LinkState) (x y z : History) (m : ℕ) (p q : Outcome) → AsTold (GoesOn a b i j x y m) (told_by_outcome p) → AsTold (GoesOn b c j k y z m) (told_by_outcome q) → AsTold (GoesOn a c i k x z m) (told_by_outcome (either p q))
+told_either a b c i j k x y z m Outcome.Still q f g = told_then a b c i j k x y z m (told_by_outcome q) f g
+told_either a b c i j k x y z m Outcome.Moved q f g =
+    let after = some_told (GoesOn b c j k y z m) (told_by_outcome q) g in
+    goes_on a b c i j k x y z m true after.0 f after.1
+told_either a b c i j k x y z m (Outcome.Fault kind error) q f g = told_both a b c i j k x y z m None (told_by_outcome q) f g
 
 -- A PART IS TAKEN
 

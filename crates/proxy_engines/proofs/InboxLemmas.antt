@@ -3,11 +3,11 @@ use Rattle.std.proofs.Common.{◌≡◌, ◌∙◌, ℕ, List, [], ◌∷◌, �
 use Rattle.std.proofs.lemmas.List.{map-append}
 use Rattle.std.specs.Prelude.{Bool, false, ⊤, IfSome, Result, Ok, Err, is_err, OnOk}
 use Rattle.resp_core.specs.Tree.{Tree}
-use Rattle.resp_core.specs.Standing.{ReaderState, Stands}
+use Rattle.resp_core.specs.Standing.{Stands}
 use Rattle.resp_core.specs.Stream.{HasNoRefusal}
 use Rattle.resp_core.specs.declared.error.RespError.{RespError}
 use Rattle.splitter.specs.Request.{Request as Asked, read, broken}
-use Rattle.proxy_engines.specs.Ends.{Receiving, Holds, HasGivenAll, AreRequests}
+use Rattle.proxy_engines.specs.Ends.{Receiving, Holds, AreRequests}
 
 after-none : (i : Receiving) → i.fresh ≡ [] → IfSome i.values.refusal (λ _. i.fresh ≡ [])
 after-none i e = if_some i.values.refusal e
@@ -61,11 +61,6 @@ pub all-given : (i : Receiving) (b : List ℕ) (rs : List Asked) → i.fresh ≡
 all-given i b rs d n f h =
     let bytes : b ≡ h.fed = h.bytes ∙ (rw d (append-nil h.fed)) in
     (h.given, false, (rw bytes (f h.fed h.given h.stands)), (rw n at h.requests))
-
--- the reader of values goes on where it was, and gave none
-pub given-none : (i : Receiving) (r : ReaderState) → i.fresh ≡ [] → i.values.refusal ≡ None → ((x : List ℕ) (ts : List Tree) → Stands i.values x ts → HasNoRefusal i.values.most x ts)
-    → ((x : List ℕ) (ts : List Tree) → Stands r x ts → Stands i.values x ts) → HasGivenAll i
-given-none i r d n f back = record { none_fresh = d; none_refused = n; all = λ b rs h. all-given i b rs d n f h }
 
 -- what holds where a call was answered
 pub fed_ok : (P : Type 0) (r : Result ⊤ RespError) → is_err r ≡ false → OnOk r P → P

@@ -6,3 +6,4 @@ pub mod ClientLemmas
 pub mod CallerLemmas
 pub mod InboxLemmas
 pub mod MoveLemmas
+pub mod HostLemmas

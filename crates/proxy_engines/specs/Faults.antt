@@ -23,6 +23,18 @@ abbrev pub told_by_moves : Result Outcome EngineError → Option Bool
 told_by_moves (Ok outcome) = told_by_outcome outcome
 told_by_moves (Err e) = None
 
+-- an error that tells of no device
+abbrev pub IsOfNoDevice : EngineError → Type 0
+IsOfNoDevice EngineError.NoMemory = ⊤
+IsOfNoDevice (EngineError.TurnRefused n) = ⊤
+IsOfNoDevice e = ⊥
+
+-- the first of two moves at which anything came, or the second
+abbrev pub either : Outcome → Outcome → Outcome
+either Outcome.Still other = other
+either Outcome.Moved other = Outcome.Moved
+either (Outcome.Fault kind error) other = Outcome.Fault kind error
+
 -- what holds of a fault, where a move came to one
 abbrev pub IfFault : Outcome → (Kind → Option EngineError → Type 0) → Type 0
 IfFault (Outcome.Fault kind error) P = P kind error

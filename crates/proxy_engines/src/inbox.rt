@@ -1,6 +1,7 @@
 //! What is read and not yet asked.
-ghost use Rattle.std.specs.Prelude.{◌≡◌, ◌≢◌, ◌++◌, ◌∷◌, ℕ, List, [], Some, None, IfOk, IfErr, IfSome, IfNone, OnErr, OnOk};
+ghost use Rattle.std.specs.Prelude.{true, ◌≡◌, ◌≢◌, ◌↔◌, ◌++◌, ◌∷◌, ℕ, List, [], Some, None, IfOk, IfErr, IfSome, IfNone, OnErr, OnOk};
 ghost use Rattle.std.specs.Io.KnownBytes.{Consumes, IsAtEnd};
+ghost use Rattle.resp_core.specs.declared.error.RespError.{RespError};
 ghost use Rattle.splitter.specs.Request.{Request as Asked, request_of};
 ghost use Rattle.proxy_engines.specs.Device.{HasFailed, HasPaused, is_moved};
 ghost use Rattle.proxy_engines.specs.Moves.{has_moved};
@@ -13,6 +14,13 @@ use std::marker::Model;
 
 /// How many bytes one read takes at most.
 pub const READ_SIZE: usize = 16_384;
+
+// Whether it is want of memory, and no refusal of a byte.
+fn is_memory(error: &RespError) -> bool
+    ensures { (result ≡ true) ↔ (error.now ≡ RespError.NoMemory) }
+{
+    matches!(error, RespError::NoMemory)
+}
 
 /// A reader, the bytes that it read last, and the reader of values.
 #[derive(Drop)]
@@ -122,8 +130,12 @@ impl<R: ReadTally> Inbox<R> {
         match self.values.next_value() {
             Ok(Some(value)) => Ok(Some(Request::Read(value))),
             Ok(None) => Ok(None),
-            Err(RespError::NoMemory) => Err(AllocError),
-            Err(_) => Ok(Some(Request::Broken)),
+            Err(error) => {
+                if is_memory(&error) {
+                    return Err(AllocError);
+                }
+                Ok(Some(Request::Broken))
+            }
         }
     }
 }

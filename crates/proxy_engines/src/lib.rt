@@ -4,6 +4,7 @@
 mod ask;
 mod client;
 mod error;
+mod host;
 mod inbox;
 mod laws;
 mod line;
@@ -13,6 +14,7 @@ mod tally;
 
 pub use client::{ClientEngine, Progress, Stage};
 pub use error::EngineError;
+pub use host::HostEngine;
 pub use inbox::{Inbox, READ_SIZE};
 pub use laws::{accepted_are_first, ended_is_whole, others_leave_clients};
 pub use line::Line;

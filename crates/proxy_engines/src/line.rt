@@ -7,6 +7,7 @@ ghost use Rattle.proxy_history.specs.declared.refusal.Refusal.{Refusal};
 ghost use Rattle.proxy_engines.specs.OwnSteps.{own_steps};
 ghost use Rattle.proxy_engines.specs.Device.{HasFailed, HasPaused, is_moved};
 ghost use Rattle.proxy_engines.specs.Moves.{AsTold, has_moved, told_by_turn};
+ghost use Rattle.proxy_engines.specs.Faults.{IsOfNoDevice};
 ghost use Rattle.proxy_engines.specs.Host.{LinkState, GoesOn, FailsHost};
 
 use crate::ask::{Denied, tell};
@@ -73,6 +74,7 @@ impl Line {
             (own_steps (T.pass turns.old) (T.seen turns.new)) moment) (told_by_turn result) }
         ensures none { IfOk result (λ b. b ≡ false → self.new ≡ self.old) }
         ensures nothing_waits { IfOk result (λ b. b ≡ false → T.cause (T.setting turns.old) Refusal.NothingWaiting (Event.Taken self.old.host) (T.seen turns.new)) }
+        ensures plain { IfErr result IsOfNoDevice }
     {
         if self.is_astray {
             return Err(EngineError::TurnRefused { number: STALE });

@@ -7,11 +7,12 @@ ghost use Rattle.proxy_history.specs.declared.event.Event.{Event};
 ghost use Rattle.proxy_history.specs.declared.refusal.Refusal.{Refusal};
 ghost use Rattle.resp_core.specs.declared.value.Value.{Value};
 ghost use Rattle.proxy_engines.specs.OwnSteps.{own_steps};
-ghost use Rattle.proxy_engines.specs.Device.{HasPaused};
+ghost use Rattle.proxy_engines.specs.Device.{HasPaused, HasRisen};
+ghost use Rattle.proxy_engines.specs.HostStep.{HasHeld};
 ghost use Rattle.proxy_engines.specs.Ends.{HasGivenAll};
 ghost use Rattle.proxy_engines.specs.Host.{LineState, LinkState, GoesOn};
 ghost use Rattle.proxy_engines.specs.Moves.{AsTold};
-ghost use Rattle.proxy_engines.specs.Faults.{is_fault, IfFault, IsCauseOf, told_by_moves, told_by_outcome};
+ghost use Rattle.proxy_engines.specs.Faults.{either, is_fault, IfFault, IsCauseOf, IsOfNoDevice, told_by_moves, told_by_outcome};
 
 use crate::ask::{Denied, give};
 use crate::error::EngineError;
@@ -56,7 +57,8 @@ impl Outcome {
 
     // Something moved, here or there.
     fn or(self, other: Outcome) -> Outcome
-        ensures { is_fault self ≡ false → is_fault other ≡ false → is_fault result ≡ false }
+        ensures is { result ≡ either self other }
+        ensures calm { is_fault self ≡ false → is_fault other ≡ false → is_fault result ≡ false }
     {
         match self {
             Outcome::Still => other,
@@ -138,6 +140,7 @@ impl<R: ReadTally, W: WriteTally> Link<R, W> {
         ensures garbled { IfOk result (λ f. f ≡ Found.Garbled → self.new.inbox.values.refusal ≢ None) }
         ensures err { OnErr result (self.new.inbox.values.refusal ≡ None) }
         ensures counts { (self.new.inbox.counts ≡ self.old.inbox.counts) × (self.new.counts ≡ self.old.counts) }
+        ensures plain { IfErr result IsOfNoDevice }
     {
         if self.next.is_some() {
             return Ok(Found::Value);
@@ -171,6 +174,7 @@ impl<R: ReadTally, W: WriteTally> Link<R, W> {
         ensures counts { self.new.counts ≡ self.old.counts }
         ensures moved { IfOk result (λ o. o ≢ Outcome.Still) }
         ensures fault { IfOk result (λ o. IfFault o (λ kind error. IsCauseOf kind error line.new self.old self.new ((v : Value) × (self.new.next ≡ Some v) × T.cause (T.setting turns.old) Refusal.Unasked (Event.Answered line.new.host line.new.epoch v moment) (T.seen turns.new)) moment)) }
+        ensures plain { IfErr result IsOfNoDevice }
     {
         let Some(value) = self.next.take() else {
             return Ok(Outcome::Moved);
@@ -238,6 +242,7 @@ impl<R: ReadTally, W: WriteTally> Link<R, W> {
         ensures reads { self.new.inbox.counts ≡ self.old.inbox.counts }
         ensures writes { self.new.counts ≡ self.old.counts }
         ensures err { OnErr result (self.new.inbox.values.refusal ≡ None) }
+        ensures plain { IfErr result IsOfNoDevice }
     {
         match self.seek()? {
             Found::Nothing => Ok(Outcome::Still),
@@ -268,6 +273,7 @@ impl<R: ReadTally, W: WriteTally> Link<R, W> {
         ensures reads { self.new.inbox.counts ≡ self.old.inbox.counts }
         ensures writes { self.new.counts ≡ self.old.counts }
         ensures err { OnErr result (self.new.inbox.values.refusal ≡ None) }
+        ensures plain { IfErr result IsOfNoDevice }
     {
         let mut outcome = Outcome::Still;
         for _ in rt.forever() {
@@ -295,8 +301,11 @@ impl<R: ReadTally, W: WriteTally> Link<R, W> {
             (own_steps (T.pass turns.old) (T.seen turns.new)) moment) (told_by_moves result) }
         ensures inbox { self.new.inbox ≡ self.old.inbox }
         ensures next { self.new.next ≡ self.old.next }
+        ensures idle { IfOk result (λ o. o ≡ Outcome.Still → HasRisen self.old.counts.paused self.new.counts.paused
+            ⊎ ((line.old.pending ≡ []) × T.cause (T.setting turns.old) Refusal.NothingWaiting (Event.Taken line.old.host) (T.seen turns.new))) }
         ensures writer { IfOk result (λ o. is_fault o ≡ false → self.new.counts.failed ≡ self.old.counts.failed) }
         ensures fault { IfOk result (λ o. IfFault o (λ kind error. IsCauseOf kind error line.new self.old self.new ⊥ 0)) }
+        ensures plain { IfErr result IsOfNoDevice }
     {
         if !line.is_empty() {
             return Ok(self.write(line));
@@ -322,10 +331,12 @@ impl<R: ReadTally, W: WriteTally> Link<R, W> {
         ensures seen { StartsWith (T.seen turns.new) (T.seen turns.old) }
         ensures goes { AsTold (GoesOn line.old line.new (Some self.old) (Some self.new) (own_steps (T.pass turns.old) (T.seen turns.old))
             (own_steps (T.pass turns.old) (T.seen turns.new)) moment) (told_by_moves result) }
+        ensures idle { IfOk result (λ o. o ≡ Outcome.Still → HasRisen self.old.inbox.counts.paused self.new.inbox.counts.paused) }
         ensures all { IfOk result (λ o. is_fault o ≡ false → (self.new.next ≡ None) × HasGivenAll self.new.inbox) }
         ensures fault { IfOk result (λ o. IfFault o (λ kind error. IsCauseOf kind error line.new self.old self.new ((v : Value) × (self.new.next ≡ Some v) × T.cause (T.setting turns.old) Refusal.Unasked (Event.Answered line.new.host line.new.epoch v moment) (T.seen turns.new)) moment)) }
         ensures writes { self.new.counts ≡ self.old.counts }
         ensures err { OnErr result (self.new.inbox.values.refusal ≡ None) }
+        ensures plain { IfErr result IsOfNoDevice }
     {
         let before = self.answer_all(line, rt, turns, moment)?;
         if before.is_fault() {
@@ -356,9 +367,13 @@ impl<R: ReadTally, W: WriteTally> Link<R, W> {
         ensures seen { StartsWith (T.seen turns.new) (T.seen turns.old) }
         ensures goes { AsTold (GoesOn line.old line.new (Some self.old) (Some self.new) (own_steps (T.pass turns.old) (T.seen turns.old))
             (own_steps (T.pass turns.old) (T.seen turns.new)) moment) (told_by_moves result) }
+        ensures idle { IfOk result (λ o. o ≡ Outcome.Still → HasRisen self.old.inbox.counts.paused self.new.inbox.counts.paused
+            × (HasRisen self.old.counts.paused self.new.counts.paused
+            ⊎ ((line.old.pending ≡ []) × HasHeld (T.cause (T.setting turns.old) Refusal.NothingWaiting) (Event.Taken line.old.host) (T.seen turns.old) (T.seen turns.new)))) }
         ensures all { IfOk result (λ o. is_fault o ≡ false → (self.new.next ≡ None) × HasGivenAll self.new.inbox) }
         ensures fault { IfOk result (λ o. IfFault o (λ kind error. IsCauseOf kind error line.new self.old self.new ((v : Value) × (self.new.next ≡ Some v) × T.cause (T.setting turns.old) Refusal.Unasked (Event.Answered line.new.host line.new.epoch v moment) (T.seen turns.new)) moment)) }
         ensures err { OnErr result (self.new.inbox.values.refusal ≡ None) }
+        ensures plain { IfErr result IsOfNoDevice }
     {
         let sent = self.send(line, rt, turns, moment)?;
         if sent.is_fault() {
