@@ -66,9 +66,9 @@ pub record WorksHost (U : LineState → LinkState → Type 0) (old : LineState) 
   pub moved : Bool
   pub goes : GoesOn old last.line link last.link H between moment moved
   pub ends : ((new.line ≡ last.line) × (new.link ≡ last.link) × (H' ≡ between) × IsAnswered moved result
-          × IfSome new.fault (λ kind. (error : Option EngineError) × IsCausedOn U kind error last.line link last.link moment))
+      × IfSome new.fault (λ kind. (error : Option EngineError) × IsCausedOn U kind error last.line link last.link moment))
       ⊎ ((kind : Kind) × (error : Option EngineError) × Records last new between H' kind moment
-          × IsCausedOn U kind error last.line link last.link moment × (result ≡ answer_of error))
+      × IsCausedOn U kind error last.line link last.link moment × (result ≡ answer_of error))
 
 -- what a step answers that recorded an earlier fault, by what it answers of its own work
 abbrev pub after_fault : Result Progress EngineError → Result Progress EngineError

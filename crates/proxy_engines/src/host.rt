@@ -1,5 +1,5 @@
 //! A host's end.
-ghost use Rattle.std.specs.Prelude.{◌≡◌, ◌≢◌, ◌⊎◌, ◌↔◌, ℕ, List, [], Option, Some, None, IfOk, IfErr, IfSome, OnOk, OnErr, true, false};
+ghost use Rattle.std.specs.Prelude.{◌≡◌, ◌≢◌, ◌⊎◌, ◌↔◌, ℕ, List, [], Option, Some, None, Ok, IfOk, IfErr, IfSome, OnOk, OnErr, true, false};
 ghost use Rattle.ticket_gate.specs.Journal.{StartsWith};
 ghost use Rattle.proxy_history.specs.History.{History};
 ghost use Rattle.proxy_history.specs.Own.{host_steps};
@@ -10,7 +10,7 @@ ghost use Rattle.proxy_engines.specs.Moves.{AsTold, told_by_turn};
 ghost use Rattle.proxy_engines.specs.Faults.{IsOfNoDevice};
 ghost use Rattle.proxy_engines.specs.Ends.{HasGivenAll};
 ghost use Rattle.proxy_engines.specs.Host.{LinkState, GoesOn, FailsHost, CarriesHost};
-ghost use Rattle.proxy_engines.specs.HostStep.{HasHeld, IsIdleOn, IsUnasked, Records, RestsHost, StepsHost, WorksHost};
+ghost use Rattle.proxy_engines.specs.HostStep.{HasHeld, IsIdleOn, IsUnasked, Records, RestsHost, StepsHost, WorksHost, after_fault};
 
 use crate::client::Progress;
 use crate::error::EngineError;
@@ -31,6 +31,16 @@ pub struct HostEngine<R: ReadTally, W: WriteTally> {
     line: Line,
     link: Option<Link<R, W>>,
     fault: Option<Kind>,
+}
+
+// What a step answers that recorded an earlier fault first.
+fn after_fault(progress: Progress) -> Progress
+    ensures { Ok result ≡ after_fault (Ok progress) }
+{
+    match progress {
+        Progress::NeedsLink => Progress::NeedsLink,
+        _ => Progress::Moved,
+    }
 }
 
 impl<R: ReadTally, W: WriteTally> Model for HostEngine<R, W> {
@@ -288,9 +298,7 @@ impl<R: ReadTally + Drop, W: WriteTally + Drop> HostEngine<R, W> {
             return self.go_on(rt, turns, moment);
         };
         self.give_up(rt, turns, kind, moment)?;
-        match self.go_on(rt, turns, moment)? {
-            Progress::NeedsLink => Ok(Progress::NeedsLink),
-            _ => Ok(Progress::Moved),
-        }
+        let progress = self.go_on(rt, turns, moment)?;
+        Ok(after_fault(progress))
     }
 }

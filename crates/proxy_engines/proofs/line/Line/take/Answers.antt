@@ -7,9 +7,11 @@ returns-then-is_err-clause-goes g c = λ k. (false, rw (c.reserve.ensures.items,
 
 pub returns-then-epoch-self-clause-goes : goal.returns-then-epoch-self-clause-goes
 returns-then-epoch-self-clause-goes g c = λ k.
-    let adds = rw c.in-Ok-Sent.field-0-is at c.in-Ok-Sent.ensures.answered in
-    (true, rw (c.push_back_reserved.ensures.items, c.reserve.ensures.items, adds.steps, ← c.self.view_is)
-    (taken_astray _ (g.T.Turns.pass c.args.turns.now) _ c.in-Ok-Sent.epoch _ c.args.moment c.in-Ok-Sent.text (rw (← c.self.view_is) at c.requires.nothing) c.if-self.false k c.if-epoch-self.true))
+    let adds = rw c.in-Ok-Sent.field-0-is at c.in-Ok-Sent.ensures.answered in (
+      true,
+      rw (c.push_back_reserved.ensures.items, c.reserve.ensures.items, adds.steps, ← c.self.view_is)
+          (taken_astray _ (g.T.Turns.pass c.args.turns.now) _ c.in-Ok-Sent.epoch _ c.args.moment c.in-Ok-Sent.text (rw (← c.self.view_is) at c.requires.nothing) c.if-self.false k c.if-epoch-self.true),
+    )
 
 pub returns-else-epoch-self-clause-goes : goal.returns-else-epoch-self-clause-goes
 returns-else-epoch-self-clause-goes g c = λ k.

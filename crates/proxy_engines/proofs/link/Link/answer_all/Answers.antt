@@ -9,8 +9,7 @@ loop-init g c = (stays_on _ _ _ _ _ refl, c.requires.whole, refl, refl, refl, re
 
 pub loop-preserved : goal.loop-preserved
 loop-preserved g c =
-    let kept = c.loop.invariant in
-    (
+    let kept = c.loop.invariant in (
       told_moved _ _ _ _ _ _ _ _ _ _ _ kept.0 (rw kept.5 at (rw c.in-Moved.is at c.in_ok-fault.ensures.goes)),
       c.in_ok-fault.ensures.moved c.in-Moved.is,
       c.answer_next.ensures.reads ∙ kept.2,

@@ -9,7 +9,7 @@ use Rattle.proxy_engines.proofs.link.Link.answer_all.Given as goal
 abbrev pub invariant-loop : goal.invariant-loop
 invariant-loop g l =
     AsTold (GoesOn l.fn.line l.line (Some l.fn.self) (Some l.self) (own_steps (g.T.Turns.pass l.fn.turns) (g.T.Turns.seen l.fn.turns))
-        (own_steps (g.T.Turns.pass l.fn.turns) (g.T.Turns.seen l.turns)) l.fn.moment) (told_by_outcome l.outcome)
+    (own_steps (g.T.Turns.pass l.fn.turns) (g.T.Turns.seen l.turns)) l.fn.moment) (told_by_outcome l.outcome)
     × (l.self.inbox.values.refusal ≡ None)
     × (l.self.inbox.counts ≡ l.fn.self.inbox.counts)
     × (l.self.counts ≡ l.fn.self.counts)

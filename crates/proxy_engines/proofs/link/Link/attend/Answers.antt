@@ -24,11 +24,10 @@ pub returns-clause-idle : goal.returns-clause-idle
 returns-clause-idle g c = λ e.
     let both = either_still c.in_ok-sent.sent c.in_ok-received.received (sym c.or.ensures.is ∙ e) in
     let sent = c.in_ok-sent.ensures.idle both.0 in
-    let received = c.in_ok-received.ensures.idle both.1 in
-    (
+    let received = c.in_ok-received.ensures.idle both.1 in (
       subst (λ (i : Receiving). HasRisen i.counts.paused c.receive.new.self.inbox.counts.paused) c.send.ensures.inbox received,
       subst (λ (n : Counts). HasRisen c.args.self.now.counts.paused n.paused ⊎ ((c.args.line.now.pending ≡ []) × HasHeld (g.T.Turns.cause (g.T.Turns.setting c.args.turns.now) Refusal.NothingWaiting) (Event.Taken c.args.line.now.host) (g.T.Turns.seen c.args.turns.now) (g.T.Turns.seen c.receive.new.turns))) (sym c.receive.ensures.writes)
-      (idle_then (g.T.Turns.cause (g.T.Turns.setting c.args.turns.now) Refusal.NothingWaiting) (Event.Taken c.args.line.now.host) _ _ _ _ _ c.send.ensures.seen c.receive.ensures.seen sent),
+          (idle_then (g.T.Turns.cause (g.T.Turns.setting c.args.turns.now) Refusal.NothingWaiting) (Event.Taken c.args.line.now.host) _ _ _ _ _ c.send.ensures.seen c.receive.ensures.seen sent),
     )
 
 pub returns-clause-goes : goal.returns-clause-goes
