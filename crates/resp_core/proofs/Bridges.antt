@@ -9,7 +9,7 @@ use Rattle.resp_core.specs.declared.error.Refusal.{Refusal}
 use Rattle.resp_core.specs.declared.error.Refusal.TheVariants.{TooLong, TooDeep}
 use Rattle.resp_core.specs.declared.progress.Progress.{Progress}
 use Rattle.resp_core.specs.Offset.{refusal_number}
-use Rattle.resp_core.specs.Reading.{found, unfinished, refused, value_at, payload_at, bytes_at}
+use Rattle.resp_core.specs.Reading.{Outcome, found, unfinished, refused, value_at, payload_at, bytes_at}
 use Rattle.resp_core.specs.Front.{IsFirstValue, IsUnfinished, IsFault}
 use Rattle.resp_core.specs.Progress.{Reads, Finds, IsFresh, IsGood, payload_due, seen_of, held_of, shown}
 use Rattle.resp_core.proofs.Firsts.{first_unfinished, first_unfinished_long, first_too_long, first_told}
@@ -110,3 +110,25 @@ none_while_short most held p good less r =
     none_yet most held
     (payload_unfinished most d.0 v held p p.pending.items none d.1 all (omega (arith, good.came)) (omega (arith, less, good.needed.1)) (short_payload d.0 p.pending.items d.2) r)
     (omega (arith, held_is most held p r, less, good.needed.1))
+
+-- bytes that are less than a whole value are read as such
+pub unfinished_is : (most : ℕ) (held : List ℕ) → IsUnfinished most held → value_at most max_depth held ≡ unfinished
+unfinished_is most held u = by (value_at most max_depth held) refl
+  where
+    by : (o : Outcome Tree) → value_at most max_depth held ≡ o → value_at most max_depth held ≡ unfinished
+    by (found t y) e =
+        let q = (value-reads most max_depth).sound held y t e in
+        absurd (u.not_whole (t, q.0, y, q.1, q.2, omega (arith, ap length q.1, length-append q.0 y, u.few)))
+    by unfinished e = e
+    by (refused w rest) e =
+        let whole = (value-reads most max_depth).again (held ++ u.begins.0) [] u.begins.1 u.begins.2 in
+        let stays = (value-reads most max_depth).stays held u.begins.0 rest w e in
+        let clash : refused w (rest ++ u.begins.0) ≡ found u.begins.1 [] = sym stays ∙ sym (ap (value_at most max_depth) (append-nil (held ++ u.begins.0))) ∙ whole in
+        cc
+
+-- whether they are depends on how far a reader has come in them alone
+pub unfinished_too : (most : ℕ) (held other : List ℕ) (p : Progress) → Reads most held p → Reads most other p → IsUnfinished most held → IsUnfinished most other
+unfinished_too most held other p r q u =
+    first_unfinished most other
+    (ap (value_at most max_depth) q.split ∙ q.same p.pending.items ∙ sym (ap (value_at most max_depth) r.split ∙ r.same p.pending.items) ∙ unfinished_is most held u)
+    (omega (arith, held_is most held p r, held_is most other p q, u.few))

@@ -12,7 +12,7 @@ use Rattle.resp_core.specs.declared.error.RespError.{RespError}
 use Rattle.resp_core.specs.declared.progress.Progress.{Progress}
 use Rattle.resp_core.specs.Readable.{IsReadable}
 use Rattle.resp_core.proofs.Readable.{first_readable}
-use Rattle.resp_core.proofs.Bridges.{held_is, reads_shown, shown_reads}
+use Rattle.resp_core.proofs.Bridges.{held_is, reads_shown, shown_reads, unfinished_too}
 use Rattle.resp_core.proofs.Streams.{splits_fed, splits_more, splits_shorter, told_later, first_value_some, no_refusal_of, refusal_of_fault}
 
 -- what holds where nothing was refused
@@ -83,6 +83,10 @@ pub few_left : (most : ℕ) (p q : Progress) → ((held : List ℕ) → Reads mo
 few_left most p q on g =
     let f = on g.held g.reads in
     omega (arith, held_is most g.held q f.0, f.1.few)
+
+-- and none is left to give
+pub rests_unfinished : (most : ℕ) (p q : Progress) → ((held : List ℕ) → Reads most held p → Reads most held q × IsUnfinished most held) → IsReached most p → (held : List ℕ) → Reads most held q → IsUnfinished most held
+rests_unfinished most p q on g held r = let f = on g.held g.reads in unfinished_too most g.held held q f.0 r f.1
 
 -- a reader that refuses a byte
 pub has_refusal : (r : ReaderState) (b : List ℕ) (ts : List Tree) (place at number : ℕ) → r.refusal ≡ None → ((held : List ℕ) → Reads r.most held r.progress → IsFault r.most held place number) → at ≡ told_offset (r.consumed + place) → Stands r b ts → HasRefusal r.most b ts at number

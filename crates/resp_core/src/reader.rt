@@ -141,6 +141,8 @@ impl Reader {
         ensures falls { IfOk result (λ o. IfSome o (λ _. unread self.new < unread self.old)) }
         ensures none { IfOk result (λ o. IfNone o ((b : List ℕ) (ts : List Tree) → Stands self.old b ts
             → HasNoRefusal self.old.most b ts)) }
+        ensures rests { IfOk result (λ o. IfNone o ((b : List ℕ) (ts : List Tree) → Stands self.new b ts
+            → HasNoRefusal self.new.most b ts)) }
         ensures none_same { IfOk result (λ o. IfNone o (Unmoved self.old self.new)) }
         ensures few { IfOk result (λ o. IfNone o (unread self.new ≤ max_text)) }
         ensures refused { IfErr result (λ e. e ≢ RespError.NoMemory → (b : List ℕ) (ts : List Tree) → Stands self.old b ts
@@ -171,6 +173,8 @@ impl Reader {
         ensures falls { IfOk result (λ o. IfSome o (λ _. unread self.new < unread self.old)) }
         ensures none { IfOk result (λ o. IfNone o ((b : List ℕ) (ts : List Tree) → Stands self.old b ts
             → HasNoRefusal self.old.most b ts)) }
+        ensures rests { IfOk result (λ o. IfNone o ((b : List ℕ) (ts : List Tree) → Stands self.new b ts
+            → HasNoRefusal self.new.most b ts)) }
         ensures none_same { IfOk result (λ o. IfNone o (Unmoved self.old self.new)) }
         ensures few { IfOk result (λ o. IfNone o (unread self.new ≤ max_text)) }
         ensures refused { IfErr result (λ e. e ≢ RespError.NoMemory → (b : List ℕ) (ts : List Tree) → Stands self.old b ts

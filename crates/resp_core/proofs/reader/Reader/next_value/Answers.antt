@@ -13,6 +13,9 @@ returns-then-is_short-clause-none c =
     subst (λ (z : ReaderState). (b : List ℕ) (ts : List Tree) → Stands z b ts → HasNoRefusal z.most b ts) c.self.view_is
     (λ b ts h. no_refusal (state_of i.array i.consumed i.progress i.refusal) b ts c.in_default.is (λ held r. c.is_short.ensures c.if-is_short.true i.array c.self.invariant.0 held (shown_reads i.array held i.progress r)) h)
 
+pub returns-then-is_short-clause-rests : goal.returns-then-is_short-clause-rests
+returns-then-is_short-clause-rests c = returns-then-is_short-clause-none c
+
 pub returns-then-is_short-clause-few : goal.returns-then-is_short-clause-few
 returns-then-is_short-clause-few c =
     let i = c.self.inside in

@@ -7,7 +7,7 @@ use Rattle.resp_core.specs.Offset.{offset_of, number_of}
 use Rattle.resp_core.specs.Stream.{HasRefusal, HasNoRefusal}
 use Rattle.resp_core.specs.Standing.{ReaderState, state_of, Stands, Unmoved, unread}
 use Rattle.resp_core.proofs.Bridges.{shown_reads}
-use Rattle.resp_core.proofs.Standing.{stands_given, stands_told, unmoved, falls, few_left, no_refusal, has_refusal, gives_readable, shown_gave, shown_on, shown_reached, given_reached, on_reached}
+use Rattle.resp_core.proofs.Standing.{stands_given, stands_told, unmoved, falls, few_left, no_refusal, rests_unfinished, has_refusal, gives_readable, shown_gave, shown_on, shown_reached, given_reached, on_reached}
 use Rattle.resp_core.proofs.reader.Reader.read_value.Goals as goal
 
 pub invariant_of-self : goal.invariant_of-self
@@ -49,6 +49,12 @@ returns-in-Ok-None-clause-none c =
     let i = c.self.inside in
     subst (λ (z : ReaderState). (b : List ℕ) (ts : List Tree) → Stands z b ts → HasNoRefusal z.most b ts) c.self.view_is
     (λ b ts h. no_refusal (state_of i.array i.consumed i.progress i.refusal) b ts (ap (λ z. z.refusal) c.self.view_is ∙ c.requires.untold) (λ held r. ((rw c.in-Ok-None.field-0-is at c.in-Ok-None.ensures.none) held (shown_reads i.array held i.progress r)).1) h)
+
+pub returns-in-Ok-None-clause-rests : goal.returns-in-Ok-None-clause-rests
+returns-in-Ok-None-clause-rests c =
+    let i = c.self.inside in
+    λ b ts h. no_refusal (state_of i.array i.consumed c.next_value.new.self i.refusal) b ts (ap (λ z. z.refusal) c.self.view_is ∙ c.requires.untold)
+    (λ held r. rests_unfinished i.array i.progress c.next_value.new.self (rw c.in-Ok-None.field-0-is at c.in-Ok-None.ensures.none) c.self.invariant.1 held (shown_reads i.array held c.next_value.new.self r)) h
 
 pub returns-in-Ok-None-clause-none_same : goal.returns-in-Ok-None-clause-none_same
 returns-in-Ok-None-clause-none_same c =

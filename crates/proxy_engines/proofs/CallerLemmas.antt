@@ -1,0 +1,8 @@
+-- What a crate above cites of the engines.
+
+-- steps of others leave what a client carries
+pub use Rattle.proxy_engines.proofs.ClientLemmas.{others_leave_clients}
+-- what is accepted is the first of what the bytes ask
+pub use Rattle.proxy_engines.proofs.ClientLemmas.{accepted_are_first}
+-- a client that ended has accepted all, handed all out and written all
+pub use Rattle.proxy_engines.proofs.ClientLemmas.{ended_is_whole}

@@ -1,0 +1,424 @@
+-- What a client's engine carries over each of its moves.
+use Rattle.std.proofs.Common.{◌≡◌, ◌∙◌, ◌≤◌, ◌+◌, ◌-◌, ◌^◌, ◌==◌, min, ℕ, Bool, true, false, List, [], ◌∷◌, ◌++◌, Option, Some, None, map, ap, append_assoc, append-nil, length, refl, sym, arith, inl, inr, subst, eq-eqb}
+use Rattle.std.specs.Prelude.{IfSome, IfNone, ◌||◌}
+use Rattle.std.specs.Io.KnownBytes.{Consumes, Appends, IsAtEnd}
+use Rattle.std.proofs.lemmas.List.{map-append}
+use Rattle.std.proofs.lemmas.List.Elements.{filter-append}
+use Rattle.resp_core.specs.declared.reader.TheConstants.{CLIENT_MEMBERS}
+use Rattle.splitter.specs.Request.{Request, request_of}
+use Rattle.splitter.specs.Requests.{finishes}
+use Rattle.splitter.specs.Plan.{is_last}
+use Rattle.splitter.proofs.CallerLemmas.{none_finishes-one}
+use Rattle.splitter.specs.declared.request.Request.{Request as Request'}
+use Rattle.proxy_history.specs.Setting.{max_steps}
+use Rattle.proxy_history.specs.History.{History, Step, accepted, handed, requests, is_arrival, is_handing}
+use Rattle.proxy_history.specs.Output.{transcript}
+use Rattle.proxy_history.specs.Own.{connection_steps, is_connection_step}
+use Rattle.proxy_history.specs.OwnLaws.{SameOfConnection}
+use Rattle.proxy_history.specs.declared.event.Event.{Event}
+use Rattle.proxy_history.specs.declared.answer.Answer.{Answer}
+use Rattle.proxy_history.proofs.CallerLemmas as history
+use Rattle.proxy_engines.specs.Ends.{Sending, Sends, Receiving, Holds, HasGivenAll}
+use Rattle.proxy_engines.specs.Turned.{step_by}
+use Rattle.proxy_engines.specs.Client.{Client, Carries, Goes, IsAtStage, IsDone, IsLive, NoneFinishes, asked, waiting}
+use Rattle.proxy_engines.specs.Moves.{has_moved, AsTold}
+use Rattle.proxy_engines.proofs.MoveLemmas.{has_moved-append}
+use Rattle.proxy_engines.specs.declared.client.Stage.{Stage}
+
+-- BYTES
+
+pub Consumes-none : (a : Option (List ℕ)) → Consumes a a []
+Consumes-none None = tt
+Consumes-none (Some xs) = refl
+
+pub Appends-none : (a : Option (List ℕ)) → Appends a a []
+Appends-none None = tt
+Appends-none (Some xs) = sym (append-nil xs)
+
+pub Consumes-append : (a b c : Option (List ℕ)) (g h : List ℕ) → Consumes a b g → Consumes b c h → Consumes a c (g ++ h)
+Consumes-append None b c g h x y = tt
+Consumes-append (Some xs) None c g h x y = absurd x
+Consumes-append (Some xs) (Some ys) None g h x y = absurd y
+Consumes-append (Some xs) (Some ys) (Some zs) g h x y = grind (arith, append_assoc)
+
+pub Appends-append : (a b c : Option (List ℕ)) (g h : List ℕ) → Appends a b g → Appends b c h → Appends a c (g ++ h)
+Appends-append None b c g h x y = tt
+Appends-append (Some xs) None c g h x y = absurd x
+Appends-append (Some xs) (Some ys) None g h x y = absurd y
+Appends-append (Some xs) (Some ys) (Some zs) g h x y = grind (arith, append_assoc)
+
+-- MOVES
+
+-- no bytes, and one step of the connection
+turn_goes : (old new : Client) (H : History) (s : Step) → is_connection_step old.conn s.event s.answer ≡ true → new.conn ≡ old.conn → new.inbox.left ≡ old.inbox.left → new.outbox.held ≡ old.outbox.held
+    → ((taken b : List ℕ) → Carries old H taken b → Carries new (s ∷ H) taken b) → Goes old new H (s ∷ H) true
+turn_goes old new H s mine conn left held f = record {
+  got = [];
+  gave = [];
+  steps = s ∷ [];
+  reads = rw left (Consumes-none old.inbox.left);
+  writes = rw held (Appends-none old.outbox.held);
+  conn = conn;
+  adds = refl;
+  moved_is = refl;
+  alone = rw mine refl;
+  carries = λ taken b k. rw (append-nil taken, append-nil b) (f taken b k);
+}
+
+-- no bytes, and no step
+still_goes : (old new : Client) (H : History) → new.conn ≡ old.conn → new.inbox.left ≡ old.inbox.left → new.outbox.held ≡ old.outbox.held
+    → ((taken b : List ℕ) → Carries old H taken b → Carries new H taken b) → Goes old new H H false
+still_goes old new H conn left held f = record {
+  got = [];
+  gave = [];
+  steps = [];
+  reads = rw left (Consumes-none old.inbox.left);
+  writes = rw held (Appends-none old.outbox.held);
+  conn = conn;
+  adds = refl;
+  moved_is = refl;
+  alone = refl;
+  carries = λ taken b k. rw (append-nil taken, append-nil b) (f taken b k);
+}
+
+-- nothing at all
+pub same_goes : (e : Client) (H H' : History) → H' ≡ H → Goes e e H H' false
+same_goes e H H' same = rw same (still_goes e e H refl refl refl (λ taken b k. k))
+
+-- two moves after one another
+pub goes_then : (a b c : Client) (x y z : History) (m n : Bool) → Goes a b x y m → Goes b c y z n → Goes a c x z (m || n)
+goes_then a b c x y z m n p q = record {
+  got = p.got ++ q.got;
+  gave = p.gave ++ q.gave;
+  steps = q.steps ++ p.steps;
+  reads = Consumes-append a.inbox.left b.inbox.left c.inbox.left p.got q.got p.reads q.reads;
+  writes = Appends-append a.outbox.held b.outbox.held c.outbox.held p.gave q.gave p.writes q.writes;
+  conn = q.conn ∙ p.conn;
+  adds = rw (q.adds, p.adds) (sym (append_assoc q.steps p.steps x));
+  moved_is = ap (λ w. w || n) p.moved_is
+      ∙ ap (λ w. has_moved p.got p.gave p.steps || w) q.moved_is
+      ∙ sym (has_moved-append p.got q.got p.gave q.gave p.steps q.steps);
+  alone = filter-append (λ (s : Step). is_connection_step a.conn s.event s.answer) q.steps p.steps ∙ rw (p.alone) (ap (λ w. w ++ p.steps) (rw p.conn at q.alone));
+  carries = λ taken r k. rw (← append_assoc taken p.gave q.gave, ← append_assoc r p.got q.got) (q.carries (taken ++ p.gave) (r ++ p.got) (p.carries taken r k));
+}
+
+-- and one after which it isn't told whether anything moved
+pub goes_some : (a b c : Client) (x y z : History) (m n : Bool) → Goes a b x y m → Goes b c y z n → (moved : Bool) × Goes a c x z moved
+goes_some a b c x y z m n p q = ((m || n), goes_then a b c x y z m n p q)
+
+-- nothing moved, and then what is told
+pub told_then : (a b c : Client) (x y z : History) (told : Option Bool) → Goes a b x y false → AsTold (Goes b c y z) told → AsTold (Goes a c x z) told
+told_then a b c x y z None p q = goes_some a b c x y z false q.0 p q.1
+told_then a b c x y z (Some n) p q = goes_then a b c x y z false n p q
+
+-- STAGES
+
+stage_at : (s : Stage) (e : Client) (H : History) (b : List ℕ) (given : List Request) → e.stage ≡ s
+    → IsAtStage e.stage (IsDone e H) (asked e.conn H) e.inbox e.next b given → IsAtStage s (IsDone e H) (asked e.conn H) e.inbox e.next b given
+stage_at s e H b given is at = subst (λ (z : Stage). IsAtStage z (IsDone e H) (asked e.conn H) e.inbox e.next b given) is at
+
+-- a live stage doesn't look at whether all is done
+live_stage : (s : Stage) (D E : Type 0) (asks : List Request) (i : Receiving) (next : Option Request') (b : List ℕ) (given : List Request) → IsLive s
+    → IsAtStage s D asks i next b given → IsAtStage s E asks i next b given
+live_stage Stage.Open D E asks i next b given live at = at
+live_stage Stage.AtEnd D E asks i next b given live at = at
+live_stage Stage.Finishing D E asks i next b given live at = at
+live_stage Stage.Failed D E asks i next b given live at = absurd live
+live_stage (Stage.Closed cut) D E asks i next b given live at = absurd live
+
+-- HANDED
+
+module _ (e : Client) (pass : ℕ) (H : History) (t : List ℕ) where
+  abbrev after_hand : Client
+  after_hand = record e { outbox = record e.outbox { pending = t }; handed = min (e.handed + 1) (2 ^ 64 - 1) }
+
+  handed_carries : length (step_by pass (Event.Handed e.conn) (Answer.Bytes t) ∷ H) ≤ max_steps → e.outbox.pending ≡ [] → IsLive e.stage → (taken b : List ℕ) → Carries e H taken b
+      → Carries after_hand (step_by pass (Event.Handed e.conn) (Answer.Bytes t) ∷ H) taken b
+  handed_carries few empty live taken b k =
+      let mine : (e.conn == e.conn) ≡ true = eq-eqb e.conn e.conn refl in
+      let same : requests e.conn H ++ [] ≡ requests e.conn H = append-nil (requests e.conn H) in
+      record {
+        given = k.given;
+        out_is = rw mine (ap (λ z. z ++ t) (sym (append-nil taken) ∙ rw empty at k.out_is));
+        holds = k.holds;
+        most_is = k.most_is;
+        given_are = rw same k.given_are;
+        accepted_is = k.accepted_is;
+        handed_is = rw mine (omega (arith, k.handed_is, few, history.times-length (is_handing e.conn) H));
+        stage_is = rw same (live_stage e.stage (IsDone e H) _ (asked e.conn H) e.inbox e.next b k.given live k.stage_is);
+      }
+
+  pub handed_goes : length (step_by pass (Event.Handed e.conn) (Answer.Bytes t) ∷ H) ≤ max_steps → e.outbox.pending ≡ [] → IsLive e.stage → Goes e after_hand H (step_by pass (Event.Handed e.conn) (Answer.Bytes t) ∷ H) true
+  handed_goes few empty live = turn_goes e after_hand H (step_by pass (Event.Handed e.conn) (Answer.Bytes t)) (rw (eq-eqb e.conn e.conn refl) refl) refl refl refl (handed_carries few empty live)
+
+-- STEPS THAT HAND OUT NOTHING AND ACCEPT NOTHING
+
+-- a step of the connection that changes no more than its end
+pub record IsQuiet (c : ℕ) (s : Step) (H : History) : Type 0 where
+  pub mine : is_connection_step c s.event s.answer ≡ true
+  pub same_transcript : transcript c (s ∷ H) ≡ transcript c H
+  pub same_requests : requests c (s ∷ H) ≡ requests c H
+  pub same_accepted : accepted c (s ∷ H) ≡ accepted c H
+  pub same_handed : handed c (s ∷ H) ≡ handed c H
+
+quiet_goes : (e : Client) (stage : Stage) (s : Step) (H : History) → IsQuiet e.conn s H
+    → ((b : List ℕ) (given : List Request) → IsAtStage e.stage (IsDone e H) (asked e.conn H) e.inbox e.next b given
+    → IsAtStage stage (IsDone (record e { stage = stage }) (s ∷ H)) (asked e.conn H) e.inbox e.next b given)
+    → Goes e (record e { stage = stage }) H (s ∷ H) true
+quiet_goes e stage s H q f = turn_goes e (record e { stage = stage }) H s q.mine refl refl refl (λ taken b k. record {
+  given = k.given;
+  out_is = k.out_is ∙ sym q.same_transcript;
+  holds = k.holds;
+  most_is = k.most_is;
+  given_are = rw q.same_requests k.given_are;
+  accepted_is = k.accepted_is ∙ sym q.same_accepted;
+  handed_is = k.handed_is ∙ sym q.same_handed;
+  stage_is = rw q.same_requests (f b k.given k.stage_is);
+})
+
+quiet_finished : (c pass : ℕ) (a : Answer) (H : History) → IsQuiet c (step_by pass (Event.Finished c) a) H
+quiet_finished c pass a H = record {
+  mine = rw (eq-eqb c c refl) refl;
+  same_transcript = append-nil (transcript c H);
+  same_requests = append-nil (requests c H);
+  same_accepted = refl;
+  same_handed = refl;
+}
+
+quiet_closed : (c pass : ℕ) (a : Answer) (H : History) → IsQuiet c (step_by pass (Event.Closed c) a) H
+quiet_closed c pass a H = record {
+  mine = rw (eq-eqb c c refl) refl;
+  same_transcript = append-nil (transcript c H);
+  same_requests = append-nil (requests c H);
+  same_accepted = refl;
+  same_handed = refl;
+}
+
+pub finished_goes : (e : Client) (pass : ℕ) (a : Answer) (H : History) → e.stage ≡ Stage.AtEnd
+    → Goes e (record e { stage = Stage.Finishing }) H (step_by pass (Event.Finished e.conn) a ∷ H) true
+finished_goes e pass a H is =
+    quiet_goes e Stage.Finishing (step_by pass (Event.Finished e.conn) a) H (quiet_finished e.conn pass a H)
+    (λ b given at. inl (stage_at Stage.AtEnd e H b given is at))
+
+pub cut_goes : (e : Client) (pass : ℕ) (a : Answer) (H : History) → Goes e (record e { stage = Stage.Closed true }) H (step_by pass (Event.Closed e.conn) a ∷ H) true
+cut_goes e pass a H = quiet_goes e (Stage.Closed true) (step_by pass (Event.Closed e.conn) a) H (quiet_closed e.conn pass a H) (λ b given at. tt)
+
+pub failed_goes : (e : Client) (H H' : History) → H' ≡ H → Goes e (record e { stage = Stage.Failed }) H H' false
+failed_goes e H H' same = rw same (still_goes e (record e { stage = Stage.Failed }) H refl refl refl (λ taken b k. record {
+  given = k.given;
+  out_is = k.out_is;
+  holds = k.holds;
+  most_is = k.most_is;
+  given_are = k.given_are;
+  accepted_is = k.accepted_is;
+  handed_is = k.handed_is;
+  stage_is = tt;
+}))
+
+pub closed_goes : (e : Client) (pass : ℕ) (a : Answer) (H : History) → e.stage ≡ Stage.Finishing → e.outbox.pending ≡ [] → e.accepted ≡ e.handed
+    → Goes e (record e { stage = Stage.Closed false }) H (step_by pass (Event.Closed e.conn) a ∷ H) true
+closed_goes e pass a H is empty handed =
+    quiet_goes e (Stage.Closed false) (step_by pass (Event.Closed e.conn) a) H (quiet_closed e.conn pass a H) (λ b given at. (
+      stage_at Stage.Finishing e H b given is at,
+      record { all_written = empty; all_handed = handed; closed = rw (eq-eqb e.conn e.conn refl) refl },
+    ))
+
+-- A WRITE
+
+pub wrote_goes : (e : Client) (o : Sending) (gave : List ℕ) (H : History) (moved : Bool) → IsLive e.stage → Sends e.outbox o gave → moved ≡ has_moved [] gave [] → Goes e (record e { outbox = o }) H H moved
+wrote_goes e o gave H moved live sends told = record {
+  got = [];
+  gave = gave;
+  steps = [];
+  reads = Consumes-none e.inbox.left;
+  writes = sends.held;
+  conn = refl;
+  adds = refl;
+  moved_is = told;
+  alone = refl;
+  carries = λ taken b k. rw (append-nil b) (record {
+    given = k.given;
+    out_is = append_assoc taken gave o.pending ∙ ap (λ z. taken ++ z) (sym sends.pending) ∙ k.out_is;
+    holds = k.holds;
+    most_is = k.most_is;
+    given_are = k.given_are;
+    accepted_is = k.accepted_is;
+    handed_is = k.handed_is;
+    stage_is = live_stage e.stage (IsDone e H) _ (asked e.conn H) e.inbox e.next b k.given live k.stage_is;
+  });
+}
+
+-- A REQUEST IS ACCEPTED
+
+module _ (e : Client) (r : Request') (pass : ℕ) (H : History) (a : Answer) (open_is : e.stage ≡ Stage.Open) (next : e.next ≡ Some r) (few : length (step_by pass (Event.Arrived e.conn r) a ∷ H) ≤ max_steps) where
+  more_asked : asked e.conn (step_by pass (Event.Arrived e.conn r) a ∷ H) ≡ asked e.conn H ++ request_of r ∷ []
+  more_asked = rw (eq-eqb e.conn e.conn refl) (map-append request_of (requests e.conn H) (r ∷ []))
+
+  arrived_as : (stage : Stage)
+      → ((b : List ℕ) (given : List Request) → NoneFinishes (asked e.conn H)
+      → IsAtStage stage (IsDone (record e { next = None; accepted = min (e.accepted + 1) (2 ^ 64 - 1); stage = stage }) (step_by pass (Event.Arrived e.conn r) a ∷ H)) (asked e.conn (step_by pass (Event.Arrived e.conn r) a ∷ H)) e.inbox None b given)
+      → Goes e (record e { next = None; accepted = min (e.accepted + 1) (2 ^ 64 - 1); stage = stage }) H (step_by pass (Event.Arrived e.conn r) a ∷ H) true
+  arrived_as stage f =
+      let mine : (e.conn == e.conn) ≡ true = eq-eqb e.conn e.conn refl in
+      let new : Client = record e { next = None; accepted = min (e.accepted + 1) (2 ^ 64 - 1); stage = stage } in
+      turn_goes e new H (step_by pass (Event.Arrived e.conn r) a) (rw mine refl) refl refl refl (λ taken b k. record {
+        given = k.given;
+        out_is = k.out_is ∙ sym (append-nil (transcript e.conn H));
+        holds = k.holds;
+        most_is = k.most_is;
+        given_are = rw next at k.given_are ∙ sym more_asked ∙ sym (append-nil (asked e.conn (step_by pass (Event.Arrived e.conn r) a ∷ H)));
+        accepted_is = rw mine (omega (arith, k.accepted_is, few, history.times-length (is_arrival e.conn) H));
+        handed_is = k.handed_is;
+        stage_is = f b k.given (stage_at Stage.Open e H b k.given open_is k.stage_is);
+      })
+
+  pub arrived_on : finishes (request_of r) ≡ false → Goes e (record e { next = None; accepted = min (e.accepted + 1) (2 ^ 64 - 1) }) H (step_by pass (Event.Arrived e.conn r) a ∷ H) true
+  arrived_on goes_on =
+      subst (λ (z : Stage). Goes e (record e { next = None; accepted = min (e.accepted + 1) (2 ^ 64 - 1); stage = z }) H (step_by pass (Event.Arrived e.conn r) a ∷ H) true) (sym open_is)
+      (arrived_as Stage.Open (λ b given none. subst (λ (z : List Request). NoneFinishes z) (sym more_asked) (none_finishes-one (asked e.conn H) (request_of r) none goes_on)))
+
+  pub arrived_last : finishes (request_of r) ≡ true → Goes e (record e { next = None; accepted = min (e.accepted + 1) (2 ^ 64 - 1); stage = Stage.Finishing }) H (step_by pass (Event.Arrived e.conn r) a ∷ H) true
+  arrived_last is_last = arrived_as Stage.Finishing (λ b given none. inr (record { front = asked e.conn H; last = request_of r; are = more_asked; goes_on = none; finishes = is_last }))
+
+-- WHAT COMES IN
+
+-- a request has come whole, or none has
+pub fetched_goes : (e : Client) (i : Receiving) (next : Option Request') (H : History) → e.stage ≡ Stage.Open → e.next ≡ None → i.left ≡ e.inbox.left → i.values.most ≡ e.inbox.values.most
+    → ((b : List ℕ) (rs : List Request) → Holds e.inbox b rs → Holds i b (rs ++ waiting next)) → Goes e (record e { inbox = i; next = next }) H H false
+fetched_goes e i next H open_is none left most f = still_goes e (record e { inbox = i; next = next }) H refl left refl (λ taken b k. record {
+  given = k.given ++ waiting next;
+  out_is = k.out_is;
+  holds = f b k.given k.holds;
+  most_is = most ∙ k.most_is;
+  given_are = ap (λ z. z ++ waiting next) (rw (none, append-nil (asked e.conn H)) at k.given_are);
+  accepted_is = k.accepted_is;
+  handed_is = k.handed_is;
+  stage_is = subst (λ (z : Stage). IsAtStage z (IsDone (record e { inbox = i; next = next }) H) (asked e.conn H) i next b (k.given ++ waiting next)) (sym open_is) (stage_at Stage.Open e H b k.given open_is k.stage_is);
+})
+
+-- the reader of values went on, and gave none
+pub kept_goes : (e : Client) (i : Receiving) (H : History) → e.stage ≡ Stage.Open → i.left ≡ e.inbox.left → i.values.most ≡ e.inbox.values.most
+    → ((b : List ℕ) (rs : List Request) → Holds e.inbox b rs → Holds i b rs) → Goes e (record e { inbox = i }) H H false
+kept_goes e i H open_is left most f = still_goes e (record e { inbox = i }) H refl left refl (λ taken b k. record {
+  given = k.given;
+  out_is = k.out_is;
+  holds = f b k.given k.holds;
+  most_is = most ∙ k.most_is;
+  given_are = k.given_are;
+  accepted_is = k.accepted_is;
+  handed_is = k.handed_is;
+  stage_is = subst (λ (z : Stage). IsAtStage z (IsDone (record e { inbox = i }) H) (asked e.conn H) i e.next b k.given) (sym open_is) (stage_at Stage.Open e H b k.given open_is k.stage_is);
+})
+
+pub fetched_holds : (i j : Receiving) (next : Option Request') → IfSome next (λ r. (b : List ℕ) (rs : List Request) → Holds i b rs → Holds j b (rs ++ request_of r ∷ []))
+    → IfNone next ((b : List ℕ) (rs : List Request) → Holds i b rs → Holds j b rs) → (b : List ℕ) (rs : List Request) → Holds i b rs → Holds j b (rs ++ waiting next)
+fetched_holds i j None s n b rs h = rw (append-nil rs) (n b rs h)
+fetched_holds i j (Some r) s n b rs h = s b rs h
+
+-- bytes are read
+pub read_holds : (i j : Receiving) (b : List ℕ) (rs : List Request) → i.values.refusal ≡ None → i.fresh ≡ [] → j.values ≡ i.values → Holds i b rs → Holds j (b ++ j.fresh) rs
+read_holds i j b rs whole empty same h = record {
+  fed = h.fed;
+  given = h.given;
+  bytes = ap (λ z. z ++ j.fresh) (h.bytes ∙ rw empty (append-nil h.fed));
+  stands = rw same h.stands;
+  requests = rw same h.requests;
+  after = rw (same, whole) tt;
+}
+
+pub read_goes : (e : Client) (i : Receiving) (H : History) (moved : Bool) → moved ≡ has_moved i.fresh [] [] → e.stage ≡ Stage.Open → e.inbox.values.refusal ≡ None → e.inbox.fresh ≡ [] → Consumes e.inbox.left i.left i.fresh → i.values ≡ e.inbox.values
+    → Goes e (record e { inbox = i }) H H moved
+read_goes e i H moved told open_is whole empty input same = record {
+  got = i.fresh;
+  gave = [];
+  steps = [];
+  reads = input;
+  writes = Appends-none e.outbox.held;
+  conn = refl;
+  adds = refl;
+  moved_is = told;
+  alone = refl;
+  carries = λ taken b k. rw (append-nil taken) (record {
+    given = k.given;
+    out_is = k.out_is;
+    holds = read_holds e.inbox i b k.given whole empty same k.holds;
+    most_is = ap (λ z. z.most) same ∙ k.most_is;
+    given_are = k.given_are;
+    accepted_is = k.accepted_is;
+    handed_is = k.handed_is;
+    stage_is = subst (λ (z : Stage). IsAtStage z (IsDone (record e { inbox = i }) H) (asked e.conn H) i e.next (b ++ i.fresh) k.given) (sym open_is) (stage_at Stage.Open e H b k.given open_is k.stage_is);
+  });
+}
+
+-- the input has ended
+pub ended_goes : (e : Client) (i : Receiving) (H : History) → e.stage ≡ Stage.Open → e.next ≡ None → HasGivenAll e.inbox → i.fresh ≡ [] → Consumes e.inbox.left i.left i.fresh → IsAtEnd i.left → i.values ≡ e.inbox.values
+    → Goes e (record e { inbox = i; stage = Stage.AtEnd }) H H false
+ended_goes e i H open_is none all still input end same = record {
+  got = [];
+  gave = [];
+  steps = [];
+  reads = rw still at input;
+  writes = Appends-none e.outbox.held;
+  conn = refl;
+  adds = refl;
+  moved_is = refl;
+  alone = refl;
+  carries = λ taken b k. rw (append-nil taken, append-nil b) (record {
+    given = k.given;
+    out_is = k.out_is;
+    holds = subst (λ (z : List ℕ). Holds i z k.given) (ap (λ z. b ++ z) still ∙ append-nil b) (read_holds e.inbox i b k.given all.none_refused all.none_fresh same k.holds);
+    most_is = ap (λ z. z.most) same ∙ k.most_is;
+    given_are = k.given_are;
+    accepted_is = k.accepted_is;
+    handed_is = k.handed_is;
+    stage_is = (stage_at Stage.Open e H b k.given open_is k.stage_is, record { end = end; all = rw same (all.all b k.given k.holds); none_waits = none });
+  });
+}
+
+-- OTHERS' STEPS
+
+module _ (e : Client) (H later : History) (others : connection_steps e.conn later ≡ []) where
+  same_of_conn : SameOfConnection e.conn H (later ++ H)
+  same_of_conn = history.SameOfConnection-append e.conn later H others
+
+  stage_beside : (s : Stage) (b : List ℕ) (given : List Request) → IsAtStage s (IsDone e H) (asked e.conn H) e.inbox e.next b given → IsAtStage s (IsDone e (later ++ H)) (asked e.conn H) e.inbox e.next b given
+  stage_beside Stage.Open b given at = at
+  stage_beside Stage.AtEnd b given at = at
+  stage_beside Stage.Finishing b given at = at
+  stage_beside Stage.Failed b given at = at
+  stage_beside (Stage.Closed true) b given at = at
+  stage_beside (Stage.Closed false) b given at = (at.0, record { all_written = at.1.all_written; all_handed = at.1.all_handed; closed = same_of_conn.same_closed ∙ at.1.closed })
+
+  pub carries_beside : (taken b : List ℕ) → Carries e H taken b → Carries e (later ++ H) taken b
+  carries_beside taken b k =
+      let same = same_of_conn in
+      let asks : asked e.conn (later ++ H) ≡ asked e.conn H = ap (map request_of) same.same_requests in
+      record {
+        given = k.given;
+        out_is = k.out_is ∙ sym same.same_transcript;
+        holds = k.holds;
+        most_is = k.most_is;
+        given_are = k.given_are ∙ ap (λ z. z ++ waiting e.next) (sym asks);
+        accepted_is = k.accepted_is ∙ sym same.same_accepted;
+        handed_is = k.handed_is ∙ sym same.same_handed;
+        stage_is = subst (λ (z : List Request). IsAtStage e.stage (IsDone e (later ++ H)) z e.inbox e.next b k.given) (sym asks) (stage_beside e.stage b k.given k.stage_is);
+      }
+
+-- THE BEGINNING
+
+pub opened_carries : (conn pass : ℕ) (i : Receiving) (o : Sending) (H : History) → connection_steps conn H ≡ [] → o.pending ≡ [] → i.values.most ≡ CLIENT_MEMBERS → Holds i [] []
+    → Carries (record { conn = conn; inbox = i; outbox = o; next = None; accepted = 0; handed = 0; stage = Stage.Open }) (step_by pass Event.Opened (Answer.Opened conn) ∷ H) [] []
+opened_carries conn pass i o H none empty most holds =
+    let same = history.SameOfConnection-connection_steps conn H in
+    let no_text : transcript conn H ≡ [] = sym same.same_transcript ∙ ap (transcript conn) none in
+    let no_request : requests conn H ≡ [] = sym same.same_requests ∙ ap (requests conn) none in
+    record {
+      given = [];
+      out_is = rw (no_text, empty) refl;
+      holds = holds;
+      most_is = most;
+      given_are = rw no_request refl;
+      accepted_is = ap (accepted conn) (sym none) ∙ same.same_accepted;
+      handed_is = ap (handed conn) (sym none) ∙ same.same_handed;
+      stage_is = rw no_request refl;
+    }

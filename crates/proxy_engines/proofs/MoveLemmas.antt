@@ -1,0 +1,64 @@
+-- Whether anything moved, over several moves.
+use Rattle.std.proofs.Common.{◌≡◌, ◌≢◌, ◌<◌, ◌+◌, ℕ, Bool, true, false, List, [], ◌∷◌, ◌++◌, Option, None, ap, arith, length, refl, sym}
+use Rattle.std.specs.Prelude.{◌||◌, ◌≤◌, zero, suc, take, Result, Ok, Err, IsErr}
+use Rattle.proxy_history.specs.History.{History}
+use Rattle.proxy_engines.specs.Moves.{has_moved, AsTold, told_by_step}
+use Rattle.proxy_engines.specs.Faults.{is_fault, told_by_moves, told_by_outcome}
+use Rattle.proxy_engines.specs.declared.client.Progress.{Progress}
+use Rattle.proxy_engines.specs.declared.link.Outcome.{Outcome}
+use Rattle.proxy_engines.specs.declared.error.EngineError.{EngineError}
+
+pub has_moved-append : (a b c d : List ℕ) (e f : History) → has_moved (a ++ b) (c ++ d) (f ++ e) ≡ (has_moved a c e || has_moved b d f)
+has_moved-append (x ∷ a) b c d e f = refl
+has_moved-append [] [] (x ∷ c) d e f = refl
+has_moved-append [] (y ∷ b) (x ∷ c) d e f = refl
+has_moved-append [] (y ∷ b) [] d (s ∷ e) f = refl
+has_moved-append [] [] [] (z ∷ d) (s ∷ e) f = refl
+has_moved-append [] [] [] [] (s ∷ e) [] = refl
+has_moved-append [] [] [] [] (s ∷ e) (t ∷ f) = refl
+has_moved-append [] (y ∷ b) [] d [] f = refl
+has_moved-append [] [] [] (z ∷ d) [] f = refl
+has_moved-append [] [] [] [] [] [] = refl
+has_moved-append [] [] [] [] [] (t ∷ f) = refl
+
+-- some bytes of these
+pub has_moved-take : (n : ℕ) (bytes : List ℕ) → 0 < n → n ≤ length bytes → true ≡ has_moved [] (take n bytes) []
+has_moved-take zero bytes some few = absurd (omega (arith, some))
+has_moved-take (suc n) [] some few = absurd (omega (arith, few))
+has_moved-take (suc n) (x ∷ bytes) some few = refl
+
+pub has_moved-read : (n : ℕ) (bytes : List ℕ) → 0 < n → n ≤ length bytes → true ≡ has_moved (take n bytes) [] []
+has_moved-read zero bytes some few = absurd (omega (arith, some))
+has_moved-read (suc n) [] some few = absurd (omega (arith, few))
+has_moved-read (suc n) (x ∷ bytes) some few = refl
+
+pub or-false : (a : Bool) → (a || false) ≡ a
+or-false true = refl
+or-false false = refl
+
+pub or-true : (a : Bool) → (a || true) ≡ true
+or-true true = refl
+or-true false = refl
+
+-- an error tells nothing of what moved
+pub step-err : (Goes : Bool → Type 0) (r : Result Progress EngineError) → IsErr r → ((moved : Bool) × Goes moved) → AsTold Goes (told_by_step r)
+step-err Goes (Ok p) e g = absurd cc
+step-err Goes (Err x) e g = g
+
+pub moves-err : (Goes : Bool → Type 0) (r : Result Outcome EngineError) → IsErr r → ((moved : Bool) × Goes moved) → AsTold Goes (told_by_moves r)
+moves-err Goes (Ok o) e g = absurd cc
+moves-err Goes (Err x) e g = g
+
+pub as-none : (Goes : Bool → Type 0) (told : Option Bool) → told ≡ None → ((moved : Bool) × Goes moved) → AsTold Goes told
+as-none Goes told e g = rw e g
+
+pub as_faulty : (Goes : Bool → Type 0) (o : Outcome) → is_fault o ≡ true → ((moved : Bool) × Goes moved) → AsTold Goes (told_by_outcome o)
+as_faulty Goes Outcome.Still e g = absurd cc
+as_faulty Goes Outcome.Moved e g = absurd cc
+as_faulty Goes (Outcome.Fault kind error) e g = g
+
+-- neither is told of a fault
+pub as_fault : (Goes : Bool → Type 0) (o : Outcome) → o ≢ Outcome.Still → o ≢ Outcome.Moved → ((moved : Bool) × Goes moved) → AsTold Goes (told_by_outcome o)
+as_fault Goes Outcome.Still s m g = absurd (s refl)
+as_fault Goes Outcome.Moved s m g = absurd (m refl)
+as_fault Goes (Outcome.Fault kind error) s m g = g

@@ -1,0 +1,11 @@
+use Rattle.proxy_engines.proofs.ClientMoves.{closed_goes, same_goes}
+use Rattle.proxy_engines.proofs.client.ClientEngine.close.Goals as goal
+use Rattle.proxy_engines.proofs.client.ClientEngine.close.Goals.{in-Ok, in-Err}
+
+pub returns-clause-goes : goal.returns-clause-goes
+returns-clause-goes g c =
+    elim c.match-tell.branch [
+      | in-Ok w ↦ rw (w.result-is, w.self-is, w.in-Ok.ensures.answered.steps, ← c.self.view_is)
+          (closed_goes _ (g.T.Turns.pass c.args.turns.now) w.in-Ok.field-0 _ (rw (← c.self.view_is) at c.requires.stage) (rw (← c.self.view_is) at c.requires.nothing) (rw (← c.self.view_is) at c.requires.handed))
+      | in-Err w ↦ rw (w.result-is, w.self-is, ← c.self.view_is) (same_goes _ _ _ w.in-Err.ensures.rests)
+    ]

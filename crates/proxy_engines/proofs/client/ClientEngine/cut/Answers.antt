@@ -1,0 +1,10 @@
+use Rattle.proxy_engines.proofs.ClientMoves.{cut_goes, failed_goes}
+use Rattle.proxy_engines.proofs.client.ClientEngine.cut.Goals as goal
+use Rattle.proxy_engines.proofs.client.ClientEngine.cut.Goals.{in-Ok, in-Err}
+
+pub returns-clause-goes : goal.returns-clause-goes
+returns-clause-goes g c =
+    elim c.match-tell.branch [
+      | in-Ok w ↦ rw (w.result-is, w.self-is, w.in-Ok.ensures.answered.steps, ← c.self.view_is) (cut_goes _ (g.T.Turns.pass c.args.turns.now) w.in-Ok.field-0 _)
+      | in-Err w ↦ rw (w.result-is, w.self-is, ← c.self.view_is) (failed_goes _ _ _ w.in-Err.ensures.rests)
+    ]

@@ -1,0 +1,15 @@
+use Rattle.std.proofs.Common.{false}
+use Rattle.proxy_engines.proofs.ClientMoves.{handed_goes, same_goes}
+use Rattle.proxy_engines.proofs.client.ClientEngine.hand.Goals as goal
+
+pub returns-in-Ok-Bytes-clause-goes : goal.returns-in-Ok-Bytes-clause-goes
+returns-in-Ok-Bytes-clause-goes g c =
+    let adds = rw c.in-Ok-Bytes.field-0-is at c.in-Ok-Bytes.ensures.answered in
+    rw (c.put.ensures, c.saturating_add-self-inside.ensures, adds.steps, ← c.self.view_is)
+    (handed_goes _ (g.T.Turns.pass c.args.turns.now) _ c.in-Ok-Bytes.text (rw adds.steps at adds.few) (rw (← c.self.view_is) at c.requires.nothing) (rw (← c.self.view_is) at c.requires.live))
+
+pub returns-in-Err-By-NotReady-clause-goes : goal.returns-in-Err-By-NotReady-clause-goes
+returns-in-Err-By-NotReady-clause-goes g c = same_goes _ _ _ c.in-Err-By-NotReady.ensures.rests
+
+pub returns-in-Err-clause-goes : goal.returns-in-Err-clause-goes
+returns-in-Err-clause-goes g c = (false, same_goes _ _ _ c.in-Err.ensures.rests)

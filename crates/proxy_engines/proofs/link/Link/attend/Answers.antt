@@ -1,0 +1,34 @@
+use Rattle.std.proofs.Common.{◌≡◌, ◌⊎◌, ◌∙◌, [], sym, refl, subst}
+use Rattle.proxy_engines.proofs.HostMoves.{told_both, told_either}
+use Rattle.proxy_history.specs.declared.event.Event.{Event}
+use Rattle.proxy_history.specs.declared.refusal.Refusal.{Refusal}
+use Rattle.proxy_engines.specs.Device.{Counts, HasRisen}
+use Rattle.proxy_engines.specs.Ends.{Receiving}
+use Rattle.proxy_engines.specs.HostStep.{HasHeld}
+use Rattle.proxy_engines.proofs.FaultLemmas.{either_still, idle_then}
+use Rattle.proxy_engines.proofs.MoveLemmas.{moves-err, as_faulty}
+use Rattle.proxy_engines.proofs.link.Link.attend.Goals as goal
+
+pub returns-in_err-received-clause-goes : goal.returns-in_err-received-clause-goes
+returns-in_err-received-clause-goes g c =
+    moves-err _ c.from_residual-in_err-received.result c.from_residual-in_err-received.ensures.0 (told_both _ _ _ _ _ _ _ _ _ _ _ _ c.send.ensures.goes (rw c.send.ensures.pass at c.receive.ensures.goes))
+
+pub returns-then-is_fault-2-clause-goes : goal.returns-then-is_fault-2-clause-goes
+returns-then-is_fault-2-clause-goes g c =
+    as_faulty _ c.in_ok-received.received (sym c.is_fault-2.ensures ∙ c.if-is_fault-2.true) (told_both _ _ _ _ _ _ _ _ _ _ _ _ c.send.ensures.goes (rw c.send.ensures.pass at c.receive.ensures.goes))
+
+pub returns-then-is_late-clause-goes : goal.returns-then-is_late-clause-goes
+returns-then-is_late-clause-goes g c = told_both _ _ _ _ _ _ _ _ _ _ _ _ c.send.ensures.goes (rw c.send.ensures.pass at c.receive.ensures.goes)
+
+pub returns-clause-idle : goal.returns-clause-idle
+returns-clause-idle g c = λ e.
+    let both = either_still c.in_ok-sent.sent c.in_ok-received.received (sym c.or.ensures.is ∙ e) in
+    let sent = c.in_ok-sent.ensures.idle both.0 in
+    let received = c.in_ok-received.ensures.idle both.1 in (
+      subst (λ (i : Receiving). HasRisen i.counts.paused c.receive.new.self.inbox.counts.paused) c.send.ensures.inbox received,
+      subst (λ (n : Counts). HasRisen c.args.self.now.counts.paused n.paused ⊎ ((c.args.line.now.pending ≡ []) × HasHeld (g.T.Turns.cause (g.T.Turns.setting c.args.turns.now) Refusal.NothingWaiting) (Event.Taken c.args.line.now.host) (g.T.Turns.seen c.args.turns.now) (g.T.Turns.seen c.receive.new.turns))) (sym c.receive.ensures.writes)
+          (idle_then (g.T.Turns.cause (g.T.Turns.setting c.args.turns.now) Refusal.NothingWaiting) (Event.Taken c.args.line.now.host) _ _ _ _ _ c.send.ensures.seen c.receive.ensures.seen sent),
+    )
+
+pub returns-clause-goes : goal.returns-clause-goes
+returns-clause-goes g c = rw c.or.ensures.is (told_either _ _ _ _ _ _ _ _ _ _ c.in_ok-sent.sent c.in_ok-received.received c.in_ok-sent.ensures.goes (rw c.send.ensures.pass at c.in_ok-received.ensures.goes))

@@ -1,0 +1,36 @@
+use Rattle.std.proofs.Common.{◌∙◌, Some, sym, refl}
+use Rattle.proxy_engines.proofs.HostMoves.{told_both, told_either}
+use Rattle.proxy_engines.proofs.FaultLemmas.{fault_later, either_still}
+use Rattle.proxy_engines.proofs.MoveLemmas.{moves-err, as_faulty}
+use Rattle.proxy_engines.proofs.link.Link.receive.Goals as goal
+
+pub returns-then-is_fault-2-clause-goes : goal.returns-then-is_fault-2-clause-goes
+returns-then-is_fault-2-clause-goes g c =
+    as_faulty _ c.listen-heard.result (sym c.is_fault-2.ensures ∙ c.if-is_fault-2.true) (told_both _ _ _ _ _ _ _ _ _ _ _ _ c.answer_all.ensures.goes (c.listen-heard.ensures.goes _ _ _))
+
+pub returns-then-is_fault-2-clause-fault : goal.returns-then-is_fault-2-clause-fault
+returns-then-is_fault-2-clause-fault g c =
+    fault_later c.answer_all.new.line c.answer_all.new.line c.args.self.now c.answer_all.new.self c.listen-heard.new.self ⊥ _ c.args.moment c.answer_all.ensures.reads c.answer_all.ensures.writes refl (λ x. absurd x) c.listen-heard.result (c.listen-heard.ensures.fault c.answer_all.new.line c.args.moment)
+
+pub returns-in_err-after-clause-goes : goal.returns-in_err-after-clause-goes
+returns-in_err-after-clause-goes g c =
+    let heard = told_both _ _ _ _ _ _ _ _ _ _ _ _ c.answer_all.ensures.goes (c.listen-heard.ensures.goes _ _ _) in
+    moves-err _ c.from_residual-in_err-after.result c.from_residual-in_err-after.ensures.0 (told_both _ _ _ _ _ _ _ _ _ _ (Some heard.0) _ heard.1 (rw c.answer_all.ensures.pass at c.answer_all-2.ensures.goes))
+
+pub returns-then-is_fault-3-clause-goes : goal.returns-then-is_fault-3-clause-goes
+returns-then-is_fault-3-clause-goes g c =
+    let heard = told_both _ _ _ _ _ _ _ _ _ _ _ _ c.answer_all.ensures.goes (c.listen-heard.ensures.goes _ _ _) in
+    as_faulty _ c.in_ok-after.after (sym c.is_fault-3.ensures ∙ c.if-is_fault-3.true) (told_both _ _ _ _ _ _ _ _ _ _ (Some heard.0) _ heard.1 (rw c.answer_all.ensures.pass at c.answer_all-2.ensures.goes))
+
+pub returns-clause-idle : goal.returns-clause-idle
+returns-clause-idle g c = λ e.
+    let last = either_still c.or.result c.in_ok-after.after (sym c.or-2.ensures.is ∙ e) in
+    let first = either_still c.in_ok-before.before c.listen-heard.result (sym c.or.ensures.is ∙ last.0) in
+    let paused = c.listen-heard.ensures.still first.1 in
+    rw c.answer_all-2.ensures.reads (rw c.answer_all.ensures.reads at paused.paused)
+
+pub returns-clause-goes : goal.returns-clause-goes
+returns-clause-goes g c =
+    rw (c.or-2.ensures.is, c.or.ensures.is)
+    (told_either _ _ _ _ _ _ _ _ _ _ _ c.in_ok-after.after (told_either _ _ _ _ _ _ _ _ _ _ c.in_ok-before.before c.listen-heard.result c.in_ok-before.ensures.goes (c.listen-heard.ensures.goes _ _ _))
+    (rw c.answer_all.ensures.pass at c.in_ok-after.ensures.goes))

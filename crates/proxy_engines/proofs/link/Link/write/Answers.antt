@@ -1,0 +1,16 @@
+use Rattle.std.proofs.Common.{ap, refl, true, false}
+use Rattle.proxy_engines.specs.Faults.{told_by_outcome}
+use Rattle.proxy_engines.proofs.HostMoves.{wrote_on}
+use Rattle.proxy_engines.proofs.MoveLemmas.{as-none}
+use Rattle.proxy_engines.proofs.link.Link.write.Goals as goal
+use Rattle.proxy_engines.proofs.link.Link.write.Goals.{in-Moved, in-Paused, in-End}
+
+pub returns-clause-goes : goal.returns-clause-goes
+returns-clause-goes g c = λ H m.
+    let sent = c.write_to.ensures.bytes in
+    rw (sent.4, ← c.self.view_is)
+    (elim c.match-write_to.branch [
+      | in-Moved w ↦ rw w.result-is (wrote_on c.args.line.now _ _ sent.0 sent.1 H m true (rw w.in-Moved.is at sent.5) refl refl sent.2 sent.3)
+      | in-Paused w ↦ rw w.result-is (wrote_on c.args.line.now _ _ sent.0 sent.1 H m false (rw w.in-Paused.is at sent.5) refl refl sent.2 sent.3)
+      | in-End w ↦ as-none _ _ (ap told_by_outcome w.result-is) (_, wrote_on c.args.line.now _ _ sent.0 sent.1 H m _ sent.5 refl refl sent.2 sent.3)
+    ])

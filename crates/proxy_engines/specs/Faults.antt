@@ -1,0 +1,56 @@
+-- What a move of a host's engine came to, and why a link broke.
+use Rattle.std.specs.Prelude.{◌≡◌, ◌≢◌, ◌⊎◌, ◌≤◌, ◌-◌, ⊤, ℕ, Bool, true, false, List, ◌∷◌, Option, Some, None, Result, Ok, Err}
+use Rattle.std.specs.Io.KnownBytes.{IsAtEnd}
+use Rattle.proxy_history.specs.declared.event.Kind.{Kind}
+use Rattle.proxy_engines.specs.Device.{HasRisen}
+use Rattle.proxy_engines.specs.Host.{LineState, LinkState}
+use Rattle.proxy_engines.specs.declared.error.EngineError.{EngineError}
+use Rattle.proxy_engines.specs.declared.link.Outcome.{Outcome}
+
+-- whether a move came to a fault
+abbrev pub is_fault : Outcome → Bool
+is_fault (Outcome.Fault kind error) = true
+is_fault Outcome.Moved = false
+is_fault Outcome.Still = false
+
+-- what a move tells, up to a fault
+abbrev pub told_by_outcome : Outcome → Option Bool
+told_by_outcome Outcome.Moved = Some true
+told_by_outcome Outcome.Still = Some false
+told_by_outcome (Outcome.Fault kind error) = None
+
+abbrev pub told_by_moves : Result Outcome EngineError → Option Bool
+told_by_moves (Ok outcome) = told_by_outcome outcome
+told_by_moves (Err e) = None
+
+-- an error that tells of no device
+abbrev pub IsOfNoDevice : EngineError → Type 0
+IsOfNoDevice EngineError.NoMemory = ⊤
+IsOfNoDevice (EngineError.TurnRefused n) = ⊤
+IsOfNoDevice e = ⊥
+
+-- the first of two moves at which anything came, or the second
+abbrev pub either : Outcome → Outcome → Outcome
+either Outcome.Still other = other
+either Outcome.Moved other = Outcome.Moved
+either (Outcome.Fault kind error) other = Outcome.Fault kind error
+
+-- what holds of a fault, where a move came to one
+abbrev pub IfFault : Outcome → (Kind → Option EngineError → Type 0) → Type 0
+IfFault (Outcome.Fault kind error) P = P kind error
+IfFault Outcome.Moved P = ⊤
+IfFault Outcome.Still P = ⊤
+
+-- the oldest part without reply was taken so long ago
+abbrev pub IsLate : LineState → ℕ → Type 0
+IsLate l m = (first : ℕ) × (rest : List ℕ) × (l.moments ≡ first ∷ rest) × (l.reply_ms ≤ m - first)
+
+-- Why a link broke, and the error that tells it: the input ended; a device failed; a byte was refused, or a value came that
+-- nobody asked for; or a reply is late.
+abbrev pub IsCauseOf : Kind → Option EngineError → LineState → LinkState → LinkState → Type 0 → ℕ → Type 0
+IsCauseOf Kind.Dropped None l k k' unasked m = IsAtEnd k'.inbox.left
+IsCauseOf Kind.Dropped (Some EngineError.ReadFailed) l k k' unasked m = HasRisen k.inbox.counts.failed k'.inbox.counts.failed
+IsCauseOf Kind.Dropped (Some EngineError.WriteFailed) l k k' unasked m = HasRisen k.counts.failed k'.counts.failed
+IsCauseOf Kind.Garbled None l k k' unasked m = (k'.inbox.values.refusal ≢ None) ⊎ unasked
+IsCauseOf Kind.Late None l k k' unasked m = IsLate l m
+IsCauseOf kind error l k k' unasked m = ⊥

@@ -1,0 +1,115 @@
+-- What contracts see of a host's engine, and how it stands to the steps of its caller.
+use Rattle.std.specs.Prelude.{◌≡◌, ◌<◌, ◌+◌, ◌-◌, ◌^◌, min, ℕ, Bool, false, List, [], ◌∷◌, ◌++◌, map, drop, Option, Some, None}
+use Rattle.std.specs.Io.KnownBytes.{Consumes, Appends}
+use Rattle.resp_core.specs.Tree.{Tree}
+use Rattle.resp_core.specs.Value.{tree_of}
+use Rattle.resp_core.specs.declared.value.Value.{Value}
+use Rattle.resp_core.specs.declared.reader.TheConstants.{HOST_MEMBERS}
+use Rattle.splitter.specs.Request.{Request, read}
+use Rattle.proxy_history.specs.History.{History, times, is_fault, epoch}
+use Rattle.proxy_history.specs.Replies.{came}
+use Rattle.proxy_history.specs.Output.{upstream}
+use Rattle.proxy_history.specs.Own.{host_steps}
+use Rattle.proxy_history.specs.declared.event.Event.{Event}
+use Rattle.proxy_history.specs.declared.event.Kind.{Kind}
+use Rattle.proxy_history.specs.declared.answer.Answer.{Answer}
+use Rattle.proxy_engines.specs.Device.{Counts}
+use Rattle.proxy_engines.specs.Moves.{has_moved}
+use Rattle.proxy_engines.specs.Ends.{Receiving, Holds, refused}
+use Rattle.proxy_engines.specs.Turned.{step_by}
+
+-- The engine without its link: its host, after how many milliseconds a reply is late, the epoch, the text that is pending, and
+-- when each part without reply was taken, the oldest first. It is astray once a part was of another epoch than its own:
+-- someone else failed its host.
+pub record LineState : Type 0 where
+  pub host : ℕ
+  pub reply_ms : ℕ
+  pub epoch : ℕ
+  pub pending : List ℕ
+  pub moments : List ℕ
+  pub is_astray : Bool
+
+-- a link: what is read, the writer's contents, where they are known, and its counts, and a value whose turn was not answered
+pub record LinkState : Type 0 where
+  pub inbox : Receiving
+  pub held : Option (List ℕ)
+  pub counts : Counts
+  pub next : Option Value
+
+-- what waits for its turn, as a list
+abbrev pub waiting : Option Value → List Request
+waiting None = []
+waiting (Some v) = read (tree_of v) ∷ []
+
+-- The link was given the bytes b: their values are those that came, the one that waits for its turn, and a refused byte.
+pub record HoldsLink (k : LinkState) (came : List Tree) (b : List ℕ) : Type 0 where
+  pub given : List Request
+  pub holds : Holds k.inbox b given
+  pub most_is : k.inbox.values.most ≡ HOST_MEMBERS
+  pub given_are : given ≡ map read came ++ (waiting k.next ++ refused k.inbox.values.refusal)
+
+-- what a link took, what it was given, and the values that came; without a link nothing
+abbrev pub IsOnLink : Option LinkState → List Tree → List ℕ → List ℕ → Type 0
+IsOnLink None came taken b = (came ≡ []) × (taken ≡ []) × (b ≡ [])
+IsOnLink (Some k) came taken b = HoldsLink k came b
+
+-- Where the writer of the present link took these bytes, its reader gave the bytes b, and H is the steps of the engine's
+-- caller: what was taken and what is pending is what was sent to the host in its epoch, and the values that came are the first
+-- of what the bytes hold. Nothing was sent or came in a later epoch.
+pub record CarriesHost (l : LineState) (k : Option LinkState) (H : History) (taken b : List ℕ) : Type 0 where
+  pub out_is : taken ++ l.pending ≡ upstream l.host l.epoch H
+  pub link_is : IsOnLink k (came l.host l.epoch H) taken b
+  pub epoch_is : l.epoch ≡ epoch l.host H
+  pub none_sent : l.is_astray ≡ false → (e : ℕ) → l.epoch < e → upstream l.host e H ≡ []
+  pub none_came : (e : ℕ) → l.epoch < e → came l.host e H ≡ []
+
+-- the moments of the parts without reply, after a step at this moment, and after several, the newest first
+abbrev pub moments_by : ℕ → Event → List ℕ → List ℕ
+moments_by m (Event.Taken h) ms = ms ++ m ∷ []
+moments_by m (Event.Answered h e v t) ms = drop 1 ms
+moments_by m event ms = ms
+
+abbrev pub moments_after : ℕ → History → List ℕ → List ℕ
+moments_after m [] ms = ms
+moments_after m (s ∷ before) ms = moments_by m s.event (moments_after m before ms)
+
+-- the bytes that a link read, and those that it wrote
+abbrev pub ReadsOn : Option LinkState → Option LinkState → List ℕ → Type 0
+ReadsOn None None got = got ≡ []
+ReadsOn (Some k) (Some k') got = Consumes k.inbox.left k'.inbox.left got
+ReadsOn k k' got = ⊥
+
+abbrev pub WritesOn : Option LinkState → Option LinkState → List ℕ → Type 0
+WritesOn None None gave = gave ≡ []
+WritesOn (Some k) (Some k') gave = Appends k.held k'.held gave
+WritesOn k k' gave = ⊥
+
+-- Some moves at one moment, on one link or without one: bytes that were read, bytes that were taken, steps of its host alone
+-- that are no faults, whether any of these came, and what is carried.
+pub record GoesOn (l l' : LineState) (k k' : Option LinkState) (H H' : History) (moment : ℕ) (moved : Bool) : Type 0 where
+  pub got : List ℕ
+  pub gave : List ℕ
+  pub steps : History
+  pub adds : H' ≡ steps ++ H
+  pub moved_is : moved ≡ has_moved got gave steps
+  pub alone : host_steps l.host steps ≡ steps
+  pub no_faults : times (is_fault l.host) steps ≡ 0
+  pub host : l'.host ≡ l.host
+  pub reply_ms : l'.reply_ms ≡ l.reply_ms
+  pub epoch : l'.epoch ≡ l.epoch
+  pub moments : l'.moments ≡ moments_after moment steps l.moments
+  pub reads : ReadsOn k k' got
+  pub writes : WritesOn k k' gave
+  pub carries : (taken b : List ℕ) → CarriesHost l k H taken b → CarriesHost l' k' H' (taken ++ gave) (b ++ got)
+
+-- the engine after a fault: what was pending is dropped
+abbrev pub anew : LineState → LineState
+anew l = record l { epoch = min (l.epoch + 1) (2 ^ 64 - 1); pending = []; moments = [] }
+
+-- One fault was recorded. The link is given up, and the next one begins with nothing.
+pub record FailsHost (l l' : LineState) (k : Option LinkState) (H H' : History) (kind : Kind) (moment : ℕ) : Type 0 where
+  pub pass : ℕ
+  pub answer : Answer
+  pub adds : H' ≡ step_by pass (Event.Failed l.host l.epoch kind moment) answer ∷ H
+  pub line : l' ≡ anew l
+  pub carries : (taken b : List ℕ) → CarriesHost l k H taken b → CarriesHost l' None H' [] []

@@ -1,0 +1,30 @@
+-- What follows from what an engine carries.
+use Rattle.std.specs.Prelude.{◌≡◌, ℕ, false, List, [], ◌++◌}
+use Rattle.splitter.specs.Request.{Request}
+use Rattle.splitter.specs.Requests.{AreRequests, up_to_last}
+use Rattle.proxy_history.specs.History.{History, accepted, handed}
+use Rattle.proxy_history.specs.Output.{transcript}
+use Rattle.proxy_history.specs.Own.{connection_steps}
+use Rattle.proxy_engines.specs.Client.{Client, Carries, asked}
+use Rattle.proxy_engines.specs.declared.client.Stage.{Stage}
+
+-- The requests accepted are the first of those that the bytes read ask.
+abbrev pub AcceptedAreFirst : Type 0
+AcceptedAreFirst = (e : Client) (H : History) (taken b : List ℕ) → Carries e H taken b
+    → (rs : List Request) → AreRequests b rs → (more : List Request) × (rs ≡ asked e.conn H ++ more)
+
+-- A client that ended has accepted the requests of all bytes up to and with the first that finishes; all were handed out,
+-- and the writer took all that was handed out.
+pub record IsWholly (e : Client) (H : History) (taken : List ℕ) (rs : List Request) : Type 0 where
+  pub accepted_are : asked e.conn H ≡ up_to_last rs
+  pub all_handed : handed e.conn H ≡ accepted e.conn H
+  pub taken_is : taken ≡ transcript e.conn H
+
+abbrev pub EndedIsWhole : Type 0
+EndedIsWhole = (e : Client) (H : History) (taken b : List ℕ) → Carries e H taken b → e.stage ≡ Stage.Closed false
+    → (rs : List Request) → AreRequests b rs → IsWholly e H taken rs
+
+-- Steps of others leave what an engine carries as it is.
+abbrev pub OthersLeaveClients : Type 0
+OthersLeaveClients = (e : Client) (H later : History) (taken b : List ℕ) → connection_steps e.conn later ≡ []
+    → Carries e H taken b → Carries e (later ++ H) taken b

@@ -1,0 +1,12 @@
+pub mod EngineError
+pub mod Device
+pub mod Tallied
+pub mod Ends
+pub mod OwnSteps
+pub mod Turned
+pub mod Moves
+pub mod Client
+pub mod Host
+pub mod Faults
+pub mod HostStep
+pub mod Laws

@@ -1,0 +1,31 @@
+-- Whether an engine got on, and how its answer tells it.
+use Rattle.std.specs.Prelude.{Bool, true, false, ⊤, ℕ, List, [], Option, Some, None, Result, Ok, Err}
+use Rattle.proxy_history.specs.History.{History}
+use Rattle.proxy_engines.specs.declared.client.Progress.{Progress}
+use Rattle.proxy_engines.specs.declared.error.EngineError.{EngineError}
+
+-- whether bytes were read, bytes were taken or steps were made
+abbrev pub has_moved : List ℕ → List ℕ → History → Bool
+has_moved [] [] [] = false
+has_moved got gave steps = true
+
+-- moves of which it is told whether anything moved, or of which it isn't
+abbrev pub AsTold : (Bool → Type 0) → Option Bool → Type 0
+AsTold Goes (Some moved) = Goes moved
+AsTold Goes None = (moved : Bool) × Goes moved
+
+-- what a step's answer tells of it: that something moved, or that nothing did
+abbrev pub told_by_step : Result Progress EngineError → Option Bool
+told_by_step (Ok Progress.Moved) = Some true
+told_by_step (Ok Progress.Idle) = Some false
+told_by_step result = None
+
+-- what a turn tells that may be refused for now
+abbrev pub told_by_turn : Result Bool EngineError → Option Bool
+told_by_turn (Ok is_answered) = Some is_answered
+told_by_turn (Err e) = None
+
+-- what a turn tells that ends something
+abbrev pub told_by_end : Result ⊤ EngineError → Option Bool
+told_by_end (Ok u) = Some true
+told_by_end (Err e) = Some false

@@ -1,0 +1,6 @@
+-- The counts of a reader or writer with counts.
+use Rattle.proxy_engines.specs.Device.{Counts}
+use Rattle.proxy_engines.specs.declared.tally.Tallied.{Tallied}
+
+abbrev pub counts_of : {S : Type 0} → Tallied S → Counts
+counts_of t = record { failed = t.failures; paused = t.pauses }

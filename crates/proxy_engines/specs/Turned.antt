@@ -1,0 +1,25 @@
+-- What one turn does to the steps of its caller.
+use Rattle.std.specs.Prelude.{◌≡◌, ◌≤◌, ⊤, ℕ, List, ◌∷◌, length}
+use Rattle.proxy_history.specs.Setting.{max_steps}
+use Rattle.proxy_history.specs.History.{History, Step}
+use Rattle.proxy_history.specs.StepLaws.{IsAnswerTo}
+use Rattle.proxy_history.specs.Seen.{SeenStep}
+use Rattle.proxy_history.specs.declared.answer.Answer.{Answer}
+use Rattle.proxy_history.specs.declared.event.Event.{Event}
+use Rattle.proxy_history.specs.declared.refusal.Refusal.{Refusal}
+use Rattle.proxy_engines.specs.declared.ask.Denied.{Denied}
+
+-- the step of a pass
+abbrev pub step_by : ℕ → Event → Answer → Step
+step_by pass event answer = record { pass = pass; event = event; answer = answer }
+
+-- The caller made one step more, with an answer of the event's kind.
+pub record Adds (pass : ℕ) (old new : History) (event : Event) (answer : Answer) : Type 0 where
+  pub steps : new ≡ step_by pass event answer ∷ old
+  pub fits : IsAnswerTo event answer
+  pub few : length new ≤ max_steps
+
+-- where the state refused the turn, the refusal's cause holds of what is seen
+abbrev pub IsDue : (Refusal → Event → List SeenStep → Type 0) → Event → List SeenStep → Denied → Type 0
+IsDue cause event seen Denied.Spent = ⊤
+IsDue cause event seen (Denied.By r) = cause r event seen

@@ -1,0 +1,173 @@
+//! One turn, and what it does to the caller's own steps.
+ghost use Rattle.std.specs.Prelude.{◌≡◌, ◌∷◌, [], ℕ, IfOk, IfErr, OnOk};
+ghost use Rattle.ticket_gate.specs.Journal.{StartsWith};
+ghost use Rattle.splitter.specs.Plan.{is_last};
+ghost use Rattle.proxy_history.specs.History.{plan_for};
+ghost use Rattle.proxy_history.specs.Own.{connection_steps};
+ghost use Rattle.proxy_history.specs.StepLaws.{is_last_answer};
+ghost use Rattle.proxy_history.specs.declared.answer.Answer.{Answer};
+ghost use Rattle.proxy_history.specs.declared.event.Event.{Event};
+ghost use Rattle.proxy_engines.specs.OwnSteps.{own_steps};
+ghost use Rattle.proxy_engines.specs.Turned.{Adds, IsDue, step_by};
+
+use crate::error::EngineError;
+use proxy_core::{Answer, CoreTurns, Event, Local, Refusal, Request};
+use resp_core::Value;
+use std::sync::Wait;
+use ticket_gate::TurnRefusal;
+
+/// Why a turn was not made.
+#[derive(Clone, Copy, Debug, PartialEq, Eq, Drop)]
+pub(crate) enum Denied {
+    /// No ticket is left.
+    Spent,
+    /// The core refused the event.
+    By(Refusal),
+}
+
+// The number of a turn for which no ticket is left.
+const SPENT: u16 = 1202;
+
+impl Denied {
+    /// What an engine tells of it.
+    pub(crate) fn error(&self) -> EngineError
+        ensures { (number : ℕ) × (result ≡ EngineError.TurnRefused number) }
+    {
+        match self {
+            Denied::Spent => EngineError::TurnRefused { number: SPENT },
+            Denied::By(refusal) => EngineError::TurnRefused {
+                number: refusal.number(),
+            },
+        }
+    }
+}
+
+/// Makes one turn. Where it is refused the event comes back.
+pub(crate) fn ask<Rt: Wait, T: CoreTurns>(
+    rt: &Rt,
+    turns: &mut T,
+    event: Event,
+) -> Result<Answer, (Denied, Event)>
+    ensures pass { T.pass turns.new ≡ T.pass turns.old }
+    ensures setting { T.setting turns.new ≡ T.setting turns.old }
+    ensures seen { StartsWith (T.seen turns.new) (T.seen turns.old) }
+    ensures answered { IfOk result (λ a. Adds (T.pass turns.old) (own_steps (T.pass turns.old) (T.seen turns.old))
+        (own_steps (T.pass turns.old) (T.seen turns.new)) event a) }
+    ensures back { IfErr result (λ r. r.1 ≡ event) }
+    ensures rests { IfErr result (λ r. own_steps (T.pass turns.old) (T.seen turns.new)
+        ≡ own_steps (T.pass turns.old) (T.seen turns.old)) }
+    ensures cause { IfErr result (λ r. IsDue (T.cause (T.setting turns.old)) event (T.seen turns.new) r.0) }
+{
+    match turns.turn(rt, event) {
+        Ok(answer) => Ok(answer),
+        Err(TurnRefusal::Busy { .. }) => unreachable!(),
+        Err(TurnRefusal::Spent { event }) => Err((Denied::Spent, event)),
+        Err(TurnRefusal::State { cause, event }) => Err((Denied::By(cause), event)),
+    }
+}
+
+/// Makes one turn of an event that nobody wants back.
+pub(crate) fn tell<Rt: Wait, T: CoreTurns>(
+    rt: &Rt,
+    turns: &mut T,
+    event: Event,
+) -> Result<Answer, Denied>
+    ensures pass { T.pass turns.new ≡ T.pass turns.old }
+    ensures setting { T.setting turns.new ≡ T.setting turns.old }
+    ensures seen { StartsWith (T.seen turns.new) (T.seen turns.old) }
+    ensures answered { IfOk result (λ a. Adds (T.pass turns.old) (own_steps (T.pass turns.old) (T.seen turns.old))
+        (own_steps (T.pass turns.old) (T.seen turns.new)) event a) }
+    ensures rests { IfErr result (λ r. own_steps (T.pass turns.old) (T.seen turns.new)
+        ≡ own_steps (T.pass turns.old) (T.seen turns.old)) }
+    ensures cause { IfErr result (λ r. IsDue (T.cause (T.setting turns.old)) event (T.seen turns.new) r) }
+{
+    match ask(rt, turns, event) {
+        Ok(answer) => Ok(answer),
+        Err((denied, _)) => Err(denied),
+    }
+}
+
+// Whether the connection finishes with an answer of the proxy's own.
+fn is_last_answer(local: Option<Local>) -> bool
+    ensures { result ≡ is_last_answer local }
+{
+    matches!(local, Some(Local::Bye | Local::Broken))
+}
+
+/// One Arrived turn. True says that the request finishes its connection. Where it is refused the request comes back.
+pub(crate) fn arrive<Rt: Wait, T: CoreTurns>(
+    rt: &Rt,
+    turns: &mut T,
+    conn: u64,
+    request: Request,
+) -> Result<bool, (Denied, Request)>
+    ensures pass { T.pass turns.new ≡ T.pass turns.old }
+    ensures setting { T.setting turns.new ≡ T.setting turns.old }
+    ensures seen { StartsWith (T.seen turns.new) (T.seen turns.old) }
+    ensures answered { OnOk result ((a : Answer) × Adds (T.pass turns.old) (own_steps (T.pass turns.old) (T.seen turns.old))
+        (own_steps (T.pass turns.old) (T.seen turns.new)) (Event.Arrived conn request) a) }
+    ensures last { IfOk result (λ last. last ≡ is_last (plan_for request)) }
+    ensures back { IfErr result (λ r. r.1 ≡ request) }
+    ensures rests { IfErr result (λ r. own_steps (T.pass turns.old) (T.seen turns.new)
+        ≡ own_steps (T.pass turns.old) (T.seen turns.old)) }
+    ensures cause { IfErr result (λ r. IsDue (T.cause (T.setting turns.old)) (Event.Arrived conn request) (T.seen turns.new) r.0) }
+{
+    match ask(rt, turns, Event::Arrived { conn, request }) {
+        Ok(Answer::Accepted { local, .. }) => Ok(is_last_answer(local)),
+        Ok(_) => unreachable!(),
+        Err((denied, Event::Arrived { request, .. })) => Err((denied, request)),
+        Err(_) => unreachable!(),
+    }
+}
+
+/// One Opened turn. Gives the connection's number, which no step before has.
+pub(crate) fn open<Rt: Wait, T: CoreTurns>(rt: &Rt, turns: &mut T) -> Result<u64, Denied>
+    ensures pass { T.pass turns.new ≡ T.pass turns.old }
+    ensures setting { T.setting turns.new ≡ T.setting turns.old }
+    ensures seen { StartsWith (T.seen turns.new) (T.seen turns.old) }
+    ensures answered { IfOk result (λ c. own_steps (T.pass turns.old) (T.seen turns.new)
+        ≡ step_by (T.pass turns.old) Event.Opened (Answer.Opened c) ∷ own_steps (T.pass turns.old) (T.seen turns.old)) }
+    ensures new { IfOk result (λ c. connection_steps c (own_steps (T.pass turns.old) (T.seen turns.old)) ≡ []) }
+    ensures rests { IfErr result (λ r. own_steps (T.pass turns.old) (T.seen turns.new)
+        ≡ own_steps (T.pass turns.old) (T.seen turns.old)) }
+{
+    match turns.turn(rt, Event::Opened) {
+        Ok(Answer::Opened { conn }) => Ok(conn),
+        Ok(_) => unreachable!(),
+        Err(TurnRefusal::Busy { .. }) => unreachable!(),
+        Err(TurnRefusal::Spent { .. }) => Err(Denied::Spent),
+        Err(TurnRefusal::State { cause, .. }) => Err(Denied::By(cause)),
+    }
+}
+
+/// One Answered turn. Where it is refused the value comes back.
+pub(crate) fn give<Rt: Wait, T: CoreTurns>(
+    rt: &Rt,
+    turns: &mut T,
+    host: usize,
+    epoch: u64,
+    value: Value,
+    moment: u64,
+) -> Result<(), (Denied, Value)>
+    ensures pass { T.pass turns.new ≡ T.pass turns.old }
+    ensures setting { T.setting turns.new ≡ T.setting turns.old }
+    ensures seen { StartsWith (T.seen turns.new) (T.seen turns.old) }
+    ensures answered { OnOk result ((a : Answer) × Adds (T.pass turns.old) (own_steps (T.pass turns.old) (T.seen turns.old))
+        (own_steps (T.pass turns.old) (T.seen turns.new)) (Event.Answered host epoch value moment) a) }
+    ensures back { IfErr result (λ r. r.1 ≡ value) }
+    ensures rests { IfErr result (λ r. own_steps (T.pass turns.old) (T.seen turns.new)
+        ≡ own_steps (T.pass turns.old) (T.seen turns.old)) }
+    ensures cause { IfErr result (λ r. IsDue (T.cause (T.setting turns.old)) (Event.Answered host epoch value moment) (T.seen turns.new) r.0) }
+{
+    let event = Event::Answered {
+        host,
+        epoch,
+        value,
+        t: moment,
+    };
+    match ask(rt, turns, event) {
+        Ok(_) => Ok(()),
+        Err((denied, Event::Answered { value, .. })) => Err((denied, value)),
+        Err(_) => unreachable!(),
+    }
+}

@@ -1,0 +1,517 @@
+//! A client's end.
+ghost use Rattle.std.specs.Prelude.{◌≡◌, ◌≢◌, ◌∷◌, ◌++◌, ◌⊎◌, ℕ, [], List, Option, None, Some, true, false, IfOk, IfErr, OnOk, OnErr};
+ghost use Rattle.splitter.specs.Request.{Request as Asked};
+ghost use Rattle.proxy_history.specs.History.{History};
+ghost use Rattle.proxy_history.specs.declared.answer.Answer.{Answer};
+ghost use Rattle.proxy_history.specs.declared.event.Event.{Event};
+ghost use Rattle.proxy_engines.specs.OwnSteps.{own_steps};
+ghost use Rattle.proxy_engines.specs.Device.{HasFailed, HasPaused};
+ghost use Rattle.proxy_engines.specs.Ends.{HasGivenAll};
+ghost use Rattle.proxy_engines.specs.Turned.{step_by};
+ghost use Rattle.proxy_engines.specs.Moves.{AsTold, told_by_end, told_by_step, told_by_turn};
+ghost use Rattle.ticket_gate.specs.Journal.{StartsWith};
+
+use crate::ask::{Denied, arrive, open, tell};
+use crate::error::EngineError;
+use crate::inbox::Inbox;
+use crate::outbox::Outbox;
+use crate::tally::{ReadTally, Told, WriteTally};
+use proxy_core::{Answer, CoreTurns, Event, Refusal, Request};
+use resp_core::Limits;
+use std::alloc::Global;
+use std::marker::Model;
+use std::sync::Wait;
+
+/// What a step did.
+#[derive(Clone, Copy, Debug, PartialEq, Eq, Drop)]
+pub enum Progress {
+    /// Bytes were read or taken, or a turn was answered.
+    Moved,
+    /// Nothing could be done for now.
+    Idle,
+    /// A host has bytes pending and no link.
+    NeedsLink,
+    /// The connection was closed after a fault of its reader or writer.
+    Cut,
+    /// All was handed out and written, and the connection was closed.
+    Ended,
+}
+
+/// How far a connection has come.
+#[derive(Clone, Copy, Debug, PartialEq, Eq, Drop)]
+pub enum Stage {
+    /// Requests are taken.
+    Open,
+    /// The input has ended, and the connection is to be told so.
+    AtEnd,
+    /// Nothing more arrives.
+    Finishing,
+    /// A device failed, and the connection is to be closed.
+    Failed,
+    /// The connection was closed, for a fault or at its end.
+    Closed {
+        /// Whether it was for a fault.
+        is_cut: bool,
+    },
+}
+
+/// A client's end: what is read becomes requests, and what is handed out is written.
+///
+/// Contracts see its connection, both ends, the request that waits to be accepted, how many were accepted and how many replies
+/// handed out, and how far the connection has come.
+#[derive(Drop)]
+pub struct ClientEngine<R: ReadTally, W: WriteTally> {
+    conn: u64,
+    inbox: Inbox<R>,
+    outbox: Outbox<W>,
+    next: Option<Request>,
+    accepted: u64,
+    handed: u64,
+    stage: Stage,
+}
+
+impl<R: ReadTally, W: WriteTally> Model for ClientEngine<R, W> {
+    ghost use Rattle.proxy_engines.specs.Client.{Client, IsWhole};
+
+    ghost Value = { Client };
+
+    ghost use Rattle.splitter.specs.contracts.request.Request as request;
+    ghost use Rattle.std.specs.Coded.{codes};
+    ghost use Rattle.resp_core.specs.Code.{tree_code};
+
+    ghost coded = { Prim.hlevel (codes, tree_code, request.the_row.coded) };
+
+    ghost view = { λ e. record { conn = e.conn; inbox = e.inbox; outbox = e.outbox; next = e.next; accepted = e.accepted; handed = e.handed; stage = e.stage } };
+
+    ghost invariant = { λ e. IsWhole e.stage e.next e.inbox.values.refusal };
+}
+
+#[tactic(auto, using(crate::proofs::ClientMoves::same_goes, crate::proofs::ClientMoves::goes_then))]
+impl<R: ReadTally, W: WriteTally> ClientEngine<R, W> {
+    ghost use Rattle.proxy_engines.specs.Client.{Client, Carries, Goes, IsLive};
+    ghost use Rattle.proxy_history.specs.declared.refusal.Refusal.{Refusal};
+    ghost use Rattle.splitter.specs.declared.request.Request.{Request};
+
+    // One Handed turn. False says that the next reply hasn't come.
+    fn hand<Rt: Wait, T: CoreTurns>(&mut self, rt: &Rt, turns: &mut T) -> Result<bool, EngineError>
+        requires live { IsLive self.old.stage }
+        requires nothing { self.old.outbox.pending ≡ [] }
+        ensures pass { T.pass turns.new ≡ T.pass turns.old }
+        ensures setting { T.setting turns.new ≡ T.setting turns.old }
+        ensures seen { StartsWith (T.seen turns.new) (T.seen turns.old) }
+        ensures goes { AsTold (Goes self.old self.new (own_steps (T.pass turns.old) (T.seen turns.old))
+            (own_steps (T.pass turns.old) (T.seen turns.new))) (told_by_turn result) }
+        ensures stage { self.new.stage ≡ self.old.stage }
+        ensures same { IfOk result (λ b. b ≡ false → self.new ≡ self.old) }
+        ensures not_ready { IfOk result (λ b. b ≡ false → (left : ℕ) × T.cause (T.setting turns.old) (Refusal.NotReady left) (Event.Handed self.old.conn) (T.seen turns.new)) }
+        ensures err { IfErr result (λ e. (self.new ≡ self.old) × ((n : ℕ) × (e ≡ EngineError.TurnRefused n))) }
+    {
+        match tell(rt, turns, Event::Handed { conn: self.conn }) {
+            Ok(Answer::Bytes { text }) => {
+                self.outbox.put(text);
+                self.handed = self.handed.saturating_add(1);
+                Ok(true)
+            }
+            Ok(_) => unreachable!(),
+            Err(Denied::By(Refusal::NotReady { .. })) => Ok(false),
+            Err(denied) => Err(denied.error()),
+        }
+    }
+
+    // One Closed turn at the end.
+    fn close<Rt: Wait, T: CoreTurns>(&mut self, rt: &Rt, turns: &mut T) -> Result<(), EngineError>
+        requires stage { self.old.stage ≡ Stage.Finishing }
+        requires nothing { self.old.outbox.pending ≡ [] }
+        requires handed { self.old.accepted ≡ self.old.handed }
+        ensures pass { T.pass turns.new ≡ T.pass turns.old }
+        ensures setting { T.setting turns.new ≡ T.setting turns.old }
+        ensures seen { StartsWith (T.seen turns.new) (T.seen turns.old) }
+        ensures goes { AsTold (Goes self.old self.new (own_steps (T.pass turns.old) (T.seen turns.old))
+            (own_steps (T.pass turns.old) (T.seen turns.new))) (told_by_end result) }
+        ensures ok { OnOk result (self.new ≡ record self.old { stage = Stage.Closed false }) }
+        ensures err { IfErr result (λ e. (self.new ≡ self.old) × ((n : ℕ) × (e ≡ EngineError.TurnRefused n))) }
+    {
+        match tell(rt, turns, Event::Closed { conn: self.conn }) {
+            Ok(_) => {
+                self.stage = Stage::Closed { is_cut: false };
+                Ok(())
+            }
+            Err(denied) => Err(denied.error()),
+        }
+    }
+
+    // One Closed turn after a fault of a device. Until it is answered, no other turn is made.
+    fn cut<Rt: Wait, T: CoreTurns>(&mut self, rt: &Rt, turns: &mut T) -> Result<(), EngineError>
+        ensures pass { T.pass turns.new ≡ T.pass turns.old }
+        ensures setting { T.setting turns.new ≡ T.setting turns.old }
+        ensures seen { StartsWith (T.seen turns.new) (T.seen turns.old) }
+        ensures goes { AsTold (Goes self.old self.new (own_steps (T.pass turns.old) (T.seen turns.old))
+            (own_steps (T.pass turns.old) (T.seen turns.new))) (told_by_end result) }
+        ensures ok { OnOk result (self.new ≡ record self.old { stage = Stage.Closed true }) }
+        ensures err { IfErr result (λ e. (self.new ≡ record self.old { stage = Stage.Failed }) × ((n : ℕ) × (e ≡ EngineError.TurnRefused n))) }
+    {
+        self.stage = Stage::Failed;
+        match tell(rt, turns, Event::Closed { conn: self.conn }) {
+            Ok(_) => {
+                self.stage = Stage::Closed { is_cut: true };
+                Ok(())
+            }
+            Err(denied) => Err(denied.error()),
+        }
+    }
+
+    // One Finished turn.
+    fn finish<Rt: Wait, T: CoreTurns>(&mut self, rt: &Rt, turns: &mut T) -> Result<(), EngineError>
+        requires stage { self.old.stage ≡ Stage.AtEnd }
+        ensures pass { T.pass turns.new ≡ T.pass turns.old }
+        ensures setting { T.setting turns.new ≡ T.setting turns.old }
+        ensures seen { StartsWith (T.seen turns.new) (T.seen turns.old) }
+        ensures goes { AsTold (Goes self.old self.new (own_steps (T.pass turns.old) (T.seen turns.old))
+            (own_steps (T.pass turns.old) (T.seen turns.new))) (told_by_end result) }
+        ensures ok { OnOk result (self.new ≡ record self.old { stage = Stage.Finishing }) }
+        ensures err { IfErr result (λ e. (self.new ≡ self.old) × ((n : ℕ) × (e ≡ EngineError.TurnRefused n))) }
+    {
+        match tell(rt, turns, Event::Finished { conn: self.conn }) {
+            Ok(_) => {
+                self.stage = Stage::Finishing;
+                Ok(())
+            }
+            Err(denied) => Err(denied.error()),
+        }
+    }
+
+    // The request that waits, as an Arrived turn. False says that it is held back: too many commands are unwritten.
+    fn offer<Rt: Wait, T: CoreTurns>(&mut self, rt: &Rt, turns: &mut T) -> Result<bool, EngineError>
+        requires stage { self.old.stage ≡ Stage.Open }
+        requires waits { self.old.next ≢ None }
+        ensures pass { T.pass turns.new ≡ T.pass turns.old }
+        ensures setting { T.setting turns.new ≡ T.setting turns.old }
+        ensures seen { StartsWith (T.seen turns.new) (T.seen turns.old) }
+        ensures goes { AsTold (Goes self.old self.new (own_steps (T.pass turns.old) (T.seen turns.old))
+            (own_steps (T.pass turns.old) (T.seen turns.new))) (told_by_turn result) }
+        ensures live { IsLive self.new.stage }
+        ensures held { IfOk result (λ b. b ≡ false → self.new ≡ self.old) }
+        ensures crowded { IfOk result (λ b. b ≡ false → (r : Request) × (self.old.next ≡ Some r)
+            × T.cause (T.setting turns.old) Refusal.Crowded (Event.Arrived self.old.conn r) (T.seen turns.new)) }
+        ensures err { IfErr result (λ e. (self.new ≡ self.old) × ((n : ℕ) × (e ≡ EngineError.TurnRefused n))) }
+    {
+        let Some(request) = self.next.take() else {
+            return Ok(false);
+        };
+        match arrive(rt, turns, self.conn, request) {
+            Ok(is_last) => {
+                self.accepted = self.accepted.saturating_add(1);
+                if is_last {
+                    self.stage = Stage::Finishing;
+                }
+                Ok(true)
+            }
+            Err((denied, request)) => {
+                self.next = Some(request);
+                match denied {
+                    Denied::By(Refusal::Crowded) => Ok(false),
+                    denied => Err(denied.error()),
+                }
+            }
+        }
+    }
+
+    // The next request, if one has come whole.
+    fn fetch(&mut self) -> Result<bool, EngineError>
+        requires stage { self.old.stage ≡ Stage.Open }
+        requires none { self.old.next ≡ None }
+        ensures goes { (H : History) → Goes self.old self.new H H false }
+        ensures stage { self.new.stage ≡ Stage.Open }
+        ensures counts { self.new.inbox.counts ≡ self.old.inbox.counts }
+        ensures some { IfOk result (λ b. b ≡ true → self.new.next ≢ None) }
+        ensures none { IfOk result (λ b. b ≡ false → (self.new.next ≡ None) × HasGivenAll self.new.inbox) }
+        ensures err { IfErr result (λ e. e ≡ EngineError.NoMemory) }
+    {
+        match self.inbox.next_request() {
+            Ok(next) => {
+                let is_there = next.is_some();
+                self.next = next;
+                Ok(is_there)
+            }
+            Err(_) => Err(EngineError::NoMemory),
+        }
+    }
+
+    // Whether a request waits, or has come whole.
+    fn has_next(&mut self) -> Result<bool, EngineError>
+        requires { self.old.stage ≡ Stage.Open }
+        ensures goes { (H : History) → Goes self.old self.new H H false }
+        ensures stage { self.new.stage ≡ Stage.Open }
+        ensures counts { self.new.inbox.counts ≡ self.old.inbox.counts }
+        ensures some { IfOk result (λ b. b ≡ true → self.new.next ≢ None) }
+        ensures none { IfOk result (λ b. b ≡ false → (self.new.next ≡ None) × HasGivenAll self.new.inbox) }
+        ensures err { IfErr result (λ e. e ≡ EngineError.NoMemory) }
+    {
+        if self.next.is_none() {
+            self.fetch()
+        } else {
+            Ok(true)
+        }
+    }
+
+    // One write.
+    fn write<Rt: Wait, T: CoreTurns>(
+        &mut self,
+        rt: &Rt,
+        turns: &mut T,
+    ) -> Result<Progress, EngineError>
+        requires live { IsLive self.old.stage }
+        requires some { self.old.outbox.pending ≢ [] }
+        ensures pass { T.pass turns.new ≡ T.pass turns.old }
+        ensures setting { T.setting turns.new ≡ T.setting turns.old }
+        ensures seen { StartsWith (T.seen turns.new) (T.seen turns.old) }
+        ensures goes { AsTold (Goes self.old self.new (own_steps (T.pass turns.old) (T.seen turns.old))
+            (own_steps (T.pass turns.old) (T.seen turns.new))) (told_by_step result) }
+        ensures ok { IfOk result (λ p. (self.new.stage ≡ self.old.stage)
+            × ((p ≡ Progress.Moved) ⊎ ((p ≡ Progress.Idle) × HasPaused self.old.outbox.counts self.new.outbox.counts))) }
+        ensures err { IfErr result (λ e.
+            ((e ≡ EngineError.WriteFailed) × HasFailed self.old.outbox.counts self.new.outbox.counts × (self.new.stage ≡ Stage.Closed true))
+            ⊎ ((n : ℕ) × (e ≡ EngineError.TurnRefused n))) }
+    {
+        match self.outbox.write_once() {
+            Told::Moved(_) => Ok(Progress::Moved),
+            Told::Paused => Ok(Progress::Idle),
+            Told::End | Told::Failed => {
+                self.cut(rt, turns)?;
+                Err(EngineError::WriteFailed)
+            }
+        }
+    }
+
+    // One read. The end of the input becomes a Finished turn.
+    fn read<Rt: Wait, T: CoreTurns>(
+        &mut self,
+        rt: &Rt,
+        turns: &mut T,
+    ) -> Result<Progress, EngineError>
+        requires stage { self.old.stage ≡ Stage.Open }
+        requires none { self.old.next ≡ None }
+        requires all { HasGivenAll self.old.inbox }
+        ensures pass { T.pass turns.new ≡ T.pass turns.old }
+        ensures setting { T.setting turns.new ≡ T.setting turns.old }
+        ensures seen { StartsWith (T.seen turns.new) (T.seen turns.old) }
+        ensures goes { AsTold (Goes self.old self.new (own_steps (T.pass turns.old) (T.seen turns.old))
+            (own_steps (T.pass turns.old) (T.seen turns.new))) (told_by_step result) }
+        ensures ok { IfOk result (λ p. IsLive self.new.stage
+            × ((p ≡ Progress.Moved) ⊎ ((p ≡ Progress.Idle) × HasPaused self.old.inbox.counts self.new.inbox.counts))) }
+        ensures err { IfErr result (λ e.
+            ((e ≡ EngineError.ReadFailed) × HasFailed self.old.inbox.counts self.new.inbox.counts × (self.new.stage ≡ Stage.Closed true))
+            ⊎ ((n : ℕ) × (e ≡ EngineError.TurnRefused n))) }
+    {
+        match self.inbox.read_once() {
+            Told::Moved(_) => Ok(Progress::Moved),
+            Told::Paused => Ok(Progress::Idle),
+            Told::End => {
+                self.stage = Stage::AtEnd;
+                self.finish(rt, turns)?;
+                Ok(Progress::Moved)
+            }
+            Told::Failed => {
+                self.cut(rt, turns)?;
+                Err(EngineError::ReadFailed)
+            }
+        }
+    }
+
+    // The next request as an Arrived turn, else one read.
+    fn take_in<Rt: Wait, T: CoreTurns>(
+        &mut self,
+        rt: &Rt,
+        turns: &mut T,
+    ) -> Result<Progress, EngineError>
+        requires stage { self.old.stage ≡ Stage.Open }
+        ensures pass { T.pass turns.new ≡ T.pass turns.old }
+        ensures setting { T.setting turns.new ≡ T.setting turns.old }
+        ensures seen { StartsWith (T.seen turns.new) (T.seen turns.old) }
+        ensures goes { AsTold (Goes self.old self.new (own_steps (T.pass turns.old) (T.seen turns.old))
+            (own_steps (T.pass turns.old) (T.seen turns.new))) (told_by_step result) }
+        ensures ok { IfOk result (λ p. IsLive self.new.stage × ((p ≡ Progress.Moved) ⊎ (p ≡ Progress.Idle))) }
+        ensures err { IfErr result (λ e. (e ≡ EngineError.NoMemory)
+            ⊎ ((e ≡ EngineError.ReadFailed) × HasFailed self.old.inbox.counts self.new.inbox.counts × (self.new.stage ≡ Stage.Closed true))
+            ⊎ ((n : ℕ) × (e ≡ EngineError.TurnRefused n))) }
+    {
+        if !self.has_next()? {
+            return self.read(rt, turns);
+        }
+        if self.offer(rt, turns)? {
+            Ok(Progress::Moved)
+        } else {
+            Ok(Progress::Idle)
+        }
+    }
+
+    // The end, once all that was accepted is handed out.
+    fn end<Rt: Wait, T: CoreTurns>(
+        &mut self,
+        rt: &Rt,
+        turns: &mut T,
+    ) -> Result<Progress, EngineError>
+        requires stage { self.old.stage ≡ Stage.Finishing }
+        requires nothing { self.old.outbox.pending ≡ [] }
+        ensures pass { T.pass turns.new ≡ T.pass turns.old }
+        ensures setting { T.setting turns.new ≡ T.setting turns.old }
+        ensures seen { StartsWith (T.seen turns.new) (T.seen turns.old) }
+        ensures goes { AsTold (Goes self.old self.new (own_steps (T.pass turns.old) (T.seen turns.old))
+            (own_steps (T.pass turns.old) (T.seen turns.new))) (told_by_step result) }
+        ensures ok { IfOk result (λ p. (p ≡ Progress.Idle) ⊎ ((p ≡ Progress.Ended) × (self.new.stage ≡ Stage.Closed false))) }
+        ensures err { IfErr result (λ e. (n : ℕ) × (e ≡ EngineError.TurnRefused n)) }
+    {
+        if self.accepted != self.handed {
+            return Ok(Progress::Idle);
+        }
+        self.close(rt, turns)?;
+        Ok(Progress::Ended)
+    }
+
+    // Whether a reply was handed out. No turn is made where all that was accepted is handed out: it would be refused.
+    fn has_handed<Rt: Wait, T: CoreTurns>(
+        &mut self,
+        rt: &Rt,
+        turns: &mut T,
+    ) -> Result<bool, EngineError>
+        requires live { IsLive self.old.stage }
+        requires nothing { self.old.outbox.pending ≡ [] }
+        ensures pass { T.pass turns.new ≡ T.pass turns.old }
+        ensures setting { T.setting turns.new ≡ T.setting turns.old }
+        ensures seen { StartsWith (T.seen turns.new) (T.seen turns.old) }
+        ensures goes { AsTold (Goes self.old self.new (own_steps (T.pass turns.old) (T.seen turns.old))
+            (own_steps (T.pass turns.old) (T.seen turns.new))) (told_by_turn result) }
+        ensures stage { self.new.stage ≡ self.old.stage }
+        ensures same { IfOk result (λ b. b ≡ false → self.new ≡ self.old) }
+        ensures err { IfErr result (λ e. (n : ℕ) × (e ≡ EngineError.TurnRefused n)) }
+    {
+        if self.accepted == self.handed {
+            return Ok(false);
+        }
+        self.hand(rt, turns)
+    }
+
+    // One step of a connection that is neither closed nor to be closed for a fault.
+    fn go_on<Rt: Wait, T: CoreTurns>(
+        &mut self,
+        rt: &Rt,
+        turns: &mut T,
+    ) -> Result<Progress, EngineError>
+        requires live { IsLive self.old.stage }
+        ensures pass { T.pass turns.new ≡ T.pass turns.old }
+        ensures setting { T.setting turns.new ≡ T.setting turns.old }
+        ensures seen { StartsWith (T.seen turns.new) (T.seen turns.old) }
+        ensures goes { AsTold (Goes self.old self.new (own_steps (T.pass turns.old) (T.seen turns.old))
+            (own_steps (T.pass turns.old) (T.seen turns.new))) (told_by_step result) }
+        ensures ended { IfOk result (λ p. p ≡ Progress.Ended → self.new.stage ≡ Stage.Closed false) }
+        ensures cut { IfOk result (λ p. p ≢ Progress.Cut) }
+        ensures read_failed { IfErr result (λ e. e ≡ EngineError.ReadFailed
+            → HasFailed self.old.inbox.counts self.new.inbox.counts × (self.new.stage ≡ Stage.Closed true)) }
+        ensures write_failed { IfErr result (λ e. e ≡ EngineError.WriteFailed
+            → HasFailed self.old.outbox.counts self.new.outbox.counts × (self.new.stage ≡ Stage.Closed true)) }
+    {
+        if !self.outbox.is_empty() {
+            return self.write(rt, turns);
+        }
+        if self.has_handed(rt, turns)? {
+            return Ok(Progress::Moved);
+        }
+        match self.stage {
+            Stage::Open => self.take_in(rt, turns),
+            Stage::AtEnd => {
+                self.finish(rt, turns)?;
+                Ok(Progress::Moved)
+            }
+            _ => self.end(rt, turns),
+        }
+    }
+
+    /// Does the first of these that applies: one write of what is pending; one reply handed out; the request that waits, or the
+    /// next one that has come, accepted; one read of at most 16,384 bytes; and once nothing more arrives and all is handed out
+    /// and written, the close. A closed connection's step does nothing.
+    ///
+    /// Refused 1402 or 1403 where the reader or the writer failed in this call, and the connection was closed for it; 1401 for
+    /// want of memory, and 1404 where a turn was refused: the next step goes on from the same place.
+    pub fn step<Rt: Wait, T: CoreTurns>(
+        &mut self,
+        rt: &Rt,
+        turns: &mut T,
+    ) -> Result<Progress, EngineError>
+        ensures pass { T.pass turns.new ≡ T.pass turns.old }
+        ensures setting { T.setting turns.new ≡ T.setting turns.old }
+        ensures seen { StartsWith (T.seen turns.new) (T.seen turns.old) }
+        ensures goes { AsTold (Goes self.old self.new (own_steps (T.pass turns.old) (T.seen turns.old))
+            (own_steps (T.pass turns.old) (T.seen turns.new))) (told_by_step result) }
+        ensures ended { IfOk result (λ p. p ≡ Progress.Ended → self.new.stage ≡ Stage.Closed false) }
+        ensures cut { IfOk result (λ p. p ≡ Progress.Cut → self.new.stage ≡ Stage.Closed true) }
+        ensures read_failed { IfErr result (λ e. e ≡ EngineError.ReadFailed
+            → HasFailed self.old.inbox.counts self.new.inbox.counts × (self.new.stage ≡ Stage.Closed true)) }
+        ensures write_failed { IfErr result (λ e. e ≡ EngineError.WriteFailed
+            → HasFailed self.old.outbox.counts self.new.outbox.counts × (self.new.stage ≡ Stage.Closed true)) }
+    {
+        match self.stage {
+            Stage::Closed { is_cut: true } => Ok(Progress::Cut),
+            Stage::Closed { is_cut: false } => Ok(Progress::Ended),
+            Stage::Failed => {
+                self.cut(rt, turns)?;
+                Ok(Progress::Cut)
+            }
+            Stage::Open | Stage::AtEnd | Stage::Finishing => self.go_on(rt, turns),
+        }
+    }
+
+    /// The connection's number.
+    pub fn conn(&self) -> u64
+        ensures { result ≡ self.now.conn }
+    {
+        self.conn
+    }
+}
+
+impl<R: ReadTally + Drop, W: WriteTally + Drop> ClientEngine<R, W> {
+    ghost use Rattle.proxy_engines.specs.Client.{Carries};
+
+    /// Opens a connection: all that it needs is taken first, and then one Opened turn is made.
+    ///
+    /// Refused 1401 or 1404, and then no step was added, and the reader and the writer are dropped.
+    pub fn open<Rt: Wait, T: CoreTurns>(
+        rt: &Rt,
+        alloc: Global,
+        turns: &mut T,
+        reader: R,
+        writer: W,
+    ) -> Result<ClientEngine<R, W>, EngineError>
+        ensures pass { T.pass turns.new ≡ T.pass turns.old }
+        ensures opened { IfOk result (λ e. own_steps (T.pass turns.old) (T.seen turns.new)
+            ≡ step_by (T.pass turns.old) Event.Opened (Answer.Opened e.conn) ∷ own_steps (T.pass turns.old) (T.seen turns.old)) }
+        ensures carries { IfOk result (λ e. Carries e (own_steps (T.pass turns.old) (T.seen turns.new)) [] []) }
+        ensures ends { IfOk result (λ e. (e.inbox.left ≡ R.remaining reader) × (e.outbox.held ≡ W.contents writer)) }
+        ensures stage { IfOk result (λ e. e.stage ≡ Stage.Open) }
+        ensures err { IfErr result (λ e. (own_steps (T.pass turns.old) (T.seen turns.new) ≡ own_steps (T.pass turns.old) (T.seen turns.old))
+            × ((e ≡ EngineError.NoMemory) ⊎ ((n : ℕ) × (e ≡ EngineError.TurnRefused n)))) }
+    {
+        let Ok(inbox) = Inbox::new(alloc, reader, Limits::CLIENT) else {
+            return Err(EngineError::NoMemory);
+        };
+        match open(rt, turns) {
+            Ok(conn) => Ok(ClientEngine {
+                conn,
+                inbox,
+                outbox: Outbox::new(writer),
+                next: None,
+                accepted: 0,
+                handed: 0,
+                stage: Stage::Open,
+            }),
+            Err(denied) => Err(denied.error()),
+        }
+    }
+
+    /// The writer. What is pending is dropped, and so is the reader.
+    pub fn into_writer(self) -> W
+        ensures { W.contents result ≡ self.outbox.held }
+    {
+        let ClientEngine { outbox, .. } = self;
+        outbox.into_writer()
+    }
+}

@@ -1,0 +1,46 @@
+//! Why a call of an engine is refused.
+ghost use Rattle.std.specs.Prelude.{◌≡◌};
+ghost use Rattle.proxy_engines.specs.EngineError.{number_of};
+
+use std::fmt;
+
+/// Why a call of an engine is refused. After each of these the next step goes on from the same place.
+#[derive(Clone, Copy, Debug, PartialEq, Eq, Drop)]
+pub enum EngineError {
+    /// 1401: there was no memory.
+    NoMemory,
+    /// 1402: a read failed, and the connection was closed for it, or the fault recorded.
+    ReadFailed,
+    /// 1403: a write failed, and the connection was closed for it, or the fault recorded.
+    WriteFailed,
+    /// 1404: the core or its gate refused a turn, by this number.
+    TurnRefused {
+        /// The refusal's number.
+        number: u16,
+    },
+}
+
+impl EngineError {
+    /// Its number, 1401 to 1404.
+    pub fn number(&self) -> u16
+        ensures { result ≡ number_of self.now }
+    {
+        match self {
+            EngineError::NoMemory => 1401,
+            EngineError::ReadFailed => 1402,
+            EngineError::WriteFailed => 1403,
+            EngineError::TurnRefused { .. } => 1404,
+        }
+    }
+}
+
+impl fmt::Display for EngineError {
+    fn fmt<W: fmt::Write>(&self, f: &mut fmt::Formatter<W>) -> fmt::Result {
+        match self {
+            EngineError::NoMemory => f.write_str("no memory"),
+            EngineError::ReadFailed => f.write_str("a read failed"),
+            EngineError::WriteFailed => f.write_str("a write failed"),
+            EngineError::TurnRefused { number } => write!(f, "a turn was refused by {number}"),
+        }
+    }
+}

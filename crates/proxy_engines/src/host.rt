@@ -1,0 +1,304 @@
+//! A host's end.
+ghost use Rattle.std.specs.Prelude.{◌≡◌, ◌≢◌, ◌⊎◌, ◌↔◌, ℕ, List, [], Option, Some, None, Ok, IfOk, IfErr, IfSome, OnOk, OnErr, true, false};
+ghost use Rattle.ticket_gate.specs.Journal.{StartsWith};
+ghost use Rattle.proxy_history.specs.History.{History};
+ghost use Rattle.proxy_history.specs.Own.{host_steps};
+ghost use Rattle.proxy_history.specs.declared.event.Event.{Event};
+ghost use Rattle.proxy_history.specs.declared.refusal.Refusal.{Refusal};
+ghost use Rattle.proxy_engines.specs.OwnSteps.{own_steps};
+ghost use Rattle.proxy_engines.specs.Moves.{AsTold, told_by_turn};
+ghost use Rattle.proxy_engines.specs.Faults.{IsOfNoDevice};
+ghost use Rattle.proxy_engines.specs.Ends.{HasGivenAll};
+ghost use Rattle.proxy_engines.specs.Host.{LinkState, GoesOn, FailsHost, CarriesHost};
+ghost use Rattle.proxy_engines.specs.HostStep.{HasHeld, IsIdleOn, IsUnasked, Records, RestsHost, StepsHost, WorksHost, after_fault};
+
+use crate::client::Progress;
+use crate::error::EngineError;
+use crate::line::Line;
+use crate::link::{Link, Outcome};
+use crate::tally::{ReadTally, WriteTally};
+use proxy_core::{CoreTurns, Kind};
+use std::alloc::Global;
+use std::marker::Model;
+use std::sync::Wait;
+
+/// A host's end: parts that wait are taken and written, and what is read becomes replies.
+///
+/// Contracts see its line, its link, if there is one, and a fault that is still to be recorded.
+#[derive(Drop)]
+pub struct HostEngine<R: ReadTally, W: WriteTally> {
+    alloc: Global,
+    line: Line,
+    link: Option<Link<R, W>>,
+    fault: Option<Kind>,
+}
+
+// What a step answers that recorded an earlier fault first.
+fn after_fault(progress: Progress) -> Progress
+    ensures { Ok result ≡ after_fault (Ok progress) }
+{
+    match progress {
+        Progress::NeedsLink => Progress::NeedsLink,
+        _ => Progress::Moved,
+    }
+}
+
+impl<R: ReadTally, W: WriteTally> Model for HostEngine<R, W> {
+    ghost use Rattle.proxy_engines.specs.HostStep.{HostState, IsWhole};
+
+    ghost Value = { HostState };
+
+    ghost use Rattle.resp_core.specs.contracts.value.Value as value;
+    ghost use Rattle.std.specs.Coded.{codes};
+    ghost use Rattle.resp_core.specs.Code.{tree_code};
+
+    ghost coded = { Prim.hlevel (codes, tree_code, value.the_row.coded) };
+
+    ghost view = { λ e. record { line = e.line; link = e.link; fault = e.fault } };
+
+    ghost invariant = { λ e. IsWhole e.fault e.link };
+}
+
+impl<R: ReadTally, W: WriteTally> HostEngine<R, W> {
+    /// The engine of a host, without a link. A reply is late once its part was taken `reply_ms` milliseconds ago.
+    pub fn new(alloc: Global, host: usize, reply_ms: u64) -> HostEngine<R, W>
+        ensures line { result.line ≡ record { host = host; reply_ms = reply_ms; epoch = 0; pending = []; moments = []; is_astray = false } }
+        ensures link { (result.link ≡ None) × (result.fault ≡ None) }
+        ensures carries { (H : History) → host_steps host H ≡ [] → CarriesHost result.line result.link H [] [] }
+    {
+        HostEngine {
+            alloc,
+            line: Line::new(alloc, host, reply_ms),
+            link: None,
+            fault: None,
+        }
+    }
+}
+
+#[tactic(auto, using(crate::proofs::HostLemmas::works_on, crate::proofs::HostLemmas::works_left, crate::proofs::HostLemmas::works_fault))]
+impl<R: ReadTally + Drop, W: WriteTally + Drop> HostEngine<R, W> {
+    // Records a fault and gives the link up. Where that turn is refused, the next step tries it first.
+    fn give_up<Rt: Wait, T: CoreTurns>(
+        &mut self,
+        rt: &Rt,
+        turns: &mut T,
+        kind: Kind,
+        moment: u64,
+    ) -> Result<(), EngineError>
+        ensures pass { T.pass turns.new ≡ T.pass turns.old }
+        ensures setting { T.setting turns.new ≡ T.setting turns.old }
+        ensures seen { StartsWith (T.seen turns.new) (T.seen turns.old) }
+        ensures fails { OnOk result (FailsHost self.old.line self.new.line self.old.link (own_steps (T.pass turns.old) (T.seen turns.old))
+            (own_steps (T.pass turns.old) (T.seen turns.new)) kind moment × (self.new.link ≡ None) × (self.new.fault ≡ None)) }
+        ensures kept { OnErr result ((self.new ≡ record self.old { fault = Some kind })
+            × (own_steps (T.pass turns.old) (T.seen turns.new) ≡ own_steps (T.pass turns.old) (T.seen turns.old))) }
+        ensures err { IfErr result (λ e. (n : ℕ) × (e ≡ EngineError.TurnRefused n)) }
+    {
+        self.fault = Some(kind);
+        self.line.fail(rt, turns, kind, moment)?;
+        self.link = None;
+        self.fault = None;
+        Ok(())
+    }
+
+    /// Takes a link to the host. The engine has none, and no fault is still to be recorded.
+    ///
+    /// Refused 1401, and then the reader and the writer come back, and the engine is as it was.
+    pub fn attach(&mut self, reader: R, writer: W) -> Result<(), (EngineError, R, W)>
+        requires none { self.old.link ≡ None }
+        requires no_fault { self.old.fault ≡ None }
+        ensures line { self.new.line ≡ self.old.line }
+        ensures fault { self.new.fault ≡ None }
+        ensures link { OnOk result ((k : LinkState) × (self.new.link ≡ Some k) × (k.inbox.left ≡ R.remaining reader) × (k.held ≡ W.contents writer)) }
+        ensures carries { OnOk result ((H : History) → CarriesHost self.old.line None H [] []
+            → CarriesHost self.new.line self.new.link H [] []) }
+        ensures err { IfErr result (λ e. (self.new ≡ self.old) × (e.0 ≡ EngineError.NoMemory) × (e.1 ≡ reader) × (e.2 ≡ writer)) }
+    {
+        match Link::new(self.alloc, reader, writer) {
+            Ok(link) => {
+                self.link = Some(link);
+                Ok(())
+            }
+            Err((reader, writer)) => Err((EngineError::NoMemory, reader, writer)),
+        }
+    }
+
+    /// No link to the host could be made: one Failed turn of kind Refused. The engine has no link.
+    ///
+    /// Refused 1404, and then the next step makes that turn first.
+    pub fn refused<Rt: Wait, T: CoreTurns>(
+        &mut self,
+        rt: &Rt,
+        turns: &mut T,
+        moment: u64,
+    ) -> Result<(), EngineError>
+        requires none { self.old.link ≡ None }
+        ensures pass { T.pass turns.new ≡ T.pass turns.old }
+        ensures setting { T.setting turns.new ≡ T.setting turns.old }
+        ensures seen { StartsWith (T.seen turns.new) (T.seen turns.old) }
+        ensures records { OnOk result (Records self.old self.new (own_steps (T.pass turns.old) (T.seen turns.old))
+            (own_steps (T.pass turns.old) (T.seen turns.new)) Kind.Refused moment) }
+        ensures kept { OnErr result ((self.new ≡ record self.old { fault = Some Kind.Refused })
+            × (own_steps (T.pass turns.old) (T.seen turns.new) ≡ own_steps (T.pass turns.old) (T.seen turns.old))) }
+        ensures err { IfErr result (λ e. (n : ℕ) × (e ≡ EngineError.TurnRefused n)) }
+    {
+        self.give_up(rt, turns, Kind::Refused, moment)
+    }
+
+    // One step on the link.
+    fn go_on_link<Rt: Wait, T: CoreTurns>(
+        &mut self,
+        rt: &Rt,
+        turns: &mut T,
+        moment: u64,
+    ) -> Result<Progress, EngineError>
+        requires some { self.old.link ≢ None }
+        requires no_fault { self.old.fault ≡ None }
+        ensures pass { T.pass turns.new ≡ T.pass turns.old }
+        ensures setting { T.setting turns.new ≡ T.setting turns.old }
+        ensures seen { StartsWith (T.seen turns.new) (T.seen turns.old) }
+        ensures works { WorksHost (IsUnasked (T.cause (T.setting turns.old) Refusal.Unasked) (T.seen turns.old) (T.seen turns.new) moment)
+            self.old.line self.new self.old.link (own_steps (T.pass turns.old) (T.seen turns.old)) (own_steps (T.pass turns.old) (T.seen turns.new)) moment result }
+        ensures needs_link { IfOk result (λ p. (p ≢ Progress.NeedsLink) × (self.new.link ≡ None → self.new.line.pending ≡ [])) }
+        ensures all { IfOk result (λ p. IfSome self.new.link (λ k. HasGivenAll k.inbox)) }
+        ensures idle { IfOk result (λ p. p ≡ Progress.Idle → IsIdleOn (HasHeld (T.cause (T.setting turns.old) Refusal.NothingWaiting)
+            (Event.Taken self.old.line.host) (T.seen turns.old) (T.seen turns.new)) self.old.line self.old.link self.new.link) }
+    {
+        let Some(link) = &mut self.link else {
+            unreachable!()
+        };
+        match link.attend(&mut self.line, rt, turns, moment)? {
+            Outcome::Still => Ok(Progress::Idle),
+            Outcome::Moved => Ok(Progress::Moved),
+            Outcome::Fault { kind, error } => {
+                self.fault = Some(kind);
+                self.give_up(rt, turns, kind, moment)?;
+                match error {
+                    None => Ok(Progress::Moved),
+                    Some(error) => Err(error),
+                }
+            }
+        }
+    }
+
+    // One part is taken, if none is pending.
+    fn take_one<Rt: Wait, T: CoreTurns>(
+        &mut self,
+        rt: &Rt,
+        turns: &mut T,
+        moment: u64,
+    ) -> Result<bool, EngineError>
+        requires none { self.old.link ≡ None }
+        ensures pass { T.pass turns.new ≡ T.pass turns.old }
+        ensures setting { T.setting turns.new ≡ T.setting turns.old }
+        ensures seen { StartsWith (T.seen turns.new) (T.seen turns.old) }
+        ensures goes { AsTold (GoesOn self.old.line self.new.line None None (own_steps (T.pass turns.old) (T.seen turns.old))
+            (own_steps (T.pass turns.old) (T.seen turns.new)) moment) (told_by_turn result) }
+        ensures link { self.new.link ≡ None }
+        ensures fault { self.new.fault ≡ self.old.fault }
+        ensures nothing_waits { IfOk result (λ b. b ≡ false → self.old.line.pending ≡ []
+            → T.cause (T.setting turns.old) Refusal.NothingWaiting (Event.Taken self.old.line.host) (T.seen turns.new)) }
+        ensures same { IfOk result (λ b. b ≡ false → self.new.line ≡ self.old.line) }
+        ensures plain { IfErr result IsOfNoDevice }
+    {
+        if self.line.is_empty() {
+            self.line.take(rt, turns, moment)
+        } else {
+            Ok(false)
+        }
+    }
+
+    // One step without a link.
+    fn go_on_alone<Rt: Wait, T: CoreTurns>(
+        &mut self,
+        rt: &Rt,
+        turns: &mut T,
+        moment: u64,
+    ) -> Result<Progress, EngineError>
+        requires none { self.old.link ≡ None }
+        requires no_fault { self.old.fault ≡ None }
+        ensures pass { T.pass turns.new ≡ T.pass turns.old }
+        ensures setting { T.setting turns.new ≡ T.setting turns.old }
+        ensures seen { StartsWith (T.seen turns.new) (T.seen turns.old) }
+        ensures works { WorksHost (IsUnasked (T.cause (T.setting turns.old) Refusal.Unasked) (T.seen turns.old) (T.seen turns.new) moment)
+            self.old.line self.new None (own_steps (T.pass turns.old) (T.seen turns.old)) (own_steps (T.pass turns.old) (T.seen turns.new)) moment result }
+        ensures needs_link { IfOk result (λ p. (p ≡ Progress.NeedsLink) ↔ (self.new.line.pending ≢ [])) }
+        ensures link { self.new.link ≡ None }
+        ensures idle { IfOk result (λ p. p ≡ Progress.Idle → (self.old.line.pending ≡ []) × HasHeld (T.cause (T.setting turns.old) Refusal.NothingWaiting)
+            (Event.Taken self.old.line.host) (T.seen turns.old) (T.seen turns.new)) }
+    {
+        let taken = self.take_one(rt, turns, moment)?;
+        if self.line.is_late(moment) {
+            self.give_up(rt, turns, Kind::Late, moment)?;
+            return Ok(Progress::Moved);
+        }
+        if !self.line.is_empty() {
+            return Ok(Progress::NeedsLink);
+        }
+        if taken {
+            Ok(Progress::Moved)
+        } else {
+            Ok(Progress::Idle)
+        }
+    }
+
+    // One step where no fault is to be recorded.
+    fn go_on<Rt: Wait, T: CoreTurns>(
+        &mut self,
+        rt: &Rt,
+        turns: &mut T,
+        moment: u64,
+    ) -> Result<Progress, EngineError>
+        requires no_fault { self.old.fault ≡ None }
+        ensures pass { T.pass turns.new ≡ T.pass turns.old }
+        ensures setting { T.setting turns.new ≡ T.setting turns.old }
+        ensures seen { StartsWith (T.seen turns.new) (T.seen turns.old) }
+        ensures works { WorksHost (IsUnasked (T.cause (T.setting turns.old) Refusal.Unasked) (T.seen turns.old) (T.seen turns.new) moment)
+            self.old.line self.new self.old.link (own_steps (T.pass turns.old) (T.seen turns.old)) (own_steps (T.pass turns.old) (T.seen turns.new)) moment result }
+        ensures needs_link { IfOk result (λ p. (p ≡ Progress.NeedsLink) ↔ ((self.new.link ≡ None) × (self.new.line.pending ≢ []))) }
+        ensures all { IfOk result (λ p. IfSome self.old.link (λ _. IfSome self.new.link (λ k. HasGivenAll k.inbox))) }
+        ensures alone { self.old.link ≡ None → self.new.link ≡ None }
+        ensures idle { IfOk result (λ p. p ≡ Progress.Idle → IsIdleOn (HasHeld (T.cause (T.setting turns.old) Refusal.NothingWaiting)
+            (Event.Taken self.old.line.host) (T.seen turns.old) (T.seen turns.new)) self.old.line self.old.link self.new.link) }
+    {
+        if self.link.is_some() {
+            self.go_on_link(rt, turns, moment)
+        } else {
+            self.go_on_alone(rt, turns, moment)
+        }
+    }
+
+    /// Does a step at this moment, in milliseconds: a fault that is still to be recorded; one write of what is pending, or
+    /// one part taken; then, on a link, a reply for each value that was read, one read, and a reply for each value that
+    /// came by it. Then a reply that is late is a fault.
+    ///
+    /// A fault is recorded, and the link given up: Dropped at the end of the input or where a device failed, Garbled for a
+    /// byte that is refused or a value that nobody asked for, Late. `NeedsLink` says that bytes are pending without a link.
+    ///
+    /// Refused 1402 or 1403 where the reader or the writer failed in this call, and the fault was recorded for it; 1401 for
+    /// want of memory, and 1404 where a turn was refused: the next step goes on from the same place.
+    pub fn step<Rt: Wait, T: CoreTurns>(
+        &mut self,
+        rt: &Rt,
+        turns: &mut T,
+        moment: u64,
+    ) -> Result<Progress, EngineError>
+        ensures pass { T.pass turns.new ≡ T.pass turns.old }
+        ensures setting { T.setting turns.new ≡ T.setting turns.old }
+        ensures seen { StartsWith (T.seen turns.new) (T.seen turns.old) }
+        ensures steps { StepsHost (IsUnasked (T.cause (T.setting turns.old) Refusal.Unasked) (T.seen turns.old) (T.seen turns.new) moment)
+            self.old self.new (own_steps (T.pass turns.old) (T.seen turns.old)) (own_steps (T.pass turns.old) (T.seen turns.new)) moment result
+            ⊎ RestsHost self.old self.new (own_steps (T.pass turns.old) (T.seen turns.old)) (own_steps (T.pass turns.old) (T.seen turns.new)) result }
+        ensures needs_link { IfOk result (λ p. (p ≡ Progress.NeedsLink) ↔ ((self.new.link ≡ None) × (self.new.line.pending ≢ []))) }
+        ensures all { IfOk result (λ p. self.old.fault ≡ None → IfSome self.old.link (λ _. IfSome self.new.link (λ k. HasGivenAll k.inbox))) }
+        ensures idle { IfOk result (λ p. p ≡ Progress.Idle → IsIdleOn (HasHeld (T.cause (T.setting turns.old) Refusal.NothingWaiting)
+            (Event.Taken self.old.line.host) (T.seen turns.old) (T.seen turns.new)) self.old.line self.old.link self.new.link) }
+    {
+        let Some(kind) = self.fault else {
+            return self.go_on(rt, turns, moment);
+        };
+        self.give_up(rt, turns, kind, moment)?;
+        let progress = self.go_on(rt, turns, moment)?;
+        Ok(after_fault(progress))
+    }
+}

@@ -1,0 +1,141 @@
+//! What is read and not yet asked.
+ghost use Rattle.std.specs.Prelude.{true, ◌≡◌, ◌≢◌, ◌↔◌, ◌++◌, ◌∷◌, ℕ, List, [], Some, None, IfOk, IfErr, IfSome, IfNone, OnErr, OnOk};
+ghost use Rattle.std.specs.Io.KnownBytes.{Consumes, IsAtEnd};
+ghost use Rattle.resp_core.specs.declared.error.RespError.{RespError};
+ghost use Rattle.splitter.specs.Request.{Request as Asked, request_of};
+ghost use Rattle.proxy_engines.specs.Device.{HasFailed, HasPaused, is_moved};
+ghost use Rattle.proxy_engines.specs.Moves.{has_moved};
+
+use crate::tally::{ReadTally, Told};
+use resp_core::{Limits, Reader, RespError};
+use splitter::Request;
+use std::alloc::{AllocError, Global};
+use std::marker::Model;
+
+/// How many bytes one read takes at most.
+pub const READ_SIZE: usize = 16_384;
+
+// Whether it is want of memory, and no refusal of a byte.
+fn is_memory(error: &RespError) -> bool
+    ensures { (result ≡ true) ↔ (error.now ≡ RespError.NoMemory) }
+{
+    matches!(error, RespError::NoMemory)
+}
+
+/// A reader, the bytes that it read last, and the reader of values.
+#[derive(Drop)]
+pub struct Inbox<R: ReadTally> {
+    input: R,
+    // The bytes that came last stand in front, so many of them.
+    buffer: Vec<u8>,
+    fresh: usize,
+    values: Reader,
+}
+
+impl<R: ReadTally> Model for Inbox<R> {
+    ghost use Rattle.std.specs.Prelude.{◌≡◌, ◌≤◌, take, length};
+    ghost use Rattle.proxy_engines.specs.Ends.{Receiving};
+    ghost use Rattle.proxy_engines.specs.declared.inbox.TheConstants.{READ_SIZE};
+
+    ghost Value = { Receiving };
+
+    ghost use Rattle.std.specs.Coded.{codes};
+    ghost use Rattle.resp_core.specs.Code.{tree_code};
+
+    ghost coded = { Prim.hlevel (codes, tree_code) };
+
+    ghost view = { λ i. record { left = R.remaining i.input; counts = R.counts i.input; fresh = take i.fresh i.buffer.items; values = i.values } };
+
+    ghost invariant = { λ i. (length i.buffer.items ≡ READ_SIZE) × (i.fresh ≤ READ_SIZE) };
+}
+
+impl<R: ReadTally> Inbox<R> {
+    ghost use Rattle.proxy_engines.specs.Ends.{Holds, HasGivenAll};
+
+    /// An end that has read nothing yet. Where there is no memory for its buffer, the reader comes back.
+    pub fn new(alloc: Global, input: R, limits: Limits) -> Result<Inbox<R>, R>
+        ensures left { IfOk result (λ i. i.left ≡ R.remaining input) }
+        ensures most { IfOk result (λ i. i.values.most ≡ limits.array) }
+        ensures holds { IfOk result (λ i. Holds i [] []) }
+        ensures whole { IfOk result (λ i. i.values.refusal ≡ None) }
+        ensures back { IfErr result (λ r. r ≡ input) }
+    {
+        match vec![in alloc; 0; READ_SIZE] {
+            Ok(buffer) => Ok(Inbox {
+                input,
+                buffer,
+                fresh: 0,
+                values: Reader::new(alloc, limits),
+            }),
+            Err(_) => Err(input),
+        }
+    }
+
+    /// Reads once. What was read last has to be given on by then.
+    pub(crate) fn read_once(&mut self) -> Told
+        requires { self.old.fresh ≡ [] }
+        ensures bytes { Consumes self.old.left self.new.left self.new.fresh }
+        ensures told { is_moved result ≡ has_moved self.new.fresh [] [] }
+        ensures values { self.new.values ≡ self.old.values }
+        ensures moved { (n : ℕ) → result ≡ Told.Moved n → (self.new.fresh ≢ []) × (self.new.counts ≡ self.old.counts) }
+        ensures end { result ≡ Told.End → (self.new.fresh ≡ []) × IsAtEnd self.new.left }
+        ensures paused { result ≡ Told.Paused → (self.new.fresh ≡ []) × HasPaused self.old.counts self.new.counts }
+        ensures failed { result ≡ Told.Failed → (self.new.fresh ≡ []) × HasFailed self.old.counts self.new.counts }
+    {
+        let told = self.input.read_told(&mut self.buffer);
+        self.fresh = match told {
+            Told::Moved(n) => n,
+            Told::End | Told::Paused | Told::Failed => 0,
+        };
+        told
+    }
+
+    // Gives what came last to the reader of values.
+    fn feed(&mut self) -> Result<(), AllocError>
+        requires { self.old.values.refusal ≡ None }
+        ensures fresh { OnOk result (self.new.fresh ≡ []) }
+        ensures holds { (b : List ℕ) (rs : List Asked) → Holds self.old b rs → Holds self.new b rs }
+        ensures whole { self.new.values.refusal ≡ None }
+        ensures left { self.new.left ≡ self.old.left }
+        ensures counts { self.new.counts ≡ self.old.counts }
+        ensures most { self.new.values.most ≡ self.old.values.most }
+    {
+        if self.fresh > 0 {
+            if self.values.feed(&self.buffer[..self.fresh]).is_err() {
+                return Err(AllocError);
+            }
+            self.fresh = 0;
+        }
+        Ok(())
+    }
+
+    /// The next request that has come whole; a refused byte is one too. Nothing may be refused yet.
+    ///
+    /// Refused where there is no memory; nothing is lost then.
+    pub(crate) fn next_request(&mut self) -> Result<Option<Request>, AllocError>
+        requires { self.old.values.refusal ≡ None }
+        ensures some { IfOk result (λ o. IfSome o (λ r. (b : List ℕ) (rs : List Asked) → Holds self.old b rs
+            → Holds self.new b (rs ++ request_of r ∷ []))) }
+        ensures none { IfOk result (λ o. IfNone o ((b : List ℕ) (rs : List Asked) → Holds self.old b rs → Holds self.new b rs)) }
+        ensures all { IfOk result (λ o. IfNone o (HasGivenAll self.new)) }
+        ensures whole { IfOk result (λ o. o ≢ Some Request.Broken → self.new.values.refusal ≡ None) }
+        ensures told { IfOk result (λ o. o ≡ Some Request.Broken → self.new.values.refusal ≢ None) }
+        ensures err { OnErr result ((b : List ℕ) (rs : List Asked) → Holds self.old b rs → Holds self.new b rs) }
+        ensures still { OnErr result (self.new.values.refusal ≡ None) }
+        ensures left { self.new.left ≡ self.old.left }
+        ensures counts { self.new.counts ≡ self.old.counts }
+        ensures most { self.new.values.most ≡ self.old.values.most }
+    {
+        self.feed()?;
+        match self.values.next_value() {
+            Ok(Some(value)) => Ok(Some(Request::Read(value))),
+            Ok(None) => Ok(None),
+            Err(error) => {
+                if is_memory(&error) {
+                    return Err(AllocError);
+                }
+                Ok(Some(Request::Broken))
+            }
+        }
+    }
+}

@@ -1,0 +1,189 @@
+//! What goes to a host: the text that is to be written, and when each part without reply was taken.
+ghost use Rattle.std.specs.Prelude.{◌≡◌, ◌≢◌, ◌⊎◌, ◌++◌, ◌==◌, ◌≤◌, ◌-◌, ◌∷◌, ℕ, List, [], Option, true, false, length, drop, IfOk, IfErr, OnOk, OnErr};
+ghost use Rattle.std.specs.Io.KnownBytes.{Appends};
+ghost use Rattle.ticket_gate.specs.Journal.{StartsWith};
+ghost use Rattle.proxy_history.specs.declared.event.Event.{Event};
+ghost use Rattle.proxy_history.specs.declared.refusal.Refusal.{Refusal};
+ghost use Rattle.proxy_engines.specs.OwnSteps.{own_steps};
+ghost use Rattle.proxy_engines.specs.Device.{HasFailed, HasPaused, is_moved};
+ghost use Rattle.proxy_engines.specs.Moves.{AsTold, has_moved, told_by_turn};
+ghost use Rattle.proxy_engines.specs.Faults.{IsOfNoDevice};
+ghost use Rattle.proxy_engines.specs.Host.{LinkState, GoesOn, FailsHost};
+
+use crate::ask::{Denied, tell};
+use crate::error::EngineError;
+use crate::tally::{Told, WriteTally};
+use bytes::Bytes;
+use proxy_core::{Answer, CoreTurns, Event, Kind, Refusal};
+use std::alloc::Global;
+use std::collections::VecDeque;
+use std::marker::Model;
+use std::sync::Wait;
+
+// The number of a turn of an epoch that is over.
+const STALE: u16 = 1006;
+
+/// A host's engine without its link.
+#[derive(Drop)]
+pub struct Line {
+    host: usize,
+    reply_ms: u64,
+    epoch: u64,
+    pending: Bytes,
+    // When each part without reply was taken, the oldest first.
+    moments: VecDeque<u64>,
+    // A part was of another epoch: someone else failed the host.
+    is_astray: bool,
+}
+
+impl Model for Line {
+    ghost use Rattle.proxy_engines.specs.Host.{LineState};
+
+    ghost Value = { LineState };
+
+    ghost view = { λ l. record { host = l.host; reply_ms = l.reply_ms; epoch = l.epoch; pending = l.pending; moments = l.moments.items; is_astray = l.is_astray } };
+}
+
+impl Line {
+    /// To this host, whose reply is late after so many milliseconds.
+    pub(crate) fn new(alloc: Global, host: usize, reply_ms: u64) -> Line
+        ensures { result ≡ record { host = host; reply_ms = reply_ms; epoch = 0; pending = []; moments = []; is_astray = false } }
+    {
+        Line {
+            host,
+            reply_ms,
+            epoch: 0,
+            pending: Bytes::new(),
+            moments: VecDeque::new(alloc),
+            is_astray: false,
+        }
+    }
+
+    /// One Taken turn. False says that nothing waited. Nothing may be pending.
+    pub(crate) fn take<Rt: Wait, T: CoreTurns>(
+        &mut self,
+        rt: &Rt,
+        turns: &mut T,
+        moment: u64,
+    ) -> Result<bool, EngineError>
+        requires nothing { self.old.pending ≡ [] }
+        ensures pass { T.pass turns.new ≡ T.pass turns.old }
+        ensures setting { T.setting turns.new ≡ T.setting turns.old }
+        ensures seen { StartsWith (T.seen turns.new) (T.seen turns.old) }
+        ensures goes { (k : Option LinkState) → AsTold (GoesOn self.old self.new k k (own_steps (T.pass turns.old) (T.seen turns.old))
+            (own_steps (T.pass turns.old) (T.seen turns.new)) moment) (told_by_turn result) }
+        ensures none { IfOk result (λ b. b ≡ false → self.new ≡ self.old) }
+        ensures nothing_waits { IfOk result (λ b. b ≡ false → T.cause (T.setting turns.old) Refusal.NothingWaiting (Event.Taken self.old.host) (T.seen turns.new)) }
+        ensures plain { IfErr result IsOfNoDevice }
+    {
+        if self.is_astray {
+            return Err(EngineError::TurnRefused { number: STALE });
+        }
+        if self.moments.reserve(1).is_err() {
+            return Err(EngineError::NoMemory);
+        }
+        match tell(rt, turns, Event::Taken { host: self.host }) {
+            Ok(Answer::Sent { epoch, text, .. }) => {
+                self.moments.push_back_reserved(moment);
+                if epoch != self.epoch {
+                    self.is_astray = true;
+                    return Err(EngineError::TurnRefused { number: STALE });
+                }
+                self.pending = text;
+                Ok(true)
+            }
+            Ok(_) => unreachable!(),
+            Err(Denied::By(Refusal::NothingWaiting)) => Ok(false),
+            Err(denied) => Err(denied.error()),
+        }
+    }
+
+    /// One Failed turn: the epoch ends, and what was pending is dropped.
+    pub(crate) fn fail<Rt: Wait, T: CoreTurns>(
+        &mut self,
+        rt: &Rt,
+        turns: &mut T,
+        kind: Kind,
+        moment: u64,
+    ) -> Result<(), EngineError>
+        ensures pass { T.pass turns.new ≡ T.pass turns.old }
+        ensures setting { T.setting turns.new ≡ T.setting turns.old }
+        ensures seen { StartsWith (T.seen turns.new) (T.seen turns.old) }
+        ensures fails { OnOk result ((k : Option LinkState) → FailsHost self.old self.new k (own_steps (T.pass turns.old) (T.seen turns.old)) (own_steps (T.pass turns.old) (T.seen turns.new)) kind moment) }
+        ensures same { OnErr result ((self.new ≡ self.old) × (own_steps (T.pass turns.old) (T.seen turns.new) ≡ own_steps (T.pass turns.old) (T.seen turns.old))) }
+        ensures err { IfErr result (λ e. (n : ℕ) × (e ≡ EngineError.TurnRefused n)) }
+    {
+        if self.is_astray {
+            return Err(EngineError::TurnRefused { number: STALE });
+        }
+        let event = Event::Failed {
+            host: self.host,
+            epoch: self.epoch,
+            kind,
+            t: moment,
+        };
+        match tell(rt, turns, event) {
+            Ok(_) => {
+                self.epoch = self.epoch.saturating_add(1);
+                self.pending = Bytes::new();
+                self.moments.clear();
+                Ok(())
+            }
+            Err(denied) => Err(denied.error()),
+        }
+    }
+
+    /// Whether the oldest part without reply was taken so long ago that its reply is late.
+    pub(crate) fn is_late(&self, moment: u64) -> bool
+        ensures late { result ≡ true → (first : ℕ) × (rest : List ℕ) × (self.now.moments ≡ first ∷ rest) × (self.now.reply_ms ≤ moment - first) }
+    {
+        match self.moments.front() {
+            Some(oldest) => moment.saturating_sub(*oldest) >= self.reply_ms,
+            None => false,
+        }
+    }
+
+    /// Its host.
+    pub(crate) fn host(&self) -> usize
+        ensures { result ≡ self.now.host }
+    {
+        self.host
+    }
+
+    /// Its epoch.
+    pub(crate) fn epoch(&self) -> u64
+        ensures { result ≡ self.now.epoch }
+    {
+        self.epoch
+    }
+
+    /// The oldest part without reply has one.
+    pub(crate) fn forget_moment(&mut self)
+        ensures { self.new ≡ record self.old { moments = drop 1 self.old.moments } }
+    {
+        let _oldest = self.moments.pop_front();
+    }
+
+    /// One write of what is pending.
+    pub(crate) fn write_to<W: WriteTally>(&mut self, writer: &mut W) -> Told
+        requires some { self.old.pending ≢ [] }
+        ensures bytes { (gave rest : List ℕ) × Appends (W.contents writer.old) (W.contents writer.new) gave × (self.old.pending ≡ gave ++ rest)
+            × (self.new ≡ record self.old { pending = rest }) × (is_moved result ≡ has_moved [] gave []) }
+        ensures failed { (result ≡ Told.End) ⊎ (result ≡ Told.Failed) → HasFailed (W.counts writer.old) (W.counts writer.new) }
+        ensures moved { (n : ℕ) → result ≡ Told.Moved n → W.counts writer.new ≡ W.counts writer.old }
+        ensures paused { result ≡ Told.Paused → HasPaused (W.counts writer.old) (W.counts writer.new) }
+    {
+        let told = writer.write_told(self.pending.as_slice());
+        if let Told::Moved(n) = told {
+            self.pending.advance(n);
+        }
+        told
+    }
+
+    /// Whether nothing is to be written.
+    pub(crate) fn is_empty(&self) -> bool
+        ensures { result ≡ (length self.now.pending == 0) }
+    {
+        self.pending.is_empty()
+    }
+}

@@ -1,0 +1,394 @@
+//! A link to a host.
+ghost use Rattle.std.specs.Prelude.{◌≡◌, ◌≢◌, ◌⊎◌, ℕ, [], Option, Some, None, IfOk, IfErr, OnErr, true, false};
+ghost use Rattle.ticket_gate.specs.Journal.{StartsWith};
+ghost use Rattle.resp_core.specs.declared.reader.TheConstants.{HOST_MEMBERS};
+ghost use Rattle.proxy_history.specs.History.{History};
+ghost use Rattle.proxy_history.specs.declared.event.Event.{Event};
+ghost use Rattle.proxy_history.specs.declared.refusal.Refusal.{Refusal};
+ghost use Rattle.resp_core.specs.declared.value.Value.{Value};
+ghost use Rattle.proxy_engines.specs.OwnSteps.{own_steps};
+ghost use Rattle.proxy_engines.specs.Device.{HasPaused, HasRisen};
+ghost use Rattle.proxy_engines.specs.HostStep.{HasHeld};
+ghost use Rattle.proxy_engines.specs.Ends.{HasGivenAll};
+ghost use Rattle.proxy_engines.specs.Host.{LineState, LinkState, GoesOn};
+ghost use Rattle.proxy_engines.specs.Moves.{AsTold};
+ghost use Rattle.proxy_engines.specs.Faults.{either, is_fault, IfFault, IsCauseOf, IsOfNoDevice, told_by_moves, told_by_outcome};
+
+use crate::ask::{Denied, give};
+use crate::error::EngineError;
+use crate::inbox::Inbox;
+use crate::line::Line;
+use crate::tally::{ReadTally, Told, WriteTally};
+use proxy_core::{CoreTurns, Kind, Refusal, Request};
+use resp_core::{Limits, Value};
+use std::alloc::Global;
+use std::marker::Model;
+use std::sync::Wait;
+
+/// The two ends of a link to a host, and a value whose turn was not answered yet.
+#[derive(Drop)]
+pub struct Link<R: ReadTally, W: WriteTally> {
+    inbox: Inbox<R>,
+    writer: W,
+    next: Option<Value>,
+}
+
+/// What a move came to.
+#[derive(Clone, Copy, Debug, PartialEq, Eq, Drop)]
+pub(crate) enum Outcome {
+    /// Nothing could be done for now.
+    Still,
+    /// Bytes or steps were added.
+    Moved,
+    /// A fault of the link, and what the step answers once it is recorded.
+    Fault {
+        kind: Kind,
+        error: Option<EngineError>,
+    },
+}
+
+impl Outcome {
+    /// Whether it is a fault.
+    pub(crate) fn is_fault(&self) -> bool
+        ensures { result ≡ is_fault self.now }
+    {
+        matches!(self, Outcome::Fault { .. })
+    }
+
+    // Something moved, here or there.
+    fn or(self, other: Outcome) -> Outcome
+        ensures is { result ≡ either self other }
+        ensures calm { is_fault self ≡ false → is_fault other ≡ false → is_fault result ≡ false }
+    {
+        match self {
+            Outcome::Still => other,
+            moved => moved,
+        }
+    }
+}
+
+// What was found among the bytes that were read.
+#[derive(Clone, Copy, Debug, PartialEq, Eq, Drop)]
+enum Found {
+    Value,
+    Nothing,
+    Garbled,
+}
+
+impl<R: ReadTally, W: WriteTally> Model for Link<R, W> {
+    ghost use Rattle.proxy_engines.specs.Host.{LinkState};
+
+    ghost Value = { LinkState };
+
+    ghost use Rattle.resp_core.specs.contracts.value.Value as value;
+    ghost use Rattle.std.specs.Coded.{codes};
+    ghost use Rattle.resp_core.specs.Code.{tree_code};
+
+    ghost coded = { Prim.hlevel (codes, tree_code, value.the_row.coded) };
+
+    ghost view = { λ k. record { inbox = k.inbox; held = W.contents k.writer; counts = W.counts k.writer; next = k.next } };
+}
+
+#[tactic(auto, using(crate::proofs::HostMoves::goes_on, crate::proofs::HostMoves::starts_then, crate::proofs::FaultLemmas::no_fault, crate::proofs::FaultLemmas::fault_later))]
+impl<R: ReadTally, W: WriteTally> Link<R, W> {
+    ghost use Rattle.proxy_engines.specs.Ends.{Holds};
+
+    /// A link on which nothing was read or written. Where there is no memory for it, both ends come back.
+    pub(crate) fn new(alloc: Global, reader: R, writer: W) -> Result<Link<R, W>, (R, W)>
+        ensures inbox { IfOk result (λ k. (k.inbox.left ≡ R.remaining reader) × (k.inbox.values.most ≡ HOST_MEMBERS) × (k.inbox.values.refusal ≡ None)) }
+        ensures holds { IfOk result (λ k. Holds k.inbox [] []) }
+        ensures held { IfOk result (λ k. k.held ≡ W.contents writer) }
+        ensures next { IfOk result (λ k. k.next ≡ None) }
+        ensures back { IfErr result (λ ends. (ends.0 ≡ reader) × (ends.1 ≡ writer)) }
+    {
+        match Inbox::new(alloc, reader, Limits::HOST) {
+            Ok(inbox) => Ok(Link {
+                inbox,
+                writer,
+                next: None,
+            }),
+            Err(reader) => Err((reader, writer)),
+        }
+    }
+
+    // One write of what is pending.
+    fn write(&mut self, line: &mut Line) -> Outcome
+        requires some { line.old.pending ≢ [] }
+        ensures goes { (H : History) (m : ℕ) → AsTold (GoesOn line.old line.new (Some self.old) (Some self.new) H H m) (told_by_outcome result) }
+        ensures inbox { self.new.inbox ≡ self.old.inbox }
+        ensures next { self.new.next ≡ self.old.next }
+        ensures still { result ≡ Outcome.Still → HasPaused self.old.counts self.new.counts }
+        ensures writer { is_fault result ≡ false → self.new.counts.failed ≡ self.old.counts.failed }
+        ensures fault { IfFault result (λ kind error. IsCauseOf kind error line.new self.old self.new ⊥ 0) }
+    {
+        match line.write_to(&mut self.writer) {
+            Told::Moved(_) => Outcome::Moved,
+            Told::Paused => Outcome::Still,
+            Told::End | Told::Failed => Outcome::Fault {
+                kind: Kind::Dropped,
+                error: Some(EngineError::WriteFailed),
+            },
+        }
+    }
+
+    // The next value that has come whole, if there is one.
+    fn seek(&mut self) -> Result<Found, EngineError>
+        requires whole { self.old.inbox.values.refusal ≡ None }
+        ensures goes { (l : LineState) (H : History) (m : ℕ) → GoesOn l l (Some self.old) (Some self.new) H H m false }
+        ensures nothing { IfOk result (λ f. f ≡ Found.Nothing → (self.new.next ≡ None) × HasGivenAll self.new.inbox) }
+        ensures value { IfOk result (λ f. f ≡ Found.Value → (self.new.next ≢ None) × (self.new.inbox.values.refusal ≡ None)) }
+        ensures garbled { IfOk result (λ f. f ≡ Found.Garbled → self.new.inbox.values.refusal ≢ None) }
+        ensures err { OnErr result (self.new.inbox.values.refusal ≡ None) }
+        ensures counts { (self.new.inbox.counts ≡ self.old.inbox.counts) × (self.new.counts ≡ self.old.counts) }
+        ensures plain { IfErr result IsOfNoDevice }
+    {
+        if self.next.is_some() {
+            return Ok(Found::Value);
+        }
+        match self.inbox.next_request() {
+            Ok(Some(Request::Read(value))) => {
+                self.next = Some(value);
+                Ok(Found::Value)
+            }
+            Ok(Some(Request::Broken)) => Ok(Found::Garbled),
+            Ok(None) => Ok(Found::Nothing),
+            Err(_) => Err(EngineError::NoMemory),
+        }
+    }
+
+    // One Answered turn of the value that waits.
+    fn answer<Rt: Wait, T: CoreTurns>(
+        &mut self,
+        line: &mut Line,
+        rt: &Rt,
+        turns: &mut T,
+        moment: u64,
+    ) -> Result<Outcome, EngineError>
+        requires waits { self.old.next ≢ None }
+        ensures pass { T.pass turns.new ≡ T.pass turns.old }
+        ensures setting { T.setting turns.new ≡ T.setting turns.old }
+        ensures seen { StartsWith (T.seen turns.new) (T.seen turns.old) }
+        ensures goes { AsTold (GoesOn line.old line.new (Some self.old) (Some self.new) (own_steps (T.pass turns.old) (T.seen turns.old))
+            (own_steps (T.pass turns.old) (T.seen turns.new)) moment) (told_by_moves result) }
+        ensures inbox { self.new.inbox ≡ self.old.inbox }
+        ensures counts { self.new.counts ≡ self.old.counts }
+        ensures moved { IfOk result (λ o. o ≢ Outcome.Still) }
+        ensures fault { IfOk result (λ o. IfFault o (λ kind error. IsCauseOf kind error line.new self.old self.new ((v : Value) × (self.new.next ≡ Some v) × T.cause (T.setting turns.old) Refusal.Unasked (Event.Answered line.new.host line.new.epoch v moment) (T.seen turns.new)) moment)) }
+        ensures plain { IfErr result IsOfNoDevice }
+    {
+        let Some(value) = self.next.take() else {
+            return Ok(Outcome::Moved);
+        };
+        match give(rt, turns, line.host(), line.epoch(), value, moment) {
+            Ok(()) => {
+                line.forget_moment();
+                Ok(Outcome::Moved)
+            }
+            Err((denied, value)) => {
+                self.next = Some(value);
+                match denied {
+                    Denied::By(Refusal::Unasked) => Ok(Outcome::Fault {
+                        kind: Kind::Garbled,
+                        error: None,
+                    }),
+                    denied => Err(denied.error()),
+                }
+            }
+        }
+    }
+
+    // One read.
+    fn listen(&mut self) -> Outcome
+        requires none { self.old.next ≡ None }
+        requires given { HasGivenAll self.old.inbox }
+        ensures goes { (l : LineState) (H : History) (m : ℕ) → AsTold (GoesOn l l (Some self.old) (Some self.new) H H m) (told_by_outcome result) }
+        ensures whole { self.new.inbox.values.refusal ≡ None }
+        ensures counts { self.new.counts ≡ self.old.counts }
+        ensures still { result ≡ Outcome.Still → HasPaused self.old.inbox.counts self.new.inbox.counts }
+        ensures reader { is_fault result ≡ false → self.new.inbox.counts.failed ≡ self.old.inbox.counts.failed }
+        ensures fault { (l : LineState) (m : ℕ) → IfFault result (λ kind error. IsCauseOf kind error l self.old self.new ⊥ m) }
+    {
+        match self.inbox.read_once() {
+            Told::Moved(_) => Outcome::Moved,
+            Told::Paused => Outcome::Still,
+            Told::End => Outcome::Fault {
+                kind: Kind::Dropped,
+                error: None,
+            },
+            Told::Failed => Outcome::Fault {
+                kind: Kind::Dropped,
+                error: Some(EngineError::ReadFailed),
+            },
+        }
+    }
+
+    // The turn of the next value that has come whole, if there is one.
+    fn answer_next<Rt: Wait, T: CoreTurns>(
+        &mut self,
+        line: &mut Line,
+        rt: &Rt,
+        turns: &mut T,
+        moment: u64,
+    ) -> Result<Outcome, EngineError>
+        requires whole { self.old.inbox.values.refusal ≡ None }
+        ensures pass { T.pass turns.new ≡ T.pass turns.old }
+        ensures setting { T.setting turns.new ≡ T.setting turns.old }
+        ensures seen { StartsWith (T.seen turns.new) (T.seen turns.old) }
+        ensures goes { AsTold (GoesOn line.old line.new (Some self.old) (Some self.new) (own_steps (T.pass turns.old) (T.seen turns.old))
+            (own_steps (T.pass turns.old) (T.seen turns.new)) moment) (told_by_moves result) }
+        ensures still { IfOk result (λ o. o ≡ Outcome.Still → (self.new.next ≡ None) × HasGivenAll self.new.inbox) }
+        ensures moved { IfOk result (λ o. o ≡ Outcome.Moved → self.new.inbox.values.refusal ≡ None) }
+        ensures fault { IfOk result (λ o. IfFault o (λ kind error. IsCauseOf kind error line.new self.old self.new ((v : Value) × (self.new.next ≡ Some v) × T.cause (T.setting turns.old) Refusal.Unasked (Event.Answered line.new.host line.new.epoch v moment) (T.seen turns.new)) moment)) }
+        ensures reads { self.new.inbox.counts ≡ self.old.inbox.counts }
+        ensures writes { self.new.counts ≡ self.old.counts }
+        ensures err { OnErr result (self.new.inbox.values.refusal ≡ None) }
+        ensures plain { IfErr result IsOfNoDevice }
+    {
+        match self.seek()? {
+            Found::Nothing => Ok(Outcome::Still),
+            Found::Garbled => Ok(Outcome::Fault {
+                kind: Kind::Garbled,
+                error: None,
+            }),
+            Found::Value => self.answer(line, rt, turns, moment),
+        }
+    }
+
+    // The turns of all values that have come whole.
+    fn answer_all<Rt: Wait, T: CoreTurns>(
+        &mut self,
+        line: &mut Line,
+        rt: &Rt,
+        turns: &mut T,
+        moment: u64,
+    ) -> Result<Outcome, EngineError>
+        requires whole { self.old.inbox.values.refusal ≡ None }
+        ensures pass { T.pass turns.new ≡ T.pass turns.old }
+        ensures setting { T.setting turns.new ≡ T.setting turns.old }
+        ensures seen { StartsWith (T.seen turns.new) (T.seen turns.old) }
+        ensures goes { AsTold (GoesOn line.old line.new (Some self.old) (Some self.new) (own_steps (T.pass turns.old) (T.seen turns.old))
+            (own_steps (T.pass turns.old) (T.seen turns.new)) moment) (told_by_moves result) }
+        ensures all { IfOk result (λ o. is_fault o ≡ false → (self.new.next ≡ None) × HasGivenAll self.new.inbox) }
+        ensures fault { IfOk result (λ o. IfFault o (λ kind error. IsCauseOf kind error line.new self.old self.new ((v : Value) × (self.new.next ≡ Some v) × T.cause (T.setting turns.old) Refusal.Unasked (Event.Answered line.new.host line.new.epoch v moment) (T.seen turns.new)) moment)) }
+        ensures reads { self.new.inbox.counts ≡ self.old.inbox.counts }
+        ensures writes { self.new.counts ≡ self.old.counts }
+        ensures err { OnErr result (self.new.inbox.values.refusal ≡ None) }
+        ensures plain { IfErr result IsOfNoDevice }
+    {
+        let mut outcome = Outcome::Still;
+        for _ in rt.forever() {
+            match self.answer_next(line, rt, turns, moment)? {
+                Outcome::Still => return Ok(outcome),
+                Outcome::Moved => outcome = Outcome::Moved,
+                fault => return Ok(fault),
+            }
+        }
+        unreachable!()
+    }
+
+    // One write of what is pending, or one part taken.
+    fn send<Rt: Wait, T: CoreTurns>(
+        &mut self,
+        line: &mut Line,
+        rt: &Rt,
+        turns: &mut T,
+        moment: u64,
+    ) -> Result<Outcome, EngineError>
+        ensures pass { T.pass turns.new ≡ T.pass turns.old }
+        ensures setting { T.setting turns.new ≡ T.setting turns.old }
+        ensures seen { StartsWith (T.seen turns.new) (T.seen turns.old) }
+        ensures goes { AsTold (GoesOn line.old line.new (Some self.old) (Some self.new) (own_steps (T.pass turns.old) (T.seen turns.old))
+            (own_steps (T.pass turns.old) (T.seen turns.new)) moment) (told_by_moves result) }
+        ensures inbox { self.new.inbox ≡ self.old.inbox }
+        ensures next { self.new.next ≡ self.old.next }
+        ensures idle { IfOk result (λ o. o ≡ Outcome.Still → HasRisen self.old.counts.paused self.new.counts.paused
+            ⊎ ((line.old.pending ≡ []) × T.cause (T.setting turns.old) Refusal.NothingWaiting (Event.Taken line.old.host) (T.seen turns.new))) }
+        ensures writer { IfOk result (λ o. is_fault o ≡ false → self.new.counts.failed ≡ self.old.counts.failed) }
+        ensures fault { IfOk result (λ o. IfFault o (λ kind error. IsCauseOf kind error line.new self.old self.new ⊥ 0)) }
+        ensures plain { IfErr result IsOfNoDevice }
+    {
+        if !line.is_empty() {
+            return Ok(self.write(line));
+        }
+        if line.take(rt, turns, moment)? {
+            Ok(Outcome::Moved)
+        } else {
+            Ok(Outcome::Still)
+        }
+    }
+
+    // The values that are held, one read, and the values that came by it.
+    fn receive<Rt: Wait, T: CoreTurns>(
+        &mut self,
+        line: &mut Line,
+        rt: &Rt,
+        turns: &mut T,
+        moment: u64,
+    ) -> Result<Outcome, EngineError>
+        requires whole { self.old.inbox.values.refusal ≡ None }
+        ensures pass { T.pass turns.new ≡ T.pass turns.old }
+        ensures setting { T.setting turns.new ≡ T.setting turns.old }
+        ensures seen { StartsWith (T.seen turns.new) (T.seen turns.old) }
+        ensures goes { AsTold (GoesOn line.old line.new (Some self.old) (Some self.new) (own_steps (T.pass turns.old) (T.seen turns.old))
+            (own_steps (T.pass turns.old) (T.seen turns.new)) moment) (told_by_moves result) }
+        ensures idle { IfOk result (λ o. o ≡ Outcome.Still → HasRisen self.old.inbox.counts.paused self.new.inbox.counts.paused) }
+        ensures all { IfOk result (λ o. is_fault o ≡ false → (self.new.next ≡ None) × HasGivenAll self.new.inbox) }
+        ensures fault { IfOk result (λ o. IfFault o (λ kind error. IsCauseOf kind error line.new self.old self.new ((v : Value) × (self.new.next ≡ Some v) × T.cause (T.setting turns.old) Refusal.Unasked (Event.Answered line.new.host line.new.epoch v moment) (T.seen turns.new)) moment)) }
+        ensures writes { self.new.counts ≡ self.old.counts }
+        ensures err { OnErr result (self.new.inbox.values.refusal ≡ None) }
+        ensures plain { IfErr result IsOfNoDevice }
+    {
+        let before = self.answer_all(line, rt, turns, moment)?;
+        if before.is_fault() {
+            return Ok(before);
+        }
+        let heard = self.listen();
+        if heard.is_fault() {
+            return Ok(heard);
+        }
+        let after = self.answer_all(line, rt, turns, moment)?;
+        if after.is_fault() {
+            return Ok(after);
+        }
+        Ok(before.or(heard).or(after))
+    }
+
+    /// One step on the link, up to a fault that is to be recorded.
+    pub(crate) fn attend<Rt: Wait, T: CoreTurns>(
+        &mut self,
+        line: &mut Line,
+        rt: &Rt,
+        turns: &mut T,
+        moment: u64,
+    ) -> Result<Outcome, EngineError>
+        requires whole { self.old.inbox.values.refusal ≡ None }
+        ensures pass { T.pass turns.new ≡ T.pass turns.old }
+        ensures setting { T.setting turns.new ≡ T.setting turns.old }
+        ensures seen { StartsWith (T.seen turns.new) (T.seen turns.old) }
+        ensures goes { AsTold (GoesOn line.old line.new (Some self.old) (Some self.new) (own_steps (T.pass turns.old) (T.seen turns.old))
+            (own_steps (T.pass turns.old) (T.seen turns.new)) moment) (told_by_moves result) }
+        ensures idle { IfOk result (λ o. o ≡ Outcome.Still → HasRisen self.old.inbox.counts.paused self.new.inbox.counts.paused
+            × (HasRisen self.old.counts.paused self.new.counts.paused
+            ⊎ ((line.old.pending ≡ []) × HasHeld (T.cause (T.setting turns.old) Refusal.NothingWaiting) (Event.Taken line.old.host) (T.seen turns.old) (T.seen turns.new)))) }
+        ensures all { IfOk result (λ o. is_fault o ≡ false → (self.new.next ≡ None) × HasGivenAll self.new.inbox) }
+        ensures fault { IfOk result (λ o. IfFault o (λ kind error. IsCauseOf kind error line.new self.old self.new ((v : Value) × (self.new.next ≡ Some v) × T.cause (T.setting turns.old) Refusal.Unasked (Event.Answered line.new.host line.new.epoch v moment) (T.seen turns.new)) moment)) }
+        ensures err { OnErr result (self.new.inbox.values.refusal ≡ None) }
+        ensures plain { IfErr result IsOfNoDevice }
+    {
+        let sent = self.send(line, rt, turns, moment)?;
+        if sent.is_fault() {
+            return Ok(sent);
+        }
+        let received = self.receive(line, rt, turns, moment)?;
+        if received.is_fault() {
+            return Ok(received);
+        }
+        if line.is_late(moment) {
+            return Ok(Outcome::Fault {
+                kind: Kind::Late,
+                error: None,
+            });
+        }
+        Ok(sent.or(received))
+    }
+}

@@ -1,0 +1,77 @@
+//! What is to be written.
+ghost use Rattle.std.specs.Prelude.{◌≡◌, ◌≢◌, ◌==◌, ◌<◌, ◌⊎◌, ℕ, List, length, []};
+ghost use Rattle.proxy_engines.specs.Device.{HasFailed, HasPaused, is_moved};
+ghost use Rattle.proxy_engines.specs.Moves.{has_moved};
+
+use crate::tally::{Told, WriteTally};
+use bytes::Bytes;
+use std::marker::Model;
+
+/// A writer, and the text that it is to take next.
+#[derive(Drop)]
+pub struct Outbox<W: WriteTally> {
+    writer: W,
+    pending: Bytes,
+}
+
+impl<W: WriteTally> Model for Outbox<W> {
+    ghost use Rattle.proxy_engines.specs.Ends.{Sending};
+
+    ghost Value = { Sending };
+
+    ghost view = { λ o. record { held = W.contents o.writer; counts = W.counts o.writer; pending = o.pending } };
+}
+
+impl<W: WriteTally> Outbox<W> {
+    ghost use Rattle.proxy_engines.specs.Ends.{Sends};
+
+    /// With nothing to write.
+    pub fn new(writer: W) -> Outbox<W>
+        ensures held { result.held ≡ W.contents writer }
+        ensures counts { result.counts ≡ W.counts writer }
+        ensures pending { result.pending ≡ [] }
+    {
+        Outbox {
+            writer,
+            pending: Bytes::new(),
+        }
+    }
+
+    /// Whether nothing is to be written.
+    pub fn is_empty(&self) -> bool
+        ensures { result ≡ (length self.now.pending == 0) }
+    {
+        self.pending.is_empty()
+    }
+
+    /// Takes the next text. Nothing may be pending.
+    pub(crate) fn put(&mut self, text: Bytes)
+        requires { self.old.pending ≡ [] }
+        ensures { self.new ≡ record self.old { pending = text } }
+    {
+        self.pending = text;
+    }
+
+    /// Writes once. Something has to be pending.
+    pub(crate) fn write_once(&mut self) -> Told
+        requires some { self.old.pending ≢ [] }
+        ensures bytes { (gave : List ℕ) × Sends self.old self.new gave × (is_moved result ≡ has_moved [] gave []) }
+        ensures moved { (n : ℕ) → result ≡ Told.Moved n → length self.new.pending < length self.old.pending }
+        ensures failed { (result ≡ Told.End) ⊎ (result ≡ Told.Failed) → HasFailed self.old.counts self.new.counts }
+        ensures paused { result ≡ Told.Paused → HasPaused self.old.counts self.new.counts }
+    {
+        let told = self.writer.write_told(self.pending.as_slice());
+        if let Told::Moved(n) = told {
+            self.pending.advance(n);
+        }
+        told
+    }
+
+    /// The writer. What is pending is dropped.
+    pub fn into_writer(self) -> W
+        ensures { W.contents result ≡ self.held }
+    {
+        let Outbox { writer, pending: _ } = self;
+        writer
+    }
+}
