@@ -33,7 +33,7 @@ impl Laden {
 }
 
 /// Each round waits for the one before it: six shifts and sums, some 2.5 ns.
-fn stirred(seed: u64, rounds: u32) -> u64 {
+pub fn stirred(seed: u64, rounds: u32) -> u64 {
     let mut stirred = seed;
     for _ in 0..rounds {
         stirred ^= stirred << 13;

@@ -2,8 +2,8 @@
 //! `Mutex`.
 //!
 //! Without an argument it makes few turns and prints how many the journals have. With the argument
-//! `time` it makes more, and prints turns a second: of turns that only add, and of turns that take
-//! some 200 ns.
+//! `time` it makes more, and prints turns a second: of turns that only add, of turns that take some
+//! 200 ns, and of such turns with some 400 ns of other work after each.
 #![tactic(auto)]
 
 ghost use Rattle.ticket_gate.specs.Gate.{IsSpareOf};
@@ -11,7 +11,7 @@ ghost use Rattle.ticket_gate.specs.Gate.{IsSpareOf};
 mod laden;
 
 use anyhow::{Result, bail};
-use laden::Laden;
+use laden::{Laden, stirred};
 use std::alloc::Global;
 use std::rt::Clock;
 use std::sync::{Mutex, Wait};
@@ -26,26 +26,61 @@ const FEW_TURNS: u64 = 20_000;
 /// Turns of all threads together, where they are timed.
 const MANY_TURNS: u64 = 400_000;
 
-/// Rounds of work in a turn that takes some 200 ns.
-const LADEN_ROUNDS: u32 = 80;
+/// Rounds of work that take some 200 ns.
+const ROUNDS: u32 = 80;
 
-/// So many turns, shared out among so many threads, with so many rounds of work in each.
+/// The work of a thread: the rounds in each turn, and the rounds after it.
+#[derive(Clone, Copy)]
+struct Work {
+    inside: u32,
+    outside: u32,
+}
+
+const NO_WORK: Work = Work {
+    inside: 0,
+    outside: 0,
+};
+
+/// What is timed, by its name.
+const TIMED: [(&str, Work); 3] = [
+    ("no work", NO_WORK),
+    (
+        "200 ns inside",
+        Work {
+            inside: ROUNDS,
+            outside: 0,
+        },
+    ),
+    (
+        "200 ns inside and 400 outside",
+        Work {
+            inside: ROUNDS,
+            outside: 2 * ROUNDS,
+        },
+    ),
+];
+
+/// So many turns, shared out among so many threads.
 #[derive(Clone, Copy)]
 struct Trial {
     threads: usize,
     turns: u64,
-    rounds: u32,
+    work: Work,
 }
 
-// Adds 1 so many times.
+// Adds 1 so many times, and works after each. Gives what the work came to.
 fn make_turns<T: Turns<Event = u64, Answer = u64, Refusal = AdditionRefusal>, R: Wait>(
     rt: &R,
     turns: &mut T,
     times: u64,
-) {
+    outside: u32,
+) -> u64 {
+    let mut seed = 1;
     for _ in 0..times {
         let _ = turns.turn(rt, 1);
+        seed = stirred(seed, outside);
     }
+    seed
 }
 
 /// Seats so many passes at the gate.
@@ -79,7 +114,7 @@ impl Trial {
     /// Makes the turns at a gate, each thread with a pass of its own, and gives the journal's
     /// length.
     fn at_a_gate<R: Threads + Wait + Sync>(&self, rt: &R, alloc: Global) -> Result<usize> {
-        let Ok((gate, spare)) = Gate::new(alloc, Laden::new(alloc, self.rounds)) else {
+        let Ok((gate, spare)) = Gate::new(alloc, Laden::new(alloc, self.work.inside)) else {
             bail!("there is no memory for a gate");
         };
         let (mine, spare) = gate.split(spare);
@@ -88,12 +123,13 @@ impl Trial {
         };
         let seated = seat_passes(rt, alloc, &gate, spare, self.threads)?;
         let times = self.times();
+        let outside = self.work.outside;
         thread::map_vec(
             rt,
             seated,
             &|turns| {
                 let mut turns = turns;
-                make_turns(rt, &mut turns, times)
+                make_turns(rt, &mut turns, times, outside)
             },
         )?;
         match gate.close(mine) {
@@ -104,20 +140,24 @@ impl Trial {
 
     /// Makes the turns under a mutex, and gives the journal's length.
     fn under_a_mutex<R: Threads + Wait + Sync>(&self, rt: &R, alloc: Global) -> Result<usize> {
-        let state = Mutex::new(Laden::new(alloc, self.rounds));
+        let state = Mutex::new(Laden::new(alloc, self.work.inside));
         let mut passes = Vec::new(alloc);
         for pass in 0..self.threads as u64 {
             passes.push(pass)?;
         }
         let shared = &state;
         let times = self.times();
+        let outside = self.work.outside;
         thread::map_vec(
             rt,
             passes,
             &|pass| {
+                let mut seed = 1;
                 for _ in 0..times {
                     let _ = shared.lock(rt).turn(pass, 1);
+                    seed = stirred(seed, outside);
                 }
+                seed
             },
         )?;
         Ok(state.into_inner().turns())
@@ -128,6 +168,7 @@ impl Trial {
         &self,
         rt: &R,
         alloc: Global,
+        name: &str,
     ) -> Result<()> {
         let start = Instant::now(rt)?;
         let turns = self.at_a_gate(rt, alloc)?;
@@ -135,13 +176,8 @@ impl Trial {
         let start = Instant::now(rt)?;
         let turns = self.under_a_mutex(rt, alloc)?;
         let by_mutex = per_second(turns, start.elapsed(rt)?);
-        let work = if self.rounds == 0 {
-            "no work"
-        } else {
-            "200 ns of work"
-        };
         println!(rt;
-            "threads {}, {work}: {by_gate} a second at a gate, {by_mutex} under a mutex",
+            "threads {}, {name}: {by_gate} a second at a gate, {by_mutex} under a mutex",
             self.threads
         )?;
         Ok(())
@@ -160,19 +196,19 @@ fn main(rt: HostRuntime) -> Result<()> {
         let few = Trial {
             threads,
             turns: FEW_TURNS,
-            rounds: 0,
+            work: NO_WORK,
         };
         let at_gate = few.at_a_gate(&rt, rt.alloc())?;
         let under_mutex = few.under_a_mutex(&rt, rt.alloc())?;
         println!(rt; "threads {threads}: {at_gate} turns at a gate, {under_mutex} under a mutex")?;
         if timed {
-            for rounds in [0, LADEN_ROUNDS] {
+            for (name, work) in TIMED {
                 let many = Trial {
                     threads,
                     turns: MANY_TURNS,
-                    rounds,
+                    work,
                 };
-                many.print_speeds(&rt, rt.alloc())?;
+                many.print_speeds(&rt, rt.alloc(), name)?;
             }
         }
     }
