@@ -1,10 +1,9 @@
 //! A Redis host in memory, for tests and for `redproxy local`.
 //!
 //! A `Stub` answers requests by a small table of commands over a map from keys to byte strings, which is empty at first,
-//! or does with them what a script says. A `StubLink` has two ends in memory, to which requests are written and from which
-//! replies are read.
-//! The commands and their meanings are those of the Redis commands of the same names; which of them the table has, and
-//! the texts of its errors, are this project's own.
+//! or does with them what a script says. The commands and their meanings are those of the Redis commands of the same
+//! names; which of them the table has, and the texts of its errors, are this project's own. A `StubLink` has two ends in
+//! memory: requests are written to one, and replies are read from the other.
 #![tactic(auto)]
 
 mod command;

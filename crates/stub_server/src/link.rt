@@ -29,10 +29,10 @@ pub struct StubReader {
 
 /// The end to which requests are written, in the texts that a client may send.
 ///
-/// A write takes at most `MAX_TAKEN` bytes, and serves the requests that are whole by the stub's script, as one read or
-/// write after it does with those for which there was no memory, or no room: while `MAX_UNREAD` bytes of replies or more
-/// are unread, no request is served, and while one waits no byte is taken. Then it answers `WouldBlock`. Once the link has
-/// ended, by `Act::Drop` or at a byte that fits no text, it answers `BrokenPipe`. No other error is answered.
+/// A write takes at most `MAX_TAKEN` bytes and serves the requests that are whole by then, by the stub's script. One for
+/// which there is no memory, or no room, waits for a later read or write: no request is served while `MAX_UNREAD` bytes of
+/// replies or more are unread. While one waits no byte is taken, and a write answers `WouldBlock`. Once the link has ended,
+/// by `Act::Drop` or at a byte that fits no text, it answers `BrokenPipe`. No other error is answered.
 #[derive(Drop)]
 pub struct StubWriter {
     session: Arc<Mutex<Session>>,
@@ -46,8 +46,7 @@ impl StubLink {
         StubLink { alloc, stub }
     }
 
-    /// The two ends of the link. They may go to different threads; a call that meets another of the same link answers
-    /// `WouldBlock`.
+    /// The two ends of the link. A call of one while a call of the other runs, in another thread, answers `WouldBlock`.
     ///
     /// They hold the stub, at most `MAX_TAKEN` bytes of requests that wait behind an unfinished one of at most 8,388,608,
     /// and less than `MAX_UNREAD` unread bytes of replies with one reply behind them. Refused 1501 (no memory), and then

@@ -12,6 +12,9 @@ use std::marker::Model;
 /// While a link holds so many unread bytes of replies or more, it answers no request.
 pub const MAX_UNREAD: usize = 65_536;
 
+// Bytes of a buffer that is kept while no byte is unread.
+const MOST_IDLE: usize = 131_072;
+
 // The bytes that were not read yet, as contracts see it.
 #[derive(Drop)]
 pub struct Unread {
@@ -106,7 +109,7 @@ impl Unread {
         if self.given < self.texts.len() {
             return;
         }
-        if self.texts.capacity() > 2 * MAX_UNREAD {
+        if self.texts.capacity() > MOST_IDLE {
             self.texts = Vec::new(self.alloc);
         } else {
             self.texts.clear();
