@@ -6,7 +6,7 @@ use Rattle.proxy_engines.specs.Faults.{IsCauseOf, IfFault, is_fault, either}
 use Rattle.ticket_gate.specs.Journal.{StartsWith}
 use Rattle.proxy_history.specs.Seen.{SeenStep}
 use Rattle.proxy_history.specs.declared.event.Event.{Event}
-use Rattle.proxy_engines.specs.HostStep.{HasHeld}
+use Rattle.proxy_engines.specs.Turned.{HasHeld}
 use Rattle.proxy_engines.specs.declared.error.EngineError.{EngineError}
 use Rattle.proxy_engines.specs.declared.link.Outcome.{Outcome}
 

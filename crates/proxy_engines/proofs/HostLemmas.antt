@@ -4,7 +4,7 @@ use Rattle.std.specs.Prelude.{IfSome, IfOk, ◌↔◌, false}
 use Rattle.proxy_history.specs.History.{History}
 use Rattle.proxy_history.specs.declared.event.Kind.{Kind}
 use Rattle.proxy_engines.specs.Host.{LineState, LinkState, GoesOn, FailsHost}
-use Rattle.proxy_engines.specs.HostStep.{HostState, HasHeld, IsAnswered, IsCausedOn, IsUnasked, Records, WorksHost, StepsHost, answer_of, after_fault}
+use Rattle.proxy_engines.specs.HostStep.{HostState, IsAnswered, IsCausedOn, IsUnasked, Records, WorksHost, StepsHost, answer_of, after_fault}
 use Rattle.std.proofs.lemmas.Bool.{ne_eqb}
 use Rattle.ticket_gate.specs.Journal.{StartsWith}
 use Rattle.resp_core.specs.declared.value.Value.{Value}

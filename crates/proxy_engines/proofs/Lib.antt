@@ -7,3 +7,4 @@ pub mod CallerLemmas
 pub mod InboxLemmas
 pub mod MoveLemmas
 pub mod HostLemmas
+pub mod IdleLemmas

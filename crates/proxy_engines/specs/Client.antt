@@ -1,5 +1,5 @@
 -- What contracts see of a client's engine, and how it stands to the steps of its caller.
-use Rattle.std.specs.Prelude.{◌≡◌, ⊤, ◌⊎◌, ℕ, Bool, true, false, List, [], ◌∷◌, ◌++◌, Option, Some, None, map}
+use Rattle.std.specs.Prelude.{◌≡◌, ◌≢◌, ⊤, ◌⊎◌, ℕ, Bool, true, false, List, [], ◌∷◌, ◌++◌, Option, Some, None, map}
 use Rattle.std.specs.List.{list_any}
 use Rattle.std.specs.Io.KnownBytes.{Consumes, Appends, IsAtEnd}
 use Rattle.resp_core.specs.declared.error.RespError.{RespError}
@@ -8,10 +8,15 @@ use Rattle.splitter.specs.Request.{Request, request_of}
 use Rattle.splitter.specs.Requests.{finishes}
 use Rattle.splitter.specs.declared.request.Request.{Request as Request'}
 use Rattle.proxy_history.specs.History.{History, accepted, handed, requests, is_closed}
+use Rattle.proxy_history.specs.Seen.{SeenStep}
+use Rattle.proxy_history.specs.declared.event.Event.{Event}
+use Rattle.proxy_history.specs.declared.refusal.Refusal.{Refusal}
 use Rattle.proxy_history.specs.Output.{transcript}
 use Rattle.proxy_history.specs.Own.{connection_steps}
 use Rattle.proxy_engines.specs.Moves.{has_moved}
-use Rattle.proxy_engines.specs.Ends.{Sending, Receiving, Holds, AreRequests}
+use Rattle.proxy_engines.specs.Device.{HasPaused}
+use Rattle.proxy_engines.specs.Ends.{Sending, Receiving, Holds, HasGivenAll, AreRequests}
+use Rattle.proxy_engines.specs.Turned.{HasHeld}
 use Rattle.proxy_engines.specs.declared.client.Stage.{Stage}
 
 -- its connection, its two ends, the request that waits to be accepted, how many commands were accepted and how many replies
@@ -95,6 +100,29 @@ pub record Carries (e : Client) (H : History) (taken b : List ℕ) : Type 0 wher
   pub accepted_is : e.accepted ≡ accepted e.conn H
   pub handed_is : e.handed ≡ handed e.conn H
   pub stage_is : IsAtStage e.stage (IsDone e H) (asked e.conn H) e.inbox e.next b given
+
+-- Nothing can be handed out: all that was accepted has been, or the next reply hasn't come.
+abbrev pub HandsNothing : (Refusal → Event → List SeenStep → Type 0) → Client → List SeenStep → List SeenStep → Type 0
+HandsNothing cause e x y = (e.accepted ≡ e.handed) ⊎ ((left : ℕ) × HasHeld (cause (Refusal.NotReady left)) (Event.Handed e.conn) x y)
+
+-- The next request is held back: too many commands are unwritten.
+abbrev pub IsHeldBack : (Refusal → Event → List SeenStep → Type 0) → Client → List SeenStep → List SeenStep → Type 0
+IsHeldBack cause e x y = (r : Request') × (e.next ≡ Some r) × HasHeld (cause Refusal.Crowded) (Event.Arrived e.conn r) x y
+
+-- Nothing more arrives, and a reply hasn't come.
+abbrev pub AwaitsReplies : Client → Type 0
+AwaitsReplies e = (e.stage ≡ Stage.Finishing) × (e.accepted ≢ e.handed)
+
+-- All requests that came are accepted, and nothing can be read.
+abbrev pub AwaitsBytes : Client → Client → Type 0
+AwaitsBytes old new = (new.next ≡ None) × HasGivenAll new.inbox × HasPaused old.inbox.counts new.inbox.counts
+
+-- Why nothing moved: nothing can be written; or nothing is to be written, nothing can be handed out, and nothing can be
+-- accepted.
+abbrev pub IsIdle : (Refusal → Event → List SeenStep → Type 0) → Client → Client → List SeenStep → List SeenStep → Type 0
+IsIdle cause old new x y =
+    HasPaused old.outbox.counts new.outbox.counts
+    ⊎ ((old.outbox.pending ≡ []) × HandsNothing cause old x y × (IsHeldBack cause new x y ⊎ (AwaitsReplies new ⊎ AwaitsBytes old new)))
 
 -- Some moves of an engine: bytes that were read, bytes that were taken, steps of its connection alone, whether any of these
 -- came, and what it carries.

@@ -1,6 +1,5 @@
 -- What a step of a host's engine does.
 use Rattle.std.specs.Prelude.{◌≡◌, ◌≢◌, IfSome, ◌⊎◌, ⊤, ℕ, Bool, true, false, List, [], Option, Some, None, Result, Ok, Err}
-use Rattle.ticket_gate.specs.Journal.{StartsWith}
 use Rattle.resp_core.specs.declared.value.Value.{Value}
 use Rattle.proxy_history.specs.History.{History}
 use Rattle.proxy_history.specs.Seen.{SeenStep}
@@ -8,6 +7,7 @@ use Rattle.proxy_history.specs.declared.event.Event.{Event}
 use Rattle.proxy_history.specs.declared.event.Kind.{Kind}
 use Rattle.proxy_engines.specs.Device.{HasRisen}
 use Rattle.proxy_engines.specs.Host.{LineState, LinkState, GoesOn, FailsHost}
+use Rattle.proxy_engines.specs.Turned.{HasHeld}
 use Rattle.proxy_engines.specs.Faults.{IsLate, IsCauseOf, IsOfNoDevice}
 use Rattle.proxy_engines.specs.declared.client.Progress.{Progress}
 use Rattle.proxy_engines.specs.declared.error.EngineError.{EngineError}
@@ -22,11 +22,6 @@ pub record HostState : Type 0 where
 abbrev pub IsWhole : Option Kind → Option LinkState → Type 0
 IsWhole None (Some k) = k.inbox.values.refusal ≡ None
 IsWhole f k = ⊤
-
--- the cause of a refusal held, of some list of steps between these
-abbrev pub HasHeld : (Event → List SeenStep → Type 0) → Event → List SeenStep → List SeenStep → Type 0
-HasHeld cause event old new =
-    (between : List SeenStep) × StartsWith between old × StartsWith new between × cause event between
 
 -- a value came that nobody asked for: its turn is refused for that
 abbrev pub IsUnasked : (Event → List SeenStep → Type 0) → List SeenStep → List SeenStep → ℕ → LineState → LinkState → Type 0

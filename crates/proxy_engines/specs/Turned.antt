@@ -1,5 +1,6 @@
 -- What one turn does to the steps of its caller.
 use Rattle.std.specs.Prelude.{◌≡◌, ◌≤◌, ⊤, ℕ, List, ◌∷◌, length}
+use Rattle.ticket_gate.specs.Journal.{StartsWith}
 use Rattle.proxy_history.specs.Setting.{max_steps}
 use Rattle.proxy_history.specs.History.{History, Step}
 use Rattle.proxy_history.specs.StepLaws.{IsAnswerTo}
@@ -23,3 +24,8 @@ pub record Adds (pass : ℕ) (old new : History) (event : Event) (answer : Answe
 abbrev pub IsDue : (Refusal → Event → List SeenStep → Type 0) → Event → List SeenStep → Denied → Type 0
 IsDue cause event seen Denied.Spent = ⊤
 IsDue cause event seen (Denied.By r) = cause r event seen
+
+-- the cause of a refusal held, of some list of steps between these
+abbrev pub HasHeld : (Event → List SeenStep → Type 0) → Event → List SeenStep → List SeenStep → Type 0
+HasHeld cause event old new =
+    (between : List SeenStep) × StartsWith between old × StartsWith new between × cause event between

@@ -88,7 +88,7 @@ impl<R: ReadTally, W: WriteTally> Model for ClientEngine<R, W> {
 
 #[tactic(auto, using(crate::proofs::ClientMoves::same_goes, crate::proofs::ClientMoves::goes_then))]
 impl<R: ReadTally, W: WriteTally> ClientEngine<R, W> {
-    ghost use Rattle.proxy_engines.specs.Client.{Client, Carries, Goes, IsLive};
+    ghost use Rattle.proxy_engines.specs.Client.{AwaitsBytes, AwaitsReplies, Client, Carries, Goes, HandsNothing, IsHeldBack, IsIdle, IsLive};
     ghost use Rattle.proxy_history.specs.declared.refusal.Refusal.{Refusal};
     ghost use Rattle.splitter.specs.declared.request.Request.{Request};
 
@@ -302,6 +302,7 @@ impl<R: ReadTally, W: WriteTally> ClientEngine<R, W> {
         ensures err { IfErr result (λ e.
             ((e ≡ EngineError.ReadFailed) × HasFailed self.old.inbox.counts self.new.inbox.counts × (self.new.stage ≡ Stage.Closed true))
             ⊎ ((n : ℕ) × (e ≡ EngineError.TurnRefused n))) }
+        ensures idle { IfOk result (λ p. p ≡ Progress.Idle → AwaitsBytes self.old self.new) }
     {
         match self.inbox.read_once() {
             Told::Moved(_) => Ok(Progress::Moved),
@@ -334,6 +335,8 @@ impl<R: ReadTally, W: WriteTally> ClientEngine<R, W> {
         ensures err { IfErr result (λ e. (e ≡ EngineError.NoMemory)
             ⊎ ((e ≡ EngineError.ReadFailed) × HasFailed self.old.inbox.counts self.new.inbox.counts × (self.new.stage ≡ Stage.Closed true))
             ⊎ ((n : ℕ) × (e ≡ EngineError.TurnRefused n))) }
+        ensures idle { IfOk result (λ p. p ≡ Progress.Idle → IsHeldBack (T.cause (T.setting turns.old)) self.new (T.seen turns.old) (T.seen turns.new)
+            ⊎ AwaitsBytes self.old self.new) }
     {
         if !self.has_next()? {
             return self.read(rt, turns);
@@ -360,6 +363,7 @@ impl<R: ReadTally, W: WriteTally> ClientEngine<R, W> {
             (own_steps (T.pass turns.old) (T.seen turns.new))) (told_by_step result) }
         ensures ok { IfOk result (λ p. (p ≡ Progress.Idle) ⊎ ((p ≡ Progress.Ended) × (self.new.stage ≡ Stage.Closed false))) }
         ensures err { IfErr result (λ e. (n : ℕ) × (e ≡ EngineError.TurnRefused n)) }
+        ensures idle { IfOk result (λ p. p ≡ Progress.Idle → AwaitsReplies self.new) }
     {
         if self.accepted != self.handed {
             return Ok(Progress::Idle);
@@ -384,6 +388,7 @@ impl<R: ReadTally, W: WriteTally> ClientEngine<R, W> {
         ensures stage { self.new.stage ≡ self.old.stage }
         ensures same { IfOk result (λ b. b ≡ false → self.new ≡ self.old) }
         ensures err { IfErr result (λ e. (n : ℕ) × (e ≡ EngineError.TurnRefused n)) }
+        ensures nothing { IfOk result (λ b. b ≡ false → HandsNothing (T.cause (T.setting turns.old)) self.old (T.seen turns.old) (T.seen turns.new)) }
     {
         if self.accepted == self.handed {
             return Ok(false);
@@ -409,6 +414,7 @@ impl<R: ReadTally, W: WriteTally> ClientEngine<R, W> {
             → HasFailed self.old.inbox.counts self.new.inbox.counts × (self.new.stage ≡ Stage.Closed true)) }
         ensures write_failed { IfErr result (λ e. e ≡ EngineError.WriteFailed
             → HasFailed self.old.outbox.counts self.new.outbox.counts × (self.new.stage ≡ Stage.Closed true)) }
+        ensures idle { IfOk result (λ p. p ≡ Progress.Idle → IsIdle (T.cause (T.setting turns.old)) self.old self.new (T.seen turns.old) (T.seen turns.new)) }
     {
         if !self.outbox.is_empty() {
             return self.write(rt, turns);
@@ -448,6 +454,7 @@ impl<R: ReadTally, W: WriteTally> ClientEngine<R, W> {
             → HasFailed self.old.inbox.counts self.new.inbox.counts × (self.new.stage ≡ Stage.Closed true)) }
         ensures write_failed { IfErr result (λ e. e ≡ EngineError.WriteFailed
             → HasFailed self.old.outbox.counts self.new.outbox.counts × (self.new.stage ≡ Stage.Closed true)) }
+        ensures idle { IfOk result (λ p. p ≡ Progress.Idle → IsIdle (T.cause (T.setting turns.old)) self.old self.new (T.seen turns.old) (T.seen turns.new)) }
     {
         match self.stage {
             Stage::Closed { is_cut: true } => Ok(Progress::Cut),

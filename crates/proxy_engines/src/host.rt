@@ -6,11 +6,12 @@ ghost use Rattle.proxy_history.specs.Own.{host_steps};
 ghost use Rattle.proxy_history.specs.declared.event.Event.{Event};
 ghost use Rattle.proxy_history.specs.declared.refusal.Refusal.{Refusal};
 ghost use Rattle.proxy_engines.specs.OwnSteps.{own_steps};
+ghost use Rattle.proxy_engines.specs.Turned.{HasHeld};
 ghost use Rattle.proxy_engines.specs.Moves.{AsTold, told_by_turn};
 ghost use Rattle.proxy_engines.specs.Faults.{IsOfNoDevice};
 ghost use Rattle.proxy_engines.specs.Ends.{HasGivenAll};
 ghost use Rattle.proxy_engines.specs.Host.{LinkState, GoesOn, FailsHost, CarriesHost};
-ghost use Rattle.proxy_engines.specs.HostStep.{HasHeld, IsIdleOn, IsUnasked, Records, RestsHost, StepsHost, WorksHost, after_fault};
+ghost use Rattle.proxy_engines.specs.HostStep.{IsIdleOn, IsUnasked, Records, RestsHost, StepsHost, WorksHost, after_fault};
 
 use crate::client::Progress;
 use crate::error::EngineError;

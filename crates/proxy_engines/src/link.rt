@@ -8,7 +8,7 @@ ghost use Rattle.proxy_history.specs.declared.refusal.Refusal.{Refusal};
 ghost use Rattle.resp_core.specs.declared.value.Value.{Value};
 ghost use Rattle.proxy_engines.specs.OwnSteps.{own_steps};
 ghost use Rattle.proxy_engines.specs.Device.{HasPaused, HasRisen};
-ghost use Rattle.proxy_engines.specs.HostStep.{HasHeld};
+ghost use Rattle.proxy_engines.specs.Turned.{HasHeld};
 ghost use Rattle.proxy_engines.specs.Ends.{HasGivenAll};
 ghost use Rattle.proxy_engines.specs.Host.{LineState, LinkState, GoesOn};
 ghost use Rattle.proxy_engines.specs.Moves.{AsTold};

@@ -1,5 +1,6 @@
 use Rattle.std.proofs.Common.{true, false}
 use Rattle.proxy_engines.proofs.ClientMoves.{read_goes, ended_goes, goes_then, goes_some}
+use Rattle.proxy_engines.proofs.IdleLemmas.{given_still}
 use Rattle.proxy_engines.proofs.MoveLemmas.{step-err}
 use Rattle.proxy_engines.proofs.client.ClientEngine.read.Goals as goal
 
@@ -42,3 +43,9 @@ returns-in_ok-cut-in-Failed-clause-goes g c =
     rw (← c.self.view_is)
     (goes_some _ _ _ _ _ _ _ _ (read_goes _ c.read_once.new.self _ _ c.read_once.ensures.told (rw (← c.self.view_is) at c.requires.stage) all.none_refused all.none_fresh c.read_once.ensures.bytes c.read_once.ensures.values)
     c.in_ok-cut-in-Failed.ensures.goes)
+
+pub returns-in-Paused-clause-idle : goal.returns-in-Paused-clause-idle
+returns-in-Paused-clause-idle g c = λ _.
+    let all = rw (← c.self.view_is) at c.requires.all in
+    let paused = c.read_once.ensures.paused c.in-Paused.is in
+    (rw (← c.self.view_is) at c.requires.none, given_still _ c.read_once.new.self all paused.0 c.read_once.ensures.values, rw (← c.self.view_is) paused.1)

@@ -1,6 +1,8 @@
-use Rattle.std.proofs.Common.{true, false}
+use Rattle.std.proofs.Common.{true, false, inl}
+use Rattle.proxy_history.specs.declared.refusal.Refusal.{Refusal}
 use Rattle.proxy_engines.proofs.ClientMoves.{goes_then, goes_some, told_then}
 use Rattle.proxy_engines.specs.Moves.{told_by_step}
+use Rattle.proxy_engines.proofs.IdleLemmas.{held_now}
 use Rattle.proxy_engines.proofs.MoveLemmas.{step-err}
 use Rattle.proxy_engines.proofs.client.ClientEngine.take_in.Goals as goal
 
@@ -17,3 +19,9 @@ returns-then-branch-clause-goes g c = goes_then _ _ _ _ _ _ false true (c.has_ne
 
 pub returns-else-branch-clause-goes : goal.returns-else-branch-clause-goes
 returns-else-branch-clause-goes g c = goes_then _ _ _ _ _ _ false false (c.has_next.ensures.goes _) (rw c.if-branch.false at c.in_ok-offer.ensures.goes)
+
+pub returns-else-branch-clause-idle : goal.returns-else-branch-clause-idle
+returns-else-branch-clause-idle g c = λ _.
+    let crowded = c.in_ok-offer.ensures.crowded c.if-branch.false in
+    rw (c.in_ok-offer.ensures.held c.if-branch.false)
+    (inl (crowded.0, crowded.1, held_now (g.T.Turns.cause (g.T.Turns.setting c.args.turns.now) Refusal.Crowded) _ _ _ c.offer.ensures.seen crowded.2))

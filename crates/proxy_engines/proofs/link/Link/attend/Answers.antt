@@ -4,7 +4,7 @@ use Rattle.proxy_history.specs.declared.event.Event.{Event}
 use Rattle.proxy_history.specs.declared.refusal.Refusal.{Refusal}
 use Rattle.proxy_engines.specs.Device.{Counts, HasRisen}
 use Rattle.proxy_engines.specs.Ends.{Receiving}
-use Rattle.proxy_engines.specs.HostStep.{HasHeld}
+use Rattle.proxy_engines.specs.Turned.{HasHeld}
 use Rattle.proxy_engines.proofs.FaultLemmas.{either_still, idle_then}
 use Rattle.proxy_engines.proofs.MoveLemmas.{moves-err, as_faulty}
 use Rattle.proxy_engines.proofs.link.Link.attend.Goals as goal

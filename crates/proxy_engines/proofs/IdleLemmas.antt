@@ -1,0 +1,53 @@
+-- Why a client is idle, put together.
+use Rattle.std.proofs.Common.{◌≡◌, ◌∙◌, ◌⊎◌, ℕ, List, [], ◌++◌, Option, None, ap, append_assoc, append-nil, sym, inl, inr}
+use Rattle.std.specs.Prelude.{Result, Ok, Err, IfOk}
+use Rattle.ticket_gate.specs.Journal.{StartsWith}
+use Rattle.splitter.specs.Request.{Request}
+use Rattle.proxy_history.specs.Seen.{SeenStep}
+use Rattle.proxy_history.specs.declared.event.Event.{Event}
+use Rattle.proxy_history.specs.declared.refusal.Refusal.{Refusal}
+use Rattle.proxy_engines.specs.Ends.{Receiving, Holds, HasGivenAll}
+use Rattle.proxy_engines.specs.Turned.{HasHeld}
+use Rattle.proxy_engines.specs.Client.{Client, AwaitsBytes, AwaitsReplies, HandsNothing, IsHeldBack, IsIdle}
+use Rattle.proxy_engines.specs.declared.client.Progress.{Progress}
+use Rattle.proxy_engines.specs.declared.error.EngineError.{EngineError}
+use Rattle.proxy_engines.proofs.HostMoves.{starts_then}
+
+-- what held between two lists held between two that stand further apart
+held_within : (C : Event → List SeenStep → Type 0) (event : Event) (w x y z : List SeenStep) → StartsWith x w → StartsWith z y → HasHeld C event x y → HasHeld C event w z
+held_within C event w x y z first last h = (h.0, starts_then w x h.0 first h.1, starts_then h.0 y z h.2 last, h.3)
+
+-- what holds now held between the list before and this one
+pub held_now : (C : Event → List SeenStep → Type 0) (event : Event) (x y : List SeenStep) → StartsWith y x → C event y → HasHeld C event x y
+held_now C event x y later cause = (y, later, ([], sym (append-nil y)), cause)
+
+module _ (C : Refusal → Event → List SeenStep → Type 0) (e new : Client) (x y z : List SeenStep) (first : StartsWith y x) (last : StartsWith z y) (empty : e.outbox.pending ≡ []) where
+  nothing_later : HandsNothing C e x y → HandsNothing C e x z
+  nothing_later (inl all) = inl all
+  nothing_later (inr n) = inr (n.0, held_within (C (Refusal.NotReady n.0)) (Event.Handed e.conn) x x y z ([], sym (append-nil x)) last n.1)
+
+  pub idle_open : HandsNothing C e x y → IsHeldBack C new y z ⊎ AwaitsBytes e new → IsIdle C e new x z
+  idle_open nothing (inl b) = inr (empty, nothing_later nothing, inl (b.0, b.1, held_within (C Refusal.Crowded) (Event.Arrived new.conn b.0) x y z z first ([], sym (append-nil z)) b.2))
+  idle_open nothing (inr a) = inr (empty, nothing_later nothing, inr (inr a))
+
+  pub idle_finishing : HandsNothing C e x y → AwaitsReplies new → IsIdle C e new x z
+  idle_finishing nothing a = inr (empty, nothing_later nothing, inr (inl a))
+
+pub if_ok : (P Q : Progress → Type 0) (r : Result Progress EngineError) → ((p : Progress) → P p → Q p) → IfOk r P → IfOk r Q
+if_ok P Q (Ok p) f h = f p h
+if_ok P Q (Err e) f h = tt
+
+-- after a read that brought nothing all requests are still given
+pub given_still : (i j : Receiving) → HasGivenAll i → j.fresh ≡ [] → j.values ≡ i.values → HasGivenAll j
+given_still i j all none same = record {
+  none_fresh = none;
+  none_refused = rw same all.none_refused;
+  all = λ b rs h. rw same (all.all b rs (record {
+    fed = h.fed;
+    given = h.given;
+    bytes = rw all.none_fresh (rw none at h.bytes);
+    stands = rw same at h.stands;
+    requests = rw same at h.requests;
+    after = rw (← same, all.none_fresh) (rw none at h.after);
+  }));
+}
