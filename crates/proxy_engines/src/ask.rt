@@ -51,12 +51,14 @@ pub(crate) fn ask<Rt: Wait, T: CoreTurns>(
     ensures pass { T.pass turns.new ≡ T.pass turns.old }
     ensures setting { T.setting turns.new ≡ T.setting turns.old }
     ensures seen { StartsWith (T.seen turns.new) (T.seen turns.old) }
-    ensures answered { IfOk result (λ a. Adds (T.pass turns.old) (own_steps (T.pass turns.old) (T.seen turns.old))
+    ensures answered { IfOk result
+        (λ a. Adds (T.pass turns.old) (own_steps (T.pass turns.old) (T.seen turns.old))
         (own_steps (T.pass turns.old) (T.seen turns.new)) event a) }
     ensures back { IfErr result (λ r. r.1 ≡ event) }
     ensures rests { IfErr result (λ r. own_steps (T.pass turns.old) (T.seen turns.new)
         ≡ own_steps (T.pass turns.old) (T.seen turns.old)) }
-    ensures cause { IfErr result (λ r. IsDue (T.cause (T.setting turns.old)) event (T.seen turns.new) r.0) }
+    ensures cause { IfErr result (λ r. IsDue (T.cause (T.setting turns.old)) event
+        (T.seen turns.new) r.0) }
 {
     match turns.turn(rt, event) {
         Ok(answer) => Ok(answer),
@@ -75,11 +77,13 @@ pub(crate) fn tell<Rt: Wait, T: CoreTurns>(
     ensures pass { T.pass turns.new ≡ T.pass turns.old }
     ensures setting { T.setting turns.new ≡ T.setting turns.old }
     ensures seen { StartsWith (T.seen turns.new) (T.seen turns.old) }
-    ensures answered { IfOk result (λ a. Adds (T.pass turns.old) (own_steps (T.pass turns.old) (T.seen turns.old))
+    ensures answered { IfOk result
+        (λ a. Adds (T.pass turns.old) (own_steps (T.pass turns.old) (T.seen turns.old))
         (own_steps (T.pass turns.old) (T.seen turns.new)) event a) }
     ensures rests { IfErr result (λ r. own_steps (T.pass turns.old) (T.seen turns.new)
         ≡ own_steps (T.pass turns.old) (T.seen turns.old)) }
-    ensures cause { IfErr result (λ r. IsDue (T.cause (T.setting turns.old)) event (T.seen turns.new) r) }
+    ensures cause { IfErr result (λ r. IsDue (T.cause (T.setting turns.old)) event
+        (T.seen turns.new) r) }
 {
     match ask(rt, turns, event) {
         Ok(answer) => Ok(answer),
@@ -104,13 +108,15 @@ pub(crate) fn arrive<Rt: Wait, T: CoreTurns>(
     ensures pass { T.pass turns.new ≡ T.pass turns.old }
     ensures setting { T.setting turns.new ≡ T.setting turns.old }
     ensures seen { StartsWith (T.seen turns.new) (T.seen turns.old) }
-    ensures answered { OnOk result ((a : Answer) × Adds (T.pass turns.old) (own_steps (T.pass turns.old) (T.seen turns.old))
+    ensures answered { OnOk result
+        ((a : Answer) × Adds (T.pass turns.old) (own_steps (T.pass turns.old) (T.seen turns.old))
         (own_steps (T.pass turns.old) (T.seen turns.new)) (Event.Arrived conn request) a) }
     ensures last { IfOk result (λ last. last ≡ is_last (plan_for request)) }
     ensures back { IfErr result (λ r. r.1 ≡ request) }
     ensures rests { IfErr result (λ r. own_steps (T.pass turns.old) (T.seen turns.new)
         ≡ own_steps (T.pass turns.old) (T.seen turns.old)) }
-    ensures cause { IfErr result (λ r. IsDue (T.cause (T.setting turns.old)) (Event.Arrived conn request) (T.seen turns.new) r.0) }
+    ensures cause { IfErr result (λ r. IsDue (T.cause (T.setting turns.old))
+        (Event.Arrived conn request) (T.seen turns.new) r.0) }
 {
     match ask(rt, turns, Event::Arrived { conn, request }) {
         Ok(Answer::Accepted { local, .. }) => Ok(is_last_answer(local)),
@@ -125,9 +131,12 @@ pub(crate) fn open<Rt: Wait, T: CoreTurns>(rt: &Rt, turns: &mut T) -> Result<u64
     ensures pass { T.pass turns.new ≡ T.pass turns.old }
     ensures setting { T.setting turns.new ≡ T.setting turns.old }
     ensures seen { StartsWith (T.seen turns.new) (T.seen turns.old) }
-    ensures answered { IfOk result (λ c. own_steps (T.pass turns.old) (T.seen turns.new)
-        ≡ step_by (T.pass turns.old) Event.Opened (Answer.Opened c) ∷ own_steps (T.pass turns.old) (T.seen turns.old)) }
-    ensures new { IfOk result (λ c. connection_steps c (own_steps (T.pass turns.old) (T.seen turns.old)) ≡ []) }
+    ensures answered { IfOk result
+        (λ c. own_steps (T.pass turns.old) (T.seen turns.new)
+        ≡ step_by (T.pass turns.old) Event.Opened (Answer.Opened c) ∷ own_steps (T.pass turns.old)
+        (T.seen turns.old)) }
+    ensures new { IfOk result (λ c. connection_steps c
+        (own_steps (T.pass turns.old) (T.seen turns.old)) ≡ []) }
     ensures rests { IfErr result (λ r. own_steps (T.pass turns.old) (T.seen turns.new)
         ≡ own_steps (T.pass turns.old) (T.seen turns.old)) }
 {
@@ -152,12 +161,15 @@ pub(crate) fn give<Rt: Wait, T: CoreTurns>(
     ensures pass { T.pass turns.new ≡ T.pass turns.old }
     ensures setting { T.setting turns.new ≡ T.setting turns.old }
     ensures seen { StartsWith (T.seen turns.new) (T.seen turns.old) }
-    ensures answered { OnOk result ((a : Answer) × Adds (T.pass turns.old) (own_steps (T.pass turns.old) (T.seen turns.old))
-        (own_steps (T.pass turns.old) (T.seen turns.new)) (Event.Answered host epoch value moment) a) }
+    ensures answered { OnOk result
+        ((a : Answer) × Adds (T.pass turns.old) (own_steps (T.pass turns.old) (T.seen turns.old))
+        (own_steps (T.pass turns.old) (T.seen turns.new))
+        (Event.Answered host epoch value moment) a) }
     ensures back { IfErr result (λ r. r.1 ≡ value) }
     ensures rests { IfErr result (λ r. own_steps (T.pass turns.old) (T.seen turns.new)
         ≡ own_steps (T.pass turns.old) (T.seen turns.old)) }
-    ensures cause { IfErr result (λ r. IsDue (T.cause (T.setting turns.old)) (Event.Answered host epoch value moment) (T.seen turns.new) r.0) }
+    ensures cause { IfErr result (λ r. IsDue (T.cause (T.setting turns.old))
+        (Event.Answered host epoch value moment) (T.seen turns.new) r.0) }
 {
     let event = Event::Answered {
         host,

@@ -99,12 +99,16 @@ impl<R: ReadTally, W: WriteTally> ClientEngine<R, W> {
         ensures pass { T.pass turns.new ≡ T.pass turns.old }
         ensures setting { T.setting turns.new ≡ T.setting turns.old }
         ensures seen { StartsWith (T.seen turns.new) (T.seen turns.old) }
-        ensures goes { AsTold (Goes self.old self.new (own_steps (T.pass turns.old) (T.seen turns.old))
+        ensures goes { AsTold (Goes self.old self.new
+            (own_steps (T.pass turns.old) (T.seen turns.old))
             (own_steps (T.pass turns.old) (T.seen turns.new))) (told_by_turn result) }
         ensures stage { self.new.stage ≡ self.old.stage }
         ensures same { IfOk result (λ b. b ≡ false → self.new ≡ self.old) }
-        ensures not_ready { IfOk result (λ b. b ≡ false → (left : ℕ) × T.cause (T.setting turns.old) (Refusal.NotReady left) (Event.Handed self.old.conn) (T.seen turns.new)) }
-        ensures err { IfErr result (λ e. (self.new ≡ self.old) × ((n : ℕ) × (e ≡ EngineError.TurnRefused n))) }
+        ensures not_ready { IfOk result
+            (λ b. b ≡ false → (left : ℕ) × T.cause (T.setting turns.old) (Refusal.NotReady left)
+            (Event.Handed self.old.conn) (T.seen turns.new)) }
+        ensures err { IfErr result (λ e. (self.new ≡ self.old)
+            × ((n : ℕ) × (e ≡ EngineError.TurnRefused n))) }
     {
         match tell(rt, turns, Event::Handed { conn: self.conn }) {
             Ok(Answer::Bytes { text }) => {
@@ -126,10 +130,12 @@ impl<R: ReadTally, W: WriteTally> ClientEngine<R, W> {
         ensures pass { T.pass turns.new ≡ T.pass turns.old }
         ensures setting { T.setting turns.new ≡ T.setting turns.old }
         ensures seen { StartsWith (T.seen turns.new) (T.seen turns.old) }
-        ensures goes { AsTold (Goes self.old self.new (own_steps (T.pass turns.old) (T.seen turns.old))
+        ensures goes { AsTold (Goes self.old self.new
+            (own_steps (T.pass turns.old) (T.seen turns.old))
             (own_steps (T.pass turns.old) (T.seen turns.new))) (told_by_end result) }
         ensures ok { OnOk result (self.new ≡ record self.old { stage = Stage.Closed false }) }
-        ensures err { IfErr result (λ e. (self.new ≡ self.old) × ((n : ℕ) × (e ≡ EngineError.TurnRefused n))) }
+        ensures err { IfErr result (λ e. (self.new ≡ self.old)
+            × ((n : ℕ) × (e ≡ EngineError.TurnRefused n))) }
     {
         match tell(rt, turns, Event::Closed { conn: self.conn }) {
             Ok(_) => {
@@ -145,10 +151,12 @@ impl<R: ReadTally, W: WriteTally> ClientEngine<R, W> {
         ensures pass { T.pass turns.new ≡ T.pass turns.old }
         ensures setting { T.setting turns.new ≡ T.setting turns.old }
         ensures seen { StartsWith (T.seen turns.new) (T.seen turns.old) }
-        ensures goes { AsTold (Goes self.old self.new (own_steps (T.pass turns.old) (T.seen turns.old))
+        ensures goes { AsTold (Goes self.old self.new
+            (own_steps (T.pass turns.old) (T.seen turns.old))
             (own_steps (T.pass turns.old) (T.seen turns.new))) (told_by_end result) }
         ensures ok { OnOk result (self.new ≡ record self.old { stage = Stage.Closed true }) }
-        ensures err { IfErr result (λ e. (self.new ≡ record self.old { stage = Stage.Failed }) × ((n : ℕ) × (e ≡ EngineError.TurnRefused n))) }
+        ensures err { IfErr result (λ e. (self.new ≡ record self.old { stage = Stage.Failed })
+            × ((n : ℕ) × (e ≡ EngineError.TurnRefused n))) }
     {
         self.stage = Stage::Failed;
         match tell(rt, turns, Event::Closed { conn: self.conn }) {
@@ -166,10 +174,12 @@ impl<R: ReadTally, W: WriteTally> ClientEngine<R, W> {
         ensures pass { T.pass turns.new ≡ T.pass turns.old }
         ensures setting { T.setting turns.new ≡ T.setting turns.old }
         ensures seen { StartsWith (T.seen turns.new) (T.seen turns.old) }
-        ensures goes { AsTold (Goes self.old self.new (own_steps (T.pass turns.old) (T.seen turns.old))
+        ensures goes { AsTold (Goes self.old self.new
+            (own_steps (T.pass turns.old) (T.seen turns.old))
             (own_steps (T.pass turns.old) (T.seen turns.new))) (told_by_end result) }
         ensures ok { OnOk result (self.new ≡ record self.old { stage = Stage.Finishing }) }
-        ensures err { IfErr result (λ e. (self.new ≡ self.old) × ((n : ℕ) × (e ≡ EngineError.TurnRefused n))) }
+        ensures err { IfErr result (λ e. (self.new ≡ self.old)
+            × ((n : ℕ) × (e ≡ EngineError.TurnRefused n))) }
     {
         match tell(rt, turns, Event::Finished { conn: self.conn }) {
             Ok(_) => {
@@ -187,13 +197,16 @@ impl<R: ReadTally, W: WriteTally> ClientEngine<R, W> {
         ensures pass { T.pass turns.new ≡ T.pass turns.old }
         ensures setting { T.setting turns.new ≡ T.setting turns.old }
         ensures seen { StartsWith (T.seen turns.new) (T.seen turns.old) }
-        ensures goes { AsTold (Goes self.old self.new (own_steps (T.pass turns.old) (T.seen turns.old))
+        ensures goes { AsTold (Goes self.old self.new
+            (own_steps (T.pass turns.old) (T.seen turns.old))
             (own_steps (T.pass turns.old) (T.seen turns.new))) (told_by_turn result) }
         ensures live { IsLive self.new.stage }
         ensures held { IfOk result (λ b. b ≡ false → self.new ≡ self.old) }
         ensures crowded { IfOk result (λ b. b ≡ false → (r : Request) × (self.old.next ≡ Some r)
-            × T.cause (T.setting turns.old) Refusal.Crowded (Event.Arrived self.old.conn r) (T.seen turns.new)) }
-        ensures err { IfErr result (λ e. (self.new ≡ self.old) × ((n : ℕ) × (e ≡ EngineError.TurnRefused n))) }
+            × T.cause (T.setting turns.old) Refusal.Crowded (Event.Arrived self.old.conn r)
+            (T.seen turns.new)) }
+        ensures err { IfErr result (λ e. (self.new ≡ self.old)
+            × ((n : ℕ) × (e ≡ EngineError.TurnRefused n))) }
     {
         let Some(request) = self.next.take() else {
             return Ok(false);
@@ -224,7 +237,8 @@ impl<R: ReadTally, W: WriteTally> ClientEngine<R, W> {
         ensures stage { self.new.stage ≡ Stage.Open }
         ensures counts { self.new.inbox.counts ≡ self.old.inbox.counts }
         ensures some { IfOk result (λ b. b ≡ true → self.new.next ≢ None) }
-        ensures none { IfOk result (λ b. b ≡ false → (self.new.next ≡ None) × HasGivenAll self.new.inbox) }
+        ensures none { IfOk result (λ b. b ≡ false → (self.new.next ≡ None)
+            × HasGivenAll self.new.inbox) }
         ensures err { IfErr result (λ e. e ≡ EngineError.NoMemory) }
     {
         match self.inbox.next_request() {
@@ -244,7 +258,8 @@ impl<R: ReadTally, W: WriteTally> ClientEngine<R, W> {
         ensures stage { self.new.stage ≡ Stage.Open }
         ensures counts { self.new.inbox.counts ≡ self.old.inbox.counts }
         ensures some { IfOk result (λ b. b ≡ true → self.new.next ≢ None) }
-        ensures none { IfOk result (λ b. b ≡ false → (self.new.next ≡ None) × HasGivenAll self.new.inbox) }
+        ensures none { IfOk result (λ b. b ≡ false → (self.new.next ≡ None)
+            × HasGivenAll self.new.inbox) }
         ensures err { IfErr result (λ e. e ≡ EngineError.NoMemory) }
     {
         if self.next.is_none() {
@@ -265,13 +280,15 @@ impl<R: ReadTally, W: WriteTally> ClientEngine<R, W> {
         ensures pass { T.pass turns.new ≡ T.pass turns.old }
         ensures setting { T.setting turns.new ≡ T.setting turns.old }
         ensures seen { StartsWith (T.seen turns.new) (T.seen turns.old) }
-        ensures goes { AsTold (Goes self.old self.new (own_steps (T.pass turns.old) (T.seen turns.old))
+        ensures goes { AsTold (Goes self.old self.new
+            (own_steps (T.pass turns.old) (T.seen turns.old))
             (own_steps (T.pass turns.old) (T.seen turns.new))) (told_by_step result) }
         ensures ok { IfOk result (λ p. (self.new.stage ≡ self.old.stage)
-            × ((p ≡ Progress.Moved) ⊎ ((p ≡ Progress.Idle) × HasPaused self.old.outbox.counts self.new.outbox.counts))) }
+            × ((p ≡ Progress.Moved) ⊎ ((p ≡ Progress.Idle)
+            × HasPaused self.old.outbox.counts self.new.outbox.counts))) }
         ensures err { IfErr result (λ e.
-            ((e ≡ EngineError.WriteFailed) × HasFailed self.old.outbox.counts self.new.outbox.counts × (self.new.stage ≡ Stage.Closed true))
-            ⊎ ((n : ℕ) × (e ≡ EngineError.TurnRefused n))) }
+            ((e ≡ EngineError.WriteFailed) × HasFailed self.old.outbox.counts self.new.outbox.counts
+            × (self.new.stage ≡ Stage.Closed true)) ⊎ ((n : ℕ) × (e ≡ EngineError.TurnRefused n))) }
     {
         match self.outbox.write_once() {
             Told::Moved(_) => Ok(Progress::Moved),
@@ -295,13 +312,15 @@ impl<R: ReadTally, W: WriteTally> ClientEngine<R, W> {
         ensures pass { T.pass turns.new ≡ T.pass turns.old }
         ensures setting { T.setting turns.new ≡ T.setting turns.old }
         ensures seen { StartsWith (T.seen turns.new) (T.seen turns.old) }
-        ensures goes { AsTold (Goes self.old self.new (own_steps (T.pass turns.old) (T.seen turns.old))
+        ensures goes { AsTold (Goes self.old self.new
+            (own_steps (T.pass turns.old) (T.seen turns.old))
             (own_steps (T.pass turns.old) (T.seen turns.new))) (told_by_step result) }
         ensures ok { IfOk result (λ p. IsLive self.new.stage
-            × ((p ≡ Progress.Moved) ⊎ ((p ≡ Progress.Idle) × HasPaused self.old.inbox.counts self.new.inbox.counts))) }
+            × ((p ≡ Progress.Moved) ⊎ ((p ≡ Progress.Idle)
+            × HasPaused self.old.inbox.counts self.new.inbox.counts))) }
         ensures err { IfErr result (λ e.
-            ((e ≡ EngineError.ReadFailed) × HasFailed self.old.inbox.counts self.new.inbox.counts × (self.new.stage ≡ Stage.Closed true))
-            ⊎ ((n : ℕ) × (e ≡ EngineError.TurnRefused n))) }
+            ((e ≡ EngineError.ReadFailed) × HasFailed self.old.inbox.counts self.new.inbox.counts
+            × (self.new.stage ≡ Stage.Closed true)) ⊎ ((n : ℕ) × (e ≡ EngineError.TurnRefused n))) }
         ensures idle { IfOk result (λ p. p ≡ Progress.Idle → AwaitsBytes self.old self.new) }
     {
         match self.inbox.read_once() {
@@ -329,14 +348,17 @@ impl<R: ReadTally, W: WriteTally> ClientEngine<R, W> {
         ensures pass { T.pass turns.new ≡ T.pass turns.old }
         ensures setting { T.setting turns.new ≡ T.setting turns.old }
         ensures seen { StartsWith (T.seen turns.new) (T.seen turns.old) }
-        ensures goes { AsTold (Goes self.old self.new (own_steps (T.pass turns.old) (T.seen turns.old))
+        ensures goes { AsTold (Goes self.old self.new
+            (own_steps (T.pass turns.old) (T.seen turns.old))
             (own_steps (T.pass turns.old) (T.seen turns.new))) (told_by_step result) }
-        ensures ok { IfOk result (λ p. IsLive self.new.stage × ((p ≡ Progress.Moved) ⊎ (p ≡ Progress.Idle))) }
+        ensures ok { IfOk result (λ p. IsLive self.new.stage
+            × ((p ≡ Progress.Moved) ⊎ (p ≡ Progress.Idle))) }
         ensures err { IfErr result (λ e. (e ≡ EngineError.NoMemory)
-            ⊎ ((e ≡ EngineError.ReadFailed) × HasFailed self.old.inbox.counts self.new.inbox.counts × (self.new.stage ≡ Stage.Closed true))
-            ⊎ ((n : ℕ) × (e ≡ EngineError.TurnRefused n))) }
-        ensures idle { IfOk result (λ p. p ≡ Progress.Idle → IsHeldBack (T.cause (T.setting turns.old)) self.new (T.seen turns.old) (T.seen turns.new)
-            ⊎ AwaitsBytes self.old self.new) }
+            ⊎ ((e ≡ EngineError.ReadFailed) × HasFailed self.old.inbox.counts self.new.inbox.counts
+            × (self.new.stage ≡ Stage.Closed true)) ⊎ ((n : ℕ) × (e ≡ EngineError.TurnRefused n))) }
+        ensures idle { IfOk result (λ p. p ≡ Progress.Idle
+            → IsHeldBack (T.cause (T.setting turns.old)) self.new (T.seen turns.old)
+            (T.seen turns.new) ⊎ AwaitsBytes self.old self.new) }
     {
         if !self.has_next()? {
             return self.read(rt, turns);
@@ -359,9 +381,11 @@ impl<R: ReadTally, W: WriteTally> ClientEngine<R, W> {
         ensures pass { T.pass turns.new ≡ T.pass turns.old }
         ensures setting { T.setting turns.new ≡ T.setting turns.old }
         ensures seen { StartsWith (T.seen turns.new) (T.seen turns.old) }
-        ensures goes { AsTold (Goes self.old self.new (own_steps (T.pass turns.old) (T.seen turns.old))
+        ensures goes { AsTold (Goes self.old self.new
+            (own_steps (T.pass turns.old) (T.seen turns.old))
             (own_steps (T.pass turns.old) (T.seen turns.new))) (told_by_step result) }
-        ensures ok { IfOk result (λ p. (p ≡ Progress.Idle) ⊎ ((p ≡ Progress.Ended) × (self.new.stage ≡ Stage.Closed false))) }
+        ensures ok { IfOk result (λ p. (p ≡ Progress.Idle)
+            ⊎ ((p ≡ Progress.Ended) × (self.new.stage ≡ Stage.Closed false))) }
         ensures err { IfErr result (λ e. (n : ℕ) × (e ≡ EngineError.TurnRefused n)) }
         ensures idle { IfOk result (λ p. p ≡ Progress.Idle → AwaitsReplies self.new) }
     {
@@ -383,12 +407,15 @@ impl<R: ReadTally, W: WriteTally> ClientEngine<R, W> {
         ensures pass { T.pass turns.new ≡ T.pass turns.old }
         ensures setting { T.setting turns.new ≡ T.setting turns.old }
         ensures seen { StartsWith (T.seen turns.new) (T.seen turns.old) }
-        ensures goes { AsTold (Goes self.old self.new (own_steps (T.pass turns.old) (T.seen turns.old))
+        ensures goes { AsTold (Goes self.old self.new
+            (own_steps (T.pass turns.old) (T.seen turns.old))
             (own_steps (T.pass turns.old) (T.seen turns.new))) (told_by_turn result) }
         ensures stage { self.new.stage ≡ self.old.stage }
         ensures same { IfOk result (λ b. b ≡ false → self.new ≡ self.old) }
         ensures err { IfErr result (λ e. (n : ℕ) × (e ≡ EngineError.TurnRefused n)) }
-        ensures nothing { IfOk result (λ b. b ≡ false → HandsNothing (T.cause (T.setting turns.old)) self.old (T.seen turns.old) (T.seen turns.new)) }
+        ensures nothing { IfOk result (λ b. b ≡ false
+            → HandsNothing (T.cause (T.setting turns.old)) self.old (T.seen turns.old)
+            (T.seen turns.new)) }
     {
         if self.accepted == self.handed {
             return Ok(false);
@@ -406,15 +433,22 @@ impl<R: ReadTally, W: WriteTally> ClientEngine<R, W> {
         ensures pass { T.pass turns.new ≡ T.pass turns.old }
         ensures setting { T.setting turns.new ≡ T.setting turns.old }
         ensures seen { StartsWith (T.seen turns.new) (T.seen turns.old) }
-        ensures goes { AsTold (Goes self.old self.new (own_steps (T.pass turns.old) (T.seen turns.old))
+        ensures goes { AsTold (Goes self.old self.new
+            (own_steps (T.pass turns.old) (T.seen turns.old))
             (own_steps (T.pass turns.old) (T.seen turns.new))) (told_by_step result) }
-        ensures ended { IfOk result (λ p. p ≡ Progress.Ended → self.new.stage ≡ Stage.Closed false) }
+        ensures ended { IfOk result (λ p. p ≡ Progress.Ended → self.new.stage
+            ≡ Stage.Closed false) }
         ensures cut { IfOk result (λ p. p ≢ Progress.Cut) }
-        ensures read_failed { IfErr result (λ e. e ≡ EngineError.ReadFailed
-            → HasFailed self.old.inbox.counts self.new.inbox.counts × (self.new.stage ≡ Stage.Closed true)) }
-        ensures write_failed { IfErr result (λ e. e ≡ EngineError.WriteFailed
-            → HasFailed self.old.outbox.counts self.new.outbox.counts × (self.new.stage ≡ Stage.Closed true)) }
-        ensures idle { IfOk result (λ p. p ≡ Progress.Idle → IsIdle (T.cause (T.setting turns.old)) self.old self.new (T.seen turns.old) (T.seen turns.new)) }
+        ensures read_failed { IfErr result
+            (λ e. e ≡ EngineError.ReadFailed → HasFailed self.old.inbox.counts self.new.inbox.counts
+            × (self.new.stage ≡ Stage.Closed true)) }
+        ensures write_failed { IfErr result
+            (λ e. e ≡ EngineError.WriteFailed
+            → HasFailed self.old.outbox.counts self.new.outbox.counts
+            × (self.new.stage ≡ Stage.Closed true)) }
+        ensures idle { IfOk result (λ p. p ≡ Progress.Idle
+            → IsIdle (T.cause (T.setting turns.old)) self.old self.new (T.seen turns.old)
+            (T.seen turns.new)) }
     {
         if !self.outbox.is_empty() {
             return self.write(rt, turns);
@@ -446,15 +480,22 @@ impl<R: ReadTally, W: WriteTally> ClientEngine<R, W> {
         ensures pass { T.pass turns.new ≡ T.pass turns.old }
         ensures setting { T.setting turns.new ≡ T.setting turns.old }
         ensures seen { StartsWith (T.seen turns.new) (T.seen turns.old) }
-        ensures goes { AsTold (Goes self.old self.new (own_steps (T.pass turns.old) (T.seen turns.old))
+        ensures goes { AsTold (Goes self.old self.new
+            (own_steps (T.pass turns.old) (T.seen turns.old))
             (own_steps (T.pass turns.old) (T.seen turns.new))) (told_by_step result) }
-        ensures ended { IfOk result (λ p. p ≡ Progress.Ended → self.new.stage ≡ Stage.Closed false) }
+        ensures ended { IfOk result (λ p. p ≡ Progress.Ended → self.new.stage
+            ≡ Stage.Closed false) }
         ensures cut { IfOk result (λ p. p ≡ Progress.Cut → self.new.stage ≡ Stage.Closed true) }
-        ensures read_failed { IfErr result (λ e. e ≡ EngineError.ReadFailed
-            → HasFailed self.old.inbox.counts self.new.inbox.counts × (self.new.stage ≡ Stage.Closed true)) }
-        ensures write_failed { IfErr result (λ e. e ≡ EngineError.WriteFailed
-            → HasFailed self.old.outbox.counts self.new.outbox.counts × (self.new.stage ≡ Stage.Closed true)) }
-        ensures idle { IfOk result (λ p. p ≡ Progress.Idle → IsIdle (T.cause (T.setting turns.old)) self.old self.new (T.seen turns.old) (T.seen turns.new)) }
+        ensures read_failed { IfErr result
+            (λ e. e ≡ EngineError.ReadFailed → HasFailed self.old.inbox.counts self.new.inbox.counts
+            × (self.new.stage ≡ Stage.Closed true)) }
+        ensures write_failed { IfErr result
+            (λ e. e ≡ EngineError.WriteFailed
+            → HasFailed self.old.outbox.counts self.new.outbox.counts
+            × (self.new.stage ≡ Stage.Closed true)) }
+        ensures idle { IfOk result (λ p. p ≡ Progress.Idle
+            → IsIdle (T.cause (T.setting turns.old)) self.old self.new (T.seen turns.old)
+            (T.seen turns.new)) }
     {
         match self.stage {
             Stage::Closed { is_cut: true } => Ok(Progress::Cut),
@@ -490,11 +531,16 @@ impl<R: ReadTally + Drop, W: WriteTally + Drop> ClientEngine<R, W> {
     ) -> Result<ClientEngine<R, W>, EngineError>
         ensures pass { T.pass turns.new ≡ T.pass turns.old }
         ensures opened { IfOk result (λ e. own_steps (T.pass turns.old) (T.seen turns.new)
-            ≡ step_by (T.pass turns.old) Event.Opened (Answer.Opened e.conn) ∷ own_steps (T.pass turns.old) (T.seen turns.old)) }
-        ensures carries { IfOk result (λ e. Carries e (own_steps (T.pass turns.old) (T.seen turns.new)) [] []) }
-        ensures ends { IfOk result (λ e. (e.inbox.left ≡ R.remaining reader) × (e.outbox.held ≡ W.contents writer)) }
+            ≡ step_by (T.pass turns.old) Event.Opened (Answer.Opened e.conn) ∷ own_steps
+            (T.pass turns.old) (T.seen turns.old)) }
+        ensures carries { IfOk result (λ e. Carries e
+            (own_steps (T.pass turns.old) (T.seen turns.new)) [] []) }
+        ensures ends { IfOk result (λ e. (e.inbox.left ≡ R.remaining reader)
+            × (e.outbox.held ≡ W.contents writer)) }
         ensures stage { IfOk result (λ e. e.stage ≡ Stage.Open) }
-        ensures err { IfErr result (λ e. (own_steps (T.pass turns.old) (T.seen turns.new) ≡ own_steps (T.pass turns.old) (T.seen turns.old))
+        ensures err { IfErr result (λ e.
+            (own_steps (T.pass turns.old) (T.seen turns.new)
+            ≡ own_steps (T.pass turns.old) (T.seen turns.old))
             × ((e ≡ EngineError.NoMemory) ⊎ ((n : ℕ) × (e ≡ EngineError.TurnRefused n)))) }
     {
         let Ok(inbox) = Inbox::new(alloc, reader, Limits::CLIENT) else {

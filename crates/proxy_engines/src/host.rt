@@ -63,9 +63,18 @@ impl<R: ReadTally, W: WriteTally> Model for HostEngine<R, W> {
 impl<R: ReadTally, W: WriteTally> HostEngine<R, W> {
     /// The engine of a host, without a link. A reply is late once its part was taken `reply_ms` milliseconds ago.
     pub fn new(alloc: Global, host: usize, reply_ms: u64) -> HostEngine<R, W>
-        ensures line { result.line ≡ record { host = host; reply_ms = reply_ms; epoch = 0; pending = []; moments = []; is_astray = false } }
+        ensures line { result.line ≡ record {
+          host = host;
+          reply_ms = reply_ms;
+          epoch = 0;
+          pending
+              = [];
+          moments = [];
+          is_astray = false;
+        } }
         ensures link { (result.link ≡ None) × (result.fault ≡ None) }
-        ensures carries { (H : History) → host_steps host H ≡ [] → CarriesHost result.line result.link H [] [] }
+        ensures carries { (H : History) → host_steps host H ≡ []
+            → CarriesHost result.line result.link H [] [] }
     {
         HostEngine {
             alloc,
@@ -89,10 +98,13 @@ impl<R: ReadTally + Drop, W: WriteTally + Drop> HostEngine<R, W> {
         ensures pass { T.pass turns.new ≡ T.pass turns.old }
         ensures setting { T.setting turns.new ≡ T.setting turns.old }
         ensures seen { StartsWith (T.seen turns.new) (T.seen turns.old) }
-        ensures fails { OnOk result (FailsHost self.old.line self.new.line self.old.link (own_steps (T.pass turns.old) (T.seen turns.old))
-            (own_steps (T.pass turns.old) (T.seen turns.new)) kind moment × (self.new.link ≡ None) × (self.new.fault ≡ None)) }
+        ensures fails { OnOk result (FailsHost self.old.line self.new.line self.old.link
+            (own_steps (T.pass turns.old) (T.seen turns.old))
+            (own_steps (T.pass turns.old) (T.seen turns.new)) kind moment × (self.new.link ≡ None)
+            × (self.new.fault ≡ None)) }
         ensures kept { OnErr result ((self.new ≡ record self.old { fault = Some kind })
-            × (own_steps (T.pass turns.old) (T.seen turns.new) ≡ own_steps (T.pass turns.old) (T.seen turns.old))) }
+            × (own_steps (T.pass turns.old) (T.seen turns.new)
+            ≡ own_steps (T.pass turns.old) (T.seen turns.old))) }
         ensures err { IfErr result (λ e. (n : ℕ) × (e ≡ EngineError.TurnRefused n)) }
     {
         self.fault = Some(kind);
@@ -110,10 +122,12 @@ impl<R: ReadTally + Drop, W: WriteTally + Drop> HostEngine<R, W> {
         requires no_fault { self.old.fault ≡ None }
         ensures line { self.new.line ≡ self.old.line }
         ensures fault { self.new.fault ≡ None }
-        ensures link { OnOk result ((k : LinkState) × (self.new.link ≡ Some k) × (k.inbox.left ≡ R.remaining reader) × (k.held ≡ W.contents writer)) }
+        ensures link { OnOk result ((k : LinkState) × (self.new.link ≡ Some k)
+            × (k.inbox.left ≡ R.remaining reader) × (k.held ≡ W.contents writer)) }
         ensures carries { OnOk result ((H : History) → CarriesHost self.old.line None H [] []
             → CarriesHost self.new.line self.new.link H [] []) }
-        ensures err { IfErr result (λ e. (self.new ≡ self.old) × (e.0 ≡ EngineError.NoMemory) × (e.1 ≡ reader) × (e.2 ≡ writer)) }
+        ensures err { IfErr result (λ e. (self.new ≡ self.old) × (e.0 ≡ EngineError.NoMemory)
+            × (e.1 ≡ reader) × (e.2 ≡ writer)) }
     {
         match Link::new(self.alloc, reader, writer) {
             Ok(link) => {
@@ -137,10 +151,12 @@ impl<R: ReadTally + Drop, W: WriteTally + Drop> HostEngine<R, W> {
         ensures pass { T.pass turns.new ≡ T.pass turns.old }
         ensures setting { T.setting turns.new ≡ T.setting turns.old }
         ensures seen { StartsWith (T.seen turns.new) (T.seen turns.old) }
-        ensures records { OnOk result (Records self.old self.new (own_steps (T.pass turns.old) (T.seen turns.old))
+        ensures records { OnOk result (Records self.old self.new
+            (own_steps (T.pass turns.old) (T.seen turns.old))
             (own_steps (T.pass turns.old) (T.seen turns.new)) Kind.Refused moment) }
         ensures kept { OnErr result ((self.new ≡ record self.old { fault = Some Kind.Refused })
-            × (own_steps (T.pass turns.old) (T.seen turns.new) ≡ own_steps (T.pass turns.old) (T.seen turns.old))) }
+            × (own_steps (T.pass turns.old) (T.seen turns.new)
+            ≡ own_steps (T.pass turns.old) (T.seen turns.old))) }
         ensures err { IfErr result (λ e. (n : ℕ) × (e ≡ EngineError.TurnRefused n)) }
     {
         self.give_up(rt, turns, Kind::Refused, moment)
@@ -158,12 +174,17 @@ impl<R: ReadTally + Drop, W: WriteTally + Drop> HostEngine<R, W> {
         ensures pass { T.pass turns.new ≡ T.pass turns.old }
         ensures setting { T.setting turns.new ≡ T.setting turns.old }
         ensures seen { StartsWith (T.seen turns.new) (T.seen turns.old) }
-        ensures works { WorksHost (IsUnasked (T.cause (T.setting turns.old) Refusal.Unasked) (T.seen turns.old) (T.seen turns.new) moment)
-            self.old.line self.new self.old.link (own_steps (T.pass turns.old) (T.seen turns.old)) (own_steps (T.pass turns.old) (T.seen turns.new)) moment result }
-        ensures needs_link { IfOk result (λ p. (p ≢ Progress.NeedsLink) × (self.new.link ≡ None → self.new.line.pending ≡ [])) }
+        ensures works { WorksHost (IsUnasked (T.cause (T.setting turns.old) Refusal.Unasked)
+            (T.seen turns.old) (T.seen turns.new) moment) self.old.line self.new self.old.link
+            (own_steps (T.pass turns.old) (T.seen turns.old))
+            (own_steps (T.pass turns.old) (T.seen turns.new)) moment result }
+        ensures needs_link { IfOk result
+            (λ p. (p ≢ Progress.NeedsLink) × (self.new.link ≡ None → self.new.line.pending ≡ [])) }
         ensures all { IfOk result (λ p. IfSome self.new.link (λ k. HasGivenAll k.inbox)) }
-        ensures idle { IfOk result (λ p. p ≡ Progress.Idle → IsIdleOn (HasHeld (T.cause (T.setting turns.old) Refusal.NothingWaiting)
-            (Event.Taken self.old.line.host) (T.seen turns.old) (T.seen turns.new)) self.old.line self.old.link self.new.link) }
+        ensures idle { IfOk result (λ p. p ≡ Progress.Idle
+            → IsIdleOn (HasHeld (T.cause (T.setting turns.old) Refusal.NothingWaiting)
+            (Event.Taken self.old.line.host) (T.seen turns.old)
+            (T.seen turns.new)) self.old.line self.old.link self.new.link) }
     {
         let Some(link) = &mut self.link else {
             unreachable!()
@@ -193,12 +214,15 @@ impl<R: ReadTally + Drop, W: WriteTally + Drop> HostEngine<R, W> {
         ensures pass { T.pass turns.new ≡ T.pass turns.old }
         ensures setting { T.setting turns.new ≡ T.setting turns.old }
         ensures seen { StartsWith (T.seen turns.new) (T.seen turns.old) }
-        ensures goes { AsTold (GoesOn self.old.line self.new.line None None (own_steps (T.pass turns.old) (T.seen turns.old))
+        ensures goes { AsTold (GoesOn self.old.line self.new.line None None
+            (own_steps (T.pass turns.old) (T.seen turns.old))
             (own_steps (T.pass turns.old) (T.seen turns.new)) moment) (told_by_turn result) }
         ensures link { self.new.link ≡ None }
         ensures fault { self.new.fault ≡ self.old.fault }
-        ensures nothing_waits { IfOk result (λ b. b ≡ false → self.old.line.pending ≡ []
-            → T.cause (T.setting turns.old) Refusal.NothingWaiting (Event.Taken self.old.line.host) (T.seen turns.new)) }
+        ensures nothing_waits { IfOk result
+            (λ b. b ≡ false → self.old.line.pending ≡ []
+            → T.cause (T.setting turns.old) Refusal.NothingWaiting (Event.Taken self.old.line.host)
+            (T.seen turns.new)) }
         ensures same { IfOk result (λ b. b ≡ false → self.new.line ≡ self.old.line) }
         ensures plain { IfErr result IsOfNoDevice }
     {
@@ -221,11 +245,15 @@ impl<R: ReadTally + Drop, W: WriteTally + Drop> HostEngine<R, W> {
         ensures pass { T.pass turns.new ≡ T.pass turns.old }
         ensures setting { T.setting turns.new ≡ T.setting turns.old }
         ensures seen { StartsWith (T.seen turns.new) (T.seen turns.old) }
-        ensures works { WorksHost (IsUnasked (T.cause (T.setting turns.old) Refusal.Unasked) (T.seen turns.old) (T.seen turns.new) moment)
-            self.old.line self.new None (own_steps (T.pass turns.old) (T.seen turns.old)) (own_steps (T.pass turns.old) (T.seen turns.new)) moment result }
-        ensures needs_link { IfOk result (λ p. (p ≡ Progress.NeedsLink) ↔ (self.new.line.pending ≢ [])) }
+        ensures works { WorksHost (IsUnasked (T.cause (T.setting turns.old) Refusal.Unasked)
+            (T.seen turns.old) (T.seen turns.new) moment) self.old.line self.new None
+            (own_steps (T.pass turns.old) (T.seen turns.old))
+            (own_steps (T.pass turns.old) (T.seen turns.new)) moment result }
+        ensures needs_link { IfOk result
+            (λ p. (p ≡ Progress.NeedsLink) ↔ (self.new.line.pending ≢ [])) }
         ensures link { self.new.link ≡ None }
-        ensures idle { IfOk result (λ p. p ≡ Progress.Idle → (self.old.line.pending ≡ []) × HasHeld (T.cause (T.setting turns.old) Refusal.NothingWaiting)
+        ensures idle { IfOk result (λ p. p ≡ Progress.Idle → (self.old.line.pending ≡ [])
+            × HasHeld (T.cause (T.setting turns.old) Refusal.NothingWaiting)
             (Event.Taken self.old.line.host) (T.seen turns.old) (T.seen turns.new)) }
     {
         let taken = self.take_one(rt, turns, moment)?;
@@ -254,13 +282,20 @@ impl<R: ReadTally + Drop, W: WriteTally + Drop> HostEngine<R, W> {
         ensures pass { T.pass turns.new ≡ T.pass turns.old }
         ensures setting { T.setting turns.new ≡ T.setting turns.old }
         ensures seen { StartsWith (T.seen turns.new) (T.seen turns.old) }
-        ensures works { WorksHost (IsUnasked (T.cause (T.setting turns.old) Refusal.Unasked) (T.seen turns.old) (T.seen turns.new) moment)
-            self.old.line self.new self.old.link (own_steps (T.pass turns.old) (T.seen turns.old)) (own_steps (T.pass turns.old) (T.seen turns.new)) moment result }
-        ensures needs_link { IfOk result (λ p. (p ≡ Progress.NeedsLink) ↔ ((self.new.link ≡ None) × (self.new.line.pending ≢ []))) }
-        ensures all { IfOk result (λ p. IfSome self.old.link (λ _. IfSome self.new.link (λ k. HasGivenAll k.inbox))) }
+        ensures works { WorksHost (IsUnasked (T.cause (T.setting turns.old) Refusal.Unasked)
+            (T.seen turns.old) (T.seen turns.new) moment) self.old.line self.new self.old.link
+            (own_steps (T.pass turns.old) (T.seen turns.old))
+            (own_steps (T.pass turns.old) (T.seen turns.new)) moment result }
+        ensures needs_link { IfOk result
+            (λ p. (p ≡ Progress.NeedsLink)
+            ↔ ((self.new.link ≡ None) × (self.new.line.pending ≢ []))) }
+        ensures all { IfOk result (λ p. IfSome self.old.link
+            (λ _. IfSome self.new.link (λ k. HasGivenAll k.inbox))) }
         ensures alone { self.old.link ≡ None → self.new.link ≡ None }
-        ensures idle { IfOk result (λ p. p ≡ Progress.Idle → IsIdleOn (HasHeld (T.cause (T.setting turns.old) Refusal.NothingWaiting)
-            (Event.Taken self.old.line.host) (T.seen turns.old) (T.seen turns.new)) self.old.line self.old.link self.new.link) }
+        ensures idle { IfOk result (λ p. p ≡ Progress.Idle
+            → IsIdleOn (HasHeld (T.cause (T.setting turns.old) Refusal.NothingWaiting)
+            (Event.Taken self.old.line.host) (T.seen turns.old)
+            (T.seen turns.new)) self.old.line self.old.link self.new.link) }
     {
         if self.link.is_some() {
             self.go_on_link(rt, turns, moment)
@@ -287,13 +322,21 @@ impl<R: ReadTally + Drop, W: WriteTally + Drop> HostEngine<R, W> {
         ensures pass { T.pass turns.new ≡ T.pass turns.old }
         ensures setting { T.setting turns.new ≡ T.setting turns.old }
         ensures seen { StartsWith (T.seen turns.new) (T.seen turns.old) }
-        ensures steps { StepsHost (IsUnasked (T.cause (T.setting turns.old) Refusal.Unasked) (T.seen turns.old) (T.seen turns.new) moment)
-            self.old self.new (own_steps (T.pass turns.old) (T.seen turns.old)) (own_steps (T.pass turns.old) (T.seen turns.new)) moment result
-            ⊎ RestsHost self.old self.new (own_steps (T.pass turns.old) (T.seen turns.old)) (own_steps (T.pass turns.old) (T.seen turns.new)) result }
-        ensures needs_link { IfOk result (λ p. (p ≡ Progress.NeedsLink) ↔ ((self.new.link ≡ None) × (self.new.line.pending ≢ []))) }
-        ensures all { IfOk result (λ p. self.old.fault ≡ None → IfSome self.old.link (λ _. IfSome self.new.link (λ k. HasGivenAll k.inbox))) }
-        ensures idle { IfOk result (λ p. p ≡ Progress.Idle → IsIdleOn (HasHeld (T.cause (T.setting turns.old) Refusal.NothingWaiting)
-            (Event.Taken self.old.line.host) (T.seen turns.old) (T.seen turns.new)) self.old.line self.old.link self.new.link) }
+        ensures steps { StepsHost (IsUnasked (T.cause (T.setting turns.old) Refusal.Unasked)
+            (T.seen turns.old) (T.seen turns.new) moment) self.old self.new
+            (own_steps (T.pass turns.old) (T.seen turns.old))
+            (own_steps (T.pass turns.old) (T.seen turns.new)) moment result
+            ⊎ RestsHost self.old self.new (own_steps (T.pass turns.old) (T.seen turns.old))
+            (own_steps (T.pass turns.old) (T.seen turns.new)) result }
+        ensures needs_link { IfOk result
+            (λ p. (p ≡ Progress.NeedsLink)
+            ↔ ((self.new.link ≡ None) × (self.new.line.pending ≢ []))) }
+        ensures all { IfOk result (λ p. self.old.fault ≡ None
+            → IfSome self.old.link (λ _. IfSome self.new.link (λ k. HasGivenAll k.inbox))) }
+        ensures idle { IfOk result (λ p. p ≡ Progress.Idle
+            → IsIdleOn (HasHeld (T.cause (T.setting turns.old) Refusal.NothingWaiting)
+            (Event.Taken self.old.line.host) (T.seen turns.old)
+            (T.seen turns.new)) self.old.line self.old.link self.new.link) }
     {
         let Some(kind) = self.fault else {
             return self.go_on(rt, turns, moment);

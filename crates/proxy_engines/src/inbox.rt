@@ -77,10 +77,13 @@ impl<R: ReadTally> Inbox<R> {
         ensures bytes { Consumes self.old.left self.new.left self.new.fresh }
         ensures told { is_moved result ≡ has_moved self.new.fresh [] [] }
         ensures values { self.new.values ≡ self.old.values }
-        ensures moved { (n : ℕ) → result ≡ Told.Moved n → (self.new.fresh ≢ []) × (self.new.counts ≡ self.old.counts) }
+        ensures moved { (n : ℕ) → result ≡ Told.Moved n → (self.new.fresh ≢ [])
+            × (self.new.counts ≡ self.old.counts) }
         ensures end { result ≡ Told.End → (self.new.fresh ≡ []) × IsAtEnd self.new.left }
-        ensures paused { result ≡ Told.Paused → (self.new.fresh ≡ []) × HasPaused self.old.counts self.new.counts }
-        ensures failed { result ≡ Told.Failed → (self.new.fresh ≡ []) × HasFailed self.old.counts self.new.counts }
+        ensures paused { result ≡ Told.Paused → (self.new.fresh ≡ [])
+            × HasPaused self.old.counts self.new.counts }
+        ensures failed { result ≡ Told.Failed → (self.new.fresh ≡ [])
+            × HasFailed self.old.counts self.new.counts }
     {
         let told = self.input.read_told(&mut self.buffer);
         self.fresh = match told {
@@ -114,13 +117,17 @@ impl<R: ReadTally> Inbox<R> {
     /// Refused where there is no memory; nothing is lost then.
     pub(crate) fn next_request(&mut self) -> Result<Option<Request>, AllocError>
         requires { self.old.values.refusal ≡ None }
-        ensures some { IfOk result (λ o. IfSome o (λ r. (b : List ℕ) (rs : List Asked) → Holds self.old b rs
+        ensures some { IfOk result (λ o. IfSome o
+            (λ r. (b : List ℕ) (rs : List Asked) → Holds self.old b rs
             → Holds self.new b (rs ++ request_of r ∷ []))) }
-        ensures none { IfOk result (λ o. IfNone o ((b : List ℕ) (rs : List Asked) → Holds self.old b rs → Holds self.new b rs)) }
+        ensures none { IfOk result (λ o. IfNone o
+            ((b : List ℕ) (rs : List Asked) → Holds self.old b rs → Holds self.new b rs)) }
         ensures all { IfOk result (λ o. IfNone o (HasGivenAll self.new)) }
-        ensures whole { IfOk result (λ o. o ≢ Some Request.Broken → self.new.values.refusal ≡ None) }
+        ensures whole { IfOk result (λ o. o ≢ Some Request.Broken → self.new.values.refusal
+            ≡ None) }
         ensures told { IfOk result (λ o. o ≡ Some Request.Broken → self.new.values.refusal ≢ None) }
-        ensures err { OnErr result ((b : List ℕ) (rs : List Asked) → Holds self.old b rs → Holds self.new b rs) }
+        ensures err { OnErr result ((b : List ℕ) (rs : List Asked) → Holds self.old b rs
+            → Holds self.new b rs) }
         ensures still { OnErr result (self.new.values.refusal ≡ None) }
         ensures left { self.new.left ≡ self.old.left }
         ensures counts { self.new.counts ≡ self.old.counts }

@@ -1,4 +1,12 @@
-//! Engines.
+//! Byte ends of clients and hosts.
+//!
+//! A [`ClientEngine`] turns what its reader gives into a connection's events at a core, and writes what the core hands out
+//! to it. A [`HostEngine`] writes the parts that a core sends to a host, and turns what the link's reader gives into
+//! replies. Both make turns of whatever they are lent (`CoreTurns`): a pass at a gate, or a core of one's own. Nothing is
+//! asked of readers and writers but that they count their faults and pauses ([`Tally`]); [`Tallied`] does it for any
+//! socket.
+//!
+//! Contracts say what an engine carries from step to step over the steps of its own caller, and what follows at the end.
 #![tactic(auto)]
 
 mod ask;

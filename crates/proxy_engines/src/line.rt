@@ -47,7 +47,14 @@ impl Model for Line {
 impl Line {
     /// To this host, whose reply is late after so many milliseconds.
     pub(crate) fn new(alloc: Global, host: usize, reply_ms: u64) -> Line
-        ensures { result ≡ record { host = host; reply_ms = reply_ms; epoch = 0; pending = []; moments = []; is_astray = false } }
+        ensures { result ≡ record {
+          host = host;
+          reply_ms = reply_ms;
+          epoch = 0;
+          pending = [];
+          moments = [];
+          is_astray = false;
+        } }
     {
         Line {
             host,
@@ -70,10 +77,13 @@ impl Line {
         ensures pass { T.pass turns.new ≡ T.pass turns.old }
         ensures setting { T.setting turns.new ≡ T.setting turns.old }
         ensures seen { StartsWith (T.seen turns.new) (T.seen turns.old) }
-        ensures goes { (k : Option LinkState) → AsTold (GoesOn self.old self.new k k (own_steps (T.pass turns.old) (T.seen turns.old))
+        ensures goes { (k : Option LinkState)
+            → AsTold (GoesOn self.old self.new k k (own_steps (T.pass turns.old) (T.seen turns.old))
             (own_steps (T.pass turns.old) (T.seen turns.new)) moment) (told_by_turn result) }
         ensures none { IfOk result (λ b. b ≡ false → self.new ≡ self.old) }
-        ensures nothing_waits { IfOk result (λ b. b ≡ false → T.cause (T.setting turns.old) Refusal.NothingWaiting (Event.Taken self.old.host) (T.seen turns.new)) }
+        ensures nothing_waits { IfOk result
+            (λ b. b ≡ false → T.cause (T.setting turns.old) Refusal.NothingWaiting
+            (Event.Taken self.old.host) (T.seen turns.new)) }
         ensures plain { IfErr result IsOfNoDevice }
     {
         if self.is_astray {
@@ -109,8 +119,12 @@ impl Line {
         ensures pass { T.pass turns.new ≡ T.pass turns.old }
         ensures setting { T.setting turns.new ≡ T.setting turns.old }
         ensures seen { StartsWith (T.seen turns.new) (T.seen turns.old) }
-        ensures fails { OnOk result ((k : Option LinkState) → FailsHost self.old self.new k (own_steps (T.pass turns.old) (T.seen turns.old)) (own_steps (T.pass turns.old) (T.seen turns.new)) kind moment) }
-        ensures same { OnErr result ((self.new ≡ self.old) × (own_steps (T.pass turns.old) (T.seen turns.new) ≡ own_steps (T.pass turns.old) (T.seen turns.old))) }
+        ensures fails { OnOk result ((k : Option LinkState)
+            → FailsHost self.old self.new k (own_steps (T.pass turns.old) (T.seen turns.old))
+            (own_steps (T.pass turns.old) (T.seen turns.new)) kind moment) }
+        ensures same { OnErr result ((self.new ≡ self.old)
+            × (own_steps (T.pass turns.old) (T.seen turns.new)
+            ≡ own_steps (T.pass turns.old) (T.seen turns.old))) }
         ensures err { IfErr result (λ e. (n : ℕ) × (e ≡ EngineError.TurnRefused n)) }
     {
         if self.is_astray {
@@ -135,7 +149,8 @@ impl Line {
 
     /// Whether the oldest part without reply was taken so long ago that its reply is late.
     pub(crate) fn is_late(&self, moment: u64) -> bool
-        ensures late { result ≡ true → (first : ℕ) × (rest : List ℕ) × (self.now.moments ≡ first ∷ rest) × (self.now.reply_ms ≤ moment - first) }
+        ensures late { result ≡ true → (first : ℕ) × (rest : List ℕ)
+            × (self.now.moments ≡ first ∷ rest) × (self.now.reply_ms ≤ moment - first) }
     {
         match self.moments.front() {
             Some(oldest) => moment.saturating_sub(*oldest) >= self.reply_ms,
@@ -167,11 +182,16 @@ impl Line {
     /// One write of what is pending.
     pub(crate) fn write_to<W: WriteTally>(&mut self, writer: &mut W) -> Told
         requires some { self.old.pending ≢ [] }
-        ensures bytes { (gave rest : List ℕ) × Appends (W.contents writer.old) (W.contents writer.new) gave × (self.old.pending ≡ gave ++ rest)
-            × (self.new ≡ record self.old { pending = rest }) × (is_moved result ≡ has_moved [] gave []) }
-        ensures failed { (result ≡ Told.End) ⊎ (result ≡ Told.Failed) → HasFailed (W.counts writer.old) (W.counts writer.new) }
-        ensures moved { (n : ℕ) → result ≡ Told.Moved n → W.counts writer.new ≡ W.counts writer.old }
-        ensures paused { result ≡ Told.Paused → HasPaused (W.counts writer.old) (W.counts writer.new) }
+        ensures bytes { (gave rest : List ℕ)
+            × Appends (W.contents writer.old) (W.contents writer.new) gave
+            × (self.old.pending ≡ gave ++ rest) × (self.new ≡ record self.old { pending = rest })
+            × (is_moved result ≡ has_moved [] gave []) }
+        ensures failed { (result ≡ Told.End) ⊎ (result ≡ Told.Failed)
+            → HasFailed (W.counts writer.old) (W.counts writer.new) }
+        ensures moved { (n : ℕ) → result ≡ Told.Moved n → W.counts writer.new
+            ≡ W.counts writer.old }
+        ensures paused { result ≡ Told.Paused
+            → HasPaused (W.counts writer.old) (W.counts writer.new) }
     {
         let told = writer.write_told(self.pending.as_slice());
         if let Told::Moved(n) = told {

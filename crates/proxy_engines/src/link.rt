@@ -95,7 +95,8 @@ impl<R: ReadTally, W: WriteTally> Link<R, W> {
 
     /// A link on which nothing was read or written. Where there is no memory for it, both ends come back.
     pub(crate) fn new(alloc: Global, reader: R, writer: W) -> Result<Link<R, W>, (R, W)>
-        ensures inbox { IfOk result (λ k. (k.inbox.left ≡ R.remaining reader) × (k.inbox.values.most ≡ HOST_MEMBERS) × (k.inbox.values.refusal ≡ None)) }
+        ensures inbox { IfOk result (λ k. (k.inbox.left ≡ R.remaining reader)
+            × (k.inbox.values.most ≡ HOST_MEMBERS) × (k.inbox.values.refusal ≡ None)) }
         ensures holds { IfOk result (λ k. Holds k.inbox [] []) }
         ensures held { IfOk result (λ k. k.held ≡ W.contents writer) }
         ensures next { IfOk result (λ k. k.next ≡ None) }
@@ -114,12 +115,15 @@ impl<R: ReadTally, W: WriteTally> Link<R, W> {
     // One write of what is pending.
     fn write(&mut self, line: &mut Line) -> Outcome
         requires some { line.old.pending ≢ [] }
-        ensures goes { (H : History) (m : ℕ) → AsTold (GoesOn line.old line.new (Some self.old) (Some self.new) H H m) (told_by_outcome result) }
+        ensures goes { (H : History) (m : ℕ)
+            → AsTold (GoesOn line.old line.new (Some self.old) (Some self.new) H H m)
+            (told_by_outcome result) }
         ensures inbox { self.new.inbox ≡ self.old.inbox }
         ensures next { self.new.next ≡ self.old.next }
         ensures still { result ≡ Outcome.Still → HasPaused self.old.counts self.new.counts }
         ensures writer { is_fault result ≡ false → self.new.counts.failed ≡ self.old.counts.failed }
-        ensures fault { IfFault result (λ kind error. IsCauseOf kind error line.new self.old self.new ⊥ 0) }
+        ensures fault { IfFault result
+            (λ kind error. IsCauseOf kind error line.new self.old self.new ⊥ 0) }
     {
         match line.write_to(&mut self.writer) {
             Told::Moved(_) => Outcome::Moved,
@@ -134,12 +138,17 @@ impl<R: ReadTally, W: WriteTally> Link<R, W> {
     // The next value that has come whole, if there is one.
     fn seek(&mut self) -> Result<Found, EngineError>
         requires whole { self.old.inbox.values.refusal ≡ None }
-        ensures goes { (l : LineState) (H : History) (m : ℕ) → GoesOn l l (Some self.old) (Some self.new) H H m false }
-        ensures nothing { IfOk result (λ f. f ≡ Found.Nothing → (self.new.next ≡ None) × HasGivenAll self.new.inbox) }
-        ensures value { IfOk result (λ f. f ≡ Found.Value → (self.new.next ≢ None) × (self.new.inbox.values.refusal ≡ None)) }
-        ensures garbled { IfOk result (λ f. f ≡ Found.Garbled → self.new.inbox.values.refusal ≢ None) }
+        ensures goes { (l : LineState) (H : History) (m : ℕ)
+            → GoesOn l l (Some self.old) (Some self.new) H H m false }
+        ensures nothing { IfOk result (λ f. f ≡ Found.Nothing → (self.new.next ≡ None)
+            × HasGivenAll self.new.inbox) }
+        ensures value { IfOk result (λ f. f ≡ Found.Value → (self.new.next ≢ None)
+            × (self.new.inbox.values.refusal ≡ None)) }
+        ensures garbled { IfOk result (λ f. f ≡ Found.Garbled
+            → self.new.inbox.values.refusal ≢ None) }
         ensures err { OnErr result (self.new.inbox.values.refusal ≡ None) }
-        ensures counts { (self.new.inbox.counts ≡ self.old.inbox.counts) × (self.new.counts ≡ self.old.counts) }
+        ensures counts { (self.new.inbox.counts ≡ self.old.inbox.counts)
+            × (self.new.counts ≡ self.old.counts) }
         ensures plain { IfErr result IsOfNoDevice }
     {
         if self.next.is_some() {
@@ -168,12 +177,17 @@ impl<R: ReadTally, W: WriteTally> Link<R, W> {
         ensures pass { T.pass turns.new ≡ T.pass turns.old }
         ensures setting { T.setting turns.new ≡ T.setting turns.old }
         ensures seen { StartsWith (T.seen turns.new) (T.seen turns.old) }
-        ensures goes { AsTold (GoesOn line.old line.new (Some self.old) (Some self.new) (own_steps (T.pass turns.old) (T.seen turns.old))
+        ensures goes { AsTold (GoesOn line.old line.new (Some self.old) (Some self.new)
+            (own_steps (T.pass turns.old) (T.seen turns.old))
             (own_steps (T.pass turns.old) (T.seen turns.new)) moment) (told_by_moves result) }
         ensures inbox { self.new.inbox ≡ self.old.inbox }
         ensures counts { self.new.counts ≡ self.old.counts }
         ensures moved { IfOk result (λ o. o ≢ Outcome.Still) }
-        ensures fault { IfOk result (λ o. IfFault o (λ kind error. IsCauseOf kind error line.new self.old self.new ((v : Value) × (self.new.next ≡ Some v) × T.cause (T.setting turns.old) Refusal.Unasked (Event.Answered line.new.host line.new.epoch v moment) (T.seen turns.new)) moment)) }
+        ensures fault { IfOk result (λ o. IfFault o
+            (λ kind error. IsCauseOf kind error line.new self.old self.new
+            ((v : Value) × (self.new.next ≡ Some v)
+            × T.cause (T.setting turns.old) Refusal.Unasked
+            (Event.Answered line.new.host line.new.epoch v moment) (T.seen turns.new)) moment)) }
         ensures plain { IfErr result IsOfNoDevice }
     {
         let Some(value) = self.next.take() else {
@@ -201,12 +215,16 @@ impl<R: ReadTally, W: WriteTally> Link<R, W> {
     fn listen(&mut self) -> Outcome
         requires none { self.old.next ≡ None }
         requires given { HasGivenAll self.old.inbox }
-        ensures goes { (l : LineState) (H : History) (m : ℕ) → AsTold (GoesOn l l (Some self.old) (Some self.new) H H m) (told_by_outcome result) }
+        ensures goes { (l : LineState) (H : History) (m : ℕ)
+            → AsTold (GoesOn l l (Some self.old) (Some self.new) H H m) (told_by_outcome result) }
         ensures whole { self.new.inbox.values.refusal ≡ None }
         ensures counts { self.new.counts ≡ self.old.counts }
-        ensures still { result ≡ Outcome.Still → HasPaused self.old.inbox.counts self.new.inbox.counts }
-        ensures reader { is_fault result ≡ false → self.new.inbox.counts.failed ≡ self.old.inbox.counts.failed }
-        ensures fault { (l : LineState) (m : ℕ) → IfFault result (λ kind error. IsCauseOf kind error l self.old self.new ⊥ m) }
+        ensures still { result ≡ Outcome.Still
+            → HasPaused self.old.inbox.counts self.new.inbox.counts }
+        ensures reader { is_fault result ≡ false → self.new.inbox.counts.failed
+            ≡ self.old.inbox.counts.failed }
+        ensures fault { (l : LineState) (m : ℕ)
+            → IfFault result (λ kind error. IsCauseOf kind error l self.old self.new ⊥ m) }
     {
         match self.inbox.read_once() {
             Told::Moved(_) => Outcome::Moved,
@@ -234,11 +252,18 @@ impl<R: ReadTally, W: WriteTally> Link<R, W> {
         ensures pass { T.pass turns.new ≡ T.pass turns.old }
         ensures setting { T.setting turns.new ≡ T.setting turns.old }
         ensures seen { StartsWith (T.seen turns.new) (T.seen turns.old) }
-        ensures goes { AsTold (GoesOn line.old line.new (Some self.old) (Some self.new) (own_steps (T.pass turns.old) (T.seen turns.old))
+        ensures goes { AsTold (GoesOn line.old line.new (Some self.old) (Some self.new)
+            (own_steps (T.pass turns.old) (T.seen turns.old))
             (own_steps (T.pass turns.old) (T.seen turns.new)) moment) (told_by_moves result) }
-        ensures still { IfOk result (λ o. o ≡ Outcome.Still → (self.new.next ≡ None) × HasGivenAll self.new.inbox) }
-        ensures moved { IfOk result (λ o. o ≡ Outcome.Moved → self.new.inbox.values.refusal ≡ None) }
-        ensures fault { IfOk result (λ o. IfFault o (λ kind error. IsCauseOf kind error line.new self.old self.new ((v : Value) × (self.new.next ≡ Some v) × T.cause (T.setting turns.old) Refusal.Unasked (Event.Answered line.new.host line.new.epoch v moment) (T.seen turns.new)) moment)) }
+        ensures still { IfOk result (λ o. o ≡ Outcome.Still → (self.new.next ≡ None)
+            × HasGivenAll self.new.inbox) }
+        ensures moved { IfOk result (λ o. o ≡ Outcome.Moved → self.new.inbox.values.refusal
+            ≡ None) }
+        ensures fault { IfOk result (λ o. IfFault o
+            (λ kind error. IsCauseOf kind error line.new self.old self.new
+            ((v : Value) × (self.new.next ≡ Some v)
+            × T.cause (T.setting turns.old) Refusal.Unasked
+            (Event.Answered line.new.host line.new.epoch v moment) (T.seen turns.new)) moment)) }
         ensures reads { self.new.inbox.counts ≡ self.old.inbox.counts }
         ensures writes { self.new.counts ≡ self.old.counts }
         ensures err { OnErr result (self.new.inbox.values.refusal ≡ None) }
@@ -266,10 +291,16 @@ impl<R: ReadTally, W: WriteTally> Link<R, W> {
         ensures pass { T.pass turns.new ≡ T.pass turns.old }
         ensures setting { T.setting turns.new ≡ T.setting turns.old }
         ensures seen { StartsWith (T.seen turns.new) (T.seen turns.old) }
-        ensures goes { AsTold (GoesOn line.old line.new (Some self.old) (Some self.new) (own_steps (T.pass turns.old) (T.seen turns.old))
+        ensures goes { AsTold (GoesOn line.old line.new (Some self.old) (Some self.new)
+            (own_steps (T.pass turns.old) (T.seen turns.old))
             (own_steps (T.pass turns.old) (T.seen turns.new)) moment) (told_by_moves result) }
-        ensures all { IfOk result (λ o. is_fault o ≡ false → (self.new.next ≡ None) × HasGivenAll self.new.inbox) }
-        ensures fault { IfOk result (λ o. IfFault o (λ kind error. IsCauseOf kind error line.new self.old self.new ((v : Value) × (self.new.next ≡ Some v) × T.cause (T.setting turns.old) Refusal.Unasked (Event.Answered line.new.host line.new.epoch v moment) (T.seen turns.new)) moment)) }
+        ensures all { IfOk result (λ o. is_fault o ≡ false → (self.new.next ≡ None)
+            × HasGivenAll self.new.inbox) }
+        ensures fault { IfOk result (λ o. IfFault o
+            (λ kind error. IsCauseOf kind error line.new self.old self.new
+            ((v : Value) × (self.new.next ≡ Some v)
+            × T.cause (T.setting turns.old) Refusal.Unasked
+            (Event.Answered line.new.host line.new.epoch v moment) (T.seen turns.new)) moment)) }
         ensures reads { self.new.inbox.counts ≡ self.old.inbox.counts }
         ensures writes { self.new.counts ≡ self.old.counts }
         ensures err { OnErr result (self.new.inbox.values.refusal ≡ None) }
@@ -297,14 +328,19 @@ impl<R: ReadTally, W: WriteTally> Link<R, W> {
         ensures pass { T.pass turns.new ≡ T.pass turns.old }
         ensures setting { T.setting turns.new ≡ T.setting turns.old }
         ensures seen { StartsWith (T.seen turns.new) (T.seen turns.old) }
-        ensures goes { AsTold (GoesOn line.old line.new (Some self.old) (Some self.new) (own_steps (T.pass turns.old) (T.seen turns.old))
+        ensures goes { AsTold (GoesOn line.old line.new (Some self.old) (Some self.new)
+            (own_steps (T.pass turns.old) (T.seen turns.old))
             (own_steps (T.pass turns.old) (T.seen turns.new)) moment) (told_by_moves result) }
         ensures inbox { self.new.inbox ≡ self.old.inbox }
         ensures next { self.new.next ≡ self.old.next }
-        ensures idle { IfOk result (λ o. o ≡ Outcome.Still → HasRisen self.old.counts.paused self.new.counts.paused
-            ⊎ ((line.old.pending ≡ []) × T.cause (T.setting turns.old) Refusal.NothingWaiting (Event.Taken line.old.host) (T.seen turns.new))) }
-        ensures writer { IfOk result (λ o. is_fault o ≡ false → self.new.counts.failed ≡ self.old.counts.failed) }
-        ensures fault { IfOk result (λ o. IfFault o (λ kind error. IsCauseOf kind error line.new self.old self.new ⊥ 0)) }
+        ensures idle { IfOk result (λ o. o ≡ Outcome.Still
+            → HasRisen self.old.counts.paused self.new.counts.paused
+            ⊎ ((line.old.pending ≡ []) × T.cause (T.setting turns.old) Refusal.NothingWaiting
+            (Event.Taken line.old.host) (T.seen turns.new))) }
+        ensures writer { IfOk result (λ o. is_fault o ≡ false → self.new.counts.failed
+            ≡ self.old.counts.failed) }
+        ensures fault { IfOk result (λ o. IfFault o
+            (λ kind error. IsCauseOf kind error line.new self.old self.new ⊥ 0)) }
         ensures plain { IfErr result IsOfNoDevice }
     {
         if !line.is_empty() {
@@ -329,11 +365,18 @@ impl<R: ReadTally, W: WriteTally> Link<R, W> {
         ensures pass { T.pass turns.new ≡ T.pass turns.old }
         ensures setting { T.setting turns.new ≡ T.setting turns.old }
         ensures seen { StartsWith (T.seen turns.new) (T.seen turns.old) }
-        ensures goes { AsTold (GoesOn line.old line.new (Some self.old) (Some self.new) (own_steps (T.pass turns.old) (T.seen turns.old))
+        ensures goes { AsTold (GoesOn line.old line.new (Some self.old) (Some self.new)
+            (own_steps (T.pass turns.old) (T.seen turns.old))
             (own_steps (T.pass turns.old) (T.seen turns.new)) moment) (told_by_moves result) }
-        ensures idle { IfOk result (λ o. o ≡ Outcome.Still → HasRisen self.old.inbox.counts.paused self.new.inbox.counts.paused) }
-        ensures all { IfOk result (λ o. is_fault o ≡ false → (self.new.next ≡ None) × HasGivenAll self.new.inbox) }
-        ensures fault { IfOk result (λ o. IfFault o (λ kind error. IsCauseOf kind error line.new self.old self.new ((v : Value) × (self.new.next ≡ Some v) × T.cause (T.setting turns.old) Refusal.Unasked (Event.Answered line.new.host line.new.epoch v moment) (T.seen turns.new)) moment)) }
+        ensures idle { IfOk result (λ o. o ≡ Outcome.Still
+            → HasRisen self.old.inbox.counts.paused self.new.inbox.counts.paused) }
+        ensures all { IfOk result (λ o. is_fault o ≡ false → (self.new.next ≡ None)
+            × HasGivenAll self.new.inbox) }
+        ensures fault { IfOk result (λ o. IfFault o
+            (λ kind error. IsCauseOf kind error line.new self.old self.new
+            ((v : Value) × (self.new.next ≡ Some v)
+            × T.cause (T.setting turns.old) Refusal.Unasked
+            (Event.Answered line.new.host line.new.epoch v moment) (T.seen turns.new)) moment)) }
         ensures writes { self.new.counts ≡ self.old.counts }
         ensures err { OnErr result (self.new.inbox.values.refusal ≡ None) }
         ensures plain { IfErr result IsOfNoDevice }
@@ -365,13 +408,22 @@ impl<R: ReadTally, W: WriteTally> Link<R, W> {
         ensures pass { T.pass turns.new ≡ T.pass turns.old }
         ensures setting { T.setting turns.new ≡ T.setting turns.old }
         ensures seen { StartsWith (T.seen turns.new) (T.seen turns.old) }
-        ensures goes { AsTold (GoesOn line.old line.new (Some self.old) (Some self.new) (own_steps (T.pass turns.old) (T.seen turns.old))
+        ensures goes { AsTold (GoesOn line.old line.new (Some self.old) (Some self.new)
+            (own_steps (T.pass turns.old) (T.seen turns.old))
             (own_steps (T.pass turns.old) (T.seen turns.new)) moment) (told_by_moves result) }
-        ensures idle { IfOk result (λ o. o ≡ Outcome.Still → HasRisen self.old.inbox.counts.paused self.new.inbox.counts.paused
+        ensures idle { IfOk result (λ o. o ≡ Outcome.Still
+            → HasRisen self.old.inbox.counts.paused self.new.inbox.counts.paused
             × (HasRisen self.old.counts.paused self.new.counts.paused
-            ⊎ ((line.old.pending ≡ []) × HasHeld (T.cause (T.setting turns.old) Refusal.NothingWaiting) (Event.Taken line.old.host) (T.seen turns.old) (T.seen turns.new)))) }
-        ensures all { IfOk result (λ o. is_fault o ≡ false → (self.new.next ≡ None) × HasGivenAll self.new.inbox) }
-        ensures fault { IfOk result (λ o. IfFault o (λ kind error. IsCauseOf kind error line.new self.old self.new ((v : Value) × (self.new.next ≡ Some v) × T.cause (T.setting turns.old) Refusal.Unasked (Event.Answered line.new.host line.new.epoch v moment) (T.seen turns.new)) moment)) }
+            ⊎ ((line.old.pending ≡ []) × HasHeld
+            (T.cause (T.setting turns.old) Refusal.NothingWaiting) (Event.Taken line.old.host)
+            (T.seen turns.old) (T.seen turns.new)))) }
+        ensures all { IfOk result (λ o. is_fault o ≡ false → (self.new.next ≡ None)
+            × HasGivenAll self.new.inbox) }
+        ensures fault { IfOk result (λ o. IfFault o
+            (λ kind error. IsCauseOf kind error line.new self.old self.new
+            ((v : Value) × (self.new.next ≡ Some v)
+            × T.cause (T.setting turns.old) Refusal.Unasked
+            (Event.Answered line.new.host line.new.epoch v moment) (T.seen turns.new)) moment)) }
         ensures err { OnErr result (self.new.inbox.values.refusal ≡ None) }
         ensures plain { IfErr result IsOfNoDevice }
     {

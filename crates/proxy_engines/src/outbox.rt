@@ -55,9 +55,12 @@ impl<W: WriteTally> Outbox<W> {
     /// Writes once. Something has to be pending.
     pub(crate) fn write_once(&mut self) -> Told
         requires some { self.old.pending ≢ [] }
-        ensures bytes { (gave : List ℕ) × Sends self.old self.new gave × (is_moved result ≡ has_moved [] gave []) }
-        ensures moved { (n : ℕ) → result ≡ Told.Moved n → length self.new.pending < length self.old.pending }
-        ensures failed { (result ≡ Told.End) ⊎ (result ≡ Told.Failed) → HasFailed self.old.counts self.new.counts }
+        ensures bytes { (gave : List ℕ) × Sends self.old self.new gave
+            × (is_moved result ≡ has_moved [] gave []) }
+        ensures moved { (n : ℕ) → result ≡ Told.Moved n
+            → length self.new.pending < length self.old.pending }
+        ensures failed { (result ≡ Told.End) ⊎ (result ≡ Told.Failed)
+            → HasFailed self.old.counts self.new.counts }
         ensures paused { result ≡ Told.Paused → HasPaused self.old.counts self.new.counts }
     {
         let told = self.writer.write_told(self.pending.as_slice());

@@ -39,7 +39,8 @@ pub trait ReadTally: Read + Tally {
     /// One read into a buffer that isn't empty.
     fn read_told(&mut self, buffer: &mut [u8]) -> Told
         requires room { 0 < length buffer.old }
-        ensures told { IsRead (Self.remaining self.old) (Self.remaining self.new) (Self.counts self.old) (Self.counts self.new) buffer.new result };
+        ensures told { IsRead (Self.remaining self.old) (Self.remaining self.new)
+            (Self.counts self.old) (Self.counts self.new) buffer.new result };
 }
 
 /// A writer that tells what each write did, and counts.
@@ -47,7 +48,8 @@ pub trait WriteTally: Write + Tally {
     /// One write of bytes, of which there is one at least.
     fn write_told(&mut self, bytes: &[u8]) -> Told
         requires some { bytes.now ≢ [] }
-        ensures told { IsWritten (Self.contents self.old) (Self.contents self.new) (Self.counts self.old) (Self.counts self.new) bytes.now result };
+        ensures told { IsWritten (Self.contents self.old) (Self.contents self.new)
+            (Self.counts self.old) (Self.counts self.new) bytes.now result };
 }
 
 /// A reader or a writer with its counts.
@@ -83,7 +85,8 @@ impl<S> Tallied<S> {
     // Counts an error, as what it is.
     fn told(&mut self, kind: ErrorKind) -> Told
         ensures inner { self.new.inner ≡ self.old.inner }
-        ensures told { ((result ≡ Told.Paused) × HasPaused (counts_of self.old) (counts_of self.new))
+        ensures told { ((result ≡ Told.Paused)
+            × HasPaused (counts_of self.old) (counts_of self.new))
             ⊎ ((result ≡ Told.Failed) × HasFailed (counts_of self.old) (counts_of self.new)) }
     {
         match kind {
