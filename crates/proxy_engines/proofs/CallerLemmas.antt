@@ -1,7 +1,10 @@
 -- What a crate above cites of the engines.
 
--- steps of others leave what a client carries
+-- steps of others leave what a client carries, and what a host's engine carries
 pub use Rattle.proxy_engines.proofs.ClientLemmas.{others_leave_clients}
+pub use Rattle.proxy_engines.proofs.OtherLemmas.{others_leave_hosts}
+-- steps of an engine are no other's
+pub use Rattle.proxy_engines.proofs.OtherLemmas.{clients_leave_others, hosts_leave_others}
 -- what is accepted is the first of what the bytes ask
 pub use Rattle.proxy_engines.proofs.ClientLemmas.{accepted_are_first}
 -- a client that ended has accepted all, handed all out and written all

@@ -8,3 +8,4 @@ pub mod InboxLemmas
 pub mod MoveLemmas
 pub mod HostLemmas
 pub mod IdleLemmas
+pub mod OtherLemmas

@@ -1,11 +1,12 @@
 -- What follows from what an engine carries.
-use Rattle.std.specs.Prelude.{◌≡◌, ℕ, false, List, [], ◌++◌}
+use Rattle.std.specs.Prelude.{◌≡◌, ◌≢◌, ℕ, false, List, [], ◌++◌, Option}
 use Rattle.splitter.specs.Request.{Request}
 use Rattle.splitter.specs.Requests.{AreRequests, up_to_last}
 use Rattle.proxy_history.specs.History.{History, accepted, handed}
 use Rattle.proxy_history.specs.Output.{transcript}
-use Rattle.proxy_history.specs.Own.{connection_steps}
+use Rattle.proxy_history.specs.Own.{connection_steps, host_steps}
 use Rattle.proxy_engines.specs.Client.{Client, Carries, asked}
+use Rattle.proxy_engines.specs.Host.{LineState, LinkState, CarriesHost}
 use Rattle.proxy_engines.specs.declared.client.Stage.{Stage}
 
 -- The requests accepted are the first of those that the bytes read ask.
@@ -28,3 +29,18 @@ EndedIsWhole = (e : Client) (H : History) (taken b : List ℕ) → Carries e H t
 abbrev pub OthersLeaveClients : Type 0
 OthersLeaveClients = (e : Client) (H later : History) (taken b : List ℕ) → connection_steps e.conn later ≡ []
     → Carries e H taken b → Carries e (later ++ H) taken b
+
+-- Steps of others leave what a host's engine carries as it is.
+abbrev pub OthersLeaveHosts : Type 0
+OthersLeaveHosts = (l : LineState) (k : Option LinkState) (H later : History) (taken b : List ℕ) → host_steps l.host later ≡ []
+    → CarriesHost l k H taken b → CarriesHost l k (later ++ H) taken b
+
+-- The steps of a client's engine are no other connection's, and no host's.
+abbrev pub ClientsLeaveOthers : Type 0
+ClientsLeaveOthers = (c : ℕ) (steps : History) → connection_steps c steps ≡ steps
+    → ((d : ℕ) → d ≢ c → connection_steps d steps ≡ []) × ((h : ℕ) → host_steps h steps ≡ [])
+
+-- The steps of a host's engine are no other host's, and no connection's.
+abbrev pub HostsLeaveOthers : Type 0
+HostsLeaveOthers = (h : ℕ) (steps : History) → host_steps h steps ≡ steps
+    → ((g : ℕ) → g ≢ h → host_steps g steps ≡ []) × ((c : ℕ) → connection_steps c steps ≡ [])

@@ -24,7 +24,7 @@ pub use client::{ClientEngine, Progress, Stage};
 pub use error::EngineError;
 pub use host::HostEngine;
 pub use inbox::{Inbox, READ_SIZE};
-pub use laws::{accepted_are_first, ended_is_whole, others_leave_clients};
+pub use laws::{accepted_are_first, ended_is_whole, engines_leave_others, others_leave_engines};
 pub use line::Line;
 pub use link::Link;
 pub use outbox::Outbox;
