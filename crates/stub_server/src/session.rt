@@ -1,5 +1,5 @@
 //! What the two ends of a link share: the stub, and what stands between it and them.
-ghost use Rattle.std.specs.Prelude.{◌≡◌, ◌≤◌, ◌<◌, ◌⊎◌, IfOk, IfErr, OnOk, IsTrue, length, true, false};
+ghost use Rattle.std.specs.Prelude.{◌≡◌, ◌≤◌, ◌<◌, ◌⊎◌, IfOk, IfErr, OnOk, length, true};
 ghost use Rattle.stub_server.specs.Session.{left_of, steps_of};
 
 use crate::error::StubError;
