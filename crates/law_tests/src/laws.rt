@@ -135,3 +135,11 @@ fn laws_of_own_steps() {
     proxy_history::seen_is_read_in_order();
     proxy_history::seen_steps_follow();
 }
+
+#[test]
+fn laws_of_engines() {
+    proxy_engines::accepted_are_first();
+    proxy_engines::ended_is_whole();
+    proxy_engines::engines_leave_others();
+    proxy_engines::others_leave_engines();
+}
