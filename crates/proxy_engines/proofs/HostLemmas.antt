@@ -1,5 +1,5 @@
 -- What a step of a host's engine does, put together.
-use Rattle.std.proofs.Common.{◌≡◌, ◌∙◌, arith, ◌+◌, ℕ, Bool, true, List, ◌∷◌, Option, Some, None, Result, Ok, Err, ◌⊎◌, ◌≢◌, [], length, ◌==◌, ap, sym, refl, inl, inr}
+use Rattle.std.proofs.Common.{◌≡◌, ◌∙◌, arith, ℕ, Bool, true, List, ◌∷◌, Option, Some, None, Result, Ok, Err, ◌⊎◌, ◌≢◌, [], length, ◌==◌, sym, refl, inl, inr}
 use Rattle.std.specs.Prelude.{IfSome, IfOk, ◌↔◌, false}
 use Rattle.proxy_history.specs.History.{History}
 use Rattle.proxy_history.specs.declared.event.Kind.{Kind}

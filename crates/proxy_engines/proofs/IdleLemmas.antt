@@ -1,12 +1,11 @@
 -- Why a client is idle, put together.
-use Rattle.std.proofs.Common.{◌≡◌, ◌∙◌, ◌⊎◌, ℕ, List, [], ◌++◌, Option, None, ap, append_assoc, append-nil, sym, inl, inr}
+use Rattle.std.proofs.Common.{◌≡◌, ◌⊎◌, List, [], append-nil, sym, inl, inr}
 use Rattle.std.specs.Prelude.{Result, Ok, Err, IfOk}
 use Rattle.ticket_gate.specs.Journal.{StartsWith}
-use Rattle.splitter.specs.Request.{Request}
 use Rattle.proxy_history.specs.Seen.{SeenStep}
 use Rattle.proxy_history.specs.declared.event.Event.{Event}
 use Rattle.proxy_history.specs.declared.refusal.Refusal.{Refusal}
-use Rattle.proxy_engines.specs.Ends.{Receiving, Holds, HasGivenAll}
+use Rattle.proxy_engines.specs.Ends.{Receiving, HasGivenAll}
 use Rattle.proxy_engines.specs.Turned.{HasHeld}
 use Rattle.proxy_engines.specs.Client.{Client, AwaitsBytes, AwaitsReplies, HandsNothing, IsHeldBack, IsIdle}
 use Rattle.proxy_engines.specs.declared.client.Progress.{Progress}

@@ -1,7 +1,7 @@
 -- What an inbox holds after each of its moves.
 use Rattle.std.proofs.Common.{◌≡◌, ◌∙◌, ℕ, List, [], ◌∷◌, ◌++◌, Option, Some, None, map, ap, append-nil, sym}
 use Rattle.std.proofs.lemmas.List.{map-append}
-use Rattle.std.specs.Prelude.{Bool, false, ⊤, IfSome, Result, Ok, Err, is_err, OnOk}
+use Rattle.std.specs.Prelude.{false, ⊤, IfSome, Result, Ok, Err, is_err, OnOk}
 use Rattle.resp_core.specs.Tree.{Tree}
 use Rattle.resp_core.specs.Standing.{Stands}
 use Rattle.resp_core.specs.Stream.{HasNoRefusal}

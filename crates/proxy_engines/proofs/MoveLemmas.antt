@@ -1,5 +1,5 @@
 -- Whether anything moved, over several moves.
-use Rattle.std.proofs.Common.{◌≡◌, ◌≢◌, ◌<◌, ◌+◌, ℕ, Bool, true, false, List, [], ◌∷◌, ◌++◌, Option, None, ap, arith, length, refl, sym}
+use Rattle.std.proofs.Common.{◌≡◌, ◌≢◌, ◌<◌, ℕ, Bool, true, false, List, [], ◌∷◌, ◌++◌, Option, None, arith, length, refl}
 use Rattle.std.specs.Prelude.{◌||◌, ◌≤◌, zero, suc, take, Result, Ok, Err, IsErr}
 use Rattle.proxy_history.specs.History.{History}
 use Rattle.proxy_engines.specs.Moves.{has_moved, AsTold, told_by_step}

@@ -1,13 +1,13 @@
 -- Steps of one engine are nobody else's.
-use Rattle.std.proofs.Common.{◌≡◌, ◌≢◌, ◌∙◌, ◌==◌, ◌<◌, ◌≤◌, ◌+◌, ℕ, Bool, true, false, List, [], ◌∷◌, ◌++◌, Option, Some, None, ap, arith, drop, filter, length, refl, sym, subst, eqb-true}
+use Rattle.std.proofs.Common.{◌≡◌, ◌≢◌, ◌∙◌, ◌==◌, ◌≤◌, ℕ, Bool, true, false, List, [], ◌∷◌, ap, arith, drop, filter, length, refl, sym, subst, eqb-true}
 use Rattle.std.proofs.lemmas.Bool.{ne_eqb}
 use Rattle.resp_core.specs.Tree.{Tree}
-use Rattle.proxy_history.specs.History.{History, Step}
-use Rattle.proxy_history.specs.Own.{connection_steps, host_steps, is_connection_step, is_of_host}
+use Rattle.proxy_history.specs.History.{Step}
+use Rattle.proxy_history.specs.Own.{is_connection_step, is_of_host}
 use Rattle.proxy_history.specs.declared.event.Event.{Event}
 use Rattle.proxy_history.specs.declared.answer.Answer.{Answer}
 use Rattle.proxy_history.proofs.CallerLemmas as history
-use Rattle.proxy_engines.specs.Host.{LineState, LinkState, IsOnLink, CarriesHost}
+use Rattle.proxy_engines.specs.Host.{IsOnLink}
 use Rattle.proxy_engines.specs.Laws.{ClientsLeaveOthers, HostsLeaveOthers, OthersLeaveHosts}
 
 -- WHOSE A STEP IS

@@ -1,5 +1,4 @@
-use Rattle.std.proofs.Common.{ap, sym, refl, ◌∙◌}
-use Rattle.proxy_engines.specs.Ends.{Receiving}
+use Rattle.std.proofs.Common.{sym, refl, ◌∙◌}
 use Rattle.proxy_engines.proofs.InboxLemmas.{holds-fed, fed_ok}
 use Rattle.proxy_engines.proofs.inbox.Inbox.feed.Goals as goal
 

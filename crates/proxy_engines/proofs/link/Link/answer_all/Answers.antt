@@ -1,6 +1,5 @@
 use Rattle.std.proofs.Common.{◌∙◌, refl, sym, append-nil, []}
 use Rattle.proxy_engines.proofs.HostMoves.{stays_on, starts_then, told_still, told_moved, told_both}
-use Rattle.proxy_engines.proofs.FaultLemmas.{no_fault}
 use Rattle.proxy_engines.proofs.MoveLemmas.{moves-err, as_fault}
 use Rattle.proxy_engines.proofs.link.Link.answer_all.Goals as goal
 
