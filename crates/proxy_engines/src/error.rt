@@ -4,7 +4,10 @@ ghost use Rattle.proxy_engines.specs.EngineError.{number_of};
 
 use std::fmt;
 
-/// Why a call of an engine is refused. After each of these the next step goes on from the same place.
+/// Why a call of an engine is refused.
+///
+/// After 1401 and 1404 the next step goes on from the same place. After 1402 and 1403 a client's steps answer `Cut`, and a
+/// host's go on without a link.
 #[derive(Clone, Copy, Debug, PartialEq, Eq, Drop)]
 pub enum EngineError {
     /// 1401: there was no memory.

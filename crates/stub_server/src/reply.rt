@@ -5,7 +5,7 @@ ghost use Rattle.resp_core.specs.Value.{tree_of};
 
 use resp_core::Value;
 
-// An answer, which is plain.
+/// An answer, which is plain.
 #[derive(Drop)]
 pub struct Reply {
     pub(crate) value: Value,

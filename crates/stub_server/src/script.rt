@@ -18,7 +18,7 @@ pub enum Act {
     Garble,
 }
 
-// The acts that are left, which contracts see as a list.
+/// The acts that are left, which contracts see as a list.
 #[derive(Drop)]
 pub struct Script {
     acts: Vec<Act>,

@@ -15,7 +15,7 @@ pub const MAX_UNREAD: usize = 65_536;
 // Bytes of a buffer that is kept while no byte is unread.
 const MOST_IDLE: usize = 131_072;
 
-// The bytes that were not read yet, as contracts see it.
+/// The bytes of replies that were not read yet, which contracts see as a list.
 #[derive(Drop)]
 pub struct Unread {
     alloc: Global,
