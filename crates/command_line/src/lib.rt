@@ -2,7 +2,7 @@
 #![tactic(auto)]
 
 use clap::error::ErrorKind;
-use clap::{Arg, ArgAction, Command, Error};
+use clap::{Arg, ArgAction, Command, Error, value_parser};
 use std::alloc::{AllocError, Global};
 use std::io;
 
@@ -15,6 +15,13 @@ pub enum Asked {
     Check {
         /// The file's path.
         config: String,
+    },
+    /// Serve clients on sockets.
+    Serve {
+        /// The settings file's path.
+        config: String,
+        /// After how many closed connections to end; 0 is never.
+        connections: u64,
     },
 }
 
@@ -61,24 +68,39 @@ impl From<Error> for Refused {
     }
 }
 
-fn command<'a>(alloc: Global) -> Result<Command<'a>, AllocError> {
-    let local = Command::new(alloc, "local").about(
-        "Serves one client on standard input and output",
-    );
-    let config = Arg::new(alloc, "config")
+fn config<'a>(alloc: Global) -> Arg<'a> {
+    Arg::new(alloc, "config")
         .long("config")
         .value_name("FILE")
         .help("The settings file")
         .required(true)
-        .action(ArgAction::Set);
+        .action(ArgAction::Set)
+}
+
+fn command<'a>(alloc: Global) -> Result<Command<'a>, AllocError> {
+    let local = Command::new(alloc, "local").about(
+        "Serves one client on standard input and output",
+    );
     let check = Command::new(alloc, "check")
         .about("Reads a settings file, and tells its hosts and digests, or its first fault")
-        .arg(config)?;
+        .arg(config(alloc))?;
+    let connections = Arg::new(alloc, "connections")
+        .long("connections")
+        .value_name("N")
+        .help("End after so many connections have closed, and tell what happened; 0 is never")
+        .value_parser(value_parser!(u32))
+        .default_value("0")
+        .action(ArgAction::Set);
+    let serve = Command::new(alloc, "serve")
+        .about("Serves clients on the address that the settings name")
+        .arg(config(alloc))?
+        .arg(connections)?;
     Command::new(alloc, "redproxy")
         .about("A proxy that clients speak to as to one Redis server")
         .subcommand_required(true)
         .subcommand(local)?
-        .subcommand(check)
+        .subcommand(check)?
+        .subcommand(serve)
 }
 
 /// Reads the words of the command line, of which the first is the program's name.
@@ -88,6 +110,14 @@ pub fn read(alloc: Global, words: &[String]) -> Result<Asked, Refused> {
         Some(("check", matches)) => {
             let config = String::from_str(alloc, matches.get_str("config").unwrap_or(""))?;
             Ok(Asked::Check { config })
+        }
+        Some(("serve", matches)) => {
+            let config = String::from_str(alloc, matches.get_str("config").unwrap_or(""))?;
+            let connections = matches.get_one::<u32>("connections").unwrap_or(0);
+            Ok(Asked::Serve {
+                config,
+                connections: u64::from(connections),
+            })
         }
         _ => Ok(Asked::Local),
     }

@@ -2,5 +2,6 @@
 use Rattle.command_table.specs.declared.Entry.{Entry}
 use Rattle.command_table.specs.Table.{Row, row}
 
+-- the row that an entry is
 abbrev pub row_of : Entry → Row
 row_of e = row e.kind e.name.now e.least e.key_at

@@ -55,5 +55,6 @@ other_names =
     codes "hrandfield" ∷ codes "lpos" ∷ codes "pfadd" ∷ codes "pfcount" ∷ codes "smismember" ∷ codes "zmscore" ∷
     codes "zrandmember" ∷ []
 
+-- all of them
 unfoldable pub one_key_names : List (List ℕ)
 one_key_names = key_names ++ string_names ++ hash_names ++ list_names ++ set_names ++ sorted_set_names ++ stream_names ++ other_names

@@ -12,6 +12,7 @@ pub record Row : Type 0 where
   pub least : ℕ
   pub key_at : ℕ
 
+-- a row of the table
 abbrev pub row : Kind → List ℕ → ℕ → ℕ → Row
 row kind name least key_at = record { kind = kind; name = name; least = least; key_at = key_at }
 
@@ -35,6 +36,7 @@ own_rows =
 abbrev pub one_key_row : List ℕ → Row
 one_key_row name = row One name 2 1
 
+-- the table
 unfoldable pub rows : List Row
 rows = own_rows ++ map one_key_row one_key_names
 

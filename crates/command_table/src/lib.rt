@@ -56,7 +56,8 @@ pub struct Entry {
 ///
 /// It takes no memory.
 pub fn look(name: &[u8]) -> Option<Entry>
-    ensures found { IfSome result (λ e. Contains rows (row_of e) × (str_to_ascii_lowercase name.now ≡ e.name.now)) }
+    ensures found { IfSome result (λ e. Contains rows (row_of e)
+        × (str_to_ascii_lowercase name.now ≡ e.name.now)) }
     ensures unknown { IfNone result (All (λ r. str_to_ascii_lowercase name.now ≢ r.name) rows) }
     ensures row { option_map row_of result ≡ row_named name.now }
 {

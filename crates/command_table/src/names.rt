@@ -100,7 +100,8 @@ fn names_of_length(len: usize) -> &'static [&'static str]
 
 // The first of these names that is this one.
 fn find_name(names: &[&'static str], name: &[u8]) -> Option<&'static str>
-    ensures { option_map (λ n. n.now) result ≡ find (is_name name.now) (map (λ n. n.now) names.now) }
+    ensures { option_map (λ n. n.now) result ≡ find (is_name name.now) (map
+        (λ n. n.now) names.now) }
 {
     for known in names {
         if name.eq_ignore_ascii_case(known.as_bytes()) {

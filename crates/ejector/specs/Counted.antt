@@ -51,6 +51,7 @@ abbrev pub opening_good_results : State → ℕ → List Deed → ℕ
 opening_good_results O h deeds =
     if list_any ends_interval deeds then 0 else (host_of O h).good_results
 
+-- the results that the opening state still counts for a host: none once an interval has ended
 abbrev pub opening_results : State → ℕ → List Deed → ℕ
 opening_results O h deeds = if list_any ends_interval deeds then 0 else (host_of O h).results
 
@@ -82,6 +83,7 @@ multiplier_of R O h (d ∷ before) =
 
 -- THE STATE AFTER DEEDS
 
+-- how a host stands after some deeds
 abbrev pub host_after : Rules → State → List Deed → ℕ → HostState
 host_after R O deeds h = record {
   is_out = is_out_after O h deeds;
@@ -92,6 +94,7 @@ host_after R O deeds h = record {
   multiplier = multiplier_of R O h deeds;
 }
 
+-- the state after some deeds, from an opening state
 abbrev pub state_after : Rules → State → List Deed → State
 state_after R O deeds =
     record { clock = clock_of O deeds; hosts = map (host_after R O deeds) (hosts_of R) }

@@ -12,18 +12,23 @@ pub record Deed : Type 0 where
   pub returned : List ℕ
   pub lowered : List ℕ
 
+-- whether a host is among some
 abbrev pub is_among : ℕ → List ℕ → Bool
 is_among h hosts = list_any (λ k. k == h) hosts
 
+-- whether a deed puts the host aside
 abbrev pub ejects : ℕ → Deed → Bool
 ejects h d = is_among h d.ejected
 
+-- whether the host trips by a deed
 abbrev pub trips : ℕ → Deed → Bool
 trips h d = is_among h d.ejected || is_among h d.kept
 
+-- whether a deed brings the host back
 abbrev pub returns : ℕ → Deed → Bool
 returns h d = is_among h d.returned
 
+-- whether a deed lowers the host's multiplier
 abbrev pub lowers : ℕ → Deed → Bool
 lowers h d = is_among h d.lowered
 

@@ -16,12 +16,15 @@ use Rattle.ejector.specs.Sweeps.{comes_back, is_ejected_in_sweep, is_kept_in_swe
 
 -- WHAT A MARK DOES, by the state before it with the mark's clock
 
+-- the deed of a mark that changes no host
 abbrev pub nothing_by : Mark → Deed
 nothing_by m = record { mark = m; ejected = []; kept = []; returned = []; lowered = [] }
 
+-- the deed of a bad result that trips its host
 abbrev pub trip_by : Rules → State → ℕ → Mark → Deed
 trip_by R x h m = if may_eject R (out_count x) then record (nothing_by m) { ejected = h ∷ [] } else record (nothing_by m) { kept = h ∷ [] }
 
+-- the deed of a sweep
 abbrev pub sweep_by : Rules → State → Mark → Deed
 sweep_by R x m = record {
   mark = m;
@@ -31,6 +34,7 @@ sweep_by R x m = record {
   lowered = filter (λ h. not (is_out x h)) (hosts_of R);
 }
 
+-- what a mark does in a state
 abbrev pub deed_by : Rules → State → Mark → Deed
 deed_by R x (Good h t) = nothing_by (Good h t)
 deed_by R x (Bad h t) = if is_trip R x h then trip_by R x h (Bad h t) else nothing_by (Bad h t)
@@ -57,9 +61,11 @@ state R O marks = state_after R O (deeds R O marks)
 
 -- WHAT THE LAST MARK DID
 
+-- what a deed tells of its result's host
 abbrev pub trip_of : Deed → Trip
 trip_of d = if not (length d.ejected == 0) then answer.Ejected else (if not (length d.kept == 0) then answer.Kept else answer.None)
 
+-- what a deed tells of a sweep
 abbrev pub swept_of : Deed → Swept
 swept_of d = record { returned = length d.returned; ejected = length d.ejected; kept = length d.kept }
 
@@ -67,5 +73,6 @@ swept_of d = record { returned = length d.returned; ejected = length d.ejected; 
 abbrev pub trip : Rules → State → Mark → List Mark → Trip
 trip R O m before = trip_of (deed_after R (state R O before) m)
 
+-- what a sweep tells behind some marks
 abbrev pub swept : Rules → State → Mark → List Mark → Swept
 swept R O m before = swept_of (deed_after R (state R O before) m)

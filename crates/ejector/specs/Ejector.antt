@@ -5,6 +5,7 @@ use Rattle.ejector.specs.declared.mark.Mark.TheVariants.{Good, Bad}
 use Rattle.ejector.specs.declared.settings.Rules.{Rules}
 use Rattle.ejector.specs.State.{State}
 
+-- what contracts see of an ejector: its rules and its state
 pub record Ejection : Type 0 where
   pub rules : Rules
   pub state : State

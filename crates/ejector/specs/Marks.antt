@@ -15,14 +15,17 @@ is_good h (Good host t) = host == h
 is_good h (Bad host t) = false
 is_good h (Sweep t) = false
 
+-- whether a mark is a bad result of the host
 abbrev pub is_bad : ℕ → Mark → Bool
 is_bad h (Good host t) = false
 is_bad h (Bad host t) = host == h
 is_bad h (Sweep t) = false
 
+-- whether a mark is a result of the host
 abbrev pub is_result : ℕ → Mark → Bool
 is_result h m = is_good h m || is_bad h m
 
+-- whether a mark is a sweep
 abbrev pub is_sweep : Mark → Bool
 is_sweep (Good host t) = false
 is_sweep (Bad host t) = false

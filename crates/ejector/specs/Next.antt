@@ -34,5 +34,6 @@ with_deed R d x = record { clock = x.clock; hosts = map (λ h. host_with R x.clo
 abbrev pub with_mark : Rules → Mark → State → State
 with_mark R m x = with_deed R (deed_by R x m) x
 
+-- the state behind one mark, by the state before it alone
 abbrev pub next : Rules → Mark → State → State
 next R m before = with_mark R m (at_moment (moment m) before)

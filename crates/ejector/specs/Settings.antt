@@ -6,6 +6,7 @@ use Rattle.ejector.specs.declared.settings.Rules.{Rules}
 use Rattle.ejector.specs.declared.settings.Field.{Field}
 use Rattle.ejector.specs.declared.settings.Field.TheVariants.{Hosts, Tags, IntervalMs, BaseMs, MaxMs, MaxPercent, Consecutive, SuccessHosts, RequestVolume, Factor, PanicPercent}
 
+-- the settings where nothing is set
 abbrev pub default_settings : Settings
 default_settings = record {
   tags = false;
@@ -20,6 +21,7 @@ default_settings = record {
   panic_percent = 50;
 }
 
+-- whether a number is in a range
 abbrev pub is_within : ℕ → ℕ → ℕ → Bool
 is_within low high n = nat_le low n && nat_le n high
 
@@ -30,9 +32,11 @@ settings_tests s =
     ∷ (MaxPercent, is_within 0 100 s.max_percent) ∷ (Consecutive, is_within 0 1000000 s.consecutive) ∷ (SuccessHosts, is_within 1 65 s.success_hosts)
     ∷ (RequestVolume, is_within 1 1000000 s.request_volume) ∷ (Factor, is_within 0 100000 s.factor) ∷ (PanicPercent, is_within 0 100 s.panic_percent) ∷ []
 
+-- each field in its order, with whether it is in its range
 abbrev pub field_tests : Rules → List (Field × Bool)
 field_tests R = (Hosts, is_within 1 MAX_HOSTS R.hosts) ∷ settings_tests R.settings
 
+-- the first field whose test fails
 abbrev pub first_failing : List (Field × Bool) → Option Field
 first_failing [] = None
 first_failing (t ∷ ts) = if t.1 then first_failing ts else Some t.0

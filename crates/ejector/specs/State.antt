@@ -4,6 +4,7 @@ use Rattle.std.specs.List.{range_with_len}
 use Rattle.ejector.specs.declared.host.HostState.{HostState}
 use Rattle.ejector.specs.declared.settings.Rules.{Rules}
 
+-- a clock, and how each host stands
 pub record State : Type 0 where
   pub clock : ℕ
   pub hosts : List HostState
@@ -20,9 +21,11 @@ fresh_state R = record { clock = 0; hosts = replicate R.hosts fresh_host }
 abbrev pub hosts_of : Rules → List ℕ
 hosts_of R = range_with_len 0 R.hosts
 
+-- how a host stands
 abbrev pub host_of : State → ℕ → HostState
 host_of x h = get_or x.hosts h fresh_host
 
+-- whether a host is out
 abbrev pub is_out : State → ℕ → Bool
 is_out x h = (host_of x h).is_out
 

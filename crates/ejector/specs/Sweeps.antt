@@ -13,6 +13,7 @@ use Rattle.ejector.specs.Trips.{may_eject}
 abbrev pub is_time_over : Rules → ℕ → HostState → Bool
 is_time_over R clock s = nat_le (min (R.settings.base_ms * s.multiplier) R.settings.max_ms) (clock - s.start)
 
+-- whether a sweep brings a host back
 abbrev pub comes_back : Rules → State → ℕ → Bool
 comes_back R x h = is_out x h && is_time_over R x.clock (host_of x h)
 
@@ -28,6 +29,7 @@ rate_after_returns R x h =
     if stays_out R x h || nat_lt (host_of x h).results R.settings.request_volume then None
     else rate_of (host_of x h).good_results (host_of x h).results
 
+-- the success rates in a sweep, of each host
 abbrev pub rates : Rules → State → List (Option ℕ)
 rates R x = map (rate_after_returns R x) (hosts_of R)
 
@@ -35,6 +37,7 @@ rates R x = map (rate_after_returns R x) (hosts_of R)
 abbrev pub trips_by : Rules → List (Option ℕ) → ℕ → Bool
 trips_by R rates h = nat_le R.settings.success_hosts (length (known rates)) && is_outlier rates h R.settings.factor
 
+-- whether a host trips in a sweep
 abbrev pub trips_in_sweep : Rules → State → ℕ → Bool
 trips_in_sweep R x h = trips_by R (rates R x) h
 
@@ -49,11 +52,14 @@ abbrev pub out_at : Rules → (ℕ → Bool) → ℕ → ℕ → ℕ
 out_at R tripping first zero = first
 out_at R tripping first (suc h) = out_after_turn R (tripping h) (out_at R tripping first h)
 
+-- how many hosts are out when a host's turn comes in a sweep
 abbrev pub out_at_turn : Rules → State → ℕ → ℕ
 out_at_turn R x h = out_at R (trips_in_sweep R x) (count_by (stays_out R x) (hosts_of R)) h
 
+-- whether a sweep puts a host aside
 abbrev pub is_ejected_in_sweep : Rules → State → ℕ → Bool
 is_ejected_in_sweep R x h = trips_in_sweep R x h && may_eject R (out_at_turn R x h)
 
+-- whether a host trips in a sweep and stays
 abbrev pub is_kept_in_sweep : Rules → State → ℕ → Bool
 is_kept_in_sweep R x h = trips_in_sweep R x h && not (may_eject R (out_at_turn R x h))

@@ -7,5 +7,6 @@ use Rattle.ejector.specs.State.{State, is_out, out_count}
 abbrev pub is_panic : Rules → State → Bool
 is_panic R x = nat_lt (100 * (R.hosts - out_count x)) (R.settings.panic_percent * R.hosts)
 
+-- whether a host may get parts
 abbrev pub is_usable : Rules → State → ℕ → Bool
 is_usable R x h = is_panic R x || not (is_out x h)

@@ -1,3 +1,5 @@
+//! What a result and a sweep did.
+
 /// What a result did to its host.
 #[derive(Clone, Copy, Debug, PartialEq, Eq)]
 pub enum Trip {

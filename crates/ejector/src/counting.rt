@@ -1,3 +1,4 @@
+//! How a host's counters go on.
 ghost use Rattle.std.specs.Prelude.{◌≡◌, ◌+◌, ◌-◌, ◌*◌, ◌/◌, ◌<◌, ◌≤◌, ◌==◌, ◌&&◌, length, map, replicate, slice_index_or, nat_lt, true};
 ghost use Rattle.ejector.specs.Settings.{IsInRange};
 ghost use Rattle.ejector.specs.Counted.{max_multiplier};
@@ -81,7 +82,8 @@ pub(crate) fn may_eject(rules: &Rules, out: usize) -> bool
 pub(crate) fn is_panic(rules: &Rules, out: usize) -> bool
     requires range { IsInRange rules.now }
     requires within { out ≤ rules.now.hosts }
-    ensures { result ≡ nat_lt (100 * (rules.now.hosts - out)) (rules.now.settings.panic_percent * rules.now.hosts) }
+    ensures { result ≡ nat_lt (100 * (rules.now.hosts - out))
+        (rules.now.settings.panic_percent * rules.now.hosts) }
 {
     100 * (rules.hosts - out) < rules.settings.panic_percent as usize * rules.hosts
 }
@@ -150,7 +152,8 @@ fn with_bad(rules: &Rules, host: HostState) -> HostState
 /// Counts a good result of a host.
 pub(crate) fn take_good(hosts: &mut [HostState], host: usize)
     requires among { host < length hosts.old }
-    requires share { (slice_index_or hosts.old host fresh_host).good_results ≤ (slice_index_or hosts.old host fresh_host).results }
+    requires share { (slice_index_or hosts.old host fresh_host).good_results ≤
+        (slice_index_or hosts.old host fresh_host).results }
     ensures { hosts.new ≡ with_good_result host hosts.old }
 {
     let after = counted(hosts[host], true);

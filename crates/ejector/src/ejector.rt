@@ -1,3 +1,4 @@
+//! Outlier detection: which hosts are put aside, and until when.
 ghost use Rattle.std.specs.Prelude.{◌≡◌, List, ◌∷◌, ◌<◌, ◌≤◌, IfOk, IfErr, IsOk, IsErrOf, MatchOption, None, length, map};
 ghost use Rattle.ejector.specs.Settings.{first_fault};
 ghost use Rattle.ejector.specs.declared.mark.Mark.{Mark};
@@ -161,7 +162,8 @@ impl Ejector {
     /// host. It looks at each host once, and takes no memory.
     pub fn all_usable(&self, usable: &mut [bool])
         requires { length usable.old ≡ self.now.rules.hosts }
-        ensures { usable.new ≡ map (is_usable self.now.rules self.now.state) (hosts_of self.now.rules) }
+        ensures { usable.new ≡ map (is_usable self.now.rules self.now.state)
+            (hosts_of self.now.rules) }
     {
         let out = set_in(&self.hosts, usable);
         if is_panic(&self.rules, out) {

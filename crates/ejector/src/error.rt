@@ -1,3 +1,4 @@
+//! Why an ejector refused a call.
 ghost use Rattle.std.specs.Prelude.{◌≡◌};
 ghost use Rattle.ejector.specs.EjectError.{number_of};
 ghost use Rattle.ejector.specs.declared.error.EjectError.TheVariants.{NoMemory};

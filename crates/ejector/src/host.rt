@@ -1,3 +1,5 @@
+//! What is counted of a host.
+
 /// What is counted of one host.
 #[derive(Clone, Copy, Debug, PartialEq, Eq)]
 pub struct HostState {

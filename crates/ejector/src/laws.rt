@@ -1,3 +1,5 @@
+//! What holds of every list of marks.
+
 // What holds of every list of marks, from every opening state on.
 ghost use Rattle.ejector.specs.Laws.{BackOnceTimeIsOver, FewAreOut, GoodEndsStreak, OpeningComesFirst, OpeningsStay, OthersChangeNothing, OthersMatterByLimitAndRates, OutUntilTimeIsOver, StateDecidesNext, StateGoesOn};
 

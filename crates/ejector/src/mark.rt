@@ -1,3 +1,5 @@
+//! What outlier detection is told.
+
 /// What an ejector is told: a host's good or bad result, or a sweep, each with its moment in milliseconds.
 #[derive(Clone, Copy, Debug, PartialEq, Eq)]
 pub enum Mark {

@@ -1,3 +1,4 @@
+//! Settings, and the rules that they are with a number of hosts.
 ghost use Rattle.std.specs.Prelude.{◌≡◌};
 ghost use Rattle.ejector.specs.Settings.{default_settings, is_within, first_failing, first_fault, first_difference, settings_tests, settings_comparisons};
 

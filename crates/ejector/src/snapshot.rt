@@ -1,6 +1,8 @@
-ghost use Rattle.std.specs.Prelude.{◌≡◌, length, None};
+//! Where outlier detection stands, to go on from.
+ghost use Rattle.std.specs.Prelude.{◌≡◌, ◌<◌, length, None};
 ghost use Rattle.ejector.specs.Settings.{first_fault};
 ghost use Rattle.ejector.specs.Opening.{IsOpening};
+ghost use Rattle.ejector.specs.State.{is_out};
 
 use crate::host::{FRESH, HostState};
 use crate::settings::Rules;
@@ -60,6 +62,15 @@ impl EjectState {
         ensures opening { IsOpening self.now.rules self.now.state }
     {
         &self.rules
+    }
+
+    /// Whether the host is put aside.
+    pub fn is_out(&self, host: usize) -> bool
+        requires { host < self.now.rules.hosts }
+        ensures { result ≡ is_out self.now.state host }
+    {
+        let _rules = self.rules();
+        self.hosts()[host].is_out
     }
 
     /// The clock.

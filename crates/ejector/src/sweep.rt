@@ -1,3 +1,4 @@
+//! A sweep over all hosts.
 ghost use Rattle.std.specs.Prelude.{◌≡◌, ◌+◌, ◌-◌, ◌*◌, ◌<◌, ◌≤◌, ◌&&◌, length, map, count_by, is_some, nat_le, All};
 ghost use Rattle.std.specs.Option.{ForSome};
 ghost use Rattle.std.specs.List.{range_with_len};
@@ -108,7 +109,8 @@ fn trips(rules: &Rules, enough: bool, rates: &[Option<u32>], host: usize) -> boo
     requires same { length rates.now ≡ rules.now.hosts }
     requires within { All (λ rate. ForSome rate (λ share. share ≤ 1000000)) rates.now }
     requires among { host < rules.now.hosts }
-    requires enough { enough ≡ nat_le rules.now.settings.success_hosts (count_by is_some rates.now) }
+    requires enough { enough ≡ nat_le rules.now.settings.success_hosts
+        (count_by is_some rates.now) }
     ensures { result ≡ trips_by rules.now rates.now host }
 {
     enough && is_outlier(rates, host, rules.settings.factor)
@@ -125,11 +127,14 @@ fn trip_outliers(
     requires all { length hosts.old ≡ rules.now.hosts }
     requires same { length rates.now ≡ rules.now.hosts }
     requires within { All (λ rate. ForSome rate (λ share. share ≤ 1000000)) rates.now }
-    ensures hosts { hosts.new ≡ map (at_turn rules.now now (trips_by rules.now rates.now) (outs hosts.old) hosts.old)
+    ensures hosts { hosts.new ≡ map (at_turn rules.now now (trips_by rules.now rates.now)
+        (outs hosts.old) hosts.old)
         (range_with_len 0 rules.now.hosts) }
-    ensures ejected { result.ejected ≡ count_by (is_ejected_at rules.now (trips_by rules.now rates.now) (outs hosts.old))
+    ensures ejected { result.ejected ≡ count_by
+        (is_ejected_at rules.now (trips_by rules.now rates.now) (outs hosts.old))
         (range_with_len 0 rules.now.hosts) }
-    ensures kept { result.kept ≡ count_by (is_kept_at rules.now (trips_by rules.now rates.now) (outs hosts.old))
+    ensures kept { result.kept ≡ count_by (is_kept_at rules.now (trips_by rules.now rates.now)
+        (outs hosts.old))
         (range_with_len 0 rules.now.hosts) }
 {
     let enough = known_count(rates) >= rules.settings.success_hosts as usize;

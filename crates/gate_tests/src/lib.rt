@@ -1,5 +1,5 @@
 //! Tests of the ticket gate in one thread and in several, round a running total and round the core;
-//! and of sweeps, on a core alone.
+//! of sweeps, on a core alone; and of works that run at the same time.
 #![tactic(auto)]
 
 #[cfg(test)]
@@ -7,4 +7,8 @@ mod core_at_gate;
 #[cfg(test)]
 mod gate;
 #[cfg(test)]
+mod gate_limits;
+#[cfg(test)]
 mod sweeps;
+#[cfg(test)]
+mod works;

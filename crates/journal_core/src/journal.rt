@@ -58,7 +58,8 @@ impl<E, A> Journal<E, A> {
     pub fn room(&mut self, bytes: u64) -> Result<(), JournalError>
         ensures room { OnOk result (self.new.room ≡ Some bytes) }
         ensures full { IsErrOf result JournalError.JournalFull ↔ IsFull self.old bytes }
-        ensures accepted { OnOk result ((length self.old.steps < MAX_STEPS) × (self.old.bytes + bytes ≤ MAX_BYTES)) }
+        ensures accepted { OnOk result ((length self.old.steps < MAX_STEPS)
+            × (self.old.bytes + bytes ≤ MAX_BYTES)) }
         // Where there is room already, no memory is asked for.
         ensures reserved { IsSome self.old.room → IfErr result (λ e. e ≡ JournalError.JournalFull) }
         ensures steps { self.new.steps ≡ self.old.steps }

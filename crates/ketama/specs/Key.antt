@@ -7,6 +7,7 @@ use Rattle.ketama.specs.Point.{point_in}
 abbrev pub open_brace : ℕ
 open_brace = 0x7B
 
+-- the byte of `}`
 abbrev pub close_brace : ℕ
 close_brace = 0x7D
 

@@ -65,6 +65,7 @@ least_of (pair ∷ pairs) = Some (lesser pair (least_of pairs))
 abbrev pub usable_pairs : List (ℕ × ℕ) → List Bool → List (ℕ × ℕ)
 usable_pairs pairs usable = filter (λ pair. is_usable usable pair.1) pairs
 
+-- the pairs of usable hosts from a point on
 abbrev pub usable_pairs_from : List (ℕ × ℕ) → ℕ → List Bool → List (ℕ × ℕ)
 usable_pairs_from pairs point usable = filter (λ pair. nat_le point pair.0) (usable_pairs pairs usable)
 

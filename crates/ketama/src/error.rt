@@ -1,3 +1,4 @@
+//! Why a ring or a host's name was refused.
 ghost use Rattle.std.specs.Prelude.{◌≡◌};
 ghost use Rattle.ketama.specs.RingError.{number_of};
 ghost use Rattle.ketama.specs.declared.error.RingError.TheVariants.{NoMemory};

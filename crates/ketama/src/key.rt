@@ -1,3 +1,4 @@
+//! The point of a key.
 ghost use Rattle.std.specs.Prelude.{◌≡◌, ◌==◌, List, ℕ, IsTrue, IfSome, IfNone, Contains, position};
 ghost use Rattle.ketama.specs.Key.{IsSplitAt, IsTagOf, tag_or_key, hashed_part, point_of, point_of_bytes};
 

@@ -7,7 +7,8 @@ ghost use Rattle.ketama.specs.Shares.{EqualWeightsGiveForty, DigestsAreFew, Heav
 
 /// A point has one owner: `owner_of` is it, and no other answer is.
 pub fn owner_is_one()
-    ensures { (pairs : List (ℕ × ℕ)) (point : ℕ) (usable : List Bool) → OwnerIsOne pairs point usable }
+    ensures { (pairs : List (ℕ × ℕ)) (point : ℕ) (usable : List Bool)
+        → OwnerIsOne pairs point usable }
 {}
 
 /// Where a host goes out, each point that it does not own keeps its owner.

@@ -1,3 +1,4 @@
+//! A host's name.
 ghost use Rattle.std.specs.Prelude.{◌≡◌, ◌↔◌, ◌≤◌, List, length, All, IsTrue, IfOk, OnOk, IsOkUnless, IsErrOf};
 ghost use Rattle.ketama.specs.HostName.{IsHostName};
 

@@ -1,3 +1,4 @@
+//! Who owns a point.
 ghost use Rattle.std.specs.Prelude.{◌≡◌, ◌<◌, ◌≤◌, All, AllPairs, if◌then◌else◌, length};
 ghost use Rattle.std.specs.List.Sorted.{IsPartitionPoint};
 ghost use Rattle.ketama.specs.Continuum.{IsBefore};

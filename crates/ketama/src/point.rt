@@ -1,3 +1,4 @@
+//! Points of a digest.
 ghost use Rattle.std.specs.Prelude.{◌≡◌, ◌↔◌, ◌^◌, ◌++◌, ◌<◌, ℕ, IfOk, OnOk, AllPairs, Contains, length, sum};
 ghost use Rattle.md5.specs.Md5.{md5};
 ghost use Rattle.ketama.specs.Point.{point_in};
@@ -49,7 +50,8 @@ pub(crate) fn pairs_of(
 /// Puts pairs in ascending order, by point and then by host, each once.
 pub(crate) fn put_in_order(pairs: &mut Vec<Pair>)
     ensures in_order { AllPairs IsBefore pairs.new.items }
-    ensures members { (pair : ℕ × ℕ) → Contains pairs.new.items pair ↔ Contains pairs.old.items pair }
+    ensures members { (pair : ℕ × ℕ) → Contains pairs.new.items pair
+        ↔ Contains pairs.old.items pair }
 {
     pairs.sort_unstable();
     pairs.dedup();
@@ -63,7 +65,8 @@ fn unordered_pairs(
 ) -> Result<Vec<Pair>, AllocError>
     requires each { length counts.now ≡ length names.now }
     requires few { sum counts.now < 2 ^ 32 }
-    ensures { IfOk result (λ pairs. pairs.items ≡ ring_pairs names.now counts.now (length names.now)) }
+    ensures { IfOk result
+        (λ pairs. pairs.items ≡ ring_pairs names.now counts.now (length names.now)) }
 {
     let points = sum(counts) as usize * POINTS_OF_DIGEST;
     let mut pairs = Vec::with_capacity(alloc, points)?;

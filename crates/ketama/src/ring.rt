@@ -1,3 +1,4 @@
+//! The ring.
 ghost use Rattle.std.specs.Prelude.{◌≡◌, true, ◌↔◌, ◌<◌, ◌≤◌, ◌*◌, List, ℕ, length, All, Any, IfOk, IfSome, IsOkUnless, IsErrOf, IsTrue, Contains};
 ghost use Rattle.ketama.specs.Owner.{is_usable, IsOwner, owner_of};
 ghost use Rattle.ketama.specs.Ketama.{AreWeights, HasSameName, IsKetamaRing};

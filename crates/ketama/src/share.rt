@@ -1,3 +1,4 @@
+//! How many digests a host has, by its weight.
 ghost use Rattle.std.specs.Prelude.{◌≡◌, ◌<◌, ◌≤◌, ◌^◌, All, IfOk, length, sum};
 ghost use Rattle.ketama.specs.Ketama.{AreWeights, digest_counts};
 

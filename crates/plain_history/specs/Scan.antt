@@ -20,6 +20,7 @@ use Rattle.plain_history.specs.declared.part.AtOnce.{AtOnce}
 use Rattle.plain_history.specs.declared.replay.Replay.{Replay}
 use Rattle.plain_history.specs.declared.part.AtOnce.TheVariants as at_once
 
+-- whether an event is of the kind that is looked for
 abbrev pub is_wanted : Wanted → Event → Bool
 is_wanted wanted.Opening = is_opening
 is_wanted wanted.AnyClosing = is_any_closing
@@ -39,6 +40,7 @@ is_quit_kind SplitGet = false
 is_quit_kind SplitSet = false
 is_quit_kind SplitSum = false
 
+-- whether a row is QUIT's
 abbrev pub is_quit_row : Option Row → Bool
 is_quit_row None = false
 is_quit_row (Some r) = is_quit_kind r.kind
@@ -52,6 +54,7 @@ abbrev pub value_at_once : AtOnce → Tree
 value_at_once at_once.NoHost = no_upstream_host
 value_at_once at_once.Busy = proxy_busy
 
+-- the part that the program's is
 abbrev pub part_of : Part' → Part
 part_of p = record {
   conn = p.conn;
@@ -63,6 +66,7 @@ part_of p = record {
   local = option_map value_at_once p.local;
 }
 
+-- the parts that the program's are
 abbrev pub parts_of : List Part' → List Part
 parts_of ps = map part_of ps
 
@@ -77,6 +81,7 @@ pub record Shows (S : Setting) (H : History) (r : Replay) : Type 0 where
   pub rules : r.ejector.rules ≡ S.rules
   pub state : r.ejector.state ≡ state S.rules S.opening (marks_in S H)
 
+-- the first of some parts
 abbrev pub first_of : List Part → Option Part
 first_of [] = None
 first_of (p ∷ ps) = Some p

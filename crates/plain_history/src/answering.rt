@@ -38,7 +38,8 @@ pub(crate) fn accepted(
 ) -> Result<Answer, AllocError>
     requires hosts { ring.now.hosts ≡ replay.now.ejector.rules.hosts }
     requires tags { tags ≡ replay.now.ejector.rules.settings.tags }
-    ensures { IfOk result (λ answer. (S : Setting) (marks : List Mark) → S.ring ≡ ring.now → S.rules ≡ replay.now.ejector.rules
+    ensures { IfOk result (λ answer. (S : Setting) (marks : List Mark) → S.ring ≡ ring.now
+        → S.rules ≡ replay.now.ejector.rules
         → replay.now.ejector.state ≡ state S.rules S.opening marks
         → answer ≡ answer_to S (seen steps.now marks replay.now) (Arrived conn request.now)) }
 {
@@ -105,7 +106,8 @@ pub(crate) fn taken(
     replay: &Replay,
     host: usize,
 ) -> Result<Answer, AllocError>
-    ensures { IfOk result (λ answer. (S : Setting) (marks : List Mark) → answer ≡ answer_to S (seen steps.now marks replay.now) (Taken host)) }
+    ensures { IfOk result (λ answer. (S : Setting) (marks : List Mark)
+        → answer ≡ answer_to S (seen steps.now marks replay.now) (Taken host)) }
 {
     let epoch = times(steps, Wanted::Fault(host));
     let text = match first_waiting(steps, replay, host) {
@@ -122,7 +124,8 @@ pub(crate) fn taken(
 /// The answer to a reply.
 pub(crate) fn matched(ejector: &mut Ejector, host: usize, t: u64) -> Result<Answer, AllocError>
     requires { host < ejector.old.rules.hosts }
-    ensures { IfOk result (λ answer. (S : Setting) (x : Past) (epoch : ℕ) (value : Value) → S.rules ≡ ejector.old.rules
+    ensures { IfOk result (λ answer. (S : Setting) (x : Past) (epoch : ℕ) (value : Value)
+        → S.rules ≡ ejector.old.rules
         → ejector.old.state ≡ state S.rules S.opening x.marks → answer ≡ answer_to S x (Answered host epoch value t)) }
 {
     Ok(Answer::Matched {
@@ -133,7 +136,8 @@ pub(crate) fn matched(ejector: &mut Ejector, host: usize, t: u64) -> Result<Answ
 // What a result does to its host.
 fn trip(ejector: &mut Ejector, host: usize, ok: bool, t: u64) -> Result<Trip, AllocError>
     requires { host < ejector.old.rules.hosts }
-    ensures { IfOk result (λ trip. (O : State) (marks : List Mark) → state ejector.old.rules O marks ≡ ejector.old.state
+    ensures { IfOk result (λ trip. (O : State) (marks : List Mark)
+        → state ejector.old.rules O marks ≡ ejector.old.state
         → trip ≡ trip_after ejector.old.rules O (result_mark ok host t) marks) }
 {
     match ejector.result(host, ok, t) {
@@ -151,7 +155,8 @@ pub(crate) fn lost(
     t: u64,
 ) -> Result<Answer, AllocError>
     requires { host < replay.old.ejector.rules.hosts }
-    ensures { IfOk result (λ answer. (S : Setting) (marks : List Mark) (epoch : ℕ) → S.rules ≡ replay.old.ejector.rules
+    ensures { IfOk result (λ answer. (S : Setting) (marks : List Mark) (epoch : ℕ)
+        → S.rules ≡ replay.old.ejector.rules
         → replay.old.ejector.state ≡ state S.rules S.opening marks → answer ≡ answer_to S (seen steps.now marks replay.old) (Failed host epoch kind t)) }
 {
     let parts = waiting(steps, replay, host) + flying(steps, replay, host);
@@ -185,8 +190,10 @@ pub(crate) fn handed_out(
     replay: &Replay,
     conn: u64,
 ) -> Result<Answer, AllocError>
-    requires { (S : Setting) × IsLegal S (history_of steps.now) × Shows S (history_of steps.now) replay.now }
-    ensures { IfOk result (λ answer. (S : Setting) (marks : List Mark) → answer ≡ answer_to S (seen steps.now marks replay.now) (Handed conn)) }
+    requires { (S : Setting) × IsLegal S (history_of steps.now)
+        × Shows S (history_of steps.now) replay.now }
+    ensures { IfOk result (λ answer. (S : Setting) (marks : List Mark)
+        → answer ≡ answer_to S (seen steps.now marks replay.now) (Handed conn)) }
 {
     let index = times(steps, Wanted::Handing(conn));
     let mut text = Vec::new(alloc);

@@ -34,7 +34,8 @@ pub(crate) fn placed_parts(
 ) -> Result<Vec<Part>, AllocError>
     requires hosts { ring.now.hosts ≡ replay.now.ejector.rules.hosts }
     requires tags { tags ≡ replay.now.ejector.rules.settings.tags }
-    ensures { IfOk result (λ parts. (S : Setting) (marks : List Mark) → S.ring ≡ ring.now → S.rules ≡ replay.now.ejector.rules
+    ensures { IfOk result (λ parts. (S : Setting) (marks : List Mark) → S.ring ≡ ring.now
+        → S.rules ≡ replay.now.ejector.rules
         → replay.now.ejector.state ≡ state S.rules S.opening marks
         → parts_of parts.items ≡ placing S (seen steps.now marks replay.now) conn (accepted conn (history_of steps.now)) [] list.now) }
 {
@@ -47,7 +48,8 @@ pub(crate) fn placed_parts(
 // Finds for each host whether it is usable.
 fn find_usable(ejector: &Ejector, usable: &mut [bool])
     requires { length usable.old ≡ ejector.now.rules.hosts }
-    ensures { usable.new ≡ map (is_usable ejector.now.rules ejector.now.state) (hosts_of ejector.now.rules) }
+    ensures { usable.new ≡ map (is_usable ejector.now.rules ejector.now.state)
+        (hosts_of ejector.now.rules) }
 {
     for host in 0..usable.len() {
         usable[host] = ejector.usable(host);
@@ -66,7 +68,8 @@ fn place_all(
     list: &PartPlans,
 ) -> Result<Vec<Part>, AllocError>
     requires { length usable.now ≡ ring.now.hosts }
-    ensures { IfOk result (λ parts. (S : Setting) (marks : List Mark) → S.ring ≡ ring.now → S.rules.settings.tags ≡ tags
+    ensures { IfOk result (λ parts. (S : Setting) (marks : List Mark) → S.ring ≡ ring.now
+        → S.rules.settings.tags ≡ tags
         → usable_hosts S (seen steps.now marks replay.now) ≡ usable.now
         → parts_of parts.items ≡ placing S (seen steps.now marks replay.now) conn (accepted conn (history_of steps.now)) [] list.now) }
 {

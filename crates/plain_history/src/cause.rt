@@ -33,7 +33,8 @@ pub(crate) fn left(steps: &[Turn], conn: u64) -> u64
 
 /// Why no connection is opened, if none is.
 pub(crate) fn opening_cause(steps: &[Turn]) -> Option<Refusal>
-    ensures { (S : Setting) (replay : Replay) → result ≡ own_cause S (seen steps.now [] replay) Opened }
+    ensures { (S : Setting) (replay : Replay)
+        → result ≡ own_cause S (seen steps.now [] replay) Opened }
 {
     let open = times(steps, Wanted::Opening).saturating_sub(times(steps, Wanted::AnyClosing));
     if open >= MAX_CONNECTIONS as u64 {
@@ -44,7 +45,8 @@ pub(crate) fn opening_cause(steps: &[Turn]) -> Option<Refusal>
 
 /// Why a request isn't accepted, if it isn't.
 pub(crate) fn arrival_cause(steps: &[Turn], conn: u64) -> Option<Refusal>
-    ensures { (S : Setting) (replay : Replay) (request : Request) → result ≡ own_cause S (seen steps.now [] replay) (Arrived conn request) }
+    ensures { (S : Setting) (replay : Replay) (request : Request)
+        → result ≡ own_cause S (seen steps.now [] replay) (Arrived conn request) }
 {
     if !is_open(steps, conn) {
         Some(Refusal::NoSuchConnection)
@@ -59,7 +61,8 @@ pub(crate) fn arrival_cause(steps: &[Turn], conn: u64) -> Option<Refusal>
 
 /// Why a connection doesn't finish, if it doesn't.
 pub(crate) fn finish_cause(steps: &[Turn], conn: u64) -> Option<Refusal>
-    ensures { (S : Setting) (replay : Replay) → result ≡ own_cause S (seen steps.now [] replay) (Finished conn) }
+    ensures { (S : Setting) (replay : Replay)
+        → result ≡ own_cause S (seen steps.now [] replay) (Finished conn) }
 {
     if !is_open(steps, conn) {
         Some(Refusal::NoSuchConnection)
@@ -77,7 +80,8 @@ pub(crate) fn take_cause(
     replay: &Replay,
     host: usize,
 ) -> Option<Refusal>
-    ensures { (S : Setting) → hosts S ≡ host_count → result ≡ own_cause S (seen steps.now [] replay.now) (Taken host) }
+    ensures { (S : Setting) → hosts S ≡ host_count
+        → result ≡ own_cause S (seen steps.now [] replay.now) (Taken host) }
 {
     if host >= host_count {
         Some(Refusal::NoSuchHost)
@@ -97,7 +101,9 @@ pub(crate) fn answer_cause(
     epoch: u64,
     value: &Value,
 ) -> Option<Refusal>
-    ensures { (S : Setting) (v : Value) (t : ℕ) → hosts S ≡ host_count → tree_of v ≡ tree_of value.now → result ≡ own_cause S (seen steps.now [] replay.now) (Answered host epoch v t) }
+    ensures { (S : Setting) (v : Value) (t : ℕ) → hosts S ≡ host_count
+        → tree_of v ≡ tree_of value.now
+        → result ≡ own_cause S (seen steps.now [] replay.now) (Answered host epoch v t) }
 {
     let current = times(steps, Wanted::Fault(host));
     if host >= host_count {
@@ -120,7 +126,8 @@ pub(crate) fn fault_cause(
     host: usize,
     epoch: u64,
 ) -> Option<Refusal>
-    ensures { (S : Setting) (replay : Replay) (kind : Kind) (t : ℕ) → hosts S ≡ host_count → result ≡ own_cause S (seen steps.now [] replay) (Failed host epoch kind t) }
+    ensures { (S : Setting) (replay : Replay) (kind : Kind) (t : ℕ) → hosts S ≡ host_count
+        → result ≡ own_cause S (seen steps.now [] replay) (Failed host epoch kind t) }
 {
     let current = times(steps, Wanted::Fault(host));
     if host >= host_count {
@@ -134,7 +141,8 @@ pub(crate) fn fault_cause(
 
 /// Why a connection isn't closed, if it isn't.
 pub(crate) fn close_cause(steps: &[Turn], conn: u64) -> Option<Refusal>
-    ensures { (S : Setting) (replay : Replay) → result ≡ own_cause S (seen steps.now [] replay) (Closed conn) }
+    ensures { (S : Setting) (replay : Replay)
+        → result ≡ own_cause S (seen steps.now [] replay) (Closed conn) }
 {
     if is_open(steps, conn) {
         None

@@ -62,7 +62,8 @@ pub(crate) fn waiting(steps: &[Turn], replay: &Replay, host: usize) -> u64
 
 /// The oldest part that waits for the host.
 pub(crate) fn first_waiting<'a>(steps: &[Turn], replay: &'a Replay, host: usize) -> Option<&'a Part>
-    ensures { option_map part_of (option_copied result) ≡ first_of (waiting host (seen steps.now [] replay.now)) }
+    ensures { option_map part_of (option_copied result) ≡ first_of
+        (waiting host (seen steps.now [] replay.now)) }
 {
     for part in &replay.parts {
         if waits(steps, replay, host, part) {
@@ -74,7 +75,8 @@ pub(crate) fn first_waiting<'a>(steps: &[Turn], replay: &'a Replay, host: usize)
 
 /// How many parts were sent to the host in the epoch.
 pub(crate) fn sent(replay: &Replay, host: usize, epoch: u64) -> u64
-    ensures value { (steps : List Step) → result ≡ length (sent_to host epoch (seen steps [] replay.now)) }
+    ensures value { (steps : List Step)
+        → result ≡ length (sent_to host epoch (seen steps [] replay.now)) }
     ensures few { result < 2 ^ 63 }
 {
     let mut count = 0;
@@ -97,7 +99,9 @@ pub(crate) fn flying(steps: &[Turn], replay: &Replay, host: usize) -> u64
 
 /// In which place of what was sent to the host in the part's epoch the part stands.
 pub(crate) fn place(replay: &Replay, host: usize, part: &Part) -> Option<u64>
-    ensures { (steps : List Step) → result ≡ place_in (part_of part.now) (sent_to host part.now.epoch (seen steps [] replay.now)) }
+    ensures { (steps : List Step)
+        → result ≡ place_in (part_of part.now)
+        (sent_to host part.now.epoch (seen steps [] replay.now)) }
 {
     let mut before = 0;
     for other in &replay.sent {

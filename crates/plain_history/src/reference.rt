@@ -70,7 +70,8 @@ impl Reference {
     pub fn new(alloc: Global, ring: Ring, settings: Settings) -> Result<Reference, Refusal>
         ensures made { IfOk result (λ r. (r.setting ≡ setting_of ring settings) × (r.steps ≡ [])) }
         ensures refused { MatchOption (first_fault (rules_of ring settings))
-            (IfErr result (λ e. e ≡ Refusal.NoMemory)) (λ field. IsErrOf result (Refusal.BadSettings field)) }
+            (IfErr result (λ e. e ≡ Refusal.NoMemory))
+            (λ field. IsErrOf result (Refusal.BadSettings field)) }
     {
         match Ejector::new(alloc, ring.hosts(), settings) {
             Ok(_) => Ok(Reference {
@@ -107,7 +108,8 @@ impl Reference {
     // Adds a step that may follow.
     fn add(&mut self, step: Turn) -> Result<(), (Refusal, Event)>
         requires { MayFollow self.old.setting (past self.old.setting (history_in self.old)) step }
-        ensures step { OnOk result ((history_in self.new ≡ step ∷ history_in self.old) × (self.new.setting ≡ self.old.setting)) }
+        ensures step { OnOk result ((history_in self.new ≡ step ∷ history_in self.old)
+            × (self.new.setting ≡ self.old.setting)) }
         ensures event { IfErr result (λ r. (r.1 ≡ step.event) × (r.0 ≡ Refusal.NoMemory)) }
         ensures err { OnErr result (self.new ≡ self.old) }
     {
@@ -136,9 +138,13 @@ fn next_answer(
 ) -> Result<Answer, Refusal>
     requires fault { first_fault (rules_of ring.now settings) ≡ None }
     requires legal { IsLegal (setting_of ring.now settings) (history_of steps.now) }
-    ensures answer { IfOk result (λ a. (pass : ℕ) → MayFollow (setting_of ring.now settings) (past (setting_of ring.now settings) (history_of steps.now))
+    ensures answer { IfOk result (λ a. (pass : ℕ)
+        → MayFollow (setting_of ring.now settings)
+        (past (setting_of ring.now settings) (history_of steps.now))
         (record { pass = pass; event = event.now; answer = a })) }
-    ensures cause { IfErr result (λ r. (r ≡ Refusal.NoMemory) ⊎ IsCause (setting_of ring.now settings) (history_of steps.now) event.now r) }
+    ensures cause { IfErr result
+        (λ r. (r ≡ Refusal.NoMemory) ⊎ IsCause (setting_of ring.now settings)
+        (history_of steps.now) event.now r) }
 {
     let mut replay = replayed(alloc, ring, settings, steps)?;
     if let Some(cause) = own_cause(alloc, ring.hosts(), steps, &replay, event)? {
@@ -161,7 +167,8 @@ fn own_cause(
     event: &Event,
 ) -> Result<Option<Refusal>, AllocError>
     requires { (S : Setting) × Shows S (history_of steps.now) replay.now }
-    ensures { IfOk result (λ cause. (S : Setting) → S.rules.hosts ≡ hosts → cause ≡ own_cause S (seen steps.now [] replay.now) event.now) }
+    ensures { IfOk result (λ cause. (S : Setting) → S.rules.hosts ≡ hosts
+        → cause ≡ own_cause S (seen steps.now [] replay.now) event.now) }
 {
     Ok(match event {
         Event::Opened => opening_cause(steps),
@@ -189,7 +196,8 @@ fn hand_cause(
     conn: u64,
 ) -> Result<Option<Refusal>, AllocError>
     requires { (S : Setting) × Shows S (history_of steps.now) replay.now }
-    ensures { IfOk result (λ cause. (S : Setting) → cause ≡ own_cause S (seen steps.now [] replay.now) (Handed conn)) }
+    ensures { IfOk result (λ cause. (S : Setting)
+        → cause ≡ own_cause S (seen steps.now [] replay.now) (Handed conn)) }
 {
     if !is_open(steps, conn) {
         return Ok(Some(Refusal::NoSuchConnection));
@@ -220,7 +228,8 @@ fn has_outcome(
     index: u64,
 ) -> Result<bool, AllocError>
     requires { (S : Setting) × Shows S (history_of steps.now) replay.now }
-    ensures { IfOk result (λ has. has ≡ is_some (outcome conn index (seen steps.now [] replay.now))) }
+    ensures { IfOk result
+        (λ has. has ≡ is_some (outcome conn index (seen steps.now [] replay.now))) }
 {
     match outcome(alloc, steps, replay, conn, index) {
         Ok(Some(_)) => Ok(true),
@@ -240,9 +249,11 @@ fn answer_to(
 ) -> Result<Answer, AllocError>
     requires hosts { ring.now.hosts ≡ replay.old.ejector.rules.hosts }
     requires tags { tags ≡ replay.old.ejector.rules.settings.tags }
-    requires legal { (S : Setting) × IsLegal S (history_of steps.now) × Shows S (history_of steps.now) replay.old }
+    requires legal { (S : Setting) × IsLegal S (history_of steps.now)
+        × Shows S (history_of steps.now) replay.old }
     requires host { HasHost ring.now.hosts event.now }
-    ensures { IfOk result (λ a. (S : Setting) (marks : List Mark) → S.ring ≡ ring.now → S.rules ≡ replay.old.ejector.rules
+    ensures { IfOk result (λ a. (S : Setting) (marks : List Mark) → S.ring ≡ ring.now
+        → S.rules ≡ replay.old.ejector.rules
         → replay.old.ejector.state ≡ state S.rules S.opening marks → a ≡ answer_to S (seen steps.now marks replay.old) event.now) }
 {
     match event {

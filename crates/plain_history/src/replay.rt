@@ -40,7 +40,8 @@ pub(crate) fn replayed(
     steps: &[Turn],
 ) -> Result<Replay, AllocError>
     requires { first_fault (rules_of ring.now settings) ≡ None }
-    ensures { IfOk result (λ r. (S : Setting) → S.ring ≡ ring.now → S.rules ≡ rules_of ring.now settings → S.opening ≡ fresh_state S.rules
+    ensures { IfOk result (λ r. (S : Setting) → S.ring ≡ ring.now
+        → S.rules ≡ rules_of ring.now settings → S.opening ≡ fresh_state S.rules
         → HaveHosts ring.now.hosts steps.now → Shows S (history_of steps.now) r) }
 {
     let mut replay = Replay {
@@ -64,7 +65,8 @@ pub(crate) fn replayed(
 // The outlier detection to which nothing was told yet.
 fn ejector(alloc: Global, ring: &Ring, settings: Settings) -> Result<Ejector, AllocError>
     requires { first_fault (rules_of ring.now settings) ≡ None }
-    ensures { IfOk result (λ e. (e.rules ≡ rules_of ring.now settings) × (e.state ≡ fresh_state e.rules)) }
+    ensures { IfOk result (λ e. (e.rules ≡ rules_of ring.now settings)
+        × (e.state ≡ fresh_state e.rules)) }
 {
     Ejector::new(alloc, ring.hosts(), settings).map_err(|_| AllocError)
 }
@@ -80,7 +82,8 @@ fn grow(
 ) -> Result<(), AllocError>
     requires hosts { ring.now.hosts ≡ replay.old.ejector.rules.hosts }
     requires tags { tags ≡ replay.old.ejector.rules.settings.tags }
-    ensures shows { OnOk result ((S : Setting) (s : Step) → S.ring ≡ ring.now → s.event ≡ event.now → HasHost ring.now.hosts event.now
+    ensures shows { OnOk result ((S : Setting) (s : Step) → S.ring ≡ ring.now → s.event ≡ event.now
+        → HasHost ring.now.hosts event.now
         → Shows S (history_of steps.now) replay.old → Shows S (s ∷ history_of steps.now) replay.new) }
     ensures rules { replay.new.ejector.rules ≡ replay.old.ejector.rules }
 {
@@ -103,7 +106,8 @@ fn parts_by(
 ) -> Result<Vec<Part>, AllocError>
     requires hosts { ring.now.hosts ≡ replay.now.ejector.rules.hosts }
     requires tags { tags ≡ replay.now.ejector.rules.settings.tags }
-    ensures { IfOk result (λ parts. (S : Setting) (marks : List Mark) → S.ring ≡ ring.now → S.rules ≡ replay.now.ejector.rules
+    ensures { IfOk result (λ parts. (S : Setting) (marks : List Mark) → S.ring ≡ ring.now
+        → S.rules ≡ replay.now.ejector.rules
         → replay.now.ejector.state ≡ state S.rules S.opening marks
         → parts_of parts.items ≡ parts_by S (seen steps.now marks replay.now) event.now) }
 {
@@ -126,7 +130,8 @@ fn sent_by(
     replay: &Replay,
     event: &Event,
 ) -> Result<Vec<Part>, AllocError>
-    ensures { IfOk result (λ parts. parts_of parts.items ≡ sent_by (seen steps.now [] replay.now) event.now) }
+    ensures { IfOk result
+        (λ parts. parts_of parts.items ≡ sent_by (seen steps.now [] replay.now) event.now) }
 {
     let mut sent = Vec::new(alloc);
     if let Event::Taken { host } = event {
@@ -202,7 +207,8 @@ fn take_result(
     t: u64,
 ) -> Result<(), AllocError>
     requires { hosts ≡ ejector.old.rules.hosts }
-    ensures state { OnOk result (host < hosts → (O : State) (marks : List Mark) → state ejector.old.rules O marks ≡ ejector.old.state
+    ensures state { OnOk result (host < hosts → (O : State) (marks : List Mark)
+        → state ejector.old.rules O marks ≡ ejector.old.state
         → ejector.new.state ≡ state ejector.old.rules O (result_mark ok host t ∷ marks)) }
     ensures rules { ejector.new.rules ≡ ejector.old.rules }
 {

@@ -137,7 +137,8 @@ pub(crate) fn replies(steps: &[Turn], host: usize, epoch: u64) -> u64
 
 /// The reply of the host that came in this place of the epoch.
 pub(crate) fn reply_at(steps: &[Turn], host: usize, epoch: u64, place: u64) -> Option<&Value>
-    ensures { option_map tree_of (option_copied result) ≡ slice_get (came host epoch (history_of steps.now)) place }
+    ensures { option_map tree_of (option_copied result) ≡ slice_get
+        (came host epoch (history_of steps.now)) place }
 {
     let mut before = 0;
     for step in steps {

@@ -27,7 +27,8 @@ pub(crate) fn value_of(
     replay: &Replay,
     part: &Part,
 ) -> Result<Option<Value>, RespError>
-    ensures value { IfOk result (λ v. option_map tree_of v ≡ value_of (seen steps.now [] replay.now) (part_of part.now)) }
+    ensures value { IfOk result
+        (λ v. option_map tree_of v ≡ value_of (seen steps.now [] replay.now) (part_of part.now)) }
     ensures err { IfErr result (λ e. e ≡ RespError.NoMemory) }
 {
     if let Some(at_once) = part.local {
@@ -63,7 +64,8 @@ fn upstream_failure() -> Value
 
 // The reply of the host that came in the part's place.
 fn reply_to<'a>(steps: &'a [Turn], replay: &Replay, host: usize, part: &Part) -> Option<&'a Value>
-    ensures { option_map tree_of (option_copied result) ≡ reply_to (part_of part.now) host (seen steps.now [] replay.now) }
+    ensures { option_map tree_of (option_copied result) ≡ reply_to (part_of part.now) host
+        (seen steps.now [] replay.now) }
 {
     match place(replay, host, part) {
         Some(place) => reply_at(steps, host, part.epoch, place),
@@ -82,7 +84,8 @@ pub(crate) fn outcome(
     index: u64,
 ) -> Result<Option<Value>, SplitError>
     requires { (S : Setting) × Shows S (history_of steps.now) replay.now }
-    ensures value { IfOk result (λ v. option_map tree_of v ≡ outcome conn index (seen steps.now [] replay.now)) }
+    ensures value { IfOk result
+        (λ v. option_map tree_of v ≡ outcome conn index (seen steps.now [] replay.now)) }
     ensures err { IfErr result (λ e. e ≡ SplitError.NoMemory) }
 {
     let Some(request) = request_at(steps, conn, index) else {
@@ -100,7 +103,9 @@ pub(crate) fn outcome(
 // The values joined, where there are any.
 fn joined(alloc: Global, how: Join, values: Option<Vec<Value>>) -> Result<Option<Value>, SplitError>
     requires { IfSome values (λ values. MayJoin how (length values.items)) }
-    ensures value { IfOk result (λ v. option_map tree_of v ≡ option_map (λ values. join_of how (map tree_of values.items)) values) }
+    ensures value { IfOk result
+        (λ v. option_map tree_of v ≡ option_map
+        (λ values. join_of how (map tree_of values.items)) values) }
     ensures err { IfErr result (λ e. e ≡ SplitError.NoMemory) }
 {
     let Some(values) = values else {

@@ -94,6 +94,7 @@ pub record AreHosts (given : Option Data) (hosts : List Host) : Type 0 where
 abbrev pub weight_data : ℕ → Data
 weight_data w = number (unsigned w)
 
+-- a weight that the table allows
 abbrev pub IsWeight : ℕ → Type 0
 IsWeight w = (1 ≤ w) × (w ≤ 100)
 

@@ -1,3 +1,4 @@
+//! The settings.
 ghost use Rattle.std.specs.Prelude.{◌≡◌, IfOk, IfErr, map};
 ghost use Rattle.serde_json.specs.View.{view};
 ghost use Rattle.ketama.specs.Ketama.{IsKetamaRing};
@@ -92,6 +93,8 @@ impl Config {
     /// the last counts. Refused with `Memory`, in place of any answer, where memory is refused.
     pub fn read(alloc: Global, bytes: &[u8]) -> Result<Config, ConfigError>
         ensures ok { IfOk result (λ config. IsSettings bytes.now (values_of config)) }
+        ensures parts { IfOk result
+            (λ config. AreRingParts config.hosts.items config.weights.items) }
         ensures refused { IfErr result (λ e. IsRefusal bytes.now e) }
     {
         let file = match Value::from_slice(alloc, bytes) {

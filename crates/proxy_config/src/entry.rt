@@ -1,3 +1,4 @@
+//! The value at a key of the settings file.
 ghost use Rattle.std.specs.Prelude.{◌≡◌, ℕ, Bool, IfOk, IfErr};
 ghost use Rattle.serde_json.specs.Find.{get};
 ghost use Rattle.serde_json.specs.View.{view};
@@ -19,7 +20,8 @@ pub(crate) fn number(
 ) -> Result<u32, ConfigError>
     ensures ok { IfOk result (λ n. IsNumberOr default least most (get key.now (view file.now)) n) }
     ensures fault { IfErr result (λ e. IsFault e key.now) }
-    ensures none { IfErr result (λ _. (n : ℕ) → ¬ IsNumberOr default least most (get key.now (view file.now)) n) }
+    ensures none { IfErr result (λ _. (n : ℕ)
+        → ¬ IsNumberOr default least most (get key.now (view file.now)) n) }
 {
     let Some(value) = file.get(key) else {
         return Ok(default);
@@ -34,7 +36,8 @@ pub(crate) fn number(
 pub(crate) fn flag(file: &Value, key: &'static str, default: bool) -> Result<bool, ConfigError>
     ensures ok { IfOk result (λ b. IsFlagOr default (get key.now (view file.now)) b) }
     ensures fault { IfErr result (λ e. IsFault e key.now) }
-    ensures none { IfErr result (λ _. (b : Bool) → ¬ IsFlagOr default (get key.now (view file.now)) b) }
+    ensures none { IfErr result (λ _. (b : Bool)
+        → ¬ IsFlagOr default (get key.now (view file.now)) b) }
 {
     match file.get(key) {
         Some(value) => value.as_bool().ok_or(ConfigError::Fault(key)),
@@ -50,7 +53,8 @@ pub(crate) fn address(
 ) -> Result<SocketAddr, ConfigError>
     ensures ok { IfOk result (λ a. IsAddressOr default.now (get key.now (view file.now)) a) }
     ensures fault { IfErr result (λ e. IsFault e key.now) }
-    ensures none { IfErr result (λ _. (a : SocketAddr) → ¬ IsAddressOr default.now (get key.now (view file.now)) a) }
+    ensures none { IfErr result (λ _. (a : SocketAddr)
+        → ¬ IsAddressOr default.now (get key.now (view file.now)) a) }
 {
     let text = match file.get(key) {
         Some(value) => value.as_str().ok_or(ConfigError::Fault(key))?,

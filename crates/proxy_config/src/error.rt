@@ -1,3 +1,4 @@
+//! Why a settings file is refused.
 ghost use Rattle.std.specs.Prelude.{◌≡◌};
 ghost use Rattle.proxy_config.specs.declared.error.ConfigError.TheVariants.{Memory};
 

@@ -1,3 +1,4 @@
+//! The hosts of the settings file.
 ghost use Rattle.std.specs.Prelude.{◌≡◌, ◌↔◌, Some, List, IsTrue, IfOk, IfErr, codes, Any, AllPairs, ◌≢◌};
 ghost use Rattle.serde_json.specs.Data.{array};
 ghost use Rattle.serde_json.specs.Find.{get};
@@ -28,7 +29,8 @@ pub(crate) fn hosts(alloc: Global, file: &Value) -> Result<Vec<Host>, ConfigErro
 
 // The hosts of the entries of an array.
 fn hosts_in(alloc: Global, entries: &[Value]) -> Result<Vec<Host>, ConfigError>
-    ensures ok { IfOk result (λ hosts. AreHosts (Some (array (items_view entries.now))) hosts.items) }
+    ensures ok { IfOk result
+        (λ hosts. AreHosts (Some (array (items_view entries.now))) hosts.items) }
     ensures fault { IfErr result (λ e. ¬ (e ≡ ConfigError.Memory) → IsFault e (codes "hosts")) }
     ensures none { IfErr result (λ e. ¬ (e ≡ ConfigError.Memory)
         → (hosts : List Host) → ¬ AreHosts (Some (array (items_view entries.now))) hosts) }

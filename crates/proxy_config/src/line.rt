@@ -1,3 +1,4 @@
+//! What `check` tells of a settings file.
 ghost use Rattle.std.specs.Prelude.{string_bytes, IfOk, IfErr};
 ghost use Rattle.proxy_config.specs.File.{IsRefusal};
 ghost use Rattle.proxy_config.specs.Line.{IsLine};

@@ -9,10 +9,10 @@ use Rattle.resp_core.specs.Tree.{Tree}
 use Rattle.splitter.specs.declared.plans.Join.{Join}
 use Rattle.reply_queue.specs.Command.{AwaitedCommand, with_value}
 use Rattle.reply_queue.specs.Queue.{QueueState, IsOpen, with_part}
+use Rattle.proxy_core.specs.Places.{value_at, value_of_placed, with_value_at}
 use Rattle.proxy_core.specs.declared.place.Place.{Place}
 use Rattle.proxy_core.specs.declared.place.Place.TheVariants.{Waits, NoHost, Busy}
 use Rattle.proxy_core.specs.declared.place.Placed.{Placed}
-use Rattle.proxy_core.specs.Arrivals.{value_at, value_of_placed, with_value_at}
 
 -- LISTS
 

@@ -1,5 +1,5 @@
 -- What a command's parts got, as places say it; and what a kept machine tells of an arrival.
-use Rattle.std.proofs.Common.{◌≡◌, ℕ, zero, suc, ◌+◌, ◌-◌, ◌^◌, ◌<◌, ◌≤◌, Bool, true, false, not, nat_le, nat_lt, List, [], ◌∷◌, ◌++◌, length, map, count_by, get_or, Option, Some, None, is_some, cond, refl, sym, ap, ◌∙◌, subst, inl, inr, arith, if◌then◌else◌}
+use Rattle.std.proofs.Common.{◌≡◌, ℕ, ◌+◌, ◌-◌, ◌^◌, ◌<◌, ◌≤◌, Bool, true, false, not, nat_le, nat_lt, List, [], ◌∷◌, ◌++◌, length, map, count_by, Option, Some, None, is_some, cond, refl, sym, ap, ◌∙◌, subst, inl, inr, arith, if◌then◌else◌}
 use Rattle.std.proofs.lemmas.Bool.{cases_Bool, ltb-true, ltb-false, leb-true, leb-false}
 use Rattle.std.proofs.lemmas.List.{length-map, length-reverse}
 use Rattle.std.proofs.lemmas.List.Sums.{sum_by-cons}
@@ -18,15 +18,15 @@ use Rattle.proxy_history.specs.Payload.{length_of_request}
 use Rattle.proxy_history.specs.Cause.{causes, own_cause}
 use Rattle.proxy_history.specs.declared.event.Event.TheVariants.{Arrived}
 use Rattle.proxy_history.proofs.CallerLemmas.{AreOf, AreOf-placing_first as are_placed, MayJoin-plan_for as plan_may_join, first_true-none as are_false}
-use Rattle.proxy_core.specs.Pipelines.{PipelineState, state_of, pushed_part, pushed_parts}
+use Rattle.proxy_core.specs.Places.{place_by, placed_as, value_at, value_of_placed, is_without_host, is_too_many}
+use Rattle.proxy_core.specs.Pipelines.{PipelineState, pushed_part, pushed_parts, pipeline_at}
 use Rattle.proxy_core.specs.Kept.{Memory}
-use Rattle.proxy_core.specs.Machine.{connection_at, pipeline_at, setting_in, memory_in, history_in, own_cause_in, IsKept, IsReady}
-use Rattle.proxy_core.specs.Connections.{with_connection, accepting, arrived_command}
+use Rattle.proxy_core.specs.Machine.{setting_in, memory_in, history_in, own_cause_in, IsKept, IsReady}
+use Rattle.proxy_core.specs.Connections.{with_connection, accepting, arrived_command, connection_at, MayAccept, next_index}
 use Rattle.proxy_core.specs.declared.connection.Connection.{Connection}
 use Rattle.proxy_core.specs.declared.machine.Machine.{Machine}
-use Rattle.proxy_core.specs.declared.pipeline.Pipeline.{Pipeline}
 use Rattle.proxy_core.specs.declared.place.Placed.{Placed}
-use Rattle.proxy_core.specs.Arrivals.{place_by, placed_as, value_at, value_of_placed, is_without_host, is_too_many, pushed_at, pushed_all, piped_as, AreCounted, HaveRoom, MayAccept, Tells, MayJoinAll, IsAccepted, next_index, answer_of, with_arrival}
+use Rattle.proxy_core.specs.Arrivals.{pushed_at, pushed_all, piped_as, Tells, MayJoinAll, IsAccepted, answer_of, with_arrival}
 use Rattle.proxy_core.specs.declared.place.Accepted.{Accepted}
 use Rattle.proxy_core.proofs.FewParts.{few_parts}
 use Rattle.proxy_core.proofs.ConnectionFacts.{open_connection, connection_at-open, length-queue_of, popped_and_left, cause_in-arrived}
@@ -109,33 +109,11 @@ pushed_as_parts conn command (p ∷ ps) pipelines a =
     ap (pushed_all conn command (map placed_as ps)) (pushed_by conn command p p.host p.local pipelines refl refl a.0 a.1)
     ∙ pushed_as_parts conn command ps (pushed_part p pipelines) a.2
 
--- ROOM
-
-waiting_same : (xs : List Pipeline) (h : ℕ) (d : Pipeline) → h < length xs → pipeline_at h (map state_of xs) ≡ state_of (get_or xs h d)
-waiting_same [] h d l = absurd (omega (arith, l))
-waiting_same (x ∷ xs) zero d l = refl
-waiting_same (x ∷ xs) (suc h) d l = waiting_same xs h d (omega (arith, l))
-
--- where room was made for those that are counted there is room for all
-pub have_room : (placed : List Placed) (counts : List ℕ) (before now : List Pipeline) → map state_of now ≡ map state_of before
-    → AreCounted (map state_of before) counts placed
-    → ((h : ℕ) (d : Pipeline) → h < length now → get_or counts h 0 ≤ (get_or now h d).pipe.room) → HaveRoom placed now
-have_room placed counts before now same a room =
-    let n : length now ≡ length (map state_of before) = sym (length-map now state_of) ∙ ap length same in
-    record {
-      within = λ h l. omega (arith, n, a.within h l);
-      room = λ h d l. omega (arith, room h d l, a.counted h (omega (arith, n, l)));
-      limit = λ h d l.
-          let inside : h < length now = omega (arith, n, a.within h l) in
-          let its : pipeline_at h (map state_of before) ≡ state_of (get_or now h d) = ap (pipeline_at h) (sym same) ∙ waiting_same now h d inside in
-          omega (arith, a.limit h l, ap (λ (q : PipelineState). length q.waiting) its);
-    }
-
 -- A KEPT MACHINE
 
-pub kept_pipelines : (m : Machine) → IsKept m → length m.pipelines.items ≡ hosts (setting_in m)
+pub kept_pipelines : (m : Machine) → IsKept m → length m.pipelines.states ≡ hosts (setting_in m)
 kept_pipelines m k =
-    sym (length-map m.pipelines.items state_of) ∙ ap (λ (z : Memory). length z.pipelines) k.memory ∙ length-pipelines_of (setting_in m) (past (setting_in m) (history_in m))
+    ap (λ (z : Memory). length z.pipelines) k.memory ∙ length-pipelines_of (setting_in m) (past (setting_in m) (history_in m))
 
 pub kept_cause : (m : Machine) (conn : ℕ) (request : Request) → IsKept m → own_cause_in (setting_in m) (memory_in m) (Arrived conn request) ≡ None
     → own_cause (setting_in m) (past (setting_in m) (history_in m)) (Arrived conn request) ≡ None
@@ -143,14 +121,14 @@ kept_cause m conn request k e =
     sym (ap (λ z. own_cause_in (setting_in m) z (Arrived conn request)) k.memory ∙ cause_in-arrived (setting_in m) (history_in m) conn request) ∙ e
 
 kept_connection : (m : Machine) (conn : ℕ) (request : Request) → IsKept m → own_cause_in (setting_in m) (memory_in m) (Arrived conn request) ≡ None
-    → connection_at conn m.connections.items ≡ Some (open_connection (past (setting_in m) (history_in m)) conn)
+    → connection_at conn m.connections.numbered ≡ Some (open_connection (past (setting_in m) (history_in m)) conn)
 kept_connection m conn request k e =
     let x = past (setting_in m) (history_in m) in
     ap (λ (z : Memory). connection_at conn z.connections) k.memory
     ∙ connection_at-open x conn (arrived_open (setting_in m) x conn request (kept_cause m conn request k e))
 
 pub kept_accepts : (m : Machine) (conn : ℕ) (request : Request) → IsKept m → own_cause_in (setting_in m) (memory_in m) (Arrived conn request) ≡ None
-    → length m.journal.steps < 2 ^ 64 - 1 → MayAccept (connection_at conn m.connections.items)
+    → length m.journal.steps < 2 ^ 64 - 1 → MayAccept (connection_at conn m.connections.numbered)
 kept_accepts m conn request k e few =
     let S = setting_in m in
     let H = history_in m in
@@ -185,22 +163,22 @@ pub accepted_as : (ps : List Part) (placed : List Placed) (index n : ℕ) → pl
     ≡ accepts n None ps
 accepted_as ps placed index n e f = rw (e, f, length-map ps placed_as, hostless_count ps, busy_count ps) refl
 
-pub list_accepted : (old : Machine) (connections : List (Option Connection)) (pipelines : List Pipeline) (conn index : ℕ) (how : Join) (list : List PartPlan) (x : Past) (placed : List Placed)
+pub list_accepted : (old : Machine) (connections : List (Option Connection)) (pipelines : List PipelineState) (conn index : ℕ) (how : Join) (list : List PartPlan) (x : Past) (placed : List Placed)
     → index ≡ accepted conn x.steps → placed ≡ map placed_as (placing (setting_in old) x conn (accepted conn x.steps) [] list)
-    → connections ≡ with_connection (accepting (record { how = how; values = map value_of_placed placed }) false) conn old.connections.items
-    → map state_of pipelines ≡ pushed_all conn index placed (map state_of old.pipelines.items)
-    → record (memory_in old) { connections = connections; pipelines = map state_of pipelines } ≡ with_arrival old conn (parts how list) x
+    → connections ≡ with_connection (accepting (record { how = how; values = map value_of_placed placed }) false) conn old.connections.numbered
+    → pipelines ≡ pushed_all conn index placed old.pipelines.states
+    → record (memory_in old) { connections = connections; pipelines = pipelines } ≡ with_arrival old conn (parts how list) x
 list_accepted old connections pipelines conn index how list x placed e f g h =
     let S = setting_in old in
     let ps = placing S x conn (accepted conn x.steps) [] list in
     let values : map value_of_placed placed ≡ map (λ (p : Part). p.local) ps = ap (map value_of_placed) f ∙ placed_values S x conn (accepted conn x.steps) list in
-    let its : connections ≡ with_connection (accepting (record { how = how; values = map (λ (p : Part). p.local) ps }) false) conn old.connections.items =
-    g ∙ ap (λ z. with_connection (accepting (record { how = how; values = z }) false) conn old.connections.items) values in
-    let pushed : map state_of pipelines ≡ pushed_parts ps (map state_of old.pipelines.items) =
-    h ∙ ap (λ z. pushed_all conn z placed (map state_of old.pipelines.items)) e ∙ ap (λ z. pushed_all conn (accepted conn x.steps) z (map state_of old.pipelines.items)) f
-    ∙ pushed_as_parts conn (accepted conn x.steps) ps (map state_of old.pipelines.items) (are_placed S x conn list) in
-    ap (λ z. record (memory_in old) { connections = z; pipelines = map state_of pipelines }) its
-    ∙ ap (λ z. record (memory_in old) { connections = with_connection (accepting (record { how = how; values = map (λ (p : Part). p.local) ps }) false) conn old.connections.items; pipelines = z }) pushed
+    let its : connections ≡ with_connection (accepting (record { how = how; values = map (λ (p : Part). p.local) ps }) false) conn old.connections.numbered =
+    g ∙ ap (λ z. with_connection (accepting (record { how = how; values = z }) false) conn old.connections.numbered) values in
+    let pushed : pipelines ≡ pushed_parts ps old.pipelines.states =
+    h ∙ ap (λ z. pushed_all conn z placed old.pipelines.states) e ∙ ap (λ z. pushed_all conn (accepted conn x.steps) z old.pipelines.states) f
+    ∙ pushed_as_parts conn (accepted conn x.steps) ps old.pipelines.states (are_placed S x conn list) in
+    ap (λ z. record (memory_in old) { connections = z; pipelines = pipelines }) its
+    ∙ ap (λ z. record (memory_in old) { connections = with_connection (accepting (record { how = how; values = map (λ (p : Part). p.local) ps }) false) conn old.connections.numbered; pipelines = z }) pushed
 
 -- the index that the next command gets is the one that the history gives it
 pub index_told : (S : Setting) (m : Memory) (conn : ℕ) (x : Past) → Tells S m conn x → MayAccept (connection_at conn m.connections) → next_index (connection_at conn m.connections) ≡ accepted conn x.steps
@@ -229,15 +207,15 @@ join_by_plan (parts how list) request e l = (plan_may_join request how list (sym
 pub may_join_all : (old new : Machine) (conn : ℕ) (request : Request) (plan : Plan) → plan ≡ plan_for request → IsReady old new (Arrived conn request) → MayJoinAll plan
 may_join_all old new conn request plan e r = join_by_plan plan request e (small_enough old new conn request r).1
 
-pub ready_accepts : (old new : Machine) (conn : ℕ) (request : Request) → IsKept old → IsReady old new (Arrived conn request) → MayAccept (connection_at conn new.connections.items)
+pub ready_accepts : (old new : Machine) (conn : ℕ) (request : Request) → IsKept old → IsReady old new (Arrived conn request) → MayAccept (connection_at conn new.connections.numbered)
 ready_accepts old new conn request k r =
-    let same : old.connections.items ≡ new.connections.items = sym (ap (λ (z : Memory). z.connections) r.same.memory) in
+    let same : old.connections.numbered ≡ new.connections.numbered = sym (ap (λ (z : Memory). z.connections) r.same.memory) in
     subst (λ z. MayAccept (connection_at conn z)) same
     (kept_accepts old conn request k r.has_no_cause (omega (arith, (small_enough old new conn request r).0)))
 
-pub ready_pipelines : (old new : Machine) (conn : ℕ) (request : Request) → IsKept old → IsReady old new (Arrived conn request) → length new.pipelines.items ≡ hosts (setting_in new)
+pub ready_pipelines : (old new : Machine) (conn : ℕ) (request : Request) → IsKept old → IsReady old new (Arrived conn request) → length new.pipelines.states ≡ hosts (setting_in new)
 ready_pipelines old new conn request k r =
-    sym (length-map new.pipelines.items state_of) ∙ ap (λ (z : Memory). length z.pipelines) r.same.memory ∙ length-map old.pipelines.items state_of
+    ap (λ (z : Memory). length z.pipelines) r.same.memory
     ∙ kept_pipelines old k ∙ sym (ap hosts r.same.setting)
 
 pub ready_tells : (old new : Machine) (conn : ℕ) (request : Request) → IsKept old → IsReady old new (Arrived conn request)

@@ -23,9 +23,9 @@ use Rattle.proxy_history.specs.Legal.{IsLegal}
 use Rattle.proxy_history.specs.declared.event.Event.TheVariants.{Opened, Arrived, Finished, Handed, Closed}
 use Rattle.proxy_history.specs.declared.refusal.Refusal.TheVariants as refusal
 use Rattle.proxy_history.proofs.CallerLemmas.{length-requests}
-use Rattle.proxy_core.specs.Connections.{queue_of, connection_of, connections_of}
+use Rattle.proxy_core.specs.Connections.{queue_of, connection_of, connections_of, connection_at}
 use Rattle.proxy_core.specs.Kept.{memory_of}
-use Rattle.proxy_core.specs.Machine.{connection_at, own_cause_in, text_in, payload_in}
+use Rattle.proxy_core.specs.Machine.{own_cause_in, text_in, payload_in}
 use Rattle.proxy_core.specs.declared.connection.Connection.{Connection}
 use Rattle.proxy_core.proofs.CommandRows.{row, length-row, front_reply-row}
 use Rattle.proxy_core.proofs.Counts.{handed_were_accepted, open_parts}

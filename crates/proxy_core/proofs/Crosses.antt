@@ -17,6 +17,9 @@ use Rattle.ejector.specs.contracts.ejector.Ejector as Ejector
 use Rattle.journal_core.specs.contracts.journal.Journal as Journal
 use Rattle.proxy_history.specs.contracts.answer.Answer as Answer
 use Rattle.proxy_history.specs.contracts.event.Event as Event
+use Rattle.reply_queue.specs.contracts.joined.Joined as Joined
+use Rattle.reply_queue.specs.contracts.command.Parts as Parts
+use Rattle.reply_queue.specs.contracts.command.Command as Command
 use Rattle.reply_queue.specs.contracts.queue.Queue as Queue
 use Rattle.upstream_pipe.specs.contracts.pipe.Pipe as Pipe
 use Rattle.ticket_gate.below.atomic_table.proofs.send_lease.SendLease.TheSendSync as lease
@@ -26,7 +29,7 @@ use Rattle.ticket_gate.specs.contracts.gate.Gate as Gate
 use Rattle.proxy_core.specs.contracts.connection.Connection as Connection
 use Rattle.proxy_core.specs.contracts.pipeline.Pipeline as Pipeline
 use Rattle.proxy_core.specs.contracts.machine.Machine as Machine
-use Rattle.proxy_core.specs.contracts.turns.Core as Core
+use Rattle.proxy_core.specs.contracts.machine.Core as Core
 
 bytes_send : IsSend (Bytes.the_row Global.the_row ghosts)
 bytes_send = search (bytes.the_send, crosses, sendable) depth 20
@@ -58,8 +61,17 @@ event_send = search (value_field_send, crosses, sendable) depth 20
 pipe_send : IsSend Pipe.the_row
 pipe_send = search (bytes_send, crosses, sendable) depth 20
 
+joined_send : IsSend Joined.the_row
+joined_send = search (value_send, crosses, sendable) depth 20
+
+parts_send : IsSend (Parts.the_field).row
+parts_send = search (value_field_send, joined_send, crosses, sendable) depth 20
+
+command_send : IsSend Command.the_row
+command_send = search (parts_send, crosses, sendable) depth 20
+
 queue_send : IsSend Queue.the_row
-queue_send = search (value_send, crosses, sendable) depth 20
+queue_send = search (command_send, crosses, sendable) depth 20
 
 connection_send : IsSend Connection.the_row
 connection_send = search (queue_send, crosses, sendable) depth 20

@@ -24,6 +24,7 @@ pub mod TurnedResults
 pub mod TurnedEvents
 pub mod TurnedAsked
 pub mod Lost
+pub mod PipelineTableLemmas
 pub mod Pushed
 pub mod Accepted
 pub mod Places

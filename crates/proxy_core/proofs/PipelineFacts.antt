@@ -1,5 +1,5 @@
 -- What the pipelines say that a history determines.
-use Rattle.std.proofs.Common.{◌≡◌, ℕ, ◌+◌, ◌<◌, ◌≤◌, Bool, ◌==◌, ◌&&◌, nat_le, List, [], ◌∷◌, length, map, filter, drop, refl, ap, ◌∙◌, inl, inr, arith}
+use Rattle.std.proofs.Common.{◌≡◌, ℕ, ◌+◌, ◌<◌, ◌≤◌, Bool, nat_le, List, [], ◌∷◌, length, map, filter, drop, refl, ap, ◌∙◌, inl, inr, arith}
 use Rattle.std.specs.Option.{unwrap_or}
 use Rattle.std.proofs.lemmas.Bool.{cases_Bool, leb-false}
 use Rattle.std.proofs.lemmas.List.{length-map, length-drop, length-append}
@@ -13,7 +13,6 @@ use Rattle.proxy_history.specs.Replies.{came}
 use Rattle.proxy_history.specs.Part.{Part, Past, is_of}
 use Rattle.proxy_history.specs.Past.{past}
 use Rattle.proxy_history.specs.Waiting.{waiting, flying, first, sent_by, sent_to}
-use Rattle.proxy_history.specs.Marks.{is_idle}
 use Rattle.proxy_history.specs.Cause.{own_cause}
 use Rattle.proxy_history.specs.Answer.{answer_to, text_of_first}
 use Rattle.proxy_history.specs.Payload.{payload_of}
@@ -21,9 +20,9 @@ use Rattle.proxy_history.specs.declared.event.Kind.{Kind}
 use Rattle.proxy_history.specs.declared.event.Event.{Event}
 use Rattle.proxy_history.specs.declared.event.Event.TheVariants.{Opened, Arrived, Finished, Taken, Answered, Failed, Swept, Handed, Closed}
 use Rattle.proxy_history.proofs.CallerLemmas.{times-length}
-use Rattle.proxy_core.specs.Pipelines.{piped, place_of, pipeline_of, pipelines_of}
+use Rattle.proxy_core.specs.Pipelines.{piped, place_of, pipeline_of, pipelines_of, no_pipeline, pipeline_at, text_of_oldest}
 use Rattle.proxy_core.specs.Kept.{memory_of}
-use Rattle.proxy_core.specs.Machine.{no_pipeline, pipeline_at, own_cause_in, text_of_oldest, payload_in}
+use Rattle.proxy_core.specs.Machine.{own_cause_in, payload_in}
 
 -- THE PIPELINE OF A HOST
 
@@ -42,10 +41,6 @@ pub length-pipeline_flying : (x : Past) (h : ℕ) → length (pipeline_of x h).f
 length-pipeline_flying x h =
     let e = epoch h x.steps in
     length-map (drop (length (came h e x.steps)) (sent_to h e x)) (place_of x) ∙ length-drop (length (came h e x.steps)) (sent_to h e x)
-
--- a host has nothing to do where nothing waits in its pipeline and nothing flies
-pub idle_is : (x : Past) (h : ℕ) → is_idle h x ≡ ((length (pipeline_of x h).waiting == 0) && (length (pipeline_of x h).flying == 0))
-idle_is x h = rw (length-pipeline_waiting x h, length-pipeline_flying x h) refl
 
 oldest_text : (ps : List Part) → text_of_oldest (map piped ps) ≡ text_of_first ps
 oldest_text [] = refl

@@ -10,9 +10,8 @@ use Rattle.reply_queue.specs.Command.{AwaitedCommand}
 use Rattle.reply_queue.specs.Queue.{QueueState, IsOpen, command_at, value_at}
 use Rattle.proxy_history.specs.Value.{upstream_failure}
 use Rattle.proxy_core.specs.declared.connection.Connection.{Connection}
-use Rattle.proxy_core.specs.Connections.{IsAwaited, AreAwaited, answered_part}
-use Rattle.proxy_core.specs.Pipelines.{PipelineState, lost_owners, without_connection}
-use Rattle.proxy_core.specs.Machine.{connection_at, left_in, pipeline_at}
+use Rattle.proxy_core.specs.Connections.{IsAwaited, AreAwaited, answered_part, connection_at, left_in}
+use Rattle.proxy_core.specs.Pipelines.{PipelineState, lost_owners, without_connection, pipeline_at}
 use Rattle.proxy_core.proofs.PipelineStays.{same_pipeline}
 
 -- each of these owners is another connection

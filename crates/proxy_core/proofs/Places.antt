@@ -10,12 +10,11 @@ use Rattle.proxy_history.specs.History.{epoch}
 use Rattle.proxy_history.specs.Part.{Part, Past, is_of}
 use Rattle.proxy_history.specs.Waiting.{waiting}
 use Rattle.proxy_history.specs.Arrival.{placing, placed_part, with_host, host_for, hostless, before_it, proxy_busy}
-use Rattle.proxy_core.specs.Pipelines.{PipelineState}
-use Rattle.proxy_core.specs.Machine.{pipeline_at}
+use Rattle.proxy_core.specs.Places.{place_by, placed_as, waits_at, one_at, count_at, next_place, counted_at, AreCounted}
+use Rattle.proxy_core.specs.Pipelines.{PipelineState, pipeline_at}
 use Rattle.proxy_core.specs.declared.place.Place.{Place}
 use Rattle.proxy_core.specs.declared.place.Place.TheVariants.{Waits, NoHost, Busy}
 use Rattle.proxy_core.specs.declared.place.Placed.{Placed}
-use Rattle.proxy_core.specs.Arrivals.{place_by, placed_as, waits_at, one_at, count_at, next_place, counted_at, AreCounted}
 use Rattle.proxy_core.proofs.NewParts.{AreNow, now_both, part_now}
 use Rattle.proxy_core.proofs.Pushed.{count_at-more, one_at-its}
 

@@ -1,14 +1,16 @@
 -- Parts that are pushed, and the room for them.
-use Rattle.std.proofs.Common.{◌≡◌, ◌≢◌, ℕ, ◌+◌, ◌<◌, ◌≤◌, ◌==◌, Bool, true, false, List, ◌∷◌, length, get_or, slice_set, cond, refl, ap, ◌∙◌, inl, inr, arith, if◌then◌else◌}
+use Rattle.std.proofs.Common.{◌≡◌, ◌≢◌, ℕ, zero, suc, ◌+◌, ◌<◌, ◌≤◌, ◌==◌, Bool, true, false, List, [], ◌∷◌, length, get_or, cond, refl, sym, ap, ◌∙◌, inl, inr, arith, if◌then◌else◌}
 use Rattle.std.proofs.lemmas.Bool.{cases_Bool, eqb-true, eq-eqb, eqb-false}
-use Rattle.std.proofs.lemmas.List.{get_or-set_other}
+use Rattle.std.proofs.lemmas.List.{length-append}
 use Rattle.std.proofs.lemmas.List.Sums.{sum_by-cons}
-use Rattle.std.proofs.lemmas.Grind.{get_or-set_at}
-use Rattle.proxy_core.specs.declared.pipeline.Pipeline.{Pipeline}
+use Rattle.list_words.specs.Lists.{changed_at}
+use Rattle.upstream_pipe.specs.declared.part.Part.{Part as PipePart}
+use Rattle.proxy_core.specs.Places.{AreCounted, waits_at, one_at, count_at}
+use Rattle.proxy_core.specs.Pipelines.{PipelineState, PipelineTable, HasRooms, with_waiting, with_pipeline, pipeline_at}
 use Rattle.proxy_core.specs.declared.place.Place.{Place}
 use Rattle.proxy_core.specs.declared.place.Place.TheVariants.{Waits, NoHost, Busy}
 use Rattle.proxy_core.specs.declared.place.Placed.{Placed}
-use Rattle.proxy_core.specs.Arrivals.{waits_at, one_at, count_at, HaveRoom, MayWait}
+use Rattle.proxy_core.specs.Arrivals.{HaveRoom, MayWait, pushed_at}
 
 -- COUNTS
 
@@ -24,38 +26,98 @@ one_at-its h = rw (eq-eqb h h refl) refl
 
 -- ROOM IS MADE
 
-pub room_more : (counts : List ℕ) (xs : List Pipeline) (i : ℕ) (y : Pipeline) → i < length xs → get_or counts i 0 ≤ y.pipe.room
-    → ((h : ℕ) (d : Pipeline) → h < i → get_or counts h 0 ≤ (get_or xs h d).pipe.room)
-    → (h : ℕ) (d : Pipeline) → h < i + 1 → get_or counts h 0 ≤ (get_or (slice_set xs i y) h d).pipe.room
-room_more counts xs i y l e before h d m = elim (cases_Bool (h == i)) [
-  | inl t ↦ let q : h ≡ i = eqb-true h i t in rw (get_or-set_at xs i h y d q l, q) e
+-- one host more has its room, and the others have theirs
+pub room_more : (counts : List ℕ) (i : ℕ) (before now : PipelineTable) → get_or counts i 0 ≤ get_or now.room i 0
+    → ((h : ℕ) → h ≢ i → get_or now.room h 0 ≡ get_or before.room h 0) → HasRooms counts i before → HasRooms counts (i + 1) now
+room_more counts i before now e others so_far h m = elim (cases_Bool (h == i)) [
+  | inl t ↦ let q : h ≡ i = eqb-true h i t in rw q e
   | inr f ↦
       let n : h ≢ i = eqb-false h i f in
-      rw (get_or-set_other xs i h y d n) (before h d (omega (arith, n, m)))
+      rw (others h n) (so_far h (omega (arith, n, m)))
 ]
 
 -- ROOM IS USED
 
-may_wait_at : (place : Place) (p : Placed) (ps : List Placed) (pipelines : List Pipeline) → p.place ≡ place → HaveRoom (p ∷ ps) pipelines → MayWait place pipelines
-may_wait_at (Waits h) p ps pipelines e r =
+-- one host has room for one less, and the others have theirs
+pub room_used : (before now : PipelineTable) (i : ℕ) → get_or before.room i 0 ≤ get_or now.room i 0 + 1
+    → ((h : ℕ) → h ≢ i → get_or now.room h 0 ≡ get_or before.room h 0) → (h : ℕ) → get_or before.room h 0 ≤ get_or now.room h 0 + one_at h (Waits i)
+room_used before now i e others h = elim (cases_Bool (h == i)) [
+  | inl t ↦
+      let q : h ≡ i = eqb-true h i t in
+      let one : one_at i (Waits i) ≡ 1 = one_at-its i in
+      rw q (omega (arith, e, one))
+  | inr f ↦ omega (arith, others h (eqb-false h i f))
+]
+
+may_wait_at : (place : Place) (p : Placed) (ps : List Placed) (table : PipelineTable) → p.place ≡ place → HaveRoom (p ∷ ps) table → MayWait place table
+may_wait_at (Waits h) p ps table e r =
     let one : one_at h p.place ≡ 1 = rw e (one_at-its h) in
     let some : 0 < count_at h (p ∷ ps) = omega (arith, count_at-more h p ps, one) in
     let inside = r.within h some in
-    (inside, λ d. (omega (arith, r.room h d inside, some), omega (arith, r.limit h d some, some)))
-may_wait_at NoHost p ps pipelines e r = tt
-may_wait_at Busy p ps pipelines e r = tt
+    (inside, omega (arith, r.room h inside, some), omega (arith, r.limit h some, some))
+may_wait_at NoHost p ps table e r = tt
+may_wait_at Busy p ps table e r = tt
 
 -- the first of them may wait
-pub may_wait : (p : Placed) (ps : List Placed) (pipelines : List Pipeline) → HaveRoom (p ∷ ps) pipelines → MayWait p.place pipelines
-may_wait p ps pipelines r = may_wait_at p.place p ps pipelines refl r
+pub may_wait : (p : Placed) (ps : List Placed) (table : PipelineTable) → HaveRoom (p ∷ ps) table → MayWait p.place table
+may_wait p ps table r = may_wait_at p.place p ps table refl r
+
+length-changed_at : {X : Type 0} (change : X → X) (h : ℕ) (xs : List X) → length (changed_at change h xs) ≡ length xs
+length-changed_at change h [] = refl
+length-changed_at change zero (x ∷ xs) = refl
+length-changed_at change (suc h) (x ∷ xs) = ap suc (length-changed_at change h xs)
+
+-- as many hosts as before
+length-pushed_at : (place : Place) (part : PipePart) (states : List PipelineState) → length (pushed_at place part states) ≡ length states
+length-pushed_at (Waits h) part states = length-changed_at (with_waiting part) h states
+length-pushed_at NoHost part states = refl
+length-pushed_at Busy part states = refl
+
+waits_here : (h : ℕ) (part : PipePart) (states : List PipelineState)
+    → length (pipeline_at h (with_pipeline (with_waiting part) h states)).waiting ≤ length (pipeline_at h states).waiting + 1
+waits_here h part [] = omega arith
+waits_here zero part (p ∷ ps) = omega (arith, length-append p.waiting (part ∷ []))
+waits_here (suc h) part (p ∷ ps) = waits_here h part ps
+
+waits_there : (h k : ℕ) (part : PipePart) (states : List PipelineState) → h ≢ k
+    → length (pipeline_at h (with_pipeline (with_waiting part) k states)).waiting ≡ length (pipeline_at h states).waiting
+waits_there h k part [] n = refl
+waits_there zero zero part (p ∷ ps) n = absurd (n refl)
+waits_there zero (suc k) part (p ∷ ps) n = refl
+waits_there (suc h) zero part (p ∷ ps) n = refl
+waits_there (suc h) (suc k) part (p ∷ ps) n = waits_there h k part ps (λ e. n (ap suc e))
+
+-- one part more waits at its host, at most
+waiting-pushed_at : (h : ℕ) (place : Place) (part : PipePart) (states : List PipelineState)
+    → length (pipeline_at h (pushed_at place part states)).waiting ≤ length (pipeline_at h states).waiting + one_at h place
+waiting-pushed_at h (Waits k) part states = elim (cases_Bool (k == h)) [
+  | inl t ↦ let q : k ≡ h = eqb-true k h t in rw q (omega (arith, waits_here h part states, one_at-its h))
+  | inr f ↦ omega (arith, waits_there h k part states (λ e. eqb-false k h f (sym e)))
+]
+waiting-pushed_at h NoHost part states = omega arith
+waiting-pushed_at h Busy part states = omega arith
 
 -- and the others have room once it does
-pub room_for_rest : (p : Placed) (ps : List Placed) (before now : List Pipeline) → length now ≡ length before
-    → ((h : ℕ) (d : Pipeline) → (get_or before h d).pipe.room ≤ (get_or now h d).pipe.room + one_at h p.place)
-    → ((h : ℕ) (d : Pipeline) → length (get_or now h d).pipe.waiting ≡ length (get_or before h d).pipe.waiting + one_at h p.place)
-    → HaveRoom (p ∷ ps) before → HaveRoom ps now
-room_for_rest p ps before now n room waiting r = record {
-  within = λ h l. omega (arith, n, r.within h (omega (arith, count_at-more h p ps, l)));
-  room = λ h d l. omega (arith, room h d, count_at-more h p ps, r.room h d (omega (arith, n, l)));
-  limit = λ h d l. omega (arith, waiting h d, count_at-more h p ps, r.limit h d (omega (arith, count_at-more h p ps, l)));
-}
+pub room_for_rest : (p : Placed) (part : PipePart) (ps : List Placed) (before now : PipelineTable) → now.states ≡ pushed_at p.place part before.states
+    → ((h : ℕ) → get_or before.room h 0 ≤ get_or now.room h 0 + one_at h p.place) → HaveRoom (p ∷ ps) before → HaveRoom ps now
+room_for_rest p part ps before now pushed room r =
+    let n : length now.states ≡ length before.states = ap length pushed ∙ length-pushed_at p.place part before.states in
+    record {
+      within = λ h l. omega (arith, n, r.within h (omega (arith, count_at-more h p ps, l)));
+      room = λ h l. omega (arith, room h, count_at-more h p ps, r.room h (omega (arith, n, l)));
+      limit = λ h l.
+          let more : length (pipeline_at h now.states).waiting ≤ length (pipeline_at h before.states).waiting + one_at h p.place =
+          rw pushed (waiting-pushed_at h p.place part before.states) in
+          omega (arith, more, count_at-more h p ps, r.limit h (omega (arith, count_at-more h p ps, l)));
+    }
+
+-- where room was made for those that are counted there is room for all
+pub have_room : (placed : List Placed) (counts : List ℕ) (before now : PipelineTable) → now.states ≡ before.states
+    → AreCounted before.states counts placed → HasRooms counts (length now.states) now → HaveRoom placed now
+have_room placed counts before now same a room =
+    let n : length now.states ≡ length before.states = ap length same in
+    record {
+      within = λ h l. omega (arith, n, a.within h l);
+      room = λ h l. omega (arith, room h l, a.counted h (omega (arith, n, l)));
+      limit = λ h l. rw same (a.limit h l);
+    }

@@ -1,5 +1,5 @@
 -- What an event that is answered, or refused, comes to.
-use Rattle.std.proofs.Common.{◌≡◌, ◌≤◌, ◌<◌, ℕ, ◌+◌, ◌&&◌, Bool, true, false, nat_lt, nat_le, List, [], ◌∷◌, length, Option, None, refl, sym, ap, ◌∙◌, subst, inl, inr, arith}
+use Rattle.std.proofs.Common.{◌≡◌, ◌≤◌, ◌<◌, ℕ, ◌+◌, ◌++◌, ◌&&◌, Bool, true, false, nat_lt, nat_le, List, [], ◌∷◌, length, Option, None, refl, sym, ap, ◌∙◌, subst, inl, inr, arith}
 use Rattle.std.specs.Prelude.{reverse}
 use Rattle.std.proofs.lemmas.Bool.{lt-ltb, ltb-true, leb-false, ltb-false, le-ltb, cases_Bool, leb-true}
 use Rattle.std.proofs.lemmas.List.{reverse-append, length-reverse}
@@ -24,10 +24,11 @@ use Rattle.proxy_history.proofs.CallerLemmas.{first_true-none as are_false}
 use Rattle.proxy_core.specs.Connections.{connections_of}
 use Rattle.proxy_core.specs.Pipelines.{PipelineState, pipelines_of}
 use Rattle.proxy_core.specs.Kept.{Memory, memory_of}
-use Rattle.proxy_core.specs.Machine.{setting_in, memory_in, history_in, own_cause_in, payload_in, IsKept, IsTurned, IsSame, HasCauseIn, FitsIn}
-use Rattle.proxy_core.specs.Core.{IsMade, IsLeft}
+use Rattle.proxy_core.specs.Machine.{setting_in, memory_in, history_in, own_cause_in, payload_in, IsKept, IsDone, IsSame, HasCauseIn, FitsIn}
+use Rattle.proxy_core.specs.Core.{IsMade, IsLeft, with_step}
 use Rattle.proxy_core.specs.declared.connection.Connection.{Connection}
 use Rattle.proxy_core.specs.declared.machine.Machine.{Machine}
+use Rattle.proxy_core.specs.declared.machine.Done.{Done}
 use Rattle.proxy_core.specs.declared.refused.Refused.{Refused}
 use Rattle.proxy_core.proofs.Counts.{handed_open}
 use Rattle.proxy_core.proofs.ConnectionFacts.{cause_in-opened, cause_in-arrived, cause_in-finished, cause_in-handed, cause_in-closed, payload_in-handed}
@@ -111,6 +112,29 @@ not_full m n f' = elim (cases_Bool (fits (length m.journal.steps) (m.journal.byt
 full : (m : Machine) (n : ℕ) → IsFull m.journal n → fits (length m.journal.steps) (m.journal.bytes + n) ≡ false
 full m n (inl a) = many_steps (length m.journal.steps) (m.journal.bytes + n) a
 full m n (inr b) = many_bytes (length m.journal.steps) (m.journal.bytes + n) b
+
+-- A STEP MORE
+
+-- A step of this pass, event and answer was added, and this is what is kept now beside it.
+pub record IsTurned (old new : Machine) (pass : ℕ) (event : Event) (answer : Answer) (kept : Memory) : Type 0 where
+  pub has_no_cause : own_cause_in (setting_in old) (memory_in old) event ≡ None
+  pub has_room : IsFull old.journal (payload_in (memory_in old) event) → ⊥
+  pub setting : setting_in new ≡ setting_in old
+  pub steps : new.journal.steps ≡ old.journal.steps ++ (record { pass = pass; event = event; answer = answer }) ∷ []
+  pub memory : memory_in new ≡ record kept { bytes = old.journal.bytes + payload_in (memory_in old) event }
+
+-- So it is once the step of an event that was done is added.
+pub turned : (old new : Machine) (pass : ℕ) (event : Event) (done : Done) (kept : Memory) → IsDone old new event done kept
+    → IsTurned old (with_step new pass event done) pass event done.answer kept
+turned old new pass event done kept is = record {
+  has_no_cause = is.has_no_cause;
+  has_room = is.has_room;
+  setting = is.setting;
+  steps = ap (λ z. z ++ (record { pass = pass; event = event; answer = done.recorded }) ∷ []) is.steps
+      ∙ ap (λ z. old.journal.steps ++ (record { pass = pass; event = event; answer = z }) ∷ []) is.recorded;
+  memory = ap (λ (z : Memory). record z { bytes = z.bytes + done.bytes }) is.memory
+      ∙ ap (λ z. record kept { bytes = old.journal.bytes + z }) is.bytes;
+}
 
 -- WHAT IS KEPT
 

@@ -1,8 +1,7 @@
 -- What the turns of a machine ask for holds where its history determines what it keeps.
-use Rattle.std.proofs.Common.{◌≡◌, ℕ, zero, suc, ◌+◌, ◌≤◌, ◌<◌, true, false, nat_lt, nat_le, ◌==◌, List, [], ◌∷◌, map, length, Option, Some, None, refl, sym, ap, ◌∙◌, subst, inl, inr, arith}
-use Rattle.std.specs.Prelude.{vec_len, slice_index_or, IfSome, IsTrue}
+use Rattle.std.proofs.Common.{◌≡◌, ℕ, suc, ◌+◌, ◌≤◌, ◌<◌, true, false, nat_lt, nat_le, ◌==◌, List, [], ◌∷◌, length, Option, Some, None, refl, sym, ap, ◌∙◌, subst, inl, inr, arith}
+use Rattle.std.specs.Prelude.{IfSome, IsTrue}
 use Rattle.std.proofs.lemmas.Bool.{cases_Bool, ltb-true, leb-true, leb-false, lt-leb, and_parts, eq-eqb, eqb-true}
-use Rattle.std.proofs.lemmas.List.{length-map}
 use Rattle.list_words.proofs.CallerLemmas.{slice_get-past_range}
 use Rattle.resp_core.specs.Tree.{Tree, is_plain_tree}
 use Rattle.resp_core.specs.Value.{tree_of}
@@ -20,11 +19,10 @@ use Rattle.proxy_history.specs.Cause.{own_cause}
 use Rattle.proxy_history.specs.Legal.{IsLegal}
 use Rattle.proxy_history.specs.declared.event.Event.TheVariants.{Answered}
 use Rattle.proxy_history.proofs.CallerLemmas.{times-length, IsPlainIfAny, IsPlainIfAny-outcome as outcome_is_plain}
-use Rattle.proxy_core.specs.Connections.{AreAwaited, connections_of}
-use Rattle.proxy_core.specs.Pipelines.{PipelineState, state_of, pipeline_of, pipelines_of, next_owner, lost_owners}
-use Rattle.proxy_core.specs.Machine.{setting_in, memory_in, history_in, pipeline_at, no_pipeline, connection_at, reply_in, IsKept}
+use Rattle.proxy_core.specs.Connections.{AreAwaited, connections_of, connection_at, reply_in}
+use Rattle.proxy_core.specs.Pipelines.{PipelineState, pipeline_of, pipelines_of, next_owner, lost_owners, pipeline_at, no_pipeline}
+use Rattle.proxy_core.specs.Machine.{setting_in, memory_in, history_in, IsKept}
 use Rattle.proxy_core.specs.declared.connection.Connection.{Connection}
-use Rattle.proxy_core.specs.declared.pipeline.Pipeline.{Pipeline}
 use Rattle.proxy_core.specs.declared.machine.Machine.{Machine}
 use Rattle.proxy_core.proofs.ConnectionFacts.{connection_at-open, connection_at-not_open, front_reply-queue_of}
 use Rattle.proxy_core.proofs.ConnectionsAnswered.{answered-awaited}
@@ -41,10 +39,10 @@ steps-at_most S (s ∷ H) legal =
     let a = and_parts (nat_lt (length H) max_steps) (nat_le (payload H + payload_of s.event s.answer) max_payload) legal.1.has_room in
     omega (arith, ltb-true (length H) max_steps a.0)
 
-pub asked_hosts : (m : Machine) → IsKept m → vec_len m.pipelines ≡ hosts (setting_in m)
-asked_hosts m kept = m.pipelines.ok.0 ∙ sym (length-map m.pipelines.items state_of) ∙ ap length (kept_pipelines m kept) ∙ length-pipelines_of (setting_in m) (past (setting_in m) (history_in m))
+pub asked_hosts : (m : Machine) → IsKept m → length m.pipelines.states ≡ hosts (setting_in m)
+asked_hosts m kept = ap length (kept_pipelines m kept) ∙ length-pipelines_of (setting_in m) (past (setting_in m) (history_in m))
 
-pub asked_closed : (m : Machine) → IsKept m → m.closed + 1 < 18446744073709551616
+pub asked_closed : (m : Machine) → IsKept m → m.connections.closed + 1 < 18446744073709551616
 asked_closed m kept = omega (arith, kept_closed m kept, times-length is_any_closing (history_in m), steps-at_most (setting_in m) (history_in m) kept.legal)
 
 -- a pipeline is that of the history, or there is none
@@ -105,14 +103,14 @@ answered_here S H h v legal l =
       | inr f ↦ any_value places (tree_of NullBulk) v (connections_of x) (answered-awaited S H h (epoch h H) 0 NullBulk legal (answer_has_none S x h l f))
     ]
 
-pub asked_answer : (m : Machine) (h : ℕ) (v : Tree) → IsKept m → AreAwaited (next_owner (pipeline_at h (memory_in m).pipelines).flying) v m.connections.items
+pub asked_answer : (m : Machine) (h : ℕ) (v : Tree) → IsKept m → AreAwaited (next_owner (pipeline_at h (memory_in m).pipelines).flying) v m.connections.numbered
 asked_answer m h v kept =
     let S = setting_in m in
     let H = history_in m in
     subst (λ (z : List (Option Connection)). AreAwaited (next_owner (pipeline_at h (memory_in m).pipelines).flying) v z) (sym (kept_connections m kept))
     (at_any (λ (p : PipelineState). AreAwaited (next_owner p.flying) v (connections_of (past S H))) m h kept (λ l. answered_here S H h v kept.legal l) tt)
 
-pub asked_fault : (m : Machine) (h : ℕ) → IsKept m → AreAwaited (lost_owners (pipeline_at h (memory_in m).pipelines)) upstream_failure m.connections.items
+pub asked_fault : (m : Machine) (h : ℕ) → IsKept m → AreAwaited (lost_owners (pipeline_at h (memory_in m).pipelines)) upstream_failure m.connections.numbered
 asked_fault m h kept =
     let S = setting_in m in
     let H = history_in m in
@@ -135,19 +133,13 @@ reply_here S H c legal =
       | inr f ↦ subst (λ (z : Option Connection). IfSome (reply_in z) (λ v. IsTrue (is_plain_tree v))) (sym (connection_at-not_open x c f)) tt
     ]
 
-pub asked_reply : (m : Machine) (c : ℕ) → IsKept m → IfSome (reply_in (connection_at c m.connections.items)) (λ v. IsTrue (is_plain_tree v))
+pub asked_reply : (m : Machine) (c : ℕ) → IsKept m → IfSome (reply_in (connection_at c m.connections.numbered)) (λ v. IsTrue (is_plain_tree v))
 asked_reply m c kept =
     subst (λ (z : List (Option Connection)). IfSome (reply_in (connection_at c z)) (λ v. IsTrue (is_plain_tree v))) (sym (kept_connections m kept))
     (reply_here (setting_in m) (history_in m) c kept.legal)
 
 -- ONE PIPELINE
 
-pub item_at : (ps : List Pipeline) (h : ℕ) (p : Pipeline) → h < length ps → p ≡ slice_index_or ps h p → pipeline_at h (map state_of ps) ≡ state_of p
-item_at [] h p l e = absurd (omega (arith, l))
-item_at (x ∷ ps) zero p l e = ap state_of (sym e)
-item_at (x ∷ ps) (suc h) p l e = item_at ps h p (omega (arith, l)) e
-
-pub epoch_is : (m : Machine) (h : ℕ) (p : Pipeline) → IsKept m → h < hosts (setting_in m) → p ≡ slice_index_or m.pipelines.items h p → p.pipe.epoch ≡ epoch h (history_in m)
-epoch_is m h p kept l e =
-    let few : h < length m.pipelines.items = omega (arith, l, asked_hosts m kept, m.pipelines.ok.0) in
-    ap (λ (q : PipelineState). q.epoch) (sym (item_at m.pipelines.items h p few e) ∙ at_host m h kept l)
+-- its epoch is that of the history
+pub epoch_is : (m : Machine) (h : ℕ) → IsKept m → h < hosts (setting_in m) → (pipeline_at h m.pipelines.states).epoch ≡ epoch h (history_in m)
+epoch_is m h kept l = ap (λ (q : PipelineState). q.epoch) (at_host m h kept l)

@@ -1,5 +1,5 @@
 -- What each event comes to where it is answered.
-use Rattle.std.proofs.Common.{◌≡◌, ℕ, ◌+◌, ◌<◌, List, [], ◌∷◌, ◌++◌, map, length, Some, refl, sym, ap, ◌∙◌, if◌then◌else◌}
+use Rattle.std.proofs.Common.{◌≡◌, ℕ, ◌+◌, ◌<◌, List, [], ◌∷◌, ◌++◌, map, length, Some, sym, ap, ◌∙◌}
 use Rattle.resp_core.specs.Value.{tree_of}
 use Rattle.resp_core.specs.declared.value.Value.{Value}
 use Rattle.splitter.specs.declared.request.Request.{Request}
@@ -12,21 +12,20 @@ use Rattle.proxy_history.specs.Setting.{Setting, hosts}
 use Rattle.proxy_history.specs.History.{times, is_any_closing, plan_for, epoch}
 use Rattle.proxy_history.specs.Part.{Past}
 use Rattle.proxy_history.specs.Past.{past}
-use Rattle.proxy_history.specs.Marks.{mark_by, is_excused}
+use Rattle.proxy_history.specs.Marks.{mark_by, mark_of_fault}
 use Rattle.proxy_history.specs.Waiting.{waiting, flying, sent_to}
 use Rattle.proxy_history.specs.Arrival.{parts_by}
 use Rattle.proxy_history.specs.Value.{upstream_failure}
-use Rattle.proxy_history.specs.Answer.{answer_to, counts_of, text_of_first, trip_of}
+use Rattle.proxy_history.specs.Answer.{answer_to, counts_of, text_of_first, trip_by}
 use Rattle.proxy_history.specs.declared.answer.Answer.{Answer}
 use Rattle.proxy_history.specs.declared.answer.Answer.TheVariants as answers
 use Rattle.proxy_history.specs.declared.event.Event.TheVariants.{Opened, Arrived, Finished, Taken, Answered, Failed, Swept, Handed, Closed}
 use Rattle.proxy_history.specs.declared.event.Kind.{Kind}
-use Rattle.proxy_history.specs.declared.event.Kind.TheVariants as kinds
 use Rattle.proxy_history.proofs.CallerLemmas.{HasHost-own_cause as has_host}
 use Rattle.proxy_core.specs.Connections.{connections_of, fresh_connection, with_connection, finished, closing, handing, answered_parts, accepting, arrived_command}
-use Rattle.proxy_core.specs.Pipelines.{PipelineState, pipeline_of, pipelines_of, without_connection, with_pipeline, taken_from, answered_by, next_owner, failed, lost_owners, pushed_parts}
+use Rattle.proxy_core.specs.Pipelines.{PipelineState, pipeline_of, pipelines_of, without_connection, with_pipeline, taken_from, answered_by, next_owner, failed, lost_owners, pushed_parts, pipeline_at, text_of_oldest}
 use Rattle.proxy_core.specs.Kept.{Memory}
-use Rattle.proxy_core.specs.Machine.{setting_in, memory_in, history_in, pipeline_at, text_in, fault_mark, trip_by, text_of_oldest, is_excused_in, IsKept, IsTurned}
+use Rattle.proxy_core.specs.Machine.{setting_in, memory_in, history_in, text_in, fault_mark, IsKept}
 use Rattle.proxy_core.specs.Core.{IsMade}
 use Rattle.proxy_core.specs.declared.machine.Machine.{Machine}
 use Rattle.proxy_core.proofs.Counts.{handed_open}
@@ -34,20 +33,20 @@ use Rattle.proxy_core.proofs.ConnectionFacts.{length-connections_of, text_in-han
 use Rattle.proxy_core.proofs.ConnectionsMove.{connections-opened, connections-finished, connections-handed, connections-closed}
 use Rattle.proxy_core.proofs.ConnectionsStay.{connections-swept, connections-taken}
 use Rattle.proxy_core.proofs.PipelinesMove.{pipelines-opened, pipelines-finished, pipelines-swept, pipelines-handed, pipelines-closed, pipelines-answered, pipelines-failed}
-use Rattle.proxy_core.proofs.Turned.{made, no_cause, taken_has_host}
+use Rattle.proxy_core.proofs.Turned.{IsTurned, made, no_cause, taken_has_host}
 use Rattle.proxy_core.proofs.ConnectionsAnswered.{connections-answered}
 use Rattle.proxy_core.proofs.ConnectionsArrived.{connections-arrived}
 use Rattle.proxy_core.proofs.ConnectionsFailed.{connections-failed}
 use Rattle.proxy_core.proofs.PipelinesTaken.{pipelines-taken}
 use Rattle.proxy_core.proofs.PipelinesArrived.{pipelines-arrived}
-use Rattle.proxy_core.proofs.PipelineFacts.{pipeline_at-pipelines_of, text_of_oldest-pipeline, length-pipeline_waiting, length-pipeline_flying, idle_is}
+use Rattle.proxy_core.proofs.PipelineFacts.{pipeline_at-pipelines_of, text_of_oldest-pipeline, length-pipeline_waiting, length-pipeline_flying}
 
 -- WHAT IS KEPT
 
-pub kept_connections : (m : Machine) → IsKept m → m.connections.items ≡ connections_of (past (setting_in m) (history_in m))
+pub kept_connections : (m : Machine) → IsKept m → m.connections.numbered ≡ connections_of (past (setting_in m) (history_in m))
 kept_connections m kept = ap (λ (z : Memory). z.connections) kept.memory
 
-pub kept_closed : (m : Machine) → IsKept m → m.closed ≡ times is_any_closing (history_in m)
+pub kept_closed : (m : Machine) → IsKept m → m.connections.closed ≡ times is_any_closing (history_in m)
 kept_closed m kept = ap (λ (z : Memory). z.closed) kept.memory
 
 pub kept_pipelines : (m : Machine) → IsKept m → (memory_in m).pipelines ≡ pipelines_of (setting_in m) (past (setting_in m) (history_in m))
@@ -59,13 +58,13 @@ kept_hosts m kept = ap (λ (z : Memory). z.hosts) kept.memory
 -- OPENED, FINISHED, CLOSED
 
 pub opened-made : (old new : Machine) (pass : ℕ) (a : Answer) → IsKept old
-    → (a ≡ answers.Opened (length old.connections.items))
-    × IsTurned old new pass Opened a (record (memory_in old) { connections = old.connections.items ++ Some fresh_connection ∷ [] })
+    → (a ≡ answers.Opened (length old.connections.numbered))
+    × IsTurned old new pass Opened a (record (memory_in old) { connections = old.connections.numbered ++ Some fresh_connection ∷ [] })
     → IsMade old new pass Opened a
 opened-made old new pass a kept h =
     let S = setting_in old in
     let H = history_in old in
-    made old new pass Opened a (record (memory_in old) { connections = old.connections.items ++ Some fresh_connection ∷ [] }) kept h.1
+    made old new pass Opened a (record (memory_in old) { connections = old.connections.numbered ++ Some fresh_connection ∷ [] }) kept h.1
     (h.0 ∙ ap answers.Opened (ap length (kept_connections old kept) ∙ length-connections_of (past S H)))
     (record {
       connections = ap (λ z. z ++ Some fresh_connection ∷ []) (kept_connections old kept) ∙ sym (connections-opened S H pass a kept.legal);
@@ -76,12 +75,12 @@ opened-made old new pass a kept h =
 
 pub finished-made : (old new : Machine) (pass conn : ℕ) (a : Answer) → IsKept old
     → (a ≡ answers.Finishing)
-    × IsTurned old new pass (Finished conn) a (record (memory_in old) { connections = with_connection finished conn old.connections.items })
+    × IsTurned old new pass (Finished conn) a (record (memory_in old) { connections = with_connection finished conn old.connections.numbered })
     → IsMade old new pass (Finished conn) a
 finished-made old new pass conn a kept h =
     let S = setting_in old in
     let H = history_in old in
-    made old new pass (Finished conn) a (record (memory_in old) { connections = with_connection finished conn old.connections.items }) kept h.1 h.0
+    made old new pass (Finished conn) a (record (memory_in old) { connections = with_connection finished conn old.connections.numbered }) kept h.1 h.0
     (record {
       connections = ap (with_connection finished conn) (kept_connections old kept) ∙ sym (connections-finished S H pass conn a);
       closed = kept_closed old kept;
@@ -92,8 +91,8 @@ finished-made old new pass conn a kept h =
 pub closed-made : (old new : Machine) (pass conn : ℕ) (a : Answer) → IsKept old
     → (a ≡ answers.Closed)
     × IsTurned old new pass (Closed conn) a (record (memory_in old) {
-      connections = closing conn old.connections.items;
-      closed = old.closed + 1;
+      connections = closing conn old.connections.numbered;
+      closed = old.connections.closed + 1;
       pipelines = map (without_connection conn) (memory_in old).pipelines;
     })
     → IsMade old new pass (Closed conn) a
@@ -101,7 +100,7 @@ closed-made old new pass conn a kept h =
     let S = setting_in old in
     let H = history_in old in
     made old new pass (Closed conn) a
-    (record (memory_in old) { connections = closing conn old.connections.items; closed = old.closed + 1; pipelines = map (without_connection conn) (memory_in old).pipelines })
+    (record (memory_in old) { connections = closing conn old.connections.numbered; closed = old.connections.closed + 1; pipelines = map (without_connection conn) (memory_in old).pipelines })
     kept h.1 h.0
     (record {
       connections = ap (closing conn) (kept_connections old kept) ∙ sym (connections-closed S H pass conn a);
@@ -131,12 +130,12 @@ swept-made old new pass t a kept turned is moves =
 
 pub handed-made : (old new : Machine) (pass conn : ℕ) (a : Answer) → IsKept old
     → (a ≡ answers.Bytes (text_in (memory_in old) (Handed conn)))
-    × IsTurned old new pass (Handed conn) a (record (memory_in old) { connections = with_connection handing conn old.connections.items })
+    × IsTurned old new pass (Handed conn) a (record (memory_in old) { connections = with_connection handing conn old.connections.numbered })
     → IsMade old new pass (Handed conn) a
 handed-made old new pass conn a kept h =
     let S = setting_in old in
     let H = history_in old in
-    let memory : Memory = record (memory_in old) { connections = with_connection handing conn old.connections.items } in
+    let memory : Memory = record (memory_in old) { connections = with_connection handing conn old.connections.numbered } in
     let n = no_cause old new pass (Handed conn) a memory kept h.1 in
     made old new pass (Handed conn) a memory kept h.1
     (h.0 ∙ ap answers.Bytes (ap (λ (z : Memory). text_in z (Handed conn)) kept.memory ∙ text_in-handed S H conn (handed_open S (past S H) conn n)))
@@ -178,7 +177,7 @@ taken-made old new pass host a kept h =
 
 pub answered-made : (old new : Machine) (pass host e t : ℕ) (value : Value) (a : Answer) → IsKept old
     → IsTurned old new pass (Answered host e value t) a (record (memory_in old) {
-      connections = answered_parts (next_owner (pipeline_at host (memory_in old).pipelines).flying) (tree_of value) old.connections.items;
+      connections = answered_parts (next_owner (pipeline_at host (memory_in old).pipelines).flying) (tree_of value) old.connections.numbered;
       pipelines = with_pipeline answered_by host (memory_in old).pipelines;
       hosts = new.ejector.state;
     })
@@ -189,7 +188,7 @@ answered-made old new pass host e t value a kept turned is moves =
     let S = setting_in old in
     let H = history_in old in
     let memory : Memory = record (memory_in old) {
-      connections = answered_parts (next_owner (pipeline_at host (memory_in old).pipelines).flying) (tree_of value) old.connections.items;
+      connections = answered_parts (next_owner (pipeline_at host (memory_in old).pipelines).flying) (tree_of value) old.connections.numbered;
       pipelines = with_pipeline answered_by host (memory_in old).pipelines;
       hosts = new.ejector.state;
     } in
@@ -199,7 +198,7 @@ answered-made old new pass host e t value a kept turned is moves =
     (is S.opening (past S H).marks (sym (kept_hosts old kept)))
     (record {
       connections =
-          ap (λ (z : PipelineState). answered_parts (next_owner z.flying) (tree_of value) old.connections.items) at
+          ap (λ (z : PipelineState). answered_parts (next_owner z.flying) (tree_of value) old.connections.numbered) at
           ∙ ap (λ z. answered_parts (next_owner (pipeline_of (past S H) host).flying) (tree_of value) z) (kept_connections old kept)
           ∙ sym (connections-answered S H pass host e t value a kept.legal n);
       closed = kept_closed old kept;
@@ -207,19 +206,10 @@ answered-made old new pass host e t value a kept turned is moves =
       hosts = moves S.opening (past S H).marks (sym (kept_hosts old kept));
     })
 
--- a fault is excused where the pipeline has nothing to do
-excused_is : (x : Past) (h : ℕ) (kind : Kind) → is_excused_in (pipeline_of x h) kind ≡ is_excused x h kind
-excused_is x h kinds.Refused = refl
-excused_is x h kinds.Dropped = sym (idle_is x h)
-excused_is x h kinds.Late = refl
-excused_is x h kinds.Garbled = refl
-
 mark_is : (x : Past) (h e t : ℕ) (kind : Kind) → fault_mark (pipeline_of x h) h kind t ≡ mark_by x (Failed h e kind t)
-mark_is x h e t kind = ap (λ b. if b then [] else mark.Bad h t ∷ []) (excused_is x h kind)
-
-trip_is : (S : Setting) (x : Past) (marks : List Mark) → trip_by S.rules S.opening marks x.marks ≡ trip_of S x marks
-trip_is S x [] = refl
-trip_is S x (m ∷ marks) = refl
+mark_is x h e t kind =
+    ap (λ n. mark_of_fault n (length (pipeline_of x h).flying) h kind t) (length-pipeline_waiting x h)
+    ∙ ap (λ n. mark_of_fault (length (waiting h x)) n h kind t) (length-pipeline_flying x h)
 
 lost_is : (S : Setting) (x : Past) (h e t : ℕ) (kind : Kind) (p : PipelineState) → p ≡ pipeline_of x h
     → answers.Lost (length p.waiting + length p.flying) (trip_by S.rules S.opening (fault_mark p h kind t) x.marks) ≡ answer_to S x (Failed h e kind t)
@@ -228,11 +218,11 @@ lost_is S x h e t kind p same =
     ∙ ap (λ z. answers.Lost (z + length (pipeline_of x h).flying) (trip_by S.rules S.opening (fault_mark (pipeline_of x h) h kind t) x.marks)) (length-pipeline_waiting x h)
     ∙ ap (λ z. answers.Lost (length (waiting h x) + z) (trip_by S.rules S.opening (fault_mark (pipeline_of x h) h kind t) x.marks)) (length-pipeline_flying x h)
     ∙ ap (answers.Lost (length (waiting h x) + flying h x))
-    (ap (λ z. trip_by S.rules S.opening z x.marks) (mark_is x h e t kind) ∙ trip_is S x (mark_by x (Failed h e kind t)))
+    (ap (λ z. trip_by S.rules S.opening z x.marks) (mark_is x h e t kind))
 
 pub failed-made : (old new : Machine) (pass host e t : ℕ) (kind : Kind) (a : Answer) → IsKept old
     → IsTurned old new pass (Failed host e kind t) a (record (memory_in old) {
-      connections = answered_parts (lost_owners (pipeline_at host (memory_in old).pipelines)) upstream_failure old.connections.items;
+      connections = answered_parts (lost_owners (pipeline_at host (memory_in old).pipelines)) upstream_failure old.connections.numbered;
       pipelines = with_pipeline failed host (memory_in old).pipelines;
       hosts = new.ejector.state;
     })
@@ -246,7 +236,7 @@ failed-made old new pass host e t kind a kept turned is moves =
     let S = setting_in old in
     let H = history_in old in
     let memory : Memory = record (memory_in old) {
-      connections = answered_parts (lost_owners (pipeline_at host (memory_in old).pipelines)) upstream_failure old.connections.items;
+      connections = answered_parts (lost_owners (pipeline_at host (memory_in old).pipelines)) upstream_failure old.connections.numbered;
       pipelines = with_pipeline failed host (memory_in old).pipelines;
       hosts = new.ejector.state;
     } in
@@ -256,7 +246,7 @@ failed-made old new pass host e t kind a kept turned is moves =
     (is S.opening (past S H).marks (sym (kept_hosts old kept)) ∙ lost_is S (past S H) host e t kind (pipeline_at host (memory_in old).pipelines) at)
     (record {
       connections =
-          ap (λ (z : PipelineState). answered_parts (lost_owners z) upstream_failure old.connections.items) at
+          ap (λ (z : PipelineState). answered_parts (lost_owners z) upstream_failure old.connections.numbered) at
           ∙ ap (λ z. answered_parts (lost_owners (pipeline_of (past S H) host)) upstream_failure z) (kept_connections old kept)
           ∙ sym (connections-failed S H pass host e t kind a kept.legal);
       closed = kept_closed old kept;
@@ -272,7 +262,7 @@ pub arrived-made : (old new : Machine) (pass conn : ℕ) (request : Request) (a 
     → IsTurned old new pass (Arrived conn request) a (record (memory_in old) {
       connections = with_connection (accepting (arrived_command (plan_for request)
           (parts_by (setting_in old) (past (setting_in old) (history_in old)) (Arrived conn request)))
-          (is_last (plan_for request))) conn old.connections.items;
+          (is_last (plan_for request))) conn old.connections.numbered;
       pipelines = pushed_parts (parts_by (setting_in old) (past (setting_in old) (history_in old)) (Arrived conn request)) (memory_in old).pipelines;
     })
     → IsMade old new pass (Arrived conn request) a
@@ -282,7 +272,7 @@ arrived-made old new pass conn request a kept is turned =
     let new_parts = parts_by S (past S H) (Arrived conn request) in
     let change = accepting (arrived_command (plan_for request) new_parts) (is_last (plan_for request)) in
     let memory : Memory = record (memory_in old) {
-      connections = with_connection change conn old.connections.items;
+      connections = with_connection change conn old.connections.numbered;
       pipelines = pushed_parts new_parts (memory_in old).pipelines;
     } in
     let n = no_cause old new pass (Arrived conn request) a memory kept turned in

@@ -1,33 +1,68 @@
 -- What the result of a turn is, where its event is known.
-use Rattle.std.proofs.Common.{◌≡◌, ℕ, Result, Ok, Err, IfOk, IfErr, OnOk, sym, subst}
+use Rattle.std.proofs.Common.{◌≡◌, ℕ, Result, Ok, Err, IfOk, IfErr, OnOk, Some, sym, subst}
+use Rattle.std.proofs.lemmas.Result.{IfOk-weaker}
 use Rattle.proxy_history.specs.declared.answer.Answer.{Answer}
 use Rattle.proxy_history.specs.declared.event.Event.{Event}
-use Rattle.proxy_core.specs.Machine.{IsKept, IsSame, HasCauseIn}
-use Rattle.proxy_core.specs.Core.{IsMade, IsLeft}
+use Rattle.proxy_history.specs.declared.refusal.Refusal.{Refusal}
+use Rattle.proxy_core.specs.Kept.{Memory}
+use Rattle.proxy_core.specs.Machine.{IsDone, IsKept, IsSame, HasCauseIn}
+use Rattle.proxy_core.specs.Core.{IsMade, IsLeft, IsSettled, with_step}
 use Rattle.proxy_core.specs.declared.machine.Machine.{Machine}
+use Rattle.proxy_core.specs.declared.machine.Done.{Done}
 use Rattle.proxy_core.specs.declared.refused.Refused.{Refused}
-use Rattle.proxy_core.proofs.Turned.{left}
+use Rattle.proxy_core.proofs.Turned.{IsTurned, turned, left}
 
-pub if_made : (P : Answer → Type 0) (r : Result Answer Refused) (old new : Machine) (pass : ℕ) (event event' : Event) → event' ≡ event
-    → ((a : Answer) → P a → IsMade old new pass event a) → IfOk r P → IfOk r (λ a. IsMade old new pass event' a)
-if_made P (Ok a) old new pass event event' e f h = subst (λ (z : Event). IsMade old new pass z a) (sym e) (f a h)
-if_made P (Err r) old new pass event event' e f h = tt
+-- All that the event comes to was done but that its step was added, for which there is room.
+pub record Makes (old new : Machine) (event : Event) (done : Done) : Type 0 where
+  pub made : (pass : ℕ) → IsMade old (with_step new pass event done) pass event done.answer
+  pub room : new.journal.room ≡ Some done.bytes
 
-pub if_left : (r : Result Answer Refused) (old new : Machine) (event event' : Event) → event' ≡ event → IsKept old
-    → IfErr r (λ r. (r.event ≡ event) × IsSame old new × HasCauseIn old event r.cause) → IfErr r (λ r. IsLeft old new event' r)
-if_left (Ok a) old new event event' e kept h = tt
-if_left (Err r) old new event event' e kept h = subst (λ (z : Event). IsLeft old new z r) (sym e) (left old new event r kept h)
+-- what was done makes a step
+pub makes : (old new : Machine) (event : Event) (d : Done) (kept : Memory) → IsDone old new event d kept
+    → ((pass : ℕ) → IsTurned old (with_step new pass event d) pass event d.answer kept
+    → IsMade old (with_step new pass event d) pass event d.answer)
+    → Makes old new event d
+makes old new event d kept is f = record {
+  made = λ pass. f pass (turned old new pass event d kept is);
+  room = is.room;
+}
 
--- two facts about an answer
-pub both : (P Q : Answer → Type 0) (r : Result Answer Refused) → IfOk r P → IfOk r Q → IfOk r (λ a. P a × Q a)
-both P Q (Ok a) p q = (p, q)
-both P Q (Err r) p q = tt
+pub if_makes : (P : Done → Type 0) (r : Result Done Refusal) (old new : Machine) (event : Event)
+    → ((d : Done) → P d → Makes old new event d) → IfOk r P → IfOk r (λ d. Makes old new event d)
+if_makes P (Ok d) old new event f h = f d h
+if_makes P (Err r) old new event f h = tt
 
-pub all_three : (P Q R : Answer → Type 0) (r : Result Answer Refused) → IfOk r P → IfOk r Q → IfOk r R → IfOk r (λ a. P a × Q a × R a)
-all_three P Q R (Ok a) p q s = (p, q, s)
+pub has_room : (r : Result Done Refusal) (old new : Machine) (event : Event) → IfOk r (λ d. Makes old new event d)
+    → IfOk r (λ d. new.journal.room ≡ Some d.bytes)
+has_room r old new event h = IfOk-weaker r _ _ (λ d makes. makes.room) h
+
+settled_to : (done : Result Done Refusal) (old new after : Machine) (pass : ℕ) (event : Event) (a : Answer)
+    → IfOk done (λ d. Makes old new event d) → IsSettled new after pass event done a → IsMade old after pass event a
+settled_to done old new after pass event a h is =
+    let makes = subst (λ (z : Result Done Refusal). IfOk z (λ d. Makes old new event d)) is.is_done h in
+    subst (λ (m : Machine). IsMade old m pass event a) (sym is.step)
+    (subst (λ (z : Answer). IsMade old (with_step new pass event is.done) pass event z) (sym is.answer_is) (makes.made pass))
+
+pub if_made : (done : Result Done Refusal) (r : Result Answer Refused) (old new after : Machine) (pass : ℕ) (event event' : Event) → event' ≡ event
+    → IfOk done (λ d. Makes old new event d) → IfOk r (λ a. IsSettled new after pass event done a) → IfOk r (λ a. IsMade old after pass event' a)
+if_made done (Ok a) old new after pass event event' e h is =
+    subst (λ (z : Event). IsMade old after pass z a) (sym e) (settled_to done old new after pass event a h is)
+if_made done (Err r) old new after pass event event' e h is = tt
+
+pub if_left : (done : Result Done Refusal) (r : Result Answer Refused) (old new after : Machine) (event event' : Event) → event' ≡ event → IsKept old
+    → IfErr done (λ cause. IsSame old new × HasCauseIn old event cause)
+    → IfErr r (λ r. (r.event ≡ event) × (done ≡ Err r.cause) × (after ≡ new)) → IfErr r (λ r. IsLeft old after event' r)
+if_left done (Ok a) old new after event event' e kept h is = tt
+if_left done (Err r) old new after event event' e kept h is =
+    let cause = subst (λ (z : Result Done Refusal). IfErr z (λ cause. IsSame old new × HasCauseIn old event cause)) is.1 h in
+    subst (λ (z : Event). IsLeft old after z r) (sym e)
+    (subst (λ (m : Machine). IsLeft old m event r) (sym is.2) (left old new event r kept (is.0, cause.0, cause.1)))
+
+pub all_three : (P Q R : Done → Type 0) (r : Result Done Refusal) → IfOk r P → IfOk r Q → IfOk r R → IfOk r (λ d. P d × Q d × R d)
+all_three P Q R (Ok d) p q s = (p, q, s)
 all_three P Q R (Err r) p q s = tt
 
 -- a fact that doesn't depend on the answer
-pub if_ok : (P : Type 0) (r : Result Answer Refused) → OnOk r P → IfOk r (λ a. P)
-if_ok P (Ok a) p = p
+pub if_ok : (P : Type 0) (r : Result Done Refusal) → OnOk r P → IfOk r (λ d. P)
+if_ok P (Ok d) p = p
 if_ok P (Err r) p = tt

@@ -1,6 +1,6 @@
 -- What a history determines of its connections, and how an event changes it.
-use Rattle.std.specs.Prelude.{◌≡◌, ℕ, ◌+◌, Bool, true, false, ◌||◌, if◌then◌else◌, Option, Some, None, List, [], ◌∷◌, ◌++◌, map, drop, slice_get}
-use Rattle.std.specs.Option.{option_map}
+use Rattle.std.specs.Prelude.{◌≡◌, ℕ, ◌+◌, ◌-◌, ◌^◌, ◌<◌, length, Bool, true, false, ◌||◌, if◌then◌else◌, Option, Some, None, List, [], ◌∷◌, ◌++◌, map, drop, slice_get}
+use Rattle.std.specs.Option.{option_map, option_and_then}
 use Rattle.std.specs.List.{range_with_len}
 use Rattle.list_words.specs.Lists.{changed_at}
 use Rattle.resp_core.specs.Tree.{Tree}
@@ -9,7 +9,8 @@ use Rattle.splitter.specs.declared.plans.Join.TheVariants.{Same}
 use Rattle.splitter.specs.declared.request.Request.{Request}
 use Rattle.upstream_pipe.specs.declared.part.Owner.{Owner}
 use Rattle.reply_queue.specs.Command.{AwaitedCommand}
-use Rattle.reply_queue.specs.Queue.{QueueState, IsOpen, with_part, without_front}
+use Rattle.reply_queue.specs.Queue.{QueueState, IsOpen, front_reply, with_part, without_front}
+use Rattle.proxy_history.specs.Setting.{max_unwritten}
 use Rattle.proxy_history.specs.History.{opened, handed, requests, is_closed, is_finishing, plan_for}
 use Rattle.proxy_history.specs.Part.{Part, Past}
 use Rattle.proxy_history.specs.Value.{value_of}
@@ -34,6 +35,7 @@ abbrev pub queue_of : Past → ℕ → QueueState
 queue_of x c =
     let n = handed c x.steps in record { popped = n; commands = drop n (awaited_from x c 0 (requests c x.steps)) }
 
+-- what is kept of a connection, by its past
 abbrev pub connection_of : Past → ℕ → Option Connection
 connection_of x c = if is_closed c x.steps then None else Some (record { queue = queue_of x c; is_finishing = is_finishing c x.steps })
 
@@ -43,6 +45,7 @@ connections_of x = map (connection_of x) (range_with_len 0 (opened x.steps))
 
 -- CHANGES
 
+-- a connection to which nothing has happened
 abbrev pub fresh_connection : Connection
 fresh_connection = record { queue = record { popped = 0; commands = [] }; is_finishing = false }
 
@@ -50,6 +53,7 @@ fresh_connection = record { queue = record { popped = 0; commands = [] }; is_fin
 abbrev pub with_connection : (Connection → Connection) → ℕ → List (Option Connection) → List (Option Connection)
 with_connection change c connections = changed_at (option_map change) c connections
 
+-- a connection that takes nothing more
 abbrev pub finished : Connection → Connection
 finished k = record k { is_finishing = true }
 
@@ -66,12 +70,15 @@ arrived_command (here name value) placed = record { how = Same; values = Some va
 arrived_command (leave name value) placed = record { how = Same; values = Some value ∷ [] }
 arrived_command (parts how list) placed = record { how = how; values = map (λ (p : Part). p.local) placed }
 
+-- a connection whose oldest command is handed out
 abbrev pub handing : Connection → Connection
 handing k = record k { queue = without_front k.queue }
 
+-- the connections without the one that closes
 abbrev pub closing : ℕ → List (Option Connection) → List (Option Connection)
 closing c connections = changed_at (λ k. None) c connections
 
+-- a connection with a value in a part's place
 abbrev pub with_answer : Owner → Tree → Connection → Connection
 with_answer o v k = record k { queue = with_part o.command o.part v k.queue }
 
@@ -99,3 +106,43 @@ IsAwaitedIn (Some k) o = IsOpen k.queue o.command o.part
 abbrev pub AreAwaited : List Owner → Tree → List (Option Connection) → Type 0
 AreAwaited [] v connections = Unit {0}
 AreAwaited (o ∷ os) v connections = IsAwaited o connections × AreAwaited os v (answered_part o v connections)
+
+-- OF ONE
+
+-- the connection of this number, if it is open
+abbrev pub connection_at : ℕ → List (Option Connection) → Option Connection
+connection_at c connections = option_and_then (λ k. k) (slice_get connections c)
+
+-- whether a connection that is kept takes nothing more
+abbrev pub is_finishing_in : Option Connection → Bool
+is_finishing_in None = false
+is_finishing_in (Some k) = k.is_finishing
+
+-- how many commands are left of a connection that is kept
+abbrev pub left_in : Option Connection → ℕ
+left_in None = 0
+left_in (Some k) = length k.queue.commands
+
+-- the reply to the oldest command that isn't handed out
+abbrev pub reply_in : Option Connection → Option Tree
+reply_in None = None
+reply_in (Some k) = front_reply k.queue.commands
+
+-- there is a connection, which may take one more command
+pub record MayAccept (k : Option Connection) : Type 0 where
+  pub connection : Connection
+  pub is_open : k ≡ Some connection
+  pub left : length connection.queue.commands < max_unwritten
+  pub index : connection.queue.popped + length connection.queue.commands < 2 ^ 64 - 1
+
+-- the index of its next command
+abbrev pub next_index : Option Connection → ℕ
+next_index None = 0
+next_index (Some k) = k.queue.popped + length k.queue.commands
+
+-- THE TABLE
+
+-- the connections by their numbers, none in the place of one that is closed, and how many were closed
+pub record ConnectionTable : Type 0 where
+  pub numbered : List (Option Connection)
+  pub closed : ℕ

@@ -1,5 +1,5 @@
 -- A turn of the core.
-use Rattle.std.specs.Prelude.{◌≡◌, ℕ, List, [], ◌∷◌, Result, Ok, Err}
+use Rattle.std.specs.Prelude.{◌≡◌, ℕ, ◌+◌, List, [], ◌∷◌, ◌++◌, None, Result, Ok, Err}
 use Rattle.ejector.specs.State.{State}
 use Rattle.ejector.specs.Ejection.{state}
 use Rattle.proxy_history.specs.Setting.{Setting}
@@ -13,6 +13,7 @@ use Rattle.proxy_history.specs.declared.answer.Answer.{Answer}
 use Rattle.proxy_history.specs.declared.event.Event.{Event}
 use Rattle.proxy_core.specs.Machine.{setting_in, history_in, IsKept}
 use Rattle.proxy_core.specs.declared.machine.Machine.{Machine}
+use Rattle.proxy_core.specs.declared.machine.Done.{Done}
 use Rattle.proxy_core.specs.declared.refused.Refused.{Refused}
 
 -- A step of this pass, event and answer was added, which may come next, and what is kept is what the new history determines.
@@ -21,6 +22,23 @@ pub record IsMade (old new : Machine) (pass : ℕ) (event : Event) (answer : Ans
   pub history : history_in new ≡ (record { pass = pass; event = event; answer = answer }) ∷ history_in old
   pub setting : setting_in new ≡ setting_in old
   pub is_kept : IsKept new
+
+-- the machine with the step of an event that was done
+abbrev pub with_step : Machine → ℕ → Event → Done → Machine
+with_step m pass event done = record m {
+  journal = record {
+    steps = m.journal.steps ++ (record { pass = pass; event = event; answer = done.recorded }) ∷ [];
+    bytes = m.journal.bytes + done.bytes;
+    room = None;
+  };
+}
+
+-- The step of an event that was done was added, and this is answered.
+pub record IsSettled (old new : Machine) (pass : ℕ) (event : Event) (result : Result Done Refusal) (answer : Answer) : Type 0 where
+  pub done : Done
+  pub is_done : result ≡ Ok done
+  pub answer_is : answer ≡ done.answer
+  pub step : new ≡ with_step old pass event done
 
 -- The event was refused with its cause: no step was added, and what is kept is what the history determines.
 pub record IsLeft (old new : Machine) (event : Event) (r : Refused) : Type 0 where

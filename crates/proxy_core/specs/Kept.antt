@@ -19,6 +19,7 @@ pub record Memory : Type 0 where
   pub pipelines : List PipelineState
   pub hosts : State
 
+-- what is kept, by the history
 abbrev pub memory_of : Setting → History → Memory
 memory_of S H = let x = past S H in record {
   bytes = payload H;

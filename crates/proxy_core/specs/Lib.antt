@@ -1,5 +1,6 @@
 pub mod Connections
 pub mod Pipelines
+pub mod Places
 pub mod Kept
 pub mod Machine
 pub mod Arrivals

@@ -1,47 +1,41 @@
 -- What a turn does with what the core keeps.
-use Rattle.std.specs.Prelude.{◌≡◌, ◌+◌, ◌-◌, ℕ, Bool, false, not, ◌==◌, ◌&&◌, nat_le, if◌then◌else◌, Option, Some, None, List, [], ◌∷◌, ◌++◌, length, map, reverse, slice_get, is_some, is_none}
-use Rattle.std.specs.Option.{option_and_then, unwrap_or}
-use Rattle.resp_core.specs.Tree.{Tree, is_plain_tree, null_bulk}
+use Rattle.std.specs.Prelude.{◌≡◌, ◌+◌, ◌-◌, ℕ, Option, Some, None, List, [], length, reverse, is_some}
+use Rattle.std.specs.Option.{unwrap_or}
+use Rattle.resp_core.specs.Tree.{null_bulk}
 use Rattle.resp_core.specs.Text.{text}
-use Rattle.resp_core.specs.Value.{tree_of}
-use Rattle.upstream_pipe.specs.declared.part.Part.{Part as PipePart}
-use Rattle.reply_queue.specs.Queue.{front_reply}
 use Rattle.journal_core.specs.Journal.{IsFull}
 use Rattle.ejector.specs.Settings.{first_fault}
-use Rattle.ejector.specs.State.{State}
 use Rattle.ejector.specs.Opening.{IsOpening}
-use Rattle.ejector.specs.declared.settings.Rules.{Rules}
 use Rattle.ejector.specs.declared.mark.Mark.{Mark}
-use Rattle.ejector.specs.declared.mark.Mark.TheVariants.{Bad}
-use Rattle.ejector.specs.declared.answer.Trip.{Trip}
-use Rattle.ejector.specs.declared.answer.Trip.TheVariants as trips
-use Rattle.ejector.specs.Ejection.{trip}
-use Rattle.proxy_history.specs.Setting.{Setting, hosts, max_connections, max_unwritten}
+use Rattle.proxy_history.specs.Setting.{Setting, hosts}
 use Rattle.proxy_history.specs.History.{History}
 use Rattle.proxy_history.specs.Legal.{IsLegal}
-use Rattle.proxy_history.specs.Cause.{first_true}
+use Rattle.proxy_history.specs.Marks.{mark_of_fault}
+use Rattle.proxy_history.specs.Cause.{Grounds, first_true, causes_by}
 use Rattle.proxy_history.specs.Payload.{length_of_event}
-use Rattle.proxy_history.specs.declared.answer.Answer.{Answer}
 use Rattle.proxy_history.specs.declared.event.Event.{Event}
-use Rattle.proxy_history.specs.declared.event.Event.TheVariants.{Opened, Arrived, Finished, Taken, Answered, Failed, Swept, Handed, Closed}
+use Rattle.proxy_history.specs.declared.event.Event.TheVariants.{Taken, Handed}
 use Rattle.proxy_history.specs.declared.event.Kind.{Kind}
-use Rattle.proxy_history.specs.declared.event.Kind.TheVariants.{Refused, Dropped, Late, Garbled}
 use Rattle.proxy_history.specs.declared.refusal.Refusal.{Refusal}
 use Rattle.proxy_history.specs.declared.refusal.Refusal.TheVariants as refusal
-use Rattle.proxy_core.specs.Pipelines.{PipelineState, state_of}
+use Rattle.proxy_core.specs.Connections.{connection_at, is_finishing_in, left_in, reply_in}
+use Rattle.proxy_core.specs.Pipelines.{PipelineState, pipeline_at, text_of_oldest}
 use Rattle.proxy_core.specs.Kept.{Memory, memory_of}
 use Rattle.proxy_core.specs.declared.connection.Connection.{Connection}
 use Rattle.proxy_core.specs.declared.machine.Machine.{Machine}
+use Rattle.proxy_core.specs.declared.machine.Done.{Done}
 
+-- the setting of a machine
 abbrev pub setting_in : Machine → Setting
 setting_in m = record { ring = m.ring; rules = m.ejector.rules; opening = m.opening.value.state }
 
+-- what a machine keeps
 abbrev pub memory_in : Machine → Memory
 memory_in m = record {
   bytes = m.journal.bytes;
-  connections = m.connections.items;
-  closed = m.closed;
-  pipelines = map state_of m.pipelines.items;
+  connections = m.connections.numbered;
+  closed = m.connections.closed;
+  pipelines = m.pipelines.states;
   hosts = m.ejector.state;
 }
 
@@ -58,87 +52,33 @@ pub record IsKept (m : Machine) : Type 0 where
   pub rules : first_fault m.ejector.rules ≡ None
   pub opening : IsOpening m.ejector.rules m.opening.value.state
 
--- the connection of this number, if it is open
-abbrev pub connection_at : ℕ → List (Option Connection) → Option Connection
-connection_at c connections = option_and_then (λ k. k) (slice_get connections c)
-
-abbrev pub no_pipeline : PipelineState
-no_pipeline = record { waiting = []; flying = []; epoch = 0; taken = 0 }
-
-abbrev pub pipeline_at : ℕ → List PipelineState → PipelineState
-pipeline_at h pipelines = unwrap_or (slice_get pipelines h) no_pipeline
-
 -- CAUSES
 
-abbrev pub is_finishing_in : Option Connection → Bool
-is_finishing_in None = false
-is_finishing_in (Some k) = k.is_finishing
+-- what decides whether an event is refused, read off what is kept
+abbrev pub grounds_in : Setting → Memory → Grounds
+grounds_in S m = record {
+  open_count = length m.connections - m.closed;
+  is_open = λ c. is_some (connection_at c m.connections);
+  is_finishing = λ c. is_finishing_in (connection_at c m.connections);
+  left = λ c. left_in (connection_at c m.connections);
+  is_ready = λ c. is_some (reply_in (connection_at c m.connections));
+  hosts = hosts S;
+  waiting = λ h. length (pipeline_at h m.pipelines).waiting;
+  flying = λ h. length (pipeline_at h m.pipelines).flying;
+  epoch = λ h. (pipeline_at h m.pipelines).epoch;
+}
 
-abbrev pub left_in : Option Connection → ℕ
-left_in None = 0
-left_in (Some k) = length k.queue.commands
-
--- the reply to the oldest command that isn't handed out
-abbrev pub reply_in : Option Connection → Option Tree
-reply_in None = None
-reply_in (Some k) = front_reply k.queue.commands
-
-abbrev pub no_such_connection_in : Option Connection → Bool × Refusal
-no_such_connection_in k = (is_none k, refusal.NoSuchConnection)
-
-abbrev pub finishing_in : Option Connection → Bool × Refusal
-finishing_in k = (is_finishing_in k, refusal.Finishing)
-
-abbrev pub no_such_host_in : Setting → ℕ → Bool × Refusal
-no_such_host_in S h = (nat_le (hosts S) h, refusal.NoSuchHost)
-
-abbrev pub stale_in : PipelineState → ℕ → Bool × Refusal
-stale_in p e = (not (e == p.epoch), refusal.Stale p.epoch)
-
--- the causes of an event's own, read off what is kept
-abbrev pub causes_in : Setting → Memory → Event → List (Bool × Refusal)
-causes_in S m Opened = (nat_le max_connections (length m.connections - m.closed), refusal.TooManyConnections) ∷ []
-causes_in S m (Arrived conn request) =
-    let k = connection_at conn m.connections in
-    no_such_connection_in k ∷ finishing_in k ∷ (nat_le max_unwritten (left_in k), refusal.Crowded) ∷ []
-causes_in S m (Finished conn) = let k = connection_at conn m.connections in no_such_connection_in k ∷ finishing_in k ∷ []
-causes_in S m (Taken host) = no_such_host_in S host ∷ (length (pipeline_at host m.pipelines).waiting == 0, refusal.NothingWaiting) ∷ []
-causes_in S m (Answered host e value t) =
-    let p = pipeline_at host m.pipelines in
-    no_such_host_in S host ∷ (not (is_plain_tree (tree_of value)), refusal.NotPlain) ∷ stale_in p e ∷ (length p.flying == 0, refusal.Unasked) ∷ []
-causes_in S m (Failed host e kind t) = no_such_host_in S host ∷ stale_in (pipeline_at host m.pipelines) e ∷ []
-causes_in S m (Swept t) = []
-causes_in S m (Handed conn) =
-    let k = connection_at conn m.connections in
-    no_such_connection_in k ∷ (not (is_some (reply_in k)), refusal.NotReady (left_in k)) ∷ []
-causes_in S m (Closed conn) = no_such_connection_in (connection_at conn m.connections) ∷ []
-
+-- the first cause of an event's own that holds
 abbrev pub own_cause_in : Setting → Memory → Event → Option Refusal
-own_cause_in S m event = first_true (causes_in S m event)
+own_cause_in S m event = first_true (causes_by (grounds_in S m) event)
 
 -- RESULTS
 
--- a link that ends while its host has nothing to do is no fault of the host
-abbrev pub is_excused_in : PipelineState → Kind → Bool
-is_excused_in p Refused = false
-is_excused_in p Dropped = (length p.waiting == 0) && (length p.flying == 0)
-is_excused_in p Late = false
-is_excused_in p Garbled = false
-
 -- the mark of a fault, if it is one
 abbrev pub fault_mark : PipelineState → ℕ → Kind → ℕ → List Mark
-fault_mark p host kind t = if is_excused_in p kind then [] else Bad host t ∷ []
-
--- what the newest of these marks does after the others, if there is one
-abbrev pub trip_by : Rules → State → List Mark → List Mark → Trip
-trip_by rules O [] marks = trips.None
-trip_by rules O (m ∷ _) marks = trip rules O m marks
+fault_mark p host kind t = mark_of_fault (length p.waiting) (length p.flying) host kind t
 
 -- PAYLOAD
-
-abbrev pub text_of_oldest : List PipePart → List ℕ
-text_of_oldest [] = []
-text_of_oldest (p ∷ ps) = p.text
 
 -- the text of the reply that is handed out next
 abbrev pub reply_text : Option Connection → List ℕ
@@ -155,14 +95,6 @@ abbrev pub payload_in : Memory → Event → ℕ
 payload_in m event = length_of_event event + length (text_in m event)
 
 -- TURNS
-
--- A step of this pass, event and answer was added, and this is what is kept now beside it.
-pub record IsTurned (old new : Machine) (pass : ℕ) (event : Event) (answer : Answer) (kept : Memory) : Type 0 where
-  pub has_no_cause : own_cause_in (setting_in old) (memory_in old) event ≡ None
-  pub has_room : IsFull old.journal (payload_in (memory_in old) event) → ⊥
-  pub setting : setting_in new ≡ setting_in old
-  pub steps : new.journal.steps ≡ old.journal.steps ++ (record { pass = pass; event = event; answer = answer }) ∷ []
-  pub memory : memory_in new ≡ record kept { bytes = old.journal.bytes + payload_in (memory_in old) event }
 
 -- Nothing that counts has changed.
 pub record IsSame (old new : Machine) : Type 0 where
@@ -188,3 +120,14 @@ HasCauseIn m event refusal.NoMemory = (own_cause_in (setting_in m) (memory_in m)
 HasCauseIn m event refusal.JournalFull =
     (own_cause_in (setting_in m) (memory_in m) event ≡ None) × IsFull m.journal (payload_in (memory_in m) event)
 HasCauseIn m event r = own_cause_in (setting_in m) (memory_in m) event ≡ Some r
+
+-- All that the event comes to was done, but that its step was added, for which there is room: this is what is kept now.
+pub record IsDone (old new : Machine) (event : Event) (done : Done) (kept : Memory) : Type 0 where
+  pub has_no_cause : own_cause_in (setting_in old) (memory_in old) event ≡ None
+  pub has_room : IsFull old.journal (payload_in (memory_in old) event) → ⊥
+  pub room : new.journal.room ≡ Some done.bytes
+  pub recorded : done.recorded ≡ done.answer
+  pub bytes : done.bytes ≡ payload_in (memory_in old) event
+  pub setting : setting_in new ≡ setting_in old
+  pub steps : new.journal.steps ≡ old.journal.steps
+  pub memory : memory_in new ≡ record kept { bytes = old.journal.bytes }

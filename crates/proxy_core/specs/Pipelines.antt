@@ -1,5 +1,5 @@
 -- What a history determines of the pipelines to its hosts, and how an event changes it.
-use Rattle.std.specs.Prelude.{ℕ, ◌+◌, if◌then◌else◌, Option, Some, None, List, [], ◌∷◌, ◌++◌, map, drop, filter, filter_map, length, is_none}
+use Rattle.std.specs.Prelude.{ℕ, ◌+◌, ◌<◌, ◌≤◌, get_or, if◌then◌else◌, Option, Some, None, List, [], ◌∷◌, ◌++◌, map, drop, filter, filter_map, length, is_none, unwrap_or, slice_get}
 use Rattle.std.specs.List.{range_with_len}
 use Rattle.list_words.specs.Lists.{changed_at}
 use Rattle.upstream_pipe.specs.declared.part.Owner.{Owner}
@@ -19,11 +19,13 @@ pub record PipelineState : Type 0 where
   pub epoch : ℕ
   pub taken : ℕ
 
+-- what contracts see of a pipeline
 abbrev pub state_of : Pipeline → PipelineState
 state_of p = record { waiting = p.pipe.waiting; flying = p.pipe.flying; epoch = p.pipe.epoch; taken = p.taken }
 
 -- OF A HISTORY
 
+-- whose a part is
 abbrev pub owner_of_part : Part → Owner
 owner_of_part p = record { conn = p.conn; command = p.command; part = p.number }
 
@@ -35,6 +37,7 @@ piped p = record { owner = owner_of_part p; text = p.text }
 abbrev pub place_of : Past → Part → Option Owner
 place_of x p = if is_closed p.conn x.steps then None else Some (owner_of_part p)
 
+-- what is kept of a host, by its past
 abbrev pub pipeline_of : Past → ℕ → PipelineState
 pipeline_of x h = let e = epoch h x.steps in record {
   waiting = map piped (waiting h x);
@@ -43,6 +46,7 @@ pipeline_of x h = let e = epoch h x.steps in record {
   taken = length (sent_to h e x);
 }
 
+-- what is kept of all hosts, by their past
 abbrev pub pipelines_of : Setting → Past → List PipelineState
 pipelines_of S x = map (pipeline_of x) (range_with_len 0 (hosts S))
 
@@ -52,14 +56,20 @@ pipelines_of S x = map (pipeline_of x) (range_with_len 0 (hosts S))
 abbrev pub with_pipeline : (PipelineState → PipelineState) → ℕ → List PipelineState → List PipelineState
 with_pipeline change h pipelines = changed_at change h pipelines
 
+-- one part more waits
+abbrev pub with_waiting : PipePart → PipelineState → PipelineState
+with_waiting part q = record q { waiting = q.waiting ++ part ∷ [] }
+
 -- a part that was placed waits for its host, if it has one and got no value at once
 abbrev pub pushed_to : Option ℕ → Part → List PipelineState → List PipelineState
 pushed_to None p pipelines = pipelines
-pushed_to (Some h) p pipelines = with_pipeline (λ (q : PipelineState). record q { waiting = q.waiting ++ piped p ∷ [] }) h pipelines
+pushed_to (Some h) p pipelines = with_pipeline (with_waiting (piped p)) h pipelines
 
+-- the pipelines with a part that waits
 abbrev pub pushed_part : Part → List PipelineState → List PipelineState
 pushed_part p pipelines = if is_none p.local then pushed_to p.host p pipelines else pipelines
 
+-- the pipelines with some parts that wait
 abbrev pub pushed_parts : List Part → List PipelineState → List PipelineState
 pushed_parts [] pipelines = pipelines
 pushed_parts (p ∷ ps) pipelines = pushed_parts ps (pushed_part p pipelines)
@@ -69,6 +79,7 @@ abbrev pub flying_of : List PipePart → List (Option Owner)
 flying_of [] = []
 flying_of (p ∷ ps) = Some p.owner ∷ []
 
+-- a pipeline whose oldest part is sent
 abbrev pub taken_from : PipelineState → PipelineState
 taken_from p = record {
   waiting = drop 1 p.waiting;
@@ -98,3 +109,37 @@ lost_owners p = filter_map (λ o. o) p.flying ++ map owner_in p.waiting
 -- a connection is closed
 abbrev pub without_connection : ℕ → PipelineState → PipelineState
 without_connection c p = record p { waiting = filter (is_kept c) p.waiting; flying = map (forgotten c) p.flying }
+
+-- OF ONE
+
+-- a pipeline to which nothing has happened
+abbrev pub no_pipeline : PipelineState
+no_pipeline = record { waiting = []; flying = []; epoch = 0; taken = 0 }
+
+-- the pipeline of a host
+abbrev pub pipeline_at : ℕ → List PipelineState → PipelineState
+pipeline_at h pipelines = unwrap_or (slice_get pipelines h) no_pipeline
+
+-- the text of the oldest part
+abbrev pub text_of_oldest : List PipePart → List ℕ
+text_of_oldest [] = []
+text_of_oldest (p ∷ ps) = p.text
+
+-- THE TABLE
+
+-- the pipelines by the numbers of their hosts, and for how many more parts each has room
+pub record PipelineTable : Type 0 where
+  pub states : List PipelineState
+  pub room : List ℕ
+
+-- for how many more parts a pipeline has room
+abbrev pub room_of : Pipeline → ℕ
+room_of p = p.pipe.room
+
+-- the table that some pipelines are
+abbrev pub table_of : List Pipeline → PipelineTable
+table_of ps = record { states = map state_of ps; room = map room_of ps }
+
+-- the first so many hosts have room for as many parts more as are counted for them
+abbrev pub HasRooms : List ℕ → ℕ → PipelineTable → Type 0
+HasRooms counts n table = (h : ℕ) → h < n → get_or counts h 0 ≤ get_or table.room h 0

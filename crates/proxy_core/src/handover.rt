@@ -1,6 +1,7 @@
 //! What one core hands over to another.
-ghost use Rattle.std.specs.Prelude.{◌≡◌};
+ghost use Rattle.std.specs.Prelude.{◌≡◌, ◌<◌};
 ghost use Rattle.ejector.specs.Opening.{IsOpening};
+ghost use Rattle.ejector.specs.State.{is_out};
 
 use ejector::{EjectState, Rules};
 use std::marker::Model;
@@ -56,6 +57,14 @@ impl Handover {
         ensures opening { IsOpening self.now.detection.rules self.now.detection.state }
     {
         self.detection.rules()
+    }
+
+    /// Whether the host is put aside.
+    pub fn is_out(&self, host: usize) -> bool
+        requires { host < self.now.detection.rules.hosts }
+        ensures { result ≡ is_out self.now.detection.state host }
+    {
+        self.detection.is_out(host)
     }
 
     /// Where outlier detection stands.

@@ -6,26 +6,30 @@
 //! it keeps is what the history determines (`specs/Kept`). It never looks at its journal to answer.
 #![tactic(auto)]
 
-mod answering;
-mod arrival;
+mod answered;
+mod arrived;
+mod closed;
 mod connection;
-mod failing;
-mod handing;
+mod connections;
+mod failed;
+mod finished;
+mod handed;
 mod handover;
+mod local;
 mod machine;
-mod opening;
+mod opened;
 mod pipeline;
+mod pipelines;
 mod place;
 mod refused;
-mod sending;
-mod sweeping;
-mod turns;
+mod swept;
+mod taken;
 mod worker;
 
 pub use ejector::{Field, Settings, Trip};
 pub use handover::Handover;
 pub use journal_core::{Journal, Step};
+pub use machine::Core;
 pub use proxy_history::{Answer, Event, Kind, Local, Refusal, Request};
 pub use refused::Refused;
-pub use turns::Core;
 pub use worker::CoreTurns;

@@ -2,10 +2,11 @@
 ghost use Rattle.std.specs.Prelude.{◌≡◌, ◌<◌, Some, None, length, map, count_by, IfSome};
 ghost use Rattle.std.specs.Option.{option_map};
 ghost use Rattle.resp_core.specs.Value.{tree_of};
-ghost use Rattle.proxy_core.specs.Arrivals.{answer_of, is_too_many, is_without_host, next_place, counted_at, value_at};
-ghost use Rattle.proxy_core.specs.Pipelines.{state_of};
+ghost use Rattle.proxy_core.specs.Places.{is_too_many, is_without_host, next_place, counted_at, value_at};
+ghost use Rattle.proxy_core.specs.Arrivals.{answer_of};
 
-use crate::pipeline::Pipeline;
+use crate::local::{no_upstream_host, proxy_busy};
+use crate::pipelines::Pipelines;
 use bytes::Bytes;
 use proxy_history::Answer;
 use resp_core::Value;
@@ -28,12 +29,11 @@ impl Place {
     pub(crate) fn value(self) -> Option<Value>
         ensures { option_map tree_of result ≡ value_at self }
     {
-        let text: &'static [u8] = match self {
-            Place::Waits(_) => return None,
-            Place::NoHost => b"no upstream host",
-            Place::Busy => b"proxy busy",
-        };
-        Some(Value::Fault(Bytes::from_static(text)))
+        match self {
+            Place::Waits(_) => None,
+            Place::NoHost => Some(no_upstream_host()),
+            Place::Busy => Some(proxy_busy()),
+        }
     }
 
     fn is_without_host(self) -> bool
@@ -76,7 +76,14 @@ pub(crate) struct Accepted {
 impl Accepted {
     /// A command that the proxy answers itself.
     pub(crate) fn own(index: u64, name: Local) -> Accepted
-        ensures { result ≡ record { index = index; local = Some name; parts = 0; no_host = 0; busy = 0 } }
+        ensures { result ≡ record {
+          index = index;
+          local = Some name;
+          parts = 0;
+          no_host = 0;
+          busy =
+              0;
+        } }
     {
         Accepted {
             index,
@@ -142,17 +149,17 @@ fn too_many(placed: &[Placed]) -> u64
 
 /// The place of the next part, whose key has this host. `counts` has for each host how many parts of the command wait for
 /// it, and is brought up to date.
-pub(crate) fn next_place(pipelines: &[Pipeline], counts: &mut [usize], host: Option<usize>) -> Place
-    requires hosts { length counts.old ≡ length pipelines.now }
-    requires host { IfSome host (λ h. h < length pipelines.now) }
-    ensures place { result ≡ next_place (map state_of pipelines.now) counts.old host }
+pub(crate) fn next_place(pipelines: &Pipelines, counts: &mut [u16], host: Option<usize>) -> Place
+    requires hosts { length counts.old ≡ length pipelines.now.states }
+    requires host { IfSome host (λ h. h < length pipelines.now.states) }
+    ensures place { result ≡ next_place pipelines.now.states counts.old host }
     ensures counts { counts.new ≡ counted_at result counts.old }
 {
     let Some(host) = host else {
         return Place::NoHost;
     };
-    let waiting = pipelines[host].pipe.waiting();
-    if waiting.saturating_add(counts[host]) >= MAX_WAITING {
+    let waiting = pipelines.waiting(host);
+    if waiting.saturating_add(usize::from(counts[host])) >= MAX_WAITING {
         return Place::Busy;
     }
     counts[host] += 1;

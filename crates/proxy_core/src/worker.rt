@@ -1,7 +1,7 @@
 //! What a worker needs of a state on which it makes turns of the core.
 ghost use Rattle.proxy_core.specs.CoreTurns.{AnswersFit, AreFewSteps, AreHistories, EpochsArePresent, FinishingTakesNothing, OpeningsAreNew, RefusalsMean};
 
-use crate::turns::Core;
+use crate::machine::Core;
 use ejector::EjectState;
 use ketama::Ring;
 use proxy_history::{Answer, Event, Refusal};

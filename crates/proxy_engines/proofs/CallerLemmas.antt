@@ -9,3 +9,5 @@ pub use Rattle.proxy_engines.proofs.OtherLemmas.{clients_leave_others, hosts_lea
 pub use Rattle.proxy_engines.proofs.ClientLemmas.{accepted_are_first}
 -- a client that ended has accepted all, handed all out and written all
 pub use Rattle.proxy_engines.proofs.ClientLemmas.{ended_is_whole}
+-- what engines hold may go to another thread
+pub use Rattle.proxy_engines.proofs.Crosses.{bytes_send, reader_send, request_send}

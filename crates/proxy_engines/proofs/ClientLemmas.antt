@@ -62,14 +62,14 @@ accepted_are_first e H taken b k rs are = accepted_first e H taken b k rs are
 
 pub ended_is_whole : EndedIsWhole
 ended_is_whole e H taken b k is rs are =
-    let at : IsFinished (asked e.conn H) e.inbox e.next b k.given × IsDone e H = subst (λ (z : Stage). IsAtStage z (IsDone e H) (asked e.conn H) e.inbox e.next b k.given) is k.stage_is in
+    let at : IsFinished (asked e.conn H) e.is_drained e.inbox e.next b k.given × IsDone e H = subst (λ (z : Stage). IsAtStage z (IsDone e H) (asked e.conn H) e.is_drained e.inbox e.next b k.given) is k.stage_is in
     record {
       accepted_are = by at.0;
       all_handed = sym k.handed_is ∙ sym at.1.all_handed ∙ k.accepted_is;
       taken_is = sym (append-nil taken) ∙ rw at.1.all_written at k.out_is;
     }
   where
-    by : IsFinished (asked e.conn H) e.inbox e.next b k.given → asked e.conn H ≡ up_to_last rs
+    by : IsFinished (asked e.conn H) e.is_drained e.inbox e.next b k.given → asked e.conn H ≡ up_to_last rs
     by (inl stays) =
         let given : k.given ≡ asked e.conn H = k.given_are ∙ rw stays.1.none_waits (append-nil (asked e.conn H)) in
         let all : AreRequests b k.given = rw k.most_is at stays.1.all in

@@ -1,7 +1,7 @@
 -- What a client's engine carries over each of its moves.
-use Rattle.std.proofs.Common.{◌≡◌, ◌∙◌, ◌≤◌, ◌+◌, ◌-◌, ◌^◌, ◌==◌, min, ℕ, Bool, true, false, List, [], ◌∷◌, ◌++◌, Option, Some, None, map, ap, append_assoc, append-nil, length, refl, sym, arith, inl, inr, subst, eq-eqb}
+use Rattle.std.proofs.Common.{◌≡◌, ◌≢◌, ◌∙◌, ◌≤◌, ◌+◌, ◌-◌, ◌^◌, ◌==◌, min, ℕ, Bool, true, false, List, [], ◌∷◌, ◌++◌, Option, Some, None, map, ap, append_assoc, append-nil, length, refl, sym, arith, inl, inr, subst, eq-eqb}
 use Rattle.std.specs.Prelude.{IfSome, IfNone, ◌||◌}
-use Rattle.std.specs.Io.KnownBytes.{Consumes, Appends, IsAtEnd}
+use Rattle.std.specs.Io.KnownBytes.{Consumes, Appends}
 use Rattle.std.proofs.lemmas.List.{map-append}
 use Rattle.std.proofs.lemmas.List.Elements.{filter-append}
 use Rattle.resp_core.specs.declared.reader.TheConstants.{CLIENT_MEMBERS}
@@ -20,7 +20,7 @@ use Rattle.proxy_history.specs.declared.answer.Answer.{Answer}
 use Rattle.proxy_history.proofs.CallerLemmas as history
 use Rattle.proxy_engines.specs.Ends.{Sending, Sends, Receiving, Holds, HasGivenAll}
 use Rattle.proxy_engines.specs.Turned.{step_by}
-use Rattle.proxy_engines.specs.Client.{Client, Carries, Goes, IsAtStage, IsDone, IsLive, NoneFinishes, asked, waiting}
+use Rattle.proxy_engines.specs.Client.{Client, Carries, Goes, IsAllRead, IsAtStage, IsDone, IsFinished, IsLive, IsOver, NoneFinishes, asked, waiting}
 use Rattle.proxy_engines.specs.Moves.{has_moved, AsTold}
 use Rattle.proxy_engines.proofs.MoveLemmas.{has_moved-append}
 use Rattle.proxy_engines.specs.declared.client.Stage.{Stage}
@@ -47,18 +47,23 @@ Appends-append (Some xs) None c g h x y = absurd x
 Appends-append (Some xs) (Some ys) None g h x y = absurd y
 Appends-append (Some xs) (Some ys) (Some zs) g h x y = grind (arith, append_assoc)
 
+true_not_false : true ≢ false
+true_not_false same = absurd cc
+
 -- MOVES
 
 -- no bytes, and one step of the connection
-turn_goes : (old new : Client) (H : History) (s : Step) → is_connection_step old.conn s.event s.answer ≡ true → new.conn ≡ old.conn → new.inbox.left ≡ old.inbox.left → new.outbox.held ≡ old.outbox.held
+turn_goes : (old new : Client) (H : History) (s : Step) → is_connection_step old.conn s.event s.answer ≡ true → new.conn ≡ old.conn → new.is_drained ≡ old.is_drained → new.inbox.left ≡ old.inbox.left → new.inbox.counts ≡ old.inbox.counts → new.outbox.held ≡ old.outbox.held
     → ((taken b : List ℕ) → Carries old H taken b → Carries new (s ∷ H) taken b) → Goes old new H (s ∷ H) true
-turn_goes old new H s mine conn left held f = record {
+turn_goes old new H s mine conn drained left counts held f = record {
   got = [];
   gave = [];
   steps = s ∷ [];
   reads = rw left (Consumes-none old.inbox.left);
   writes = rw held (Appends-none old.outbox.held);
   conn = conn;
+  drained = drained;
+  unread = λ _. record { none = refl; left = left; counts = counts };
   adds = refl;
   moved_is = refl;
   alone = rw mine refl;
@@ -66,15 +71,17 @@ turn_goes old new H s mine conn left held f = record {
 }
 
 -- no bytes, and no step
-still_goes : (old new : Client) (H : History) → new.conn ≡ old.conn → new.inbox.left ≡ old.inbox.left → new.outbox.held ≡ old.outbox.held
+still_goes : (old new : Client) (H : History) → new.conn ≡ old.conn → new.is_drained ≡ old.is_drained → new.inbox.left ≡ old.inbox.left → new.inbox.counts ≡ old.inbox.counts → new.outbox.held ≡ old.outbox.held
     → ((taken b : List ℕ) → Carries old H taken b → Carries new H taken b) → Goes old new H H false
-still_goes old new H conn left held f = record {
+still_goes old new H conn drained left counts held f = record {
   got = [];
   gave = [];
   steps = [];
   reads = rw left (Consumes-none old.inbox.left);
   writes = rw held (Appends-none old.outbox.held);
   conn = conn;
+  drained = drained;
+  unread = λ _. record { none = refl; left = left; counts = counts };
   adds = refl;
   moved_is = refl;
   alone = refl;
@@ -83,7 +90,7 @@ still_goes old new H conn left held f = record {
 
 -- nothing at all
 pub same_goes : (e : Client) (H H' : History) → H' ≡ H → Goes e e H H' false
-same_goes e H H' same = rw same (still_goes e e H refl refl refl (λ taken b k. k))
+same_goes e H H' same = rw same (still_goes e e H refl refl refl refl refl (λ taken b k. k))
 
 -- two moves after one another
 pub goes_then : (a b c : Client) (x y z : History) (m n : Bool) → Goes a b x y m → Goes b c y z n → Goes a c x z (m || n)
@@ -94,6 +101,8 @@ goes_then a b c x y z m n p q = record {
   reads = Consumes-append a.inbox.left b.inbox.left c.inbox.left p.got q.got p.reads q.reads;
   writes = Appends-append a.outbox.held b.outbox.held c.outbox.held p.gave q.gave p.writes q.writes;
   conn = q.conn ∙ p.conn;
+  drained = q.drained ∙ p.drained;
+  unread = λ d. let first = p.unread d in let second = q.unread (p.drained ∙ d) in record { none = rw (first.none, second.none) refl; left = second.left ∙ first.left; counts = second.counts ∙ first.counts };
   adds = rw (q.adds, p.adds) (sym (append_assoc q.steps p.steps x));
   moved_is = ap (λ w. w || n) p.moved_is
       ∙ ap (λ w. has_moved p.got p.gave p.steps || w) q.moved_is
@@ -111,20 +120,25 @@ pub told_then : (a b c : Client) (x y z : History) (told : Option Bool) → Goes
 told_then a b c x y z None p q = goes_some a b c x y z false q.0 p q.1
 told_then a b c x y z (Some n) p q = goes_then a b c x y z false n p q
 
+-- whatever was told of the second
+pub goes_told : (a b c : Client) (x y z : History) (told : Option Bool) → AsTold (Goes a b x y) None → AsTold (Goes b c y z) told → AsTold (Goes a c x z) None
+goes_told a b c x y z None p q = goes_some a b c x y z p.0 q.0 p.1 q.1
+goes_told a b c x y z (Some n) p q = goes_some a b c x y z p.0 n p.1 q
+
 -- STAGES
 
 stage_at : (s : Stage) (e : Client) (H : History) (b : List ℕ) (given : List Request) → e.stage ≡ s
-    → IsAtStage e.stage (IsDone e H) (asked e.conn H) e.inbox e.next b given → IsAtStage s (IsDone e H) (asked e.conn H) e.inbox e.next b given
-stage_at s e H b given is at = subst (λ (z : Stage). IsAtStage z (IsDone e H) (asked e.conn H) e.inbox e.next b given) is at
+    → IsAtStage e.stage (IsDone e H) (asked e.conn H) e.is_drained e.inbox e.next b given → IsAtStage s (IsDone e H) (asked e.conn H) e.is_drained e.inbox e.next b given
+stage_at s e H b given is at = subst (λ (z : Stage). IsAtStage z (IsDone e H) (asked e.conn H) e.is_drained e.inbox e.next b given) is at
 
 -- a live stage doesn't look at whether all is done
-live_stage : (s : Stage) (D E : Type 0) (asks : List Request) (i : Receiving) (next : Option Request') (b : List ℕ) (given : List Request) → IsLive s
-    → IsAtStage s D asks i next b given → IsAtStage s E asks i next b given
-live_stage Stage.Open D E asks i next b given live at = at
-live_stage Stage.AtEnd D E asks i next b given live at = at
-live_stage Stage.Finishing D E asks i next b given live at = at
-live_stage Stage.Failed D E asks i next b given live at = absurd live
-live_stage (Stage.Closed cut) D E asks i next b given live at = absurd live
+live_stage : (s : Stage) (D E : Type 0) (asks : List Request) (d : Bool) (i : Receiving) (next : Option Request') (b : List ℕ) (given : List Request) → IsLive s
+    → IsAtStage s D asks d i next b given → IsAtStage s E asks d i next b given
+live_stage Stage.Open D E asks d i next b given live at = at
+live_stage Stage.AtEnd D E asks d i next b given live at = at
+live_stage Stage.Finishing D E asks d i next b given live at = at
+live_stage Stage.Failed D E asks d i next b given live at = absurd live
+live_stage (Stage.Closed cut) D E asks d i next b given live at = absurd live
 
 -- HANDED
 
@@ -145,11 +159,11 @@ module _ (e : Client) (pass : ℕ) (H : History) (t : List ℕ) where
         given_are = rw same k.given_are;
         accepted_is = k.accepted_is;
         handed_is = rw mine (omega (arith, k.handed_is, few, history.times-length (is_handing e.conn) H));
-        stage_is = rw same (live_stage e.stage (IsDone e H) _ (asked e.conn H) e.inbox e.next b k.given live k.stage_is);
+        stage_is = rw same (live_stage e.stage (IsDone e H) _ (asked e.conn H) e.is_drained e.inbox e.next b k.given live k.stage_is);
       }
 
   pub handed_goes : length (step_by pass (Event.Handed e.conn) (Answer.Bytes t) ∷ H) ≤ max_steps → e.outbox.pending ≡ [] → IsLive e.stage → Goes e after_hand H (step_by pass (Event.Handed e.conn) (Answer.Bytes t) ∷ H) true
-  handed_goes few empty live = turn_goes e after_hand H (step_by pass (Event.Handed e.conn) (Answer.Bytes t)) (rw (eq-eqb e.conn e.conn refl) refl) refl refl refl (handed_carries few empty live)
+  handed_goes few empty live = turn_goes e after_hand H (step_by pass (Event.Handed e.conn) (Answer.Bytes t)) (rw (eq-eqb e.conn e.conn refl) refl) refl refl refl refl refl (handed_carries few empty live)
 
 -- STEPS THAT HAND OUT NOTHING AND ACCEPT NOTHING
 
@@ -162,10 +176,10 @@ pub record IsQuiet (c : ℕ) (s : Step) (H : History) : Type 0 where
   pub same_handed : handed c (s ∷ H) ≡ handed c H
 
 quiet_goes : (e : Client) (stage : Stage) (s : Step) (H : History) → IsQuiet e.conn s H
-    → ((b : List ℕ) (given : List Request) → IsAtStage e.stage (IsDone e H) (asked e.conn H) e.inbox e.next b given
-    → IsAtStage stage (IsDone (record e { stage = stage }) (s ∷ H)) (asked e.conn H) e.inbox e.next b given)
+    → ((b : List ℕ) (given : List Request) → IsAtStage e.stage (IsDone e H) (asked e.conn H) e.is_drained e.inbox e.next b given
+    → IsAtStage stage (IsDone (record e { stage = stage }) (s ∷ H)) (asked e.conn H) e.is_drained e.inbox e.next b given)
     → Goes e (record e { stage = stage }) H (s ∷ H) true
-quiet_goes e stage s H q f = turn_goes e (record e { stage = stage }) H s q.mine refl refl refl (λ taken b k. record {
+quiet_goes e stage s H q f = turn_goes e (record e { stage = stage }) H s q.mine refl refl refl refl refl (λ taken b k. record {
   given = k.given;
   out_is = k.out_is ∙ sym q.same_transcript;
   holds = k.holds;
@@ -204,7 +218,7 @@ pub cut_goes : (e : Client) (pass : ℕ) (a : Answer) (H : History) → Goes e (
 cut_goes e pass a H = quiet_goes e (Stage.Closed true) (step_by pass (Event.Closed e.conn) a) H (quiet_closed e.conn pass a H) (λ b given at. tt)
 
 pub failed_goes : (e : Client) (H H' : History) → H' ≡ H → Goes e (record e { stage = Stage.Failed }) H H' false
-failed_goes e H H' same = rw same (still_goes e (record e { stage = Stage.Failed }) H refl refl refl (λ taken b k. record {
+failed_goes e H H' same = rw same (still_goes e (record e { stage = Stage.Failed }) H refl refl refl refl refl (λ taken b k. record {
   given = k.given;
   out_is = k.out_is;
   holds = k.holds;
@@ -233,6 +247,8 @@ wrote_goes e o gave H moved live sends told = record {
   reads = Consumes-none e.inbox.left;
   writes = sends.held;
   conn = refl;
+  drained = refl;
+  unread = λ _. record { none = refl; left = refl; counts = refl };
   adds = refl;
   moved_is = told;
   alone = refl;
@@ -244,7 +260,7 @@ wrote_goes e o gave H moved live sends told = record {
     given_are = k.given_are;
     accepted_is = k.accepted_is;
     handed_is = k.handed_is;
-    stage_is = live_stage e.stage (IsDone e H) _ (asked e.conn H) e.inbox e.next b k.given live k.stage_is;
+    stage_is = live_stage e.stage (IsDone e H) _ (asked e.conn H) e.is_drained e.inbox e.next b k.given live k.stage_is;
   });
 }
 
@@ -256,12 +272,12 @@ module _ (e : Client) (r : Request') (pass : ℕ) (H : History) (a : Answer) (op
 
   arrived_as : (stage : Stage)
       → ((b : List ℕ) (given : List Request) → NoneFinishes (asked e.conn H)
-      → IsAtStage stage (IsDone (record e { next = None; accepted = min (e.accepted + 1) (2 ^ 64 - 1); stage = stage }) (step_by pass (Event.Arrived e.conn r) a ∷ H)) (asked e.conn (step_by pass (Event.Arrived e.conn r) a ∷ H)) e.inbox None b given)
+      → IsAtStage stage (IsDone (record e { next = None; accepted = min (e.accepted + 1) (2 ^ 64 - 1); stage = stage }) (step_by pass (Event.Arrived e.conn r) a ∷ H)) (asked e.conn (step_by pass (Event.Arrived e.conn r) a ∷ H)) e.is_drained e.inbox None b given)
       → Goes e (record e { next = None; accepted = min (e.accepted + 1) (2 ^ 64 - 1); stage = stage }) H (step_by pass (Event.Arrived e.conn r) a ∷ H) true
   arrived_as stage f =
       let mine : (e.conn == e.conn) ≡ true = eq-eqb e.conn e.conn refl in
       let new : Client = record e { next = None; accepted = min (e.accepted + 1) (2 ^ 64 - 1); stage = stage } in
-      turn_goes e new H (step_by pass (Event.Arrived e.conn r) a) (rw mine refl) refl refl refl (λ taken b k. record {
+      turn_goes e new H (step_by pass (Event.Arrived e.conn r) a) (rw mine refl) refl refl refl refl refl (λ taken b k. record {
         given = k.given;
         out_is = k.out_is ∙ sym (append-nil (transcript e.conn H));
         holds = k.holds;
@@ -283,9 +299,9 @@ module _ (e : Client) (r : Request') (pass : ℕ) (H : History) (a : Answer) (op
 -- WHAT COMES IN
 
 -- a request has come whole, or none has
-pub fetched_goes : (e : Client) (i : Receiving) (next : Option Request') (H : History) → e.stage ≡ Stage.Open → e.next ≡ None → i.left ≡ e.inbox.left → i.values.most ≡ e.inbox.values.most
+pub fetched_goes : (e : Client) (i : Receiving) (next : Option Request') (H : History) → e.stage ≡ Stage.Open → e.next ≡ None → i.left ≡ e.inbox.left → i.counts ≡ e.inbox.counts → i.values.most ≡ e.inbox.values.most
     → ((b : List ℕ) (rs : List Request) → Holds e.inbox b rs → Holds i b (rs ++ waiting next)) → Goes e (record e { inbox = i; next = next }) H H false
-fetched_goes e i next H open_is none left most f = still_goes e (record e { inbox = i; next = next }) H refl left refl (λ taken b k. record {
+fetched_goes e i next H open_is none left counts most f = still_goes e (record e { inbox = i; next = next }) H refl refl left counts refl (λ taken b k. record {
   given = k.given ++ waiting next;
   out_is = k.out_is;
   holds = f b k.given k.holds;
@@ -293,13 +309,13 @@ fetched_goes e i next H open_is none left most f = still_goes e (record e { inbo
   given_are = ap (λ z. z ++ waiting next) (rw (none, append-nil (asked e.conn H)) at k.given_are);
   accepted_is = k.accepted_is;
   handed_is = k.handed_is;
-  stage_is = subst (λ (z : Stage). IsAtStage z (IsDone (record e { inbox = i; next = next }) H) (asked e.conn H) i next b (k.given ++ waiting next)) (sym open_is) (stage_at Stage.Open e H b k.given open_is k.stage_is);
+  stage_is = subst (λ (z : Stage). IsAtStage z (IsDone (record e { inbox = i; next = next }) H) (asked e.conn H) e.is_drained i next b (k.given ++ waiting next)) (sym open_is) (stage_at Stage.Open e H b k.given open_is k.stage_is);
 })
 
 -- the reader of values went on, and gave none
-pub kept_goes : (e : Client) (i : Receiving) (H : History) → e.stage ≡ Stage.Open → i.left ≡ e.inbox.left → i.values.most ≡ e.inbox.values.most
+pub kept_goes : (e : Client) (i : Receiving) (H : History) → e.stage ≡ Stage.Open → i.left ≡ e.inbox.left → i.counts ≡ e.inbox.counts → i.values.most ≡ e.inbox.values.most
     → ((b : List ℕ) (rs : List Request) → Holds e.inbox b rs → Holds i b rs) → Goes e (record e { inbox = i }) H H false
-kept_goes e i H open_is left most f = still_goes e (record e { inbox = i }) H refl left refl (λ taken b k. record {
+kept_goes e i H open_is left counts most f = still_goes e (record e { inbox = i }) H refl refl left counts refl (λ taken b k. record {
   given = k.given;
   out_is = k.out_is;
   holds = f b k.given k.holds;
@@ -307,7 +323,7 @@ kept_goes e i H open_is left most f = still_goes e (record e { inbox = i }) H re
   given_are = k.given_are;
   accepted_is = k.accepted_is;
   handed_is = k.handed_is;
-  stage_is = subst (λ (z : Stage). IsAtStage z (IsDone (record e { inbox = i }) H) (asked e.conn H) i e.next b k.given) (sym open_is) (stage_at Stage.Open e H b k.given open_is k.stage_is);
+  stage_is = subst (λ (z : Stage). IsAtStage z (IsDone (record e { inbox = i }) H) (asked e.conn H) e.is_drained i e.next b k.given) (sym open_is) (stage_at Stage.Open e H b k.given open_is k.stage_is);
 })
 
 pub fetched_holds : (i j : Receiving) (next : Option Request') → IfSome next (λ r. (b : List ℕ) (rs : List Request) → Holds i b rs → Holds j b (rs ++ request_of r ∷ []))
@@ -326,15 +342,17 @@ read_holds i j b rs whole empty same h = record {
   after = rw (same, whole) tt;
 }
 
-pub read_goes : (e : Client) (i : Receiving) (H : History) (moved : Bool) → moved ≡ has_moved i.fresh [] [] → e.stage ≡ Stage.Open → e.inbox.values.refusal ≡ None → e.inbox.fresh ≡ [] → Consumes e.inbox.left i.left i.fresh → i.values ≡ e.inbox.values
+pub read_goes : (e : Client) (i : Receiving) (H : History) (moved : Bool) → moved ≡ has_moved i.fresh [] [] → e.stage ≡ Stage.Open → e.is_drained ≡ false → e.inbox.values.refusal ≡ None → e.inbox.fresh ≡ [] → Consumes e.inbox.left i.left i.fresh → i.values ≡ e.inbox.values
     → Goes e (record e { inbox = i }) H H moved
-read_goes e i H moved told open_is whole empty input same = record {
+read_goes e i H moved told open_is reads whole empty input same = record {
   got = i.fresh;
   gave = [];
   steps = [];
   reads = input;
   writes = Appends-none e.outbox.held;
   conn = refl;
+  drained = refl;
+  unread = λ d. absurd (true_not_false (sym d ∙ reads));
   adds = refl;
   moved_is = told;
   alone = refl;
@@ -346,33 +364,54 @@ read_goes e i H moved told open_is whole empty input same = record {
     given_are = k.given_are;
     accepted_is = k.accepted_is;
     handed_is = k.handed_is;
-    stage_is = subst (λ (z : Stage). IsAtStage z (IsDone (record e { inbox = i }) H) (asked e.conn H) i e.next (b ++ i.fresh) k.given) (sym open_is) (stage_at Stage.Open e H b k.given open_is k.stage_is);
+    stage_is = subst (λ (z : Stage). IsAtStage z (IsDone (record e { inbox = i }) H) (asked e.conn H) e.is_drained i e.next (b ++ i.fresh) k.given) (sym open_is) (stage_at Stage.Open e H b k.given open_is k.stage_is);
   });
 }
 
--- the input has ended
-pub ended_goes : (e : Client) (i : Receiving) (H : History) → e.stage ≡ Stage.Open → e.next ≡ None → HasGivenAll e.inbox → i.fresh ≡ [] → Consumes e.inbox.left i.left i.fresh → IsAtEnd i.left → i.values ≡ e.inbox.values
-    → Goes e (record e { inbox = i; stage = Stage.AtEnd }) H H false
-ended_goes e i H open_is none all still input end same = record {
-  got = [];
-  gave = [];
-  steps = [];
-  reads = rw still at input;
-  writes = Appends-none e.outbox.held;
-  conn = refl;
-  adds = refl;
-  moved_is = refl;
-  alone = refl;
-  carries = λ taken b k. rw (append-nil taken, append-nil b) (record {
-    given = k.given;
-    out_is = k.out_is;
-    holds = subst (λ (z : List ℕ). Holds i z k.given) (ap (λ z. b ++ z) still ∙ append-nil b) (read_holds e.inbox i b k.given all.none_refused all.none_fresh same k.holds);
-    most_is = ap (λ z. z.most) same ∙ k.most_is;
-    given_are = k.given_are;
-    accepted_is = k.accepted_is;
-    handed_is = k.handed_is;
-    stage_is = (stage_at Stage.Open e H b k.given open_is k.stage_is, record { end = end; all = rw same (all.all b k.given k.holds); none_waits = none });
-  });
+-- no byte is read any more
+pub over_goes : (e : Client) (H : History) → e.stage ≡ Stage.Open → e.next ≡ None → HasGivenAll e.inbox → IsOver e.is_drained e.inbox
+    → Goes e (record e { stage = Stage.AtEnd }) H H false
+over_goes e H open_is none all over = still_goes e (record e { stage = Stage.AtEnd }) H refl refl refl refl refl (λ taken b k. record {
+  given = k.given;
+  out_is = k.out_is;
+  holds = k.holds;
+  most_is = k.most_is;
+  given_are = k.given_are;
+  accepted_is = k.accepted_is;
+  handed_is = k.handed_is;
+  stage_is = (stage_at Stage.Open e H b k.given open_is k.stage_is, record { end = over; all = all.all b k.given k.holds; none_waits = none });
+})
+
+-- A DRAIN
+
+all_read : (d : Bool) (i : Receiving) (next : Option Request') (b : List ℕ) (given : List Request) → IsAllRead d i next b given → IsAllRead true i next b given
+all_read d i next b given r = record { end = inl refl; all = r.all; none_waits = r.none_waits }
+
+finished_drained : (asks : List Request) (d : Bool) (i : Receiving) (next : Option Request') (b : List ℕ) (given : List Request) → IsFinished asks d i next b given → IsFinished asks true i next b given
+finished_drained asks d i next b given (inl stays) = inl (stays.0, all_read d i next b given stays.1)
+finished_drained asks d i next b given (inr last) = inr last
+
+-- what holds at a stage holds where nothing more is to be read
+stage_drained : (s : Stage) (D E : Type 0) (asks : List Request) (d : Bool) (i : Receiving) (next : Option Request') (b : List ℕ) (given : List Request) → (D → E)
+    → IsAtStage s D asks d i next b given → IsAtStage s E asks true i next b given
+stage_drained Stage.Open D E asks d i next b given f at = at
+stage_drained Stage.AtEnd D E asks d i next b given f at = (at.0, all_read d i next b given at.1)
+stage_drained Stage.Finishing D E asks d i next b given f at = finished_drained asks d i next b given at
+stage_drained Stage.Failed D E asks d i next b given f at = at
+stage_drained (Stage.Closed true) D E asks d i next b given f at = at
+stage_drained (Stage.Closed false) D E asks d i next b given f at = (finished_drained asks d i next b given at.0, f at.1)
+
+pub drained_carries : (e : Client) (H : History) (taken b : List ℕ) → Carries e H taken b → Carries (record e { is_drained = true }) H taken b
+drained_carries e H taken b k = record {
+  given = k.given;
+  out_is = k.out_is;
+  holds = k.holds;
+  most_is = k.most_is;
+  given_are = k.given_are;
+  accepted_is = k.accepted_is;
+  handed_is = k.handed_is;
+  stage_is = stage_drained e.stage (IsDone e H) (IsDone (record e { is_drained = true }) H) (asked e.conn H) e.is_drained e.inbox e.next b k.given
+      (λ d. record { all_written = d.all_written; all_handed = d.all_handed; closed = d.closed }) k.stage_is;
 }
 
 -- OTHERS' STEPS
@@ -381,7 +420,7 @@ module _ (e : Client) (H later : History) (others : connection_steps e.conn late
   same_of_conn : SameOfConnection e.conn H (later ++ H)
   same_of_conn = history.SameOfConnection-append e.conn later H others
 
-  stage_beside : (s : Stage) (b : List ℕ) (given : List Request) → IsAtStage s (IsDone e H) (asked e.conn H) e.inbox e.next b given → IsAtStage s (IsDone e (later ++ H)) (asked e.conn H) e.inbox e.next b given
+  stage_beside : (s : Stage) (b : List ℕ) (given : List Request) → IsAtStage s (IsDone e H) (asked e.conn H) e.is_drained e.inbox e.next b given → IsAtStage s (IsDone e (later ++ H)) (asked e.conn H) e.is_drained e.inbox e.next b given
   stage_beside Stage.Open b given at = at
   stage_beside Stage.AtEnd b given at = at
   stage_beside Stage.Finishing b given at = at
@@ -401,13 +440,13 @@ module _ (e : Client) (H later : History) (others : connection_steps e.conn late
         given_are = k.given_are ∙ ap (λ z. z ++ waiting e.next) (sym asks);
         accepted_is = k.accepted_is ∙ sym same.same_accepted;
         handed_is = k.handed_is ∙ sym same.same_handed;
-        stage_is = subst (λ (z : List Request). IsAtStage e.stage (IsDone e (later ++ H)) z e.inbox e.next b k.given) (sym asks) (stage_beside e.stage b k.given k.stage_is);
+        stage_is = subst (λ (z : List Request). IsAtStage e.stage (IsDone e (later ++ H)) z e.is_drained e.inbox e.next b k.given) (sym asks) (stage_beside e.stage b k.given k.stage_is);
       }
 
 -- THE BEGINNING
 
 pub opened_carries : (conn pass : ℕ) (i : Receiving) (o : Sending) (H : History) → connection_steps conn H ≡ [] → o.pending ≡ [] → i.values.most ≡ CLIENT_MEMBERS → Holds i [] []
-    → Carries (record { conn = conn; inbox = i; outbox = o; next = None; accepted = 0; handed = 0; stage = Stage.Open }) (step_by pass Event.Opened (Answer.Opened conn) ∷ H) [] []
+    → Carries (record { conn = conn; inbox = i; outbox = o; next = None; accepted = 0; handed = 0; stage = Stage.Open; is_drained = false }) (step_by pass Event.Opened (Answer.Opened conn) ∷ H) [] []
 opened_carries conn pass i o H none empty most holds =
     let same = history.SameOfConnection-connection_steps conn H in
     let no_text : transcript conn H ≡ [] = sym same.same_transcript ∙ ap (transcript conn) none in

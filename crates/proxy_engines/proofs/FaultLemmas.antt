@@ -1,8 +1,9 @@
 -- Why a link broke, over several moves.
-use Rattle.std.proofs.Common.{◌≡◌, ◌⊎◌, ℕ, false, List, Option, Some, None, inl, inr, refl}
+use Rattle.std.proofs.Common.{◌≡◌, ◌⊎◌, ◌∙◌, ◌≤◌, ◌-◌, ℕ, Bool, true, false, List, [], ◌∷◌, Option, Some, None, inl, inr, refl, sym, ap}
+use Rattle.std.specs.Prelude.{◌↔◌}
 use Rattle.proxy_history.specs.declared.event.Kind.{Kind}
-use Rattle.proxy_engines.specs.Host.{LineState, LinkState}
-use Rattle.proxy_engines.specs.Faults.{IsCauseOf, IfFault, is_fault, either}
+use Rattle.proxy_engines.specs.Host.{LineState, LinkState, anew}
+use Rattle.proxy_engines.specs.Faults.{IsCauseOf, IsLate, IfFault, is_fault, either}
 use Rattle.ticket_gate.specs.Journal.{StartsWith}
 use Rattle.proxy_history.specs.Seen.{SeenStep}
 use Rattle.proxy_history.specs.declared.event.Event.{Event}
@@ -43,3 +44,28 @@ either_still (Outcome.Fault kind error) q e = absurd cc
 pub idle_then : (cause : Event → List SeenStep → Type 0) (event : Event) (A B : Type 0) (x y z : List SeenStep) → StartsWith y x → StartsWith z y → A ⊎ (B × cause event y) → A ⊎ (B × HasHeld cause event x z)
 idle_then cause event A B x y z later last (inl a) = inl a
 idle_then cause event A B x y z later last (inr b) = inr (b.0, (y, later, last, b.1))
+
+-- the first of a list, or 0
+abbrev front_of : List ℕ → ℕ
+front_of [] = 0
+front_of (x ∷ xs) = x
+
+-- a late reply is that of the oldest part
+pub late_is : (l : LineState) (m oldest : ℕ) (rest : List ℕ) → l.moments ≡ oldest ∷ rest → IsLate l m → l.reply_ms ≤ m - oldest
+late_is l m oldest rest is late = let same : oldest ≡ late.0 = ap front_of (sym is ∙ late.2) in rw same late.3
+
+-- where no part waits for a reply, none is late
+pub not_late-none : (l : LineState) (m : ℕ) → l.moments ≡ [] → ¬ IsLate l m
+not_late-none l m none late = let e : [] ≡ late.0 ∷ late.1 = sym none ∙ late.2 in absurd cc
+
+-- where nothing says that a reply is late, none is
+pub not_late : (l : LineState) (m : ℕ) (b : Bool) → b ≡ false → (b ≡ true) ↔ IsLate l m → ¬ IsLate l m
+not_late l m b calm exact late = let e : true ≡ false = sym (exact.1 late) ∙ calm in absurd cc
+
+-- no part waits for a reply after a fault
+pub not_late-anew : (l l' : LineState) (m : ℕ) → l' ≡ anew l → ¬ IsLate l' m
+not_late-anew l l' m is = not_late-none l' m (ap (λ (z : LineState). z.moments) is)
+
+-- a move that came to no fault came to no late reply
+pub not_late-calm : (l : LineState) (m : ℕ) (o : Outcome) → is_fault o ≡ true → is_fault o ≡ false → ¬ IsLate l m
+not_late-calm l m o fault calm = let e : true ≡ false = sym fault ∙ calm in absurd cc

@@ -9,3 +9,6 @@ pub mod MoveLemmas
 pub mod HostLemmas
 pub mod IdleLemmas
 pub mod OtherLemmas
+pub mod FlushLemmas
+pub mod ZipLemmas
+pub mod Crosses

@@ -20,7 +20,7 @@ use Rattle.proxy_engines.specs.Turned.{HasHeld}
 use Rattle.proxy_engines.specs.declared.client.Stage.{Stage}
 
 -- its connection, its two ends, the request that waits to be accepted, how many commands were accepted and how many replies
--- handed out, and how far the connection has come
+-- handed out, how far the connection has come, and whether nothing more is to be read
 pub record Client : Type 0 where
   pub conn : ℕ
   pub inbox : Receiving
@@ -29,6 +29,7 @@ pub record Client : Type 0 where
   pub accepted : ℕ
   pub handed : ℕ
   pub stage : Stage
+  pub is_drained : Bool
 
 -- while requests are taken, its reader has refused nothing but what waits
 abbrev pub IsWhole : Stage → Option Request' → Option RespError → Type 0
@@ -64,24 +65,28 @@ pub record LastFinishes (rs : List Request) : Type 0 where
   pub goes_on : NoneFinishes front
   pub finishes : finishes last ≡ true
 
--- The input has ended, and all its requests were given.
-pub record IsAllRead (i : Receiving) (next : Option Request') (b : List ℕ) (given : List Request) : Type 0 where
-  pub end : IsAtEnd i.left
+-- the bytes read are all that will be: nothing more is to be read, or the input has ended
+abbrev pub IsOver : Bool → Receiving → Type 0
+IsOver drained i = (drained ≡ true) ⊎ IsAtEnd i.left
+
+-- No byte is read any more, and all requests of those that were read were given.
+pub record IsAllRead (drained : Bool) (i : Receiving) (next : Option Request') (b : List ℕ) (given : List Request) : Type 0 where
+  pub end : IsOver drained i
   pub all : AreRequests i.values.most b given
   pub none_waits : next ≡ None
 
--- nothing more arrives: the input has ended, or a request finishes the connection
-abbrev pub IsFinished : List Request → Receiving → Option Request' → List ℕ → List Request → Type 0
-IsFinished asked i next b given = (NoneFinishes asked × IsAllRead i next b given) ⊎ LastFinishes asked
+-- nothing more arrives: no byte is read any more, or a request finishes the connection
+abbrev pub IsFinished : List Request → Bool → Receiving → Option Request' → List ℕ → List Request → Type 0
+IsFinished asked drained i next b given = (NoneFinishes asked × IsAllRead drained i next b given) ⊎ LastFinishes asked
 
 -- what holds at each stage, of what was asked and what was read; at the end the connection is done
-abbrev pub IsAtStage : Stage → Type 0 → List Request → Receiving → Option Request' → List ℕ → List Request → Type 0
-IsAtStage Stage.Open done asked i next b given = NoneFinishes asked
-IsAtStage Stage.AtEnd done asked i next b given = NoneFinishes asked × IsAllRead i next b given
-IsAtStage Stage.Finishing done asked i next b given = IsFinished asked i next b given
-IsAtStage Stage.Failed done asked i next b given = ⊤
-IsAtStage (Stage.Closed true) done asked i next b given = ⊤
-IsAtStage (Stage.Closed false) done asked i next b given = IsFinished asked i next b given × done
+abbrev pub IsAtStage : Stage → Type 0 → List Request → Bool → Receiving → Option Request' → List ℕ → List Request → Type 0
+IsAtStage Stage.Open done asked drained i next b given = NoneFinishes asked
+IsAtStage Stage.AtEnd done asked drained i next b given = NoneFinishes asked × IsAllRead drained i next b given
+IsAtStage Stage.Finishing done asked drained i next b given = IsFinished asked drained i next b given
+IsAtStage Stage.Failed done asked drained i next b given = ⊤
+IsAtStage (Stage.Closed true) done asked drained i next b given = ⊤
+IsAtStage (Stage.Closed false) done asked drained i next b given = IsFinished asked drained i next b given × done
 
 -- all that was accepted was handed out and written, and the connection was closed
 pub record IsDone (e : Client) (H : History) : Type 0 where
@@ -99,7 +104,7 @@ pub record Carries (e : Client) (H : History) (taken b : List ℕ) : Type 0 wher
   pub given_are : given ≡ asked e.conn H ++ waiting e.next
   pub accepted_is : e.accepted ≡ accepted e.conn H
   pub handed_is : e.handed ≡ handed e.conn H
-  pub stage_is : IsAtStage e.stage (IsDone e H) (asked e.conn H) e.inbox e.next b given
+  pub stage_is : IsAtStage e.stage (IsDone e H) (asked e.conn H) e.is_drained e.inbox e.next b given
 
 -- Nothing can be handed out: all that was accepted has been, or the next reply hasn't come.
 abbrev pub HandsNothing : (Refusal → Event → List SeenStep → Type 0) → Client → List SeenStep → List SeenStep → Type 0
@@ -124,8 +129,14 @@ IsIdle cause old new x y =
     HasPaused old.outbox.counts new.outbox.counts
     ⊎ ((old.outbox.pending ≡ []) × HandsNothing cause old x y × (IsHeldBack cause new x y ⊎ (AwaitsReplies new ⊎ AwaitsBytes old new)))
 
--- Some moves of an engine: bytes that were read, bytes that were taken, steps of its connection alone, whether any of these
--- came, and what it carries.
+-- Nothing was read: no bytes came, and the reader is as it was.
+pub record IsUnread (old new : Receiving) (got : List ℕ) : Type 0 where
+  pub none : got ≡ []
+  pub left : new.left ≡ old.left
+  pub counts : new.counts ≡ old.counts
+
+-- Some moves of an engine: bytes that were read, none where it drains, bytes that were taken, steps of its connection alone,
+-- whether any of these came, and what it carries.
 pub record Goes (old new : Client) (H H' : History) (moved : Bool) : Type 0 where
   pub got : List ℕ
   pub gave : List ℕ
@@ -133,6 +144,8 @@ pub record Goes (old new : Client) (H H' : History) (moved : Bool) : Type 0 wher
   pub reads : Consumes old.inbox.left new.inbox.left got
   pub writes : Appends old.outbox.held new.outbox.held gave
   pub conn : new.conn ≡ old.conn
+  pub drained : new.is_drained ≡ old.is_drained
+  pub unread : old.is_drained ≡ true → IsUnread old.inbox new.inbox got
   pub adds : H' ≡ steps ++ H
   pub moved_is : moved ≡ has_moved got gave steps
   pub alone : connection_steps old.conn steps ≡ steps

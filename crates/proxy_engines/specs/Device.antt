@@ -17,6 +17,7 @@ pub record HasFailed (old new : Counts) : Type 0 where
   pub failed : HasRisen old.failed new.failed
   pub paused : new.paused ≡ old.paused
 
+-- one pause more, and no fault
 pub record HasPaused (old new : Counts) : Type 0 where
   pub failed : new.failed ≡ old.failed
   pub paused : HasRisen old.paused new.paused

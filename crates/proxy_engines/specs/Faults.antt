@@ -19,6 +19,7 @@ told_by_outcome Outcome.Moved = Some true
 told_by_outcome Outcome.Still = Some false
 told_by_outcome (Outcome.Fault kind error) = None
 
+-- what the answer of some moves tells: that something moved, or that nothing did
 abbrev pub told_by_moves : Result Outcome EngineError → Option Bool
 told_by_moves (Ok outcome) = told_by_outcome outcome
 told_by_moves (Err e) = None

@@ -69,6 +69,7 @@ moments_by m (Event.Taken h) ms = ms ++ m ∷ []
 moments_by m (Event.Answered h e v t) ms = drop 1 ms
 moments_by m event ms = ms
 
+-- when each part without reply was taken, behind some steps at a moment
 abbrev pub moments_after : ℕ → History → List ℕ → List ℕ
 moments_after m [] ms = ms
 moments_after m (s ∷ before) ms = moments_by m s.event (moments_after m before ms)
@@ -79,6 +80,7 @@ ReadsOn None None got = got ≡ []
 ReadsOn (Some k) (Some k') got = Consumes k.inbox.left k'.inbox.left got
 ReadsOn k k' got = ⊥
 
+-- the link's writer took these bytes more; without a link none
 abbrev pub WritesOn : Option LinkState → Option LinkState → List ℕ → Type 0
 WritesOn None None gave = gave ≡ []
 WritesOn (Some k) (Some k') gave = Appends k.held k'.held gave

@@ -21,6 +21,7 @@ pub record IsWholly (e : Client) (H : History) (taken : List ℕ) (rs : List Req
   pub all_handed : handed e.conn H ≡ accepted e.conn H
   pub taken_is : taken ≡ transcript e.conn H
 
+-- a client that ended has answered all that it was asked
 abbrev pub EndedIsWhole : Type 0
 EndedIsWhole = (e : Client) (H : History) (taken b : List ℕ) → Carries e H taken b → e.stage ≡ Stage.Closed false
     → (rs : List Request) → AreRequests b rs → IsWholly e H taken rs

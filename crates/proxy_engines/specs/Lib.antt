@@ -9,4 +9,5 @@ pub mod Client
 pub mod Host
 pub mod Faults
 pub mod HostStep
+pub mod Works
 pub mod Laws

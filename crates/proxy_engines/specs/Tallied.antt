@@ -2,5 +2,6 @@
 use Rattle.proxy_engines.specs.Device.{Counts}
 use Rattle.proxy_engines.specs.declared.tally.Tallied.{Tallied}
 
+-- the counts of a device
 abbrev pub counts_of : {S : Type 0} → Tallied S → Counts
 counts_of t = record { failed = t.failures; paused = t.pauses }

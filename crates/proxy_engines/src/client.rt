@@ -19,6 +19,7 @@ use crate::tally::{ReadTally, Told, WriteTally};
 use proxy_core::{Answer, CoreTurns, Event, Refusal, Request};
 use resp_core::Limits;
 use std::alloc::Global;
+use std::io;
 use std::marker::Model;
 use std::sync::Wait;
 
@@ -58,7 +59,7 @@ pub enum Stage {
 /// A client's end: what is read becomes requests, and what is handed out is written.
 ///
 /// Contracts see its connection, both ends, the request that waits to be accepted, how many were accepted and how many replies
-/// handed out, and how far the connection has come.
+/// handed out, how far the connection has come, and whether nothing more is to be read.
 #[derive(Drop)]
 pub struct ClientEngine<R: ReadTally, W: WriteTally> {
     conn: u64,
@@ -68,6 +69,8 @@ pub struct ClientEngine<R: ReadTally, W: WriteTally> {
     accepted: u64,
     handed: u64,
     stage: Stage,
+    // Nothing more is to be read.
+    is_drained: bool,
 }
 
 impl<R: ReadTally, W: WriteTally> Model for ClientEngine<R, W> {
@@ -81,14 +84,14 @@ impl<R: ReadTally, W: WriteTally> Model for ClientEngine<R, W> {
 
     ghost coded = { Prim.hlevel (codes, tree_code, request.the_row.coded) };
 
-    ghost view = { λ e. record { conn = e.conn; inbox = e.inbox; outbox = e.outbox; next = e.next; accepted = e.accepted; handed = e.handed; stage = e.stage } };
+    ghost view = { λ e. record { conn = e.conn; inbox = e.inbox; outbox = e.outbox; next = e.next; accepted = e.accepted; handed = e.handed; stage = e.stage; is_drained = e.is_drained } };
 
     ghost invariant = { λ e. IsWhole e.stage e.next e.inbox.values.refusal };
 }
 
 #[tactic(auto, using(crate::proofs::ClientMoves::same_goes, crate::proofs::ClientMoves::goes_then))]
 impl<R: ReadTally, W: WriteTally> ClientEngine<R, W> {
-    ghost use Rattle.proxy_engines.specs.Client.{AwaitsBytes, AwaitsReplies, Client, Carries, Goes, HandsNothing, IsHeldBack, IsIdle, IsLive};
+    ghost use Rattle.proxy_engines.specs.Client.{AwaitsBytes, AwaitsReplies, Client, Carries, Goes, HandsNothing, IsHeldBack, IsIdle, IsLive, IsOver};
     ghost use Rattle.proxy_history.specs.declared.refusal.Refusal.{Refusal};
     ghost use Rattle.splitter.specs.declared.request.Request.{Request};
 
@@ -300,7 +303,31 @@ impl<R: ReadTally, W: WriteTally> ClientEngine<R, W> {
         }
     }
 
-    // One read. The end of the input becomes a Finished turn.
+    // Nothing more is read, at the end of the input or by `drain`, which becomes a Finished turn.
+    fn stop_reading<Rt: Wait, T: CoreTurns>(
+        &mut self,
+        rt: &Rt,
+        turns: &mut T,
+    ) -> Result<Progress, EngineError>
+        requires stage { self.old.stage ≡ Stage.Open }
+        requires none { self.old.next ≡ None }
+        requires all { HasGivenAll self.old.inbox }
+        requires over { IsOver self.old.is_drained self.old.inbox }
+        ensures pass { T.pass turns.new ≡ T.pass turns.old }
+        ensures setting { T.setting turns.new ≡ T.setting turns.old }
+        ensures seen { StartsWith (T.seen turns.new) (T.seen turns.old) }
+        ensures goes { AsTold (Goes self.old self.new
+            (own_steps (T.pass turns.old) (T.seen turns.old))
+            (own_steps (T.pass turns.old) (T.seen turns.new))) (told_by_step result) }
+        ensures ok { IfOk result (λ p. IsLive self.new.stage × (p ≡ Progress.Moved)) }
+        ensures err { IfErr result (λ e. (n : ℕ) × (e ≡ EngineError.TurnRefused n)) }
+    {
+        self.stage = Stage::AtEnd;
+        self.finish(rt, turns)?;
+        Ok(Progress::Moved)
+    }
+
+    // One read, unless nothing more is to be read.
     fn read<Rt: Wait, T: CoreTurns>(
         &mut self,
         rt: &Rt,
@@ -323,14 +350,13 @@ impl<R: ReadTally, W: WriteTally> ClientEngine<R, W> {
             × (self.new.stage ≡ Stage.Closed true)) ⊎ ((n : ℕ) × (e ≡ EngineError.TurnRefused n))) }
         ensures idle { IfOk result (λ p. p ≡ Progress.Idle → AwaitsBytes self.old self.new) }
     {
+        if self.is_drained {
+            return self.stop_reading(rt, turns);
+        }
         match self.inbox.read_once() {
             Told::Moved(_) => Ok(Progress::Moved),
             Told::Paused => Ok(Progress::Idle),
-            Told::End => {
-                self.stage = Stage::AtEnd;
-                self.finish(rt, turns)?;
-                Ok(Progress::Moved)
-            }
+            Told::End => self.stop_reading(rt, turns),
             Told::Failed => {
                 self.cut(rt, turns)?;
                 Err(EngineError::ReadFailed)
@@ -467,8 +493,8 @@ impl<R: ReadTally, W: WriteTally> ClientEngine<R, W> {
     }
 
     /// Does the first of these that applies: one write of what is pending; one reply handed out; the request that waits, or the
-    /// next one that has come, accepted; one read of at most 16,384 bytes; and once nothing more arrives and all is handed out
-    /// and written, the close. A closed connection's step does nothing.
+    /// next one that has come, accepted; one read of at most 16,384 bytes, and none after [`drain`](ClientEngine::drain); and once
+    /// nothing more arrives and all is handed out and written, the close. A closed connection's step does nothing.
     ///
     /// Refused 1402 or 1403 where the reader or the writer failed in this call, and the connection was closed for it; 1401 for
     /// want of memory, and 1404 where a turn was refused: the next step goes on from the same place.
@@ -508,6 +534,28 @@ impl<R: ReadTally, W: WriteTally> ClientEngine<R, W> {
         }
     }
 
+    /// From here on no step reads, and all else goes on as at the end of the input: what was read before is asked, what is
+    /// accepted is answered and written, and then the connection is closed. An unfinished value is dropped.
+    ///
+    /// Nothing else changes now, and the device isn't touched. What the engine carries stays true.
+    pub fn drain(&mut self)
+        ensures drained { self.new ≡ record self.old { is_drained = true } }
+        ensures carries { (H : History) (taken b : List ℕ) → Carries self.old H taken b
+            → Carries self.new H taken b }
+    {
+        self.is_drained = true;
+    }
+
+    /// Has the writer pass on what it gathered. What the engine carries stays true.
+    ///
+    /// Fails as the writer's flush does, and the connection goes on all the same.
+    pub fn flush(&mut self) -> io::Result<()>
+        ensures goes { (H : History) → Goes self.old self.new H H false }
+        ensures stage { self.new.stage ≡ self.old.stage }
+    {
+        self.outbox.flush()
+    }
+
     /// The connection's number.
     pub fn conn(&self) -> u64
         ensures { result ≡ self.now.conn }
@@ -530,6 +578,8 @@ impl<R: ReadTally + Drop, W: WriteTally + Drop> ClientEngine<R, W> {
         writer: W,
     ) -> Result<ClientEngine<R, W>, EngineError>
         ensures pass { T.pass turns.new ≡ T.pass turns.old }
+        ensures setting { T.setting turns.new ≡ T.setting turns.old }
+        ensures seen { StartsWith (T.seen turns.new) (T.seen turns.old) }
         ensures opened { IfOk result (λ e. own_steps (T.pass turns.old) (T.seen turns.new)
             ≡ step_by (T.pass turns.old) Event.Opened (Answer.Opened e.conn) ∷ own_steps
             (T.pass turns.old) (T.seen turns.old)) }
@@ -538,6 +588,7 @@ impl<R: ReadTally + Drop, W: WriteTally + Drop> ClientEngine<R, W> {
         ensures ends { IfOk result (λ e. (e.inbox.left ≡ R.remaining reader)
             × (e.outbox.held ≡ W.contents writer)) }
         ensures stage { IfOk result (λ e. e.stage ≡ Stage.Open) }
+        ensures reads { IfOk result (λ e. e.is_drained ≡ false) }
         ensures err { IfErr result (λ e.
             (own_steps (T.pass turns.old) (T.seen turns.new)
             ≡ own_steps (T.pass turns.old) (T.seen turns.old))
@@ -555,6 +606,7 @@ impl<R: ReadTally + Drop, W: WriteTally + Drop> ClientEngine<R, W> {
                 accepted: 0,
                 handed: 0,
                 stage: Stage::Open,
+                is_drained: false,
             }),
             Err(denied) => Err(denied.error()),
         }

@@ -8,7 +8,7 @@ ghost use Rattle.proxy_history.specs.declared.refusal.Refusal.{Refusal};
 ghost use Rattle.proxy_engines.specs.OwnSteps.{own_steps};
 ghost use Rattle.proxy_engines.specs.Turned.{HasHeld};
 ghost use Rattle.proxy_engines.specs.Moves.{AsTold, told_by_turn};
-ghost use Rattle.proxy_engines.specs.Faults.{IsOfNoDevice};
+ghost use Rattle.proxy_engines.specs.Faults.{IsLate, IsOfNoDevice};
 ghost use Rattle.proxy_engines.specs.Ends.{HasGivenAll};
 ghost use Rattle.proxy_engines.specs.Host.{LinkState, GoesOn, FailsHost, CarriesHost};
 ghost use Rattle.proxy_engines.specs.HostStep.{IsIdleOn, IsUnasked, Records, RestsHost, StepsHost, WorksHost, after_fault};
@@ -181,6 +181,8 @@ impl<R: ReadTally + Drop, W: WriteTally + Drop> HostEngine<R, W> {
         ensures needs_link { IfOk result
             (λ p. (p ≢ Progress.NeedsLink) × (self.new.link ≡ None → self.new.line.pending ≡ [])) }
         ensures all { IfOk result (λ p. IfSome self.new.link (λ k. HasGivenAll k.inbox)) }
+        ensures recorded { OnOk result (self.new.fault ≡ None) }
+        ensures in_time { IfOk result (λ _. ¬ IsLate self.new.line moment) }
         ensures idle { IfOk result (λ p. p ≡ Progress.Idle
             → IsIdleOn (HasHeld (T.cause (T.setting turns.old) Refusal.NothingWaiting)
             (Event.Taken self.old.line.host) (T.seen turns.old)
@@ -252,6 +254,8 @@ impl<R: ReadTally + Drop, W: WriteTally + Drop> HostEngine<R, W> {
         ensures needs_link { IfOk result
             (λ p. (p ≡ Progress.NeedsLink) ↔ (self.new.line.pending ≢ [])) }
         ensures link { self.new.link ≡ None }
+        ensures recorded { OnOk result (self.new.fault ≡ None) }
+        ensures in_time { IfOk result (λ _. ¬ IsLate self.new.line moment) }
         ensures idle { IfOk result (λ p. p ≡ Progress.Idle → (self.old.line.pending ≡ [])
             × HasHeld (T.cause (T.setting turns.old) Refusal.NothingWaiting)
             (Event.Taken self.old.line.host) (T.seen turns.old) (T.seen turns.new)) }
@@ -292,6 +296,8 @@ impl<R: ReadTally + Drop, W: WriteTally + Drop> HostEngine<R, W> {
         ensures all { IfOk result (λ p. IfSome self.old.link
             (λ _. IfSome self.new.link (λ k. HasGivenAll k.inbox))) }
         ensures alone { self.old.link ≡ None → self.new.link ≡ None }
+        ensures recorded { OnOk result (self.new.fault ≡ None) }
+        ensures in_time { IfOk result (λ _. ¬ IsLate self.new.line moment) }
         ensures idle { IfOk result (λ p. p ≡ Progress.Idle
             → IsIdleOn (HasHeld (T.cause (T.setting turns.old) Refusal.NothingWaiting)
             (Event.Taken self.old.line.host) (T.seen turns.old)
@@ -333,6 +339,8 @@ impl<R: ReadTally + Drop, W: WriteTally + Drop> HostEngine<R, W> {
             ↔ ((self.new.link ≡ None) × (self.new.line.pending ≢ []))) }
         ensures all { IfOk result (λ p. self.old.fault ≡ None
             → IfSome self.old.link (λ _. IfSome self.new.link (λ k. HasGivenAll k.inbox))) }
+        ensures recorded { OnOk result (self.new.fault ≡ None) }
+        ensures in_time { IfOk result (λ _. ¬ IsLate self.new.line moment) }
         ensures idle { IfOk result (λ p. p ≡ Progress.Idle
             → IsIdleOn (HasHeld (T.cause (T.setting turns.old) Refusal.NothingWaiting)
             (Event.Taken self.old.line.host) (T.seen turns.old)

@@ -1,5 +1,5 @@
 //! What is read and not yet asked.
-ghost use Rattle.std.specs.Prelude.{true, ◌≡◌, ◌≢◌, ◌↔◌, ◌++◌, ◌∷◌, ℕ, List, [], Some, None, IfOk, IfErr, IfSome, IfNone, OnErr, OnOk};
+ghost use Rattle.std.specs.Prelude.{true, ◌≡◌, ◌≢◌, ◌≤◌, ◌↔◌, ◌++◌, ◌∷◌, ℕ, List, [], Some, None, IfOk, IfErr, IfSome, IfNone, OnErr, OnOk};
 ghost use Rattle.std.specs.Io.KnownBytes.{Consumes, IsAtEnd};
 ghost use Rattle.resp_core.specs.declared.error.RespError.{RespError};
 ghost use Rattle.splitter.specs.Request.{Request as Asked, request_of};
@@ -15,6 +15,9 @@ use std::marker::Model;
 /// How many bytes one read takes at most.
 pub const READ_SIZE: usize = 16_384;
 
+// How many bytes a first read takes at most, and how many are kept for reading where little comes.
+const LEAST_READ_SIZE: usize = 1_024;
+
 // Whether it is want of memory, and no refusal of a byte.
 fn is_memory(error: &RespError) -> bool
     ensures { (result ≡ true) ↔ (error.now ≡ RespError.NoMemory) }
@@ -22,20 +25,37 @@ fn is_memory(error: &RespError) -> bool
     matches!(error, RespError::NoMemory)
 }
 
+// How long a buffer of this length is to be where the last read brought so many bytes: 0 before the first.
+fn fitting_size(length: usize, last: usize) -> usize
+    requires { (LEAST_READ_SIZE ≤ length) × (length ≤ READ_SIZE) }
+    ensures { (LEAST_READ_SIZE ≤ result) × (result ≤ READ_SIZE) }
+{
+    if last >= length {
+        (2 * length).min(READ_SIZE)
+    } else if last > 0 && last <= length / 8 {
+        (length / 2).max(LEAST_READ_SIZE)
+    } else {
+        length
+    }
+}
+
 /// A reader, the bytes that it read last, and the reader of values.
 #[derive(Drop)]
-pub struct Inbox<R: ReadTally> {
+pub(crate) struct Inbox<R: ReadTally> {
+    alloc: Global,
     input: R,
     // The bytes that came last stand in front, so many of them.
     buffer: Vec<u8>,
     fresh: usize,
+    // So many came with the last read that brought any.
+    last: usize,
     values: Reader,
 }
 
 impl<R: ReadTally> Model for Inbox<R> {
     ghost use Rattle.std.specs.Prelude.{◌≡◌, ◌≤◌, take, length};
     ghost use Rattle.proxy_engines.specs.Ends.{Receiving};
-    ghost use Rattle.proxy_engines.specs.declared.inbox.TheConstants.{READ_SIZE};
+    ghost use Rattle.proxy_engines.specs.declared.inbox.TheConstants.{READ_SIZE, LEAST_READ_SIZE};
 
     ghost Value = { Receiving };
 
@@ -46,28 +66,45 @@ impl<R: ReadTally> Model for Inbox<R> {
 
     ghost view = { λ i. record { left = R.remaining i.input; counts = R.counts i.input; fresh = take i.fresh i.buffer.items; values = i.values } };
 
-    ghost invariant = { λ i. (length i.buffer.items ≡ READ_SIZE) × (i.fresh ≤ READ_SIZE) };
+    ghost invariant = { λ i. (LEAST_READ_SIZE ≤ length i.buffer.items)
+        × (length i.buffer.items ≤ READ_SIZE) × (i.fresh ≤ length i.buffer.items) };
 }
 
 impl<R: ReadTally> Inbox<R> {
     ghost use Rattle.proxy_engines.specs.Ends.{Holds, HasGivenAll};
 
     /// An end that has read nothing yet. Where there is no memory for its buffer, the reader comes back.
-    pub fn new(alloc: Global, input: R, limits: Limits) -> Result<Inbox<R>, R>
+    pub(crate) fn new(alloc: Global, input: R, limits: Limits) -> Result<Inbox<R>, R>
         ensures left { IfOk result (λ i. i.left ≡ R.remaining input) }
         ensures most { IfOk result (λ i. i.values.most ≡ limits.array) }
         ensures holds { IfOk result (λ i. Holds i [] []) }
         ensures whole { IfOk result (λ i. i.values.refusal ≡ None) }
         ensures back { IfErr result (λ r. r ≡ input) }
     {
-        match vec![in alloc; 0; READ_SIZE] {
+        match vec![in alloc; 0; LEAST_READ_SIZE] {
             Ok(buffer) => Ok(Inbox {
+                alloc,
                 input,
                 buffer,
                 fresh: 0,
+                last: 0,
                 values: Reader::new(alloc, limits),
             }),
             Err(_) => Err(input),
+        }
+    }
+
+    // Makes the buffer twice as long where the last read filled it, and half as long where an eighth of it was enough, as far
+    // as there is memory. What was in it has been given on by then.
+    fn fit(&mut self)
+        requires { self.old.fresh ≡ [] }
+        ensures { self.new ≡ self.old }
+    {
+        let wanted = fitting_size(self.buffer.len(), self.last);
+        if wanted != self.buffer.len() {
+            if let Ok(buffer) = vec![in self.alloc; 0; wanted] {
+                self.buffer = buffer;
+            }
         }
     }
 
@@ -85,11 +122,15 @@ impl<R: ReadTally> Inbox<R> {
         ensures failed { result ≡ Told.Failed → (self.new.fresh ≡ [])
             × HasFailed self.old.counts self.new.counts }
     {
+        self.fit();
         let told = self.input.read_told(&mut self.buffer);
         self.fresh = match told {
             Told::Moved(n) => n,
             Told::End | Told::Paused | Told::Failed => 0,
         };
+        if self.fresh > 0 {
+            self.last = self.fresh;
+        }
         told
     }
 

@@ -6,6 +6,9 @@
 //! asked of readers and writers but that they count their faults and pauses ([`Tally`]); [`Tallied`] does it for any
 //! socket.
 //!
+//! [`run_all`] runs many [`Work`]s at the same time, each in a thread of its own. A [`ClientWork`] steps one client's engine to
+//! its end.
+//!
 //! Contracts say what an engine carries from step to step over the steps of its own caller, and what follows at the end.
 #![tactic(auto)]
 
@@ -19,13 +22,14 @@ mod line;
 mod link;
 mod outbox;
 mod tally;
+mod threads;
+mod work;
 
 pub use client::{ClientEngine, Progress, Stage};
 pub use error::EngineError;
 pub use host::HostEngine;
-pub use inbox::{Inbox, READ_SIZE};
+pub use inbox::READ_SIZE;
 pub use laws::{accepted_are_first, ended_is_whole, engines_leave_others, others_leave_engines};
-pub use line::Line;
-pub use link::Link;
-pub use outbox::Outbox;
 pub use tally::{ReadTally, Tallied, Tally, Told, WriteTally};
+pub use threads::run_all;
+pub use work::{ClientWork, Work};

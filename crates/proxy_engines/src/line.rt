@@ -1,5 +1,5 @@
 //! What goes to a host: the text that is to be written, and when each part without reply was taken.
-ghost use Rattle.std.specs.Prelude.{◌≡◌, ◌≢◌, ◌⊎◌, ◌++◌, ◌==◌, ◌≤◌, ◌-◌, ◌∷◌, ℕ, List, [], Option, true, false, length, drop, IfOk, IfErr, OnOk, OnErr};
+ghost use Rattle.std.specs.Prelude.{◌≡◌, ◌≢◌, ◌⊎◌, ◌++◌, ◌==◌, ◌↔◌, ℕ, List, [], Option, true, false, length, drop, IfOk, IfErr, OnOk, OnErr};
 ghost use Rattle.std.specs.Io.KnownBytes.{Appends};
 ghost use Rattle.ticket_gate.specs.Journal.{StartsWith};
 ghost use Rattle.proxy_history.specs.declared.event.Event.{Event};
@@ -7,7 +7,7 @@ ghost use Rattle.proxy_history.specs.declared.refusal.Refusal.{Refusal};
 ghost use Rattle.proxy_engines.specs.OwnSteps.{own_steps};
 ghost use Rattle.proxy_engines.specs.Device.{HasFailed, HasPaused, is_moved};
 ghost use Rattle.proxy_engines.specs.Moves.{AsTold, has_moved, told_by_turn};
-ghost use Rattle.proxy_engines.specs.Faults.{IsOfNoDevice};
+ghost use Rattle.proxy_engines.specs.Faults.{IsLate, IsOfNoDevice};
 ghost use Rattle.proxy_engines.specs.Host.{LinkState, GoesOn, FailsHost};
 
 use crate::ask::{Denied, tell};
@@ -25,7 +25,7 @@ const STALE: u16 = 1006;
 
 /// A host's engine without its link.
 #[derive(Drop)]
-pub struct Line {
+pub(crate) struct Line {
     host: usize,
     reply_ms: u64,
     epoch: u64,
@@ -149,8 +149,7 @@ impl Line {
 
     /// Whether the oldest part without reply was taken so long ago that its reply is late.
     pub(crate) fn is_late(&self, moment: u64) -> bool
-        ensures late { result ≡ true → (first : ℕ) × (rest : List ℕ)
-            × (self.now.moments ≡ first ∷ rest) × (self.now.reply_ms ≤ moment - first) }
+        ensures { (result ≡ true) ↔ IsLate self.now moment }
     {
         match self.moments.front() {
             Some(oldest) => moment.saturating_sub(*oldest) >= self.reply_ms,

@@ -12,7 +12,7 @@ ghost use Rattle.proxy_engines.specs.Turned.{HasHeld};
 ghost use Rattle.proxy_engines.specs.Ends.{HasGivenAll};
 ghost use Rattle.proxy_engines.specs.Host.{LineState, LinkState, GoesOn};
 ghost use Rattle.proxy_engines.specs.Moves.{AsTold};
-ghost use Rattle.proxy_engines.specs.Faults.{either, is_fault, IfFault, IsCauseOf, IsOfNoDevice, told_by_moves, told_by_outcome};
+ghost use Rattle.proxy_engines.specs.Faults.{either, is_fault, IfFault, IsCauseOf, IsLate, IsOfNoDevice, told_by_moves, told_by_outcome};
 
 use crate::ask::{Denied, give};
 use crate::error::EngineError;
@@ -27,7 +27,7 @@ use std::sync::Wait;
 
 /// The two ends of a link to a host, and a value whose turn was not answered yet.
 #[derive(Drop)]
-pub struct Link<R: ReadTally, W: WriteTally> {
+pub(crate) struct Link<R: ReadTally, W: WriteTally> {
     inbox: Inbox<R>,
     writer: W,
     next: Option<Value>,
@@ -424,6 +424,7 @@ impl<R: ReadTally, W: WriteTally> Link<R, W> {
             ((v : Value) × (self.new.next ≡ Some v)
             × T.cause (T.setting turns.old) Refusal.Unasked
             (Event.Answered line.new.host line.new.epoch v moment) (T.seen turns.new)) moment)) }
+        ensures in_time { IfOk result (λ o. is_fault o ≡ false → ¬ IsLate line.new moment) }
         ensures err { OnErr result (self.new.inbox.values.refusal ≡ None) }
         ensures plain { IfErr result IsOfNoDevice }
     {

@@ -1,15 +1,18 @@
 //! What is to be written.
 ghost use Rattle.std.specs.Prelude.{◌≡◌, ◌≢◌, ◌==◌, ◌<◌, ◌⊎◌, ℕ, List, length, []};
+ghost use Rattle.std.specs.Io.KnownBytes.{Keeps};
 ghost use Rattle.proxy_engines.specs.Device.{HasFailed, HasPaused, is_moved};
 ghost use Rattle.proxy_engines.specs.Moves.{has_moved};
 
 use crate::tally::{Told, WriteTally};
 use bytes::Bytes;
+use std::io;
+use std::io::Write;
 use std::marker::Model;
 
 /// A writer, and the text that it is to take next.
 #[derive(Drop)]
-pub struct Outbox<W: WriteTally> {
+pub(crate) struct Outbox<W: WriteTally> {
     writer: W,
     pending: Bytes,
 }
@@ -26,7 +29,7 @@ impl<W: WriteTally> Outbox<W> {
     ghost use Rattle.proxy_engines.specs.Ends.{Sends};
 
     /// With nothing to write.
-    pub fn new(writer: W) -> Outbox<W>
+    pub(crate) fn new(writer: W) -> Outbox<W>
         ensures held { result.held ≡ W.contents writer }
         ensures counts { result.counts ≡ W.counts writer }
         ensures pending { result.pending ≡ [] }
@@ -38,7 +41,7 @@ impl<W: WriteTally> Outbox<W> {
     }
 
     /// Whether nothing is to be written.
-    pub fn is_empty(&self) -> bool
+    pub(crate) fn is_empty(&self) -> bool
         ensures { result ≡ (length self.now.pending == 0) }
     {
         self.pending.is_empty()
@@ -70,8 +73,16 @@ impl<W: WriteTally> Outbox<W> {
         told
     }
 
+    /// Has the writer pass on what it gathered.
+    pub(crate) fn flush(&mut self) -> io::Result<()>
+        ensures held { Keeps self.old.held self.new.held }
+        ensures pending { self.new.pending ≡ self.old.pending }
+    {
+        self.writer.flush()
+    }
+
     /// The writer. What is pending is dropped.
-    pub fn into_writer(self) -> W
+    pub(crate) fn into_writer(self) -> W
         ensures { W.contents result ≡ self.held }
     {
         let Outbox { writer, pending: _ } = self;

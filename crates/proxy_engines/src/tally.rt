@@ -74,6 +74,14 @@ impl<S> Tallied<S> {
         }
     }
 
+    /// The reader or writer, without its counts.
+    pub fn into_inner(self) -> S
+        ensures { result ≡ self.inner }
+    {
+        let Tallied { inner, .. } = self;
+        inner
+    }
+
     // Counts a failure.
     fn failed(&mut self)
         ensures inner { self.new.inner ≡ self.old.inner }

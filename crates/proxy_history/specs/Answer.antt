@@ -8,6 +8,8 @@ use Rattle.splitter.specs.Plan.{Plan, here, leave, parts}
 use Rattle.ejector.specs.declared.mark.Mark.{Mark}
 use Rattle.ejector.specs.declared.mark.Mark.TheVariants.{Sweep}
 use Rattle.ejector.specs.declared.answer.Trip.{Trip}
+use Rattle.ejector.specs.declared.settings.Rules.{Rules}
+use Rattle.ejector.specs.State.{State}
 use Rattle.ejector.specs.declared.answer.Trip.TheVariants as trips
 use Rattle.ejector.specs.declared.answer.Swept.{Swept as SweptHosts}
 use Rattle.ejector.specs.Ejection.{trip, swept}
@@ -29,6 +31,7 @@ local_of (here name value) = Some name
 local_of (leave name value) = Some name
 local_of (parts how list) = None
 
+-- whether a part has no host
 abbrev pub is_hostless : Part → Bool
 is_hostless p = not (is_some p.host)
 
@@ -36,18 +39,25 @@ is_hostless p = not (is_some p.host)
 abbrev pub is_busy : Part → Bool
 is_busy p = if is_some p.host then is_some p.local else false
 
+-- the answer to a request that is accepted
 abbrev pub accepts : ℕ → Option Local → List Part → Answer
 accepts index local placed = answer.Accepted index local (length placed) (count_by is_hostless placed) (count_by is_busy placed)
 
+-- the text of the first of some parts
 abbrev pub text_of_first : List Part → List ℕ
 text_of_first [] = []
 text_of_first (p ∷ _) = p.text
 
--- what the mark of a step does to its host, if it has one
-abbrev pub trip_of : Setting → Past → List Mark → Trip
-trip_of S past [] = trips.None
-trip_of S past (m ∷ _) = trip S.rules S.opening m past.marks
+-- what the newest of these marks does to its host after the others, if there is one
+abbrev pub trip_by : Rules → State → List Mark → List Mark → Trip
+trip_by rules O [] marks = trips.None
+trip_by rules O (m ∷ _) marks = trip rules O m marks
 
+-- the same after a past
+abbrev pub trip_of : Setting → Past → List Mark → Trip
+trip_of S past marks = trip_by S.rules S.opening marks past.marks
+
+-- the answer that a sweep's counts are
 abbrev pub counts_of : SweptHosts → Answer
 counts_of n = answer.Swept n.returned n.ejected n.kept
 

@@ -14,9 +14,11 @@ use Rattle.proxy_history.specs.Waiting.{waiting}
 use Rattle.proxy_history.specs.declared.event.Event.{Event}
 use Rattle.proxy_history.specs.declared.event.Event.TheVariants.{Arrived}
 
+-- the error of a part without a host
 abbrev pub no_upstream_host : Tree
 no_upstream_host = fault (codes "no upstream host")
 
+-- the error of a part for whose host too many wait
 abbrev pub proxy_busy : Tree
 proxy_busy = fault (codes "proxy busy")
 
@@ -29,6 +31,7 @@ hostless conn command number p =
 abbrev pub before_it : ℕ → Past → List Part → ℕ
 before_it h past placed = length (waiting h past) + length (filter (is_of h (epoch h past.steps)) placed)
 
+-- a part with the host that it gets
 abbrev pub with_host : Past → List Part → Option ℕ → Part → Part
 with_host past placed None p = p
 with_host past placed (Some h) p =
@@ -42,6 +45,7 @@ usable S past = map (is_usable S.rules (state S.rules S.opening past.marks)) (ho
 abbrev pub host_for : Setting → Past → List ℕ → Option ℕ
 host_for S past key = owner_of S.ring.pairs (point_for S key) (usable S past)
 
+-- a part of a plan as it arrives behind others
 abbrev pub placed_part : Setting → Past → ℕ → ℕ → List Part → PartPlan → Part
 placed_part S past conn command placed p =
     with_host past placed (host_for S past p.key) (hostless conn command (length placed) p)
@@ -51,6 +55,7 @@ abbrev pub placing : Setting → Past → ℕ → ℕ → List Part → List Par
 placing S past conn command placed [] = placed
 placing S past conn command placed (p ∷ ps) = placing S past conn command (placed ++ placed_part S past conn command placed p ∷ []) ps
 
+-- the parts that arrive by a plan
 abbrev pub placed_by : Setting → Past → ℕ → Plan → List Part
 placed_by S past conn (parts how list) = placing S past conn (accepted conn past.steps) [] list
 placed_by S past conn (here name value) = []

@@ -21,35 +21,73 @@ first_true (r ∷ rest) = if r.0 then Some r.1 else first_true rest
 abbrev pub left : ℕ → Past → ℕ
 left c past = accepted c past.steps - handed c past.steps
 
+-- whether the next reply of a connection has come
 abbrev pub is_ready : ℕ → Past → Bool
 is_ready c past = nat_lt 0 (left c past) && is_some (outcome c (handed c past.steps) past)
 
-abbrev pub no_such_connection : Past → ℕ → Bool × Refusal
-no_such_connection past c = (not (is_open c past.steps), refusal.NoSuchConnection)
+-- What decides whether an event is refused: how many connections are open, and of each whether it is open and finishing, how
+-- many of its commands are left and whether the reply to the oldest is ready; how many hosts there are, and of each how many
+-- parts wait for it and fly to it, and its epoch.
+pub record Grounds : Type 0 where
+  pub open_count : ℕ
+  pub is_open : ℕ → Bool
+  pub is_finishing : ℕ → Bool
+  pub left : ℕ → ℕ
+  pub is_ready : ℕ → Bool
+  pub hosts : ℕ
+  pub waiting : ℕ → ℕ
+  pub flying : ℕ → ℕ
+  pub epoch : ℕ → ℕ
 
-abbrev pub finishing : Past → ℕ → Bool × Refusal
-finishing past c = (is_finishing c past.steps, refusal.Finishing)
+-- as a past has it
+abbrev pub grounds_of : Setting → Past → Grounds
+grounds_of S past = record {
+  open_count = opened past.steps - times is_any_closing past.steps;
+  is_open = λ c. is_open c past.steps;
+  is_finishing = λ c. is_finishing c past.steps;
+  left = λ c. left c past;
+  is_ready = λ c. is_ready c past;
+  hosts = hosts S;
+  waiting = λ h. length (waiting h past);
+  flying = λ h. flying h past;
+  epoch = λ h. epoch h past.steps;
+}
 
-abbrev pub no_such_host : Setting → ℕ → Bool × Refusal
-no_such_host S h = (nat_le (hosts S) h, refusal.NoSuchHost)
+-- the cause of a connection that isn't open
+abbrev pub no_such_connection : Grounds → ℕ → Bool × Refusal
+no_such_connection g c = (not (g.is_open c), refusal.NoSuchConnection)
 
-abbrev pub stale : Past → ℕ → ℕ → Bool × Refusal
-stale past h e = (not (e == epoch h past.steps), refusal.Stale (epoch h past.steps))
+-- the cause of a connection that takes nothing more
+abbrev pub finishing : Grounds → ℕ → Bool × Refusal
+finishing g c = (g.is_finishing c, refusal.Finishing)
+
+-- the cause of a number that no host has
+abbrev pub no_such_host : Grounds → ℕ → Bool × Refusal
+no_such_host g h = (nat_le g.hosts h, refusal.NoSuchHost)
+
+-- the cause of an epoch that isn't the host's
+abbrev pub stale : Grounds → ℕ → ℕ → Bool × Refusal
+stale g h e = (not (e == g.epoch h), refusal.Stale (g.epoch h))
 
 -- the causes of an event's own, in their order
+abbrev pub causes_by : Grounds → Event → List (Bool × Refusal)
+causes_by g Opened = (nat_le max_connections g.open_count, refusal.TooManyConnections) ∷ []
+causes_by g (Arrived conn request) =
+    no_such_connection g conn ∷ finishing g conn ∷ (nat_le max_unwritten (g.left conn), refusal.Crowded) ∷ []
+causes_by g (Finished conn) = no_such_connection g conn ∷ finishing g conn ∷ []
+causes_by g (Taken host) = no_such_host g host ∷ (g.waiting host == 0, refusal.NothingWaiting) ∷ []
+causes_by g (Answered host e value t) =
+    no_such_host g host ∷ (not (is_plain_tree (tree_of value)), refusal.NotPlain) ∷ stale g host e
+    ∷ (g.flying host == 0, refusal.Unasked) ∷ []
+causes_by g (Failed host e kind t) = no_such_host g host ∷ stale g host e ∷ []
+causes_by g (Swept t) = []
+causes_by g (Handed conn) =
+    no_such_connection g conn ∷ (not (g.is_ready conn), refusal.NotReady (g.left conn)) ∷ []
+causes_by g (Closed conn) = no_such_connection g conn ∷ []
+
+-- the same after a past
 abbrev pub causes : Setting → Past → Event → List (Bool × Refusal)
-causes S past Opened = (nat_le max_connections (opened past.steps - times is_any_closing past.steps), refusal.TooManyConnections) ∷ []
-causes S past (Arrived conn request) =
-    no_such_connection past conn ∷ finishing past conn ∷ (nat_le max_unwritten (left conn past), refusal.Crowded) ∷ []
-causes S past (Finished conn) = no_such_connection past conn ∷ finishing past conn ∷ []
-causes S past (Taken host) = no_such_host S host ∷ (length (waiting host past) == 0, refusal.NothingWaiting) ∷ []
-causes S past (Answered host e value t) =
-    no_such_host S host ∷ (not (is_plain_tree (tree_of value)), refusal.NotPlain) ∷ stale past host e
-    ∷ (flying host past == 0, refusal.Unasked) ∷ []
-causes S past (Failed host e kind t) = no_such_host S host ∷ stale past host e ∷ []
-causes S past (Swept t) = []
-causes S past (Handed conn) = no_such_connection past conn ∷ (not (is_ready conn past), refusal.NotReady (left conn past)) ∷ []
-causes S past (Closed conn) = no_such_connection past conn ∷ []
+causes S past event = causes_by (grounds_of S past) event
 
 -- the first of them that holds
 abbrev pub own_cause : Setting → Past → Event → Option Refusal

@@ -12,6 +12,7 @@ use Rattle.proxy_history.specs.declared.event.Event.TheVariants.{Opened, Arrived
 abbrev pub Step : Type 0
 Step = StepOf Event Answer
 
+-- the steps so far, the newest first
 abbrev pub History : Type 0
 History = List Step
 
@@ -25,26 +26,32 @@ abbrev pub has : (Event → Bool) → History → Bool
 has is [] = false
 has is (s ∷ before) = is s.event || has is before
 
+-- whether an event opens a connection
 abbrev pub is_opening : Event → Bool
 is_opening Opened = true
 is_opening _ = false
 
+-- whether an event is a request of the connection
 abbrev pub is_arrival : ℕ → Event → Bool
 is_arrival c (Arrived conn request) = conn == c
 is_arrival c _ = false
 
+-- whether an event hands out a reply to the connection
 abbrev pub is_handing : ℕ → Event → Bool
 is_handing c (Handed conn) = conn == c
 is_handing c _ = false
 
+-- whether an event closes the connection
 abbrev pub is_closing : ℕ → Event → Bool
 is_closing c (Closed conn) = conn == c
 is_closing c _ = false
 
+-- whether an event closes any connection
 abbrev pub is_any_closing : Event → Bool
 is_any_closing (Closed conn) = true
 is_any_closing _ = false
 
+-- whether an event is a fault of the host
 abbrev pub is_fault : ℕ → Event → Bool
 is_fault h (Failed host epoch kind t) = host == h
 is_fault h _ = false
@@ -53,6 +60,7 @@ is_fault h _ = false
 abbrev pub plan_for : Request → Plan
 plan_for request = plan_of (request_of request)
 
+-- whether an event ends the connection's input
 abbrev pub finishes : ℕ → Event → Bool
 finishes c (Finished conn) = conn == c
 finishes c (Arrived conn request) = (conn == c) && is_last (plan_for request)
@@ -66,6 +74,7 @@ opened H = times is_opening H
 abbrev pub accepted : ℕ → History → ℕ
 accepted c H = times (is_arrival c) H
 
+-- how many replies were handed out to the connection
 abbrev pub handed : ℕ → History → ℕ
 handed c H = times (is_handing c) H
 
@@ -73,12 +82,15 @@ handed c H = times (is_handing c) H
 abbrev pub epoch : ℕ → History → ℕ
 epoch h H = times (is_fault h) H
 
+-- whether the connection was closed
 abbrev pub is_closed : ℕ → History → Bool
 is_closed c H = has (is_closing c) H
 
+-- whether the connection was opened and not closed
 abbrev pub is_open : ℕ → History → Bool
 is_open c H = nat_lt c (opened H) && not (is_closed c H)
 
+-- whether the connection takes nothing more
 abbrev pub is_finishing : ℕ → History → Bool
 is_finishing c H = has (finishes c) H
 
@@ -87,6 +99,7 @@ abbrev pub request_by : ℕ → Event → List Request
 request_by c (Arrived conn request) = if conn == c then request ∷ [] else []
 request_by c _ = []
 
+-- what was asked on the connection, the oldest first
 abbrev pub requests : ℕ → History → List Request
 requests c [] = []
 requests c (s ∷ before) = requests c before ++ request_by c s.event

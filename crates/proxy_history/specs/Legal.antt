@@ -18,6 +18,7 @@ pub record MayFollow (S : Setting) (past : Past) (s : Step) : Type 0 where
   pub is_answered : s.answer ≡ answer_to S past s.event
   pub has_room : IsTrue (has_room past.steps s.event s.answer)
 
+-- each step may follow those before it
 abbrev pub IsLegal : Setting → History → Type 0
 IsLegal S [] = Unit {0}
 IsLegal S (s ∷ before) = IsLegal S before × MayFollow S (past S before) s

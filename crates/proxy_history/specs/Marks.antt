@@ -9,20 +9,25 @@ use Rattle.proxy_history.specs.declared.event.Kind.TheVariants.{Refused, Dropped
 use Rattle.proxy_history.specs.declared.event.Event.{Event}
 use Rattle.proxy_history.specs.declared.event.Event.TheVariants.{Answered, Failed, Swept}
 
--- nothing waits for the host, and nothing flies to it
-abbrev pub is_idle : ℕ → Past → Bool
-is_idle h past = (length (waiting h past) == 0) && (flying h past == 0)
+-- a link that ends while its host has nothing to do is no fault of the host, for which so many parts wait and to which so many
+-- fly
+abbrev pub is_excused_by : ℕ → ℕ → Kind → Bool
+is_excused_by waiting flying Refused = false
+is_excused_by waiting flying Dropped = (waiting == 0) && (flying == 0)
+is_excused_by waiting flying Late = false
+is_excused_by waiting flying Garbled = false
 
--- a link that ends while its host has nothing to do is no fault of the host
+-- the same after a past
 abbrev pub is_excused : Past → ℕ → Kind → Bool
-is_excused past h Refused = false
-is_excused past h Dropped = is_idle h past
-is_excused past h Late = false
-is_excused past h Garbled = false
+is_excused past h kind = is_excused_by (length (waiting h past)) (flying h past) kind
+
+-- the mark of a fault, if it is one, of a host for which so many parts wait and to which so many fly
+abbrev pub mark_of_fault : ℕ → ℕ → ℕ → Kind → ℕ → List Mark
+mark_of_fault waiting flying h kind t = if is_excused_by waiting flying kind then [] else Bad h t ∷ []
 
 -- the mark of an event, if it is one
 abbrev pub mark_by : Past → Event → List Mark
 mark_by past (Answered host epoch value t) = Good host t ∷ []
-mark_by past (Failed host epoch kind t) = if is_excused past host kind then [] else Bad host t ∷ []
+mark_by past (Failed host epoch kind t) = mark_of_fault (length (waiting host past)) (flying host past) host kind t
 mark_by past (Swept t) = Sweep t ∷ []
 mark_by past _ = []

@@ -9,6 +9,7 @@ use Rattle.proxy_history.specs.History.{plan_for, requests}
 use Rattle.proxy_history.specs.Part.{Part, Past}
 use Rattle.proxy_history.specs.Value.{value_of}
 
+-- a value before others, where all are there
 abbrev pub with_value : Option Tree → Option (List Tree) → Option (List Tree)
 with_value None vs = None
 with_value (Some v) None = None
@@ -19,12 +20,15 @@ abbrev pub values_of : Past → List Part → Option (List Tree)
 values_of past [] = Some []
 values_of past (p ∷ ps) = with_value (value_of past p) (values_of past ps)
 
+-- whether a part is of this command of the connection
 abbrev pub is_part_of : ℕ → ℕ → Part → Bool
 is_part_of c i p = (p.conn == c) && (p.command == i)
 
+-- the parts of a command
 abbrev pub parts_of : ℕ → ℕ → Past → List Part
 parts_of c i past = filter (is_part_of c i) past.parts
 
+-- what a command comes to by its plan
 abbrev pub outcome_by : Past → ℕ → ℕ → Plan → Option Tree
 outcome_by past c i (here name value) = Some value
 outcome_by past c i (leave name value) = Some value

@@ -25,9 +25,11 @@ pub record Past : Type 0 where
   -- good and bad results and sweeps, the newest first
   pub marks : List Mark
 
+-- whether two parts are the same part of the same command
 abbrev pub is_same : Part → Part → Bool
 is_same p q = (p.conn == q.conn) && (p.command == q.command) && (p.number == q.number)
 
+-- whether a part's host is this one
 abbrev pub is_host : ℕ → Option ℕ → Bool
 is_host h None = false
 is_host h (Some host) = host == h

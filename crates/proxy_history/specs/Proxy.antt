@@ -32,6 +32,7 @@ setting_of ring settings =
     setting_from ring
     (record { rules = rules_of ring settings; state = fresh_state (rules_of ring settings) })
 
+-- the history of what is kept
 abbrev pub history_in : Kept → History
 history_in k = reverse k.steps
 

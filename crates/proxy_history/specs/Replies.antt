@@ -11,6 +11,7 @@ abbrev pub reply_by : ℕ → ℕ → Event → List Tree
 reply_by h e (Answered host ep value t) = if (host == h) && (ep == e) then tree_of value ∷ [] else []
 reply_by h e _ = []
 
+-- the replies that came from a host in an epoch, the oldest first
 abbrev pub came : ℕ → ℕ → History → List Tree
 came h e [] = []
 came h e (s ∷ before) = came h e before ++ reply_by h e s.event

@@ -9,12 +9,14 @@ use Rattle.ejector.specs.declared.settings.Rules.{Rules}
 use Rattle.ejector.specs.State.{State}
 use Rattle.proxy_history.specs.declared.limits.TheConstants.{MAX_CONNECTIONS}
 
+-- the ring, the rules of outlier detection, and the state that it began with
 pub record Setting : Type 0 where
   pub ring : Continuum
   pub rules : Rules
   -- the ejection state before the first step
   pub opening : State
 
+-- how many hosts there are
 abbrev pub hosts : Setting → ℕ
 hosts S = S.rules.hosts
 
@@ -38,5 +40,6 @@ max_waiting = MAX_WAITING
 abbrev pub max_steps : ℕ
 max_steps = MAX_STEPS
 
+-- the most bytes of a history
 abbrev pub max_payload : ℕ
 max_payload = MAX_BYTES

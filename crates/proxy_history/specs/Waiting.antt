@@ -11,6 +11,7 @@ use Rattle.proxy_history.specs.declared.event.Event.TheVariants.{Taken}
 abbrev pub waits : ℕ → Past → Part → Bool
 waits h past p = is_of h (epoch h past.steps) p && not (list_any (is_same p) past.sent) && not (is_closed p.conn past.steps)
 
+-- the parts that wait for a host, the oldest first
 abbrev pub waiting : ℕ → Past → List Part
 waiting h past = filter (waits h past) past.parts
 
@@ -22,6 +23,7 @@ sent_to h e past = filter (is_of h e) past.sent
 abbrev pub flying : ℕ → Past → ℕ
 flying h past = let e = epoch h past.steps in length (sent_to h e past) - length (came h e past.steps)
 
+-- the first of some parts
 abbrev pub first : List Part → List Part
 first [] = []
 first (p ∷ _) = p ∷ []

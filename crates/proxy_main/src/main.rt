@@ -1,11 +1,19 @@
 //! `redproxy`: a proxy that clients speak to as to one Redis server.
 #![tactic(auto)]
 
+ghost use Rattle.std.specs.Prelude.{IfOk};
+ghost use Rattle.proxy_config.specs.RingParts.{AreRingParts};
+
 use command_line::{Asked, Refused};
-use proxy_config::{ConfigError, check_line};
+use mio::net::TcpListener;
+use proxy_config::{Config, ConfigError, check_line};
 use proxy_run::{Ending, local_run};
+use proxy_serve::{Marks, serve_run};
+use std::net::Net;
 use std::process::ExitCode;
 use std::rt::Runtime;
+use std::sync::Wait;
+use std::thread::Threads;
 use std::{env, fs, io};
 
 // The status of a command line that asks for nothing that can be done.
@@ -15,9 +23,9 @@ const BAD_COMMAND_LINE: u8 = 2;
 const BAD_SETTINGS: u8 = 3;
 
 // Serves the one client on standard input and output, and gives the status.
-fn run_local<R: Runtime + AllocGlobal>(rt: &R) -> u8 {
-    match local_run(rt.alloc(), &mut rt.reader(), &mut io::writer(rt)) {
-        Ok(()) => 0,
+fn run_local<R: Runtime + AllocGlobal + Wait>(rt: &R) -> u8 {
+    match local_run(rt, rt.alloc(), rt.reader(), io::writer(rt)) {
+        Ok(_writer) => 0,
         Err(ending) => ended(rt, ending),
     }
 }
@@ -45,13 +53,65 @@ fn checked<R: Runtime + AllocGlobal>(rt: &R, config: &str) -> Result<String, Con
     }
 }
 
+// Serves clients on the address of the settings, and gives the status.
+fn run_serve<
+    R: Runtime
+        + AllocGlobal
+        + Threads
+        + Wait
+        + Net<Listener = std::net::TcpListener, Stream = std::net::TcpStream>
+        + Sync,
+>(rt: &R, config: &str, connections: u64) -> u8 {
+    let config = match settings_of(rt, config) {
+        Ok(config) => config,
+        Err(ConfigError::Memory) => return ended(rt, Ending::Memory),
+        Err(fault) => {
+            let _ = eprintln!(rt; "{fault}");
+            return BAD_SETTINGS;
+        }
+    };
+    let Ok(listener) = TcpListener::bind(rt, config.listen) else {
+        return ended(rt, Ending::Socket);
+    };
+    match serve_run(
+        rt,
+        rt.alloc(),
+        listener,
+        config,
+        connections,
+        Marks::FULL,
+        &mut io::writer(rt),
+    ) {
+        Ok(()) => 0,
+        Err(ending) => ended(rt, ending),
+    }
+}
+
+fn settings_of<R: Runtime + AllocGlobal>(rt: &R, config: &str) -> Result<Config, ConfigError>
+    ensures { IfOk result
+        (λ config. AreRingParts config.hosts.items config.weights.items) }
+{
+    match fs::read(rt, config) {
+        Ok(bytes) => Config::read(rt.alloc(), bytes.as_slice()),
+        Err(error) if error.kind() == io::ErrorKind::OutOfMemory => Err(ConfigError::Memory),
+        Err(_) => Err(ConfigError::Fault("file")),
+    }
+}
+
 // Tells why the program ends, and gives the status.
 fn ended<R: Eprint>(rt: &R, ending: Ending) -> u8 {
     let _ = eprintln!(rt; "{ending}");
     ending.status()
 }
 
-fn run<R: Runtime + AllocGlobal>(rt: &R) -> u8 {
+fn run<
+    R: Runtime
+        + AllocGlobal
+        + Threads
+        + Wait
+        + Net<Listener = std::net::TcpListener, Stream = std::net::TcpStream>
+        + Sync,
+>(rt: &R) -> u8 {
     let Ok(words) = env::args(rt) else {
         let _ = eprintln!(rt; "error: the arguments are not UTF-8");
         return BAD_COMMAND_LINE;
@@ -62,6 +122,12 @@ fn run<R: Runtime + AllocGlobal>(rt: &R) -> u8 {
     match command_line::read(rt.alloc(), words.as_slice()) {
         Ok(Asked::Local) => run_local(rt),
         Ok(Asked::Check { config }) => run_check(rt, config.as_str()),
+        Ok(
+            Asked::Serve {
+                config,
+                connections,
+            },
+        ) => run_serve(rt, config.as_str(), connections),
         Err(Refused::Memory) => ended(rt, Ending::Memory),
         Err(Refused::Told(told)) => match told.print(rt) {
             Ok(()) if told.is_help() => 0,

@@ -1,7 +1,4 @@
-pub mod Known
-pub mod ReadBack
-pub mod Gathered
-pub mod InParts
-pub mod Asking
-pub mod Plain
-pub mod Answering
+pub mod BytesLemmas
+pub mod MoveLemmas
+pub mod EndLemmas
+pub mod RunLemmas

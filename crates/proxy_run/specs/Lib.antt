@@ -1,5 +1,4 @@
 pub mod Ending
-pub mod Sendable
-pub mod Flow
-pub mod Reply
-pub mod Stream
+pub mod Stubs
+pub mod Moves
+pub mod Local

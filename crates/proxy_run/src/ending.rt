@@ -1,13 +1,10 @@
 //! How the program ends where it can't go on.
+ghost use Rattle.proxy_run.specs.Ending.{ending_of};
 ghost use Rattle.std.specs.Prelude.{◌≡◌};
-ghost use Rattle.proxy_run.specs.Ending.{ending_of_reader, ending_of_queue};
 ghost use Rattle.proxy_run.specs.declared.ending.Ending.TheVariants.{Memory};
 
-use reply_queue::QueueRefusal;
-use resp_core::RespError;
-use splitter::SplitError;
+use proxy_engines::EngineError;
 use std::alloc::{AllocError, AllocFailed};
-use stub_server::StubError;
 use thiserror::Error;
 
 /// Why the program ended before its work was done. Its text is what is told on standard error.
@@ -22,10 +19,17 @@ pub enum Ending {
     /// Status 6: memory was refused.
     #[error("memory")]
     Memory,
-    /// Status 7: numbers are spent: those of the gate's tickets, or of a connection's commands.
+    /// Status 7: the numbers of the gate's tickets are spent.
     #[error("gate spent")]
     Spent,
 }
+
+// The numbers of a turn that is refused for want of memory, because the journal is full, and because no ticket is left.
+const NO_MEMORY: u16 = 1001;
+
+const JOURNAL_FULL: u16 = 1002;
+
+const SPENT: u16 = 1202;
 
 impl Ending {
     ghost use Rattle.proxy_run.specs.Ending.{status_of};
@@ -59,40 +63,19 @@ impl<T: Drop> From<AllocFailed<T>> for Ending {
     }
 }
 
-impl From<RespError> for Ending {
-    ghost from_gives = { λ error e. e ≡ ending_of_reader error };
+impl From<EngineError> for Ending {
+    ghost from_gives = { λ error e. e ≡ ending_of error };
 
-    fn from(error: RespError) -> Ending {
+    fn from(error: EngineError) -> Ending {
         match error {
-            RespError::NoMemory => Ending::Memory,
-            _ => Ending::Socket,
-        }
-    }
-}
-
-impl From<StubError> for Ending {
-    ghost from_gives = { λ _ e. e ≡ Memory };
-
-    fn from(_error: StubError) -> Ending {
-        Ending::Memory
-    }
-}
-
-impl From<SplitError> for Ending {
-    ghost from_gives = { λ _ e. e ≡ Memory };
-
-    fn from(_error: SplitError) -> Ending {
-        Ending::Memory
-    }
-}
-
-impl From<QueueRefusal> for Ending {
-    ghost from_gives = { λ refusal e. e ≡ ending_of_queue refusal };
-
-    fn from(error: QueueRefusal) -> Ending {
-        match error {
-            QueueRefusal::NoMemory => Ending::Memory,
-            QueueRefusal::Crowded | QueueRefusal::Spent => Ending::Spent,
+            EngineError::NoMemory => Ending::Memory,
+            EngineError::ReadFailed | EngineError::WriteFailed => Ending::Socket,
+            EngineError::TurnRefused { number: NO_MEMORY } => Ending::Memory,
+            EngineError::TurnRefused {
+                number: JOURNAL_FULL,
+            } => Ending::JournalFull,
+            EngineError::TurnRefused { number: SPENT } => Ending::Spent,
+            EngineError::TurnRefused { .. } => Ending::Socket,
         }
     }
 }

@@ -1,10 +1,10 @@
 //! What the program `redproxy` runs, over any reader and writer, and how it ends.
 #![tactic(auto)]
 
+mod announced;
 mod ending;
-mod host;
 mod local;
-mod reply;
+mod stubs;
 
 pub use ending::Ending;
 pub use local::local_run;

@@ -1,142 +1,241 @@
-//! One client, answered from a reader to a writer, with one host behind it.
-ghost use Rattle.std.specs.Prelude.{◌≡◌, ◌++◌, [], OnOk, IfOk, IfErr, IfSome, IfNone};
-ghost use Rattle.std.specs.Io.KnownBytes.{Appends};
-ghost use Rattle.splitter.specs.Request.{request_of};
-ghost use Rattle.splitter.specs.Requests.{finishes};
-ghost use Rattle.resp_core.specs.declared.reader.TheConstants.{CLIENT_MEMBERS};
-ghost use Rattle.proxy_run.specs.Ending.{IsShort, IsEndOfRun};
-ghost use Rattle.proxy_run.specs.declared.ending.Ending.TheVariants.{Socket};
-ghost use Rattle.proxy_run.specs.Flow.{is_finish};
-ghost use Rattle.proxy_run.specs.Sendable.{IsRead};
-ghost use Rattle.proxy_run.specs.Reply.{reply_text, map_after};
-ghost use Rattle.proxy_run.specs.Stream.{AnswersAll, AnswersWhole, AnswersLast, IsNext, IsAnswered};
+//! One client, answered from a reader to a writer, with three hosts in memory behind it.
+ghost use Rattle.std.specs.Prelude.{◌≡◌, IfOk, OnOk, false};
+ghost use Rattle.std.specs.Io.Buffered.{writer_contents};
+ghost use Rattle.std.specs.Io.KnownBytes.{Keeps};
+ghost use Rattle.proxy_core.specs.Recorded.{journal_of, made_with};
+ghost use Rattle.proxy_engines.specs.OwnSteps.{own_steps};
+ghost use Rattle.proxy_engines.specs.declared.client.Stage.{Stage};
+ghost use Rattle.proxy_run.specs.Local.{RunsLocal};
+ghost use Rattle.proxy_run.specs.Moves.{GoesBeside, IsBeside};
 
+use crate::announced::Announced;
 use crate::ending::Ending;
-use crate::host::Host;
-use crate::reply::{Flow, reply_to};
-use reply_queue::Queue;
-use resp_core::{Limits, Reader, RespError, put_text};
-use splitter::Request;
+use crate::stubs::{stub_core, stub_engines};
+use proxy_core::{Answer, Core, CoreTurns, Step};
+use proxy_engines::{ClientEngine, HostEngine, Progress, ReadTally, Tallied, WriteTally};
 use std::alloc::Global;
-use std::io::{ErrorKind, Read, Write};
+use std::io::{BufWriter, Read, Write};
+use std::sync::Wait;
+use ticket_gate::Alone;
 
-// Bytes that one read takes at most.
-const READ_SIZE: usize = 16_384;
+// Steps that all engines of a run make together, at most.
+const MAX_STEPS: u32 = 1_073_741_824;
 
-// Reads of one run at most.
-const MAX_READS: u32 = 1_073_741_824;
+// Bytes of replies that are gathered before they are written, at most.
+const MAX_GATHERED: usize = 65_536;
 
-/// Answers the one client whose bytes the reader gives, and writes the answers to the writer.
+// The pass that makes all turns.
+const PASS: u64 = 0;
+
+// The moment of each event.
+const MOMENT: u64 = 0;
+
+/// What writes the replies to the client.
+type Output<W> = Tallied<BufWriter<W>>;
+
+/// Answers the one client whose bytes the reader gives, and gives back the writer, which the replies were written to.
 ///
-/// Ends Ok once a request finished the connection, or at the end of the input; all answers were written then. Each read
-/// takes at most 16,384 bytes, and the answers to what it brought are written together. Ends with `Socket` where the
-/// reader or the writer fails, and after 1,073,741,824 reads; with `Memory` where memory is refused, after what was
-/// answered by then was written.
-pub fn local_run<R: Read, W: Write>(
+/// Ends Ok once a request finished the connection, or at the end of the input. Each read takes at most 16,384 bytes. The
+/// replies to what it brought are written together before the next read, once 65,536 bytes of them are gathered, and at the
+/// end, however the run ends.
+///
+/// Ends with `JournalFull` where the journal takes no step more: 262,144 steps, or 67,108,864 bytes of payload. The opening,
+/// the end of the input and the close are a step each, and a command is two, and two more for each part that hosts answer.
+/// Ends with `Socket` where the reader or the writer fails, and after 1,073,741,824 steps of engines; with `Memory` where
+/// memory is refused. (`Spent` is for turns at a gate.) A reader that pauses is read again.
+pub fn local_run<Rt: Wait, R: Read + Drop, W: Write + Drop>(
+    rt: &Rt,
     alloc: Global,
-    input: &mut R,
-    output: &mut W,
-) -> Result<(), Ending>
-    ensures answers { OnOk result (AnswersAll (R.remaining input.old)
-        (W.contents output.old) (W.contents output.new)) }
-    ensures err { IfErr result IsEndOfRun }
+    reader: R,
+    writer: W,
+) -> Result<W, Ending>
+    ensures runs { IfOk result
+        (λ w. RunsLocal (R.remaining reader) (W.contents writer) (W.contents w)) }
 {
-    let mut reader = Reader::new(alloc, Limits::CLIENT);
-    let mut queue = Queue::new(alloc);
-    let mut host = Host::new(alloc);
-    let mut answers = Vec::new(alloc);
-    let mut piece = [0; READ_SIZE];
-    for _ in 0..MAX_READS {
-        let len = match input.read(&mut piece) {
-            Ok(0) => return Ok(()),
-            Ok(len) => len,
-            Err(error) if error.kind() == ErrorKind::Interrupted => continue,
-            Err(_) => return Err(Ending::Socket),
-        };
-        reader.feed(&piece[..len])?;
-        let answered = answer_requests(alloc, &mut reader, &mut queue, &mut host, &mut answers);
-        write_out(output, &mut answers)?;
-        match answered? {
-            Flow::GoesOn => {}
-            Flow::Finishes => return Ok(()),
+    let mut turns = Alone::new(stub_core(alloc)?, PASS);
+    let mut hosts = stub_engines(alloc)?;
+    let Ok(output) = BufWriter::with_capacity(alloc, MAX_GATHERED, writer) else {
+        return Err(Ending::Memory);
+    };
+    let reader = Tallied::new(Announced::new(reader));
+    let mut client = ClientEngine::open(rt, alloc, &mut turns, reader, Tallied::new(output))?;
+    let ran = run_client(rt, &mut turns, &mut client, hosts.as_mut_slice());
+    let writer = written_out(client.into_writer())?;
+    ran?;
+    Ok(writer)
+}
+
+// The writer, once it has taken all that was gathered for it.
+fn written_out<W: Write + Drop>(output: Output<W>) -> Result<W, Ending>
+    ensures { IfOk result (λ w. Keeps (writer_contents W.contents output.inner) (W.contents w)) }
+{
+    let Ok(mut writer) = output.into_inner().into_inner() else {
+        return Err(Ending::Socket);
+    };
+    if writer.flush().is_err() {
+        return Err(Ending::Socket);
+    }
+    Ok(writer)
+}
+
+// Steps the client until it ends, and after each of its steps the hosts, where they may have something to do.
+fn run_client<
+    Rt: Wait,
+    R: ReadTally + Drop,
+    W: WriteTally + Drop,
+    P: ReadTally + Drop,
+    Q: WriteTally + Drop,
+>(
+    rt: &Rt,
+    turns: &mut Alone<Core>,
+    client: &mut ClientEngine<R, W>,
+    hosts: &mut [HostEngine<P, Q>],
+) -> Result<(), Ending>
+    ensures pass { turns.new.pass ≡ turns.old.pass }
+    ensures setting { made_with turns.new.state ≡ made_with turns.old.state }
+    ensures goes { OnOk result (GoesBeside client.old client.new
+        (own_steps turns.old.pass (journal_of turns.old.state))
+        (own_steps turns.old.pass (journal_of turns.new.state))) }
+    ensures ended { OnOk result (client.new.stage ≡ Stage.Closed false) }
+{
+    let mut left = MAX_STEPS;
+    for _ in 0..MAX_STEPS {
+        match step_client(rt, turns, client, &mut left)? {
+            Progress::Ended => return Ok(()),
+            progress => settle_after(progress, rt, turns, hosts, &mut left)?,
         }
     }
     Err(Ending::Socket)
 }
 
-// Writes the answers, and forgets them.
-fn write_out<W: Write>(output: &mut W, answers: &mut Vec<u8>) -> Result<(), Ending>
-    ensures written { OnOk result
-        (Appends (W.contents output.old) (W.contents output.new) answers.old.items
-        × (answers.new.items ≡ [])) }
-    ensures err { IfErr result (λ e. e ≡ Socket) }
-{
-    output
-        .write_all(answers.as_slice())
-        .map_err(|_| Ending::Socket)?;
-    answers.clear();
-    Ok(())
+// Whether the newest step is a command that hosts have to answer.
+fn asks_hosts(core: &Core) -> bool {
+    let journal = core.journal();
+    match journal.get(journal.len().saturating_sub(1)) {
+        Some(
+            Step {
+                answer: Answer::Accepted { parts, .. },
+                ..
+            },
+        ) => *parts > 0,
+        _ => false,
+    }
 }
 
-// Appends the answers to all requests that the reader has whole, up to and with the first that finishes.
-fn answer_requests(
-    alloc: Global,
-    reader: &mut Reader,
-    queue: &mut Queue,
-    host: &mut Host,
-    answers: &mut Vec<u8>,
-) -> Result<Flow, Ending>
-    requires most { reader.old.most ≡ CLIENT_MEMBERS }
-    requires empty { queue.old.commands ≡ [] }
-    ensures empty { OnOk result (queue.new.commands ≡ []) }
-    ensures most { reader.new.most ≡ reader.old.most }
-    ensures goes_on { IfOk result (λ flow. flow ≡ Flow.GoesOn → AnswersWhole reader.old reader.new host.old host.new answers.old.items answers.new.items) }
-    ensures finishes { IfOk result (λ flow. flow ≡ Flow.Finishes → AnswersLast reader.old host.old answers.old.items answers.new.items) }
-    ensures err { IfErr result IsShort }
+// Steps the hosts until all are idle. After a move of the client that asks them nothing they are.
+fn settle_after<Rt: Wait, P: ReadTally + Drop, Q: WriteTally + Drop>(
+    progress: Progress,
+    rt: &Rt,
+    turns: &mut Alone<Core>,
+    hosts: &mut [HostEngine<P, Q>],
+    left: &mut u32,
+) -> Result<(), Ending>
+    ensures pass { turns.new.pass ≡ turns.old.pass }
+    ensures setting { made_with turns.new.state ≡ made_with turns.old.state }
+    ensures beside { OnOk result (IsBeside (own_steps turns.old.pass (journal_of turns.old.state))
+        (own_steps turns.old.pass (journal_of turns.new.state))) }
 {
-    while let Some(request) = next_request(reader)? {
-        match append_answer(alloc, request, queue, host, answers)? {
-            Flow::GoesOn => {}
-            Flow::Finishes => return Ok(Flow::Finishes),
+    match progress {
+        Progress::Moved if !asks_hosts(turns.state()) => Ok(()),
+        _ => settle(rt, turns, hosts, left),
+    }
+}
+
+// One step of the client. Where it is idle, nothing that came is unanswered, and what was gathered is written.
+fn step_client<Rt: Wait, T: CoreTurns, R: ReadTally + Drop, W: WriteTally + Drop>(
+    rt: &Rt,
+    turns: &mut T,
+    client: &mut ClientEngine<R, W>,
+    left: &mut u32,
+) -> Result<Progress, Ending>
+    ensures pass { T.pass turns.new ≡ T.pass turns.old }
+    ensures setting { T.setting turns.new ≡ T.setting turns.old }
+    ensures goes { OnOk result (GoesBeside client.old client.new
+        (own_steps (T.pass turns.old) (T.seen turns.old))
+        (own_steps (T.pass turns.old) (T.seen turns.new))) }
+    ensures ended { IfOk result (λ p. p ≡ Progress.Ended → client.new.stage ≡ Stage.Closed false) }
+{
+    spend(left)?;
+    let progress = client.step(rt, turns)?;
+    match progress {
+        Progress::Idle => match client.flush() {
+            Ok(()) => Ok(progress),
+            Err(_) => Err(Ending::Socket),
+        },
+        Progress::Cut => Err(Ending::Socket),
+        _ => Ok(progress),
+    }
+}
+
+// Steps the hosts until all are idle.
+fn settle<Rt: Wait, T: CoreTurns, P: ReadTally + Drop, Q: WriteTally + Drop>(
+    rt: &Rt,
+    turns: &mut T,
+    hosts: &mut [HostEngine<P, Q>],
+    left: &mut u32,
+) -> Result<(), Ending>
+    ensures pass { T.pass turns.new ≡ T.pass turns.old }
+    ensures setting { T.setting turns.new ≡ T.setting turns.old }
+    ensures beside { OnOk result (IsBeside
+        (own_steps (T.pass turns.old) (T.seen turns.old))
+        (own_steps (T.pass turns.old) (T.seen turns.new))) }
+{
+    for _ in 0..MAX_STEPS {
+        if step_hosts(rt, turns, hosts, left)? {
+            return Ok(());
         }
     }
-    Ok(Flow::GoesOn)
+    Err(Ending::Socket)
 }
 
-// The next request of the stream, if it came whole.
-fn next_request(reader: &mut Reader) -> Result<Option<Request>, Ending>
-    requires { reader.old.most ≡ CLIENT_MEMBERS }
-    ensures most { reader.new.most ≡ reader.old.most }
-    ensures read { IfOk result (λ o. IfSome o (λ r. IsRead (request_of r))) }
-    ensures next { IfOk result (λ o. IfSome o (λ r. IsNext reader.old reader.new (request_of r))) }
-    ensures none { IfOk result (λ o. IfNone o (IsAnswered reader.old reader.new)) }
-    ensures err { IfErr result IsShort }
+// One step of each host. True says that all were idle.
+fn step_hosts<Rt: Wait, T: CoreTurns, P: ReadTally + Drop, Q: WriteTally + Drop>(
+    rt: &Rt,
+    turns: &mut T,
+    hosts: &mut [HostEngine<P, Q>],
+    left: &mut u32,
+) -> Result<bool, Ending>
+    ensures pass { T.pass turns.new ≡ T.pass turns.old }
+    ensures setting { T.setting turns.new ≡ T.setting turns.old }
+    ensures beside { OnOk result (IsBeside
+        (own_steps (T.pass turns.old) (T.seen turns.old))
+        (own_steps (T.pass turns.old) (T.seen turns.new))) }
 {
-    match reader.next_value() {
-        Ok(Some(value)) => Ok(Some(Request::Read(value))),
-        Ok(None) => Ok(None),
-        Err(RespError::NoMemory) => Err(Ending::Memory),
-        Err(_) => Ok(Some(Request::Broken)),
+    let mut are_idle = true;
+    for host in hosts.iter_mut() {
+        if !step_host(rt, turns, host, left)? {
+            are_idle = false;
+        }
+    }
+    Ok(are_idle)
+}
+
+// One step of a host. True says that it was idle.
+fn step_host<Rt: Wait, T: CoreTurns, P: ReadTally + Drop, Q: WriteTally + Drop>(
+    rt: &Rt,
+    turns: &mut T,
+    host: &mut HostEngine<P, Q>,
+    left: &mut u32,
+) -> Result<bool, Ending>
+    ensures pass { T.pass turns.new ≡ T.pass turns.old }
+    ensures setting { T.setting turns.new ≡ T.setting turns.old }
+    ensures beside { OnOk result (IsBeside
+        (own_steps (T.pass turns.old) (T.seen turns.old))
+        (own_steps (T.pass turns.old) (T.seen turns.new))) }
+{
+    spend(left)?;
+    match host.step(rt, turns, MOMENT)? {
+        Progress::Idle => Ok(true),
+        Progress::NeedsLink => Err(Ending::Socket),
+        _ => Ok(false),
     }
 }
 
-// Appends the reply to the request, its own or the host's.
-fn append_answer(
-    alloc: Global,
-    request: Request,
-    queue: &mut Queue,
-    host: &mut Host,
-    answers: &mut Vec<u8>,
-) -> Result<Flow, Ending>
-    requires empty { queue.old.commands ≡ [] }
-    requires read { IsRead (request_of request) }
-    ensures empty { OnOk result (queue.new.commands ≡ []) }
-    ensures text { OnOk result (answers.new.items ≡ answers.old.items ++ reply_text host.old (request_of request)) }
-    ensures map { OnOk result (host.new ≡ map_after host.old (request_of request)) }
-    ensures flow { IfOk result (λ flow. is_finish flow ≡ finishes (request_of request)) }
-    ensures err { IfErr result IsShort }
-{
-    let (reply, flow) = reply_to(alloc, &request, queue, host)?;
-    put_text(alloc, &reply, answers)?;
-    Ok(flow)
+// Takes one of the steps that are left.
+fn spend(left: &mut u32) -> Result<(), Ending> {
+    if *left == 0 {
+        return Err(Ending::Socket);
+    }
+    *left -= 1;
+    Ok(())
 }

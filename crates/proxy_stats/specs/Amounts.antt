@@ -100,39 +100,50 @@ abbrev pub is_local : ℕ → Option Local → Bool
 is_local place None = false
 is_local place (Some local) = local_place local == place
 
+-- 1 for the answer of the proxy's own that has this place, else 0
 abbrev pub local_in : ℕ → Answer → ℕ
 local_in place (Accepted index local parts no_host busy) = if is_local place local then 1 else 0
 local_in place _ = 0
 
 -- ---- of a step
 
+-- 1 for a request that was accepted, else 0
 abbrev pub arrivals : Step → ℕ
 arrivals s = arrivals_in s.event
 
+-- 1 for a reply that was handed out, else 0
 abbrev pub handings : Step → ℕ
 handings s = handings_in s.event
 
+-- 1 for a part that was taken to be sent, else 0
 abbrev pub takings : Step → ℕ
 takings s = takings_in s.event
 
+-- 1 for a reply that was taken, else 0
 abbrev pub replies : Step → ℕ
 replies s = replies_in s.event
 
+-- 1 for a fault, else 0
 abbrev pub failures : Step → ℕ
 failures s = failures_in s.event
 
+-- how many parts a fault lost
 abbrev pub lost_parts : Step → ℕ
 lost_parts s = lost_in s.answer
 
+-- how many hosts a step put aside
 abbrev pub ejected_hosts : Step → ℕ
 ejected_hosts s = ejected_in s.answer
 
+-- how many hosts tripped in a step and stayed
 abbrev pub kept_hosts : Step → ℕ
 kept_hosts s = kept_in s.answer
 
+-- how many parts found no host
 abbrev pub hostless_parts : Step → ℕ
 hostless_parts s = hostless_in s.answer
 
+-- how many parts found too many others waiting
 abbrev pub busy_parts : Step → ℕ
 busy_parts s = busy_in s.answer
 

@@ -41,6 +41,7 @@ pub record AreHostsJoined (a b c : HostCounts) : Type 0 where
   pub faults : c.faults ≡ capped (a.faults + b.faults)
   pub lost : c.lost ≡ capped (a.lost + b.lost)
 
+-- each number is the sum of two, as far as it goes
 pub record AreJoined (a b c : Counts) : Type 0 where
   pub accepted : c.accepted ≡ capped (a.accepted + b.accepted)
   pub handed : c.handed ≡ capped (a.handed + b.handed)
@@ -64,6 +65,7 @@ AreCapped = AreCountsBy capped
 abbrev pub grown : ℕ → ℕ → ℕ
 grown n more = if more == 0 then n else capped (n + more)
 
+-- a host's numbers with those of one step
 pub record AreHostsGrown (old : HostCounts) (h : ℕ) (step : Step) (new : HostCounts) : Type 0 where
   pub sent : new.sent ≡ grown old.sent (of_host h takings step)
   pub answered : new.answered ≡ grown old.answered (of_host h replies step)

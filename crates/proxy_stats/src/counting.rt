@@ -1,3 +1,4 @@
+//! Counts over a journal.
 ghost use Rattle.std.specs.Prelude.{◌<◌, ◌^◌, All};
 ghost use Rattle.proxy_stats.specs.Amounts.{ejected_hosts, kept_hosts};
 ghost use Rattle.proxy_stats.specs.Sums.{AreCounts, AreCapped};
@@ -16,7 +17,8 @@ pub fn counts(core: &Core) -> Counts
 
 fn counts_of(journal: &Journal<Event, Answer>) -> Counts
     ensures counts { AreCapped journal.now.steps result }
-    ensures few { All (λ s. (ejected_hosts s < 2 ^ 32) × (kept_hosts s < 2 ^ 32)) journal.now.steps }
+    ensures few { All (λ s. (ejected_hosts s < 2 ^ 32)
+        × (kept_hosts s < 2 ^ 32)) journal.now.steps }
 {
     let mut counts = NONE;
     for i in 0..journal.len() {

@@ -1,3 +1,4 @@
+//! What one step adds to the counts.
 ghost use Rattle.std.specs.Prelude.{◌≡◌, ◌<◌, ◌^◌, ℕ, if◌then◌else◌, slice_index, slice_index_or};
 ghost use Rattle.proxy_stats.specs.Amounts.{arrivals, handings, takings, replies, failures, lost_parts, ejected_hosts, kept_hosts, hostless_parts, busy_parts, own_answers, of_host, local_place};
 ghost use Rattle.proxy_stats.specs.Sums.{grown, AreGrown, AreHostsGrown};

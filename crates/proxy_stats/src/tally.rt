@@ -1,3 +1,4 @@
+//! The counts.
 ghost use Rattle.std.specs.Prelude.{◌≡◌, ◌<◌, ◌+◌, ℕ, slice_index, slice_index_or};
 ghost use Rattle.proxy_stats.specs.Sums.{capped, AreJoined, AreHostsJoined};
 ghost use Rattle.proxy_stats.specs.declared.tally.HostCounts.{HostCounts};

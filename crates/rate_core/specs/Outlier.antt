@@ -6,6 +6,7 @@ use Rattle.std.specs.List.{filter_map}
 abbrev pub known : List (Option ℕ) → List ℕ
 known rates = filter_map (λ r. r) rates
 
+-- a number times itself
 abbrev pub square : ℕ → ℕ
 square x = x * x
 

@@ -1,3 +1,5 @@
+//! What the formula of an outlier means.
+
 // What holds of the definitions, for whoever reads a contract that cites them.
 ghost use Rattle.std.specs.Prelude.{◌≡◌};
 ghost use Rattle.rate_core.specs.Laws.{FarBelowIsByDeviation, SpreadIsVariance};

@@ -1,3 +1,4 @@
+//! Which rate is an outlier.
 ghost use Rattle.std.specs.Prelude.{◌≡◌, ◌<◌, ◌≤◌, length, sum, sum_by, All};
 ghost use Rattle.std.specs.Option.{ForSome};
 ghost use Rattle.rate_core.specs.Outlier.{is_outlier, known, square};

@@ -1,3 +1,4 @@
+//! A host's success rate.
 ghost use Rattle.std.specs.Prelude.{◌≡◌, ◌≤◌, ◌↔◌, IsNone, IfSome};
 ghost use Rattle.rate_core.specs.Rate.{rate_of};
 

@@ -1,5 +1,6 @@
 pub mod Refusal
 pub mod Command
+pub mod Parts
 pub mod Places
 pub mod Queue
 pub mod Laws

@@ -1,12 +1,13 @@
 //! A command whose reply is awaited.
-ghost use Rattle.std.specs.Prelude.{◌≡◌, ◌<◌, ◌↔◌, Some, None, length, replicate, slice_get, slice_set, vec_len, IsTrue, IsSome, IfOk, IfErr};
+ghost use Rattle.std.specs.Prelude.{◌≡◌, ◌↔◌, Some, None, slice_get, IsTrue, IsSome, IfOk, IfErr};
 ghost use Rattle.std.specs.Option.{option_copied, option_map};
 ghost use Rattle.resp_core.specs.Value.{tree_of};
 ghost use Rattle.splitter.specs.Join.{MayJoin};
 ghost use Rattle.reply_queue.specs.Command.{awaited, with_value, reply_to, same_reply_to};
 
+use crate::joined::Joined;
 use resp_core::Value;
-use splitter::{Join, SplitError, join};
+use splitter::{Join, SplitError};
 use std::alloc::{AllocError, Global};
 use std::marker::Model;
 
@@ -15,27 +16,29 @@ use std::marker::Model;
 /// Contracts see how the values become one, and each part's value or that it has none yet.
 #[derive(Drop)]
 pub(crate) struct Command {
-    how: Join,
-    // A null stands in the place of a value that hasn't come.
-    values: Vec<Value>,
-    // Whether each value has come.
-    come: Vec<bool>,
-    // How many have not.
-    missing: usize,
+    parts: Parts,
+}
+
+/// The parts of a command. One whose value is the reply as it is takes no memory.
+#[derive(Drop)]
+pub(crate) enum Parts {
+    Same(Option<Value>),
+    Joined(Joined),
 }
 
 impl Model for Command {
+    ghost use Rattle.std.specs.Prelude.{IsTrue};
     ghost use Rattle.reply_queue.specs.Command.{AwaitedCommand, command_code};
 
     ghost Value = { AwaitedCommand };
 
     ghost coded = { command_code };
 
-    ghost use Rattle.reply_queue.specs.Places.{values_come, AreKept};
+    ghost use Rattle.reply_queue.specs.Parts.{command_by, are_told_apart};
 
-    ghost view = { λ c. record { how = c.how; values = values_come c.come.items c.values.items } };
+    ghost view = { λ c. command_by c.parts };
 
-    ghost invariant = { λ c. AreKept c.how c.come.items c.values.items c.missing };
+    ghost invariant = { λ c. IsTrue (are_told_apart c.parts) };
 }
 
 impl Command {
@@ -44,23 +47,20 @@ impl Command {
         requires { MayJoin how parts }
         ensures { IfOk result (λ command. command ≡ awaited how parts) }
     {
-        let values = nulls(alloc, parts)?;
-        let come = vec![in alloc; false; parts]?;
-        Ok(Command {
-            how,
-            values,
-            come,
-            missing: parts,
-        })
+        let parts = match how {
+            Join::Same => Parts::Same(None),
+            Join::Get | Join::Set | Join::Sum => Parts::Joined(Joined::new(alloc, how, parts)?),
+        };
+        Ok(Command { parts })
     }
 
     /// Whether there is this part, and it has no value yet.
     pub(crate) fn is_open(&self, part: usize) -> bool
         ensures { IsTrue result ↔ (slice_get self.now.values part ≡ Some None) }
     {
-        match self.come.get(part) {
-            Some(come) => !*come,
-            None => false,
+        match &self.parts {
+            Parts::Same(value) => part == 0 && value.is_none(),
+            Parts::Joined(joined) => joined.is_open(part),
         }
     }
 
@@ -69,28 +69,29 @@ impl Command {
         requires { slice_get self.old.values part ≡ Some None }
         ensures { self.new ≡ with_value part (tree_of value) self.old }
     {
-        put(&mut self.values, part, value);
-        self.come[part] = true;
-        self.missing -= 1;
+        match &mut self.parts {
+            Parts::Same(place) => *place = Some(value),
+            Parts::Joined(joined) => joined.set(part, value),
+        }
     }
 
     /// Whether each part has a value.
     pub(crate) fn is_complete(&self) -> bool
         ensures { IsTrue result ↔ IsSome (reply_to self.now) }
     {
-        self.missing == 0
+        match &self.parts {
+            Parts::Same(value) => value.is_some(),
+            Parts::Joined(joined) => joined.is_complete(),
+        }
     }
 
     /// The reply as it stands, where it is the value of the one part and has come. It takes no memory.
     pub(crate) fn same_reply(&self) -> Option<&Value>
         ensures { option_map tree_of (option_copied result) ≡ same_reply_to self.now }
     {
-        if self.missing > 0 {
-            return None;
-        }
-        match self.how {
-            Join::Same => self.values.first(),
-            Join::Get | Join::Set | Join::Sum => None,
+        match &self.parts {
+            Parts::Same(value) => value.as_ref(),
+            Parts::Joined(_) => None,
         }
     }
 
@@ -100,25 +101,10 @@ impl Command {
         ensures value { IfOk result (λ reply. reply_to self.now ≡ Some (tree_of reply)) }
         ensures err { IfErr result (λ e. e ≡ SplitError.NoMemory) }
     {
-        join(alloc, self.how, self.values.as_slice())
+        match &self.parts {
+            Parts::Same(Some(value)) => Ok(value.share(alloc)?),
+            Parts::Same(None) => unreachable!(),
+            Parts::Joined(joined) => joined.reply(alloc),
+        }
     }
-}
-
-// So many nulls.
-fn nulls(alloc: Global, count: usize) -> Result<Vec<Value>, AllocError>
-    ensures { IfOk result (λ values. vec_len values ≡ count) }
-{
-    let mut values = Vec::with_capacity(alloc, count)?;
-    for _ in 0..count {
-        values.push_reserved(Value::NullBulk);
-    }
-    Ok(values)
-}
-
-// Puts a value into its place, and drops what stood there.
-fn put(values: &mut Vec<Value>, place: usize, value: Value)
-    requires { place < vec_len values.old }
-    ensures { values.new.items ≡ slice_set values.old.items place value }
-{
-    values[place] = value;
 }

@@ -5,6 +5,7 @@
 #![tactic(auto)]
 
 mod command;
+mod joined;
 mod laws;
 mod queue;
 mod refusal;

@@ -66,9 +66,11 @@ impl Queue {
         requires join { MayJoin how parts }
         requires parts { parts < 2 ^ 32 }
         ensures index { IfOk result (λ index. index ≡ self.old.popped + length self.old.commands) }
-        ensures commands { OnOk result (self.new.commands ≡ self.old.commands ++ awaited how parts ∷ []) }
+        ensures commands { OnOk result
+            (self.new.commands ≡ self.old.commands ++ awaited how parts ∷ []) }
         ensures popped { self.new.popped ≡ self.old.popped }
-        ensures crowded { IsErrOf result QueueRefusal.Crowded ↔ (MAX_COMMANDS ≤ length self.old.commands) }
+        ensures crowded { IsErrOf result QueueRefusal.Crowded
+            ↔ (MAX_COMMANDS ≤ length self.old.commands) }
         ensures spent { IsErrOf result QueueRefusal.Spent
             ↔ ((length self.old.commands < MAX_COMMANDS) × (self.old.popped + length self.old.commands ≡ 2 ^ 64 - 1)) }
         ensures accepted { OnOk result ((length self.old.commands < MAX_COMMANDS)
@@ -134,7 +136,8 @@ impl Queue {
     ///
     /// Refused 801 (no memory), and only where there is a reply to give.
     pub fn pop(&mut self) -> Result<Option<Value>, QueueRefusal>
-        ensures reply { IfOk result (λ reply. option_map tree_of reply ≡ front_reply self.old.commands) }
+        ensures reply { IfOk result
+            (λ reply. option_map tree_of reply ≡ front_reply self.old.commands) }
         ensures popped { IfOk result (λ reply. OnSome reply (self.new ≡ without_front self.old)) }
         ensures none { IfOk result (λ reply. IfNone reply (self.new ≡ self.old)) }
         ensures ready { OnErr result (IsSome (front_reply self.old.commands)) }
@@ -153,7 +156,8 @@ impl Queue {
     ///
     /// Refused 801 (no memory), and only where there is a reply to give.
     pub fn front(&self) -> Result<Option<Value>, QueueRefusal>
-        ensures reply { IfOk result (λ reply. option_map tree_of reply ≡ front_reply self.now.commands) }
+        ensures reply { IfOk result
+            (λ reply. option_map tree_of reply ≡ front_reply self.now.commands) }
         ensures ready { OnErr result (IsSome (front_reply self.now.commands)) }
         ensures memory { IfErr result (λ e. e ≡ QueueRefusal.NoMemory) }
     {
@@ -167,7 +171,8 @@ impl Queue {
     /// if there is no command, its values are joined in another way, or its value hasn't come. It shares nothing, and takes no
     /// memory.
     pub fn same_front(&self) -> Option<&Value>
-        ensures reply { option_map tree_of (option_copied result) ≡ same_front_reply self.now.commands }
+        ensures reply { option_map tree_of (option_copied result)
+            ≡ same_front_reply self.now.commands }
     {
         match self.commands.front() {
             Some(command) => command.same_reply(),

@@ -3,6 +3,7 @@ use Rattle.std.specs.Prelude.{◌≡◌, ℕ, Bool, true, false, ◌&&◌, List,
 use Rattle.std.specs.List.{list_all}
 use Rattle.resp_core.specs.Tree.{Tree, simple, fault, whole, bulk, null_bulk, list, null_list, members, trees_of}
 
+-- whether a value is a bulk string
 abbrev pub is_bulk : Tree → Bool
 is_bulk (simple s) = false
 is_bulk (fault s) = false

@@ -36,14 +36,17 @@ abbrev pub limit_of : ℕ → Sized → ℕ
 limit_of most sized.Bulk = max_bulk
 limit_of most sized.List = most
 
+-- what is read behind a length
 abbrev pub behind_length : ℕ → ℕ → Sized → Option ℕ → List ℕ → Outcome Tree
 behind_length most left sized.Bulk = payload_at
 behind_length most left sized.List = members_at (value_at most (left - 1))
 
+-- the greatest number that has this sign, by its amount
 abbrev pub limit_signed : Bool → ℕ
 limit_signed true = 2 ^ 63
 limit_signed false = 2 ^ 63 - 1
 
+-- the integer of this sign and amount
 abbrev pub signed : Bool → ℕ → ℤ
 signed true n = neg_ℤ (pos n)
 signed false n = pos n
@@ -59,6 +62,7 @@ head_at most left heads.Sign b = and_then (integer_at b) (λ n rest. found (whol
 head_at most left (heads.Number minus digits count n) b = and_then (digits_at (of_integer (limit_signed minus) digits) count n b) (λ n rest. found (whole (signed minus n)) rest)
 head_at most left (heads.Feed f) b = and_then (byte_at 10 (λ _. BadLineEnd) b) (λ _ rest. found_at most left f rest)
 
+-- what is read next
 abbrev pub next_at : ℕ → ℕ → Next → List ℕ → Outcome Tree
 next_at most left (nexts.Head h) b = head_at most left h b
 next_at most left (nexts.Found f) b = found_at most left f b
@@ -74,6 +78,7 @@ DigitSteps d count n c (Ok None) = (cs : List ℕ) → digits_at d count n (c �
 DigitSteps d count n c (Ok (Some m)) = (count < d.most) × (m ≤ d.limit) × ((cs : List ℕ) → digits_at d count n (c ∷ cs) ≡ digits_at d (count + 1) m cs)
 DigitSteps d count n c (Err r) = (cs : List ℕ) → digits_at d count n (c ∷ cs) ≡ refused r (c ∷ cs)
 
+-- what was found keeps the limits
 abbrev pub IsGoodFound : ℕ → ℕ → Found → Type 0
 IsGoodFound most left (founds.Line k) = Unit {0}
 IsGoodFound most left (founds.Payload n) = n ≤ max_bulk
@@ -82,6 +87,7 @@ IsGoodFound most left founds.NullBulk = Unit {0}
 IsGoodFound most left founds.NullList = Unit {0}
 IsGoodFound most left (founds.Whole n) = Unit {0}
 
+-- what was found is the null of a kind of length
 abbrev pub IsNullOf : Sized → Found → Type 0
 IsNullOf s f = (most left : ℕ) → IsGoodFound most left f × ((b : List ℕ) → behind_length most left s None b ≡ found_at most left f b)
 
@@ -89,6 +95,7 @@ IsNullOf s f = (most left : ℕ) → IsGoodFound most left f × ((b : List ℕ) 
 abbrev pub GoesOn : ℕ → ℕ → Head → List ℕ → Next → Type 0
 GoesOn most left h b next = (y : List ℕ) → head_at most left h (b ++ y) ≡ next_at most left next y
 
+-- a head is read next
 abbrev pub IsHead : Next → Type 0
 IsHead (nexts.Head h) = Unit {0}
 IsHead (nexts.Found f) = ⊥
@@ -98,6 +105,7 @@ abbrev pub IsGoodSized : ℕ → Sized → Type 0
 IsGoodSized left sized.Bulk = Unit {0}
 IsGoodSized left sized.List = 0 < left
 
+-- a head that is being read keeps the limits
 abbrev pub IsGoodHead : ℕ → ℕ → Head → Type 0
 IsGoodHead most left heads.Type = Unit {0}
 IsGoodHead most left (heads.Length s) = IsGoodSized left s
@@ -108,6 +116,7 @@ IsGoodHead most left heads.Sign = Unit {0}
 IsGoodHead most left (heads.Number minus digits count n) = (digits ≤ max_line) × (count ≤ digits) × (n ≤ limit_signed minus)
 IsGoodHead most left (heads.Feed f) = IsGoodFound most left f
 
+-- what is read next keeps the limits
 abbrev pub IsGoodNext : ℕ → ℕ → Next → Type 0
 IsGoodNext most left (nexts.Head h) = IsGoodHead most left h
 IsGoodNext most left (nexts.Found f) = IsGoodFound most left f

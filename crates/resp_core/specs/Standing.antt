@@ -24,6 +24,7 @@ abbrev pub unread_by : Option RespError → Progress → ℕ
 unread_by None p = held_of p
 unread_by (Some e) p = 0
 
+-- how many bytes behind the values given a reader holds
 abbrev pub unread : ReaderState → ℕ
 unread r = unread_by r.refusal r.progress
 

@@ -10,7 +10,8 @@ impl Value {
     /// The words of the value, where it is a command: an array of at least one bulk string and of bulk strings alone. The
     /// first word is the command's name.
     pub fn words(&self) -> Option<&Values>
-        ensures command { IfSome result (λ words. is_command (tree_of self.now) ≡ true × are_words words.now ≡ true × IsArrayOf words.now (tree_of self.now)) }
+        ensures command { IfSome result (λ words. is_command (tree_of self.now) ≡ true
+            × are_words words.now ≡ true × IsArrayOf words.now (tree_of self.now)) }
         ensures none { IfNone result (is_command (tree_of self.now) ≡ false) }
     {
         match self {

@@ -252,7 +252,8 @@ pub(crate) fn read_head(
     ensures gives { IfOk result (λ x. GoesOn most left head (take x.1 bytes.now) x.0) }
     ensures all { IfOk result (λ x. IsHead x.0 → x.1 ≡ length bytes.now) }
     ensures some { IfOk result (λ x. (IsHead x.0 → ⊥) → 0 < x.1) }
-    ensures refused { IfErr result (λ e. (e.1 ≤ length bytes.now) × (head_at most left head bytes.now ≡ refused e.0 (drop e.1 bytes.now))) }
+    ensures refused { IfErr result (λ e. (e.1 ≤ length bytes.now)
+        × (head_at most left head bytes.now ≡ refused e.0 (drop e.1 bytes.now))) }
     ensures good { IfOk result (λ x. IsGoodNext most left x.0) }
 {
     let mut head = head;

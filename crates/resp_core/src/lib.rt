@@ -26,5 +26,5 @@ pub use laws::{
     spelling_is_shortest, text_is_read, text_is_read_back, values_stay,
 };
 pub use reader::{CLIENT_MEMBERS, HOST_MEMBERS, Limits, Reader};
-pub use text::put_text;
+pub use text::{bulk_len, put_bulk, put_text};
 pub use value::{Value, Values};

@@ -197,7 +197,8 @@ impl Progress {
             × LeadsToValue most self.old self.new (tree_of v))) }
         ensures none { IfOk result (λ o. IfNone o (LeadsTo most self.old self.new
             × IsShort most self.old)) }
-        ensures halts { IfErr result (λ e. LeadsTo most self.old self.new × HaltsIn most self.old e) }
+        ensures halts { IfErr result (λ e. LeadsTo most self.old self.new
+            × HaltsIn most self.old e) }
     {
         self.note_room();
         loop {

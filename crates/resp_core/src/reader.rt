@@ -115,7 +115,8 @@ impl Reader {
         ensures most { self.new.most ≡ self.old.most }
         ensures err { OnErr result (self.new ≡ self.old) }
         ensures told { IfErr result (λ e. (e ≡ RespError.NoMemory) ⊎ (self.old.refusal ≡ Some e)) }
-        ensures refused { IfErr result (λ e. e ≢ RespError.NoMemory → (b : List ℕ) (ts : List Tree) → Stands self.old b ts
+        ensures refused { IfErr result (λ e. e ≢ RespError.NoMemory → (b : List ℕ) (ts : List Tree)
+            → Stands self.old b ts
             → HasRefusal self.old.most b ts (offset_of e) (number_of e)) }
         ensures stays { IfSome self.old.refusal (λ e. result ≡ Err e) }
         ensures refusal { self.new.refusal ≡ self.old.refusal }
@@ -135,17 +136,21 @@ impl Reader {
     /// is told. Once 102 to 107 was told, the reader holds no bytes, and `feed` and `next_value` answer the same refusal
     /// from then on.
     pub fn next_value(&mut self) -> Result<Option<Value>, RespError>
-        ensures value { IfOk result (λ o. IfSome o (λ v. (b : List ℕ) (ts : List Tree) → Stands self.old b ts
+        ensures value { IfOk result (λ o. IfSome o (λ v. (b : List ℕ) (ts : List Tree)
+            → Stands self.old b ts
             → Stands self.new b (ts ++ tree_of v ∷ []))) }
         ensures given { IfOk result (λ o. IfSome o (λ v. IsReadable self.old.most (tree_of v))) }
         ensures falls { IfOk result (λ o. IfSome o (λ _. unread self.new < unread self.old)) }
-        ensures none { IfOk result (λ o. IfNone o ((b : List ℕ) (ts : List Tree) → Stands self.old b ts
+        ensures none { IfOk result (λ o. IfNone o ((b : List ℕ) (ts : List Tree)
+            → Stands self.old b ts
             → HasNoRefusal self.old.most b ts)) }
-        ensures rests { IfOk result (λ o. IfNone o ((b : List ℕ) (ts : List Tree) → Stands self.new b ts
+        ensures rests { IfOk result (λ o. IfNone o ((b : List ℕ) (ts : List Tree)
+            → Stands self.new b ts
             → HasNoRefusal self.new.most b ts)) }
         ensures none_same { IfOk result (λ o. IfNone o (Unmoved self.old self.new)) }
         ensures few { IfOk result (λ o. IfNone o (unread self.new ≤ max_text)) }
-        ensures refused { IfErr result (λ e. e ≢ RespError.NoMemory → (b : List ℕ) (ts : List Tree) → Stands self.old b ts
+        ensures refused { IfErr result (λ e. e ≢ RespError.NoMemory → (b : List ℕ) (ts : List Tree)
+            → Stands self.old b ts
             → Stands self.new b ts × HasRefusal self.old.most b ts (offset_of e) (number_of e)) }
         ensures told { IfErr result (λ e. e ≢ RespError.NoMemory → self.new.refusal ≡ Some e) }
         ensures untold { OnOk result (self.new.refusal ≡ None) }
@@ -167,17 +172,21 @@ impl Reader {
     #[inline(never)]
     fn read_value(&mut self) -> Result<Option<Value>, RespError>
         requires untold { self.old.refusal ≡ None }
-        ensures value { IfOk result (λ o. IfSome o (λ v. (b : List ℕ) (ts : List Tree) → Stands self.old b ts
+        ensures value { IfOk result (λ o. IfSome o (λ v. (b : List ℕ) (ts : List Tree)
+            → Stands self.old b ts
             → Stands self.new b (ts ++ tree_of v ∷ []))) }
         ensures given { IfOk result (λ o. IfSome o (λ v. IsReadable self.old.most (tree_of v))) }
         ensures falls { IfOk result (λ o. IfSome o (λ _. unread self.new < unread self.old)) }
-        ensures none { IfOk result (λ o. IfNone o ((b : List ℕ) (ts : List Tree) → Stands self.old b ts
+        ensures none { IfOk result (λ o. IfNone o ((b : List ℕ) (ts : List Tree)
+            → Stands self.old b ts
             → HasNoRefusal self.old.most b ts)) }
-        ensures rests { IfOk result (λ o. IfNone o ((b : List ℕ) (ts : List Tree) → Stands self.new b ts
+        ensures rests { IfOk result (λ o. IfNone o ((b : List ℕ) (ts : List Tree)
+            → Stands self.new b ts
             → HasNoRefusal self.new.most b ts)) }
         ensures none_same { IfOk result (λ o. IfNone o (Unmoved self.old self.new)) }
         ensures few { IfOk result (λ o. IfNone o (unread self.new ≤ max_text)) }
-        ensures refused { IfErr result (λ e. e ≢ RespError.NoMemory → (b : List ℕ) (ts : List Tree) → Stands self.old b ts
+        ensures refused { IfErr result (λ e. e ≢ RespError.NoMemory → (b : List ℕ) (ts : List Tree)
+            → Stands self.old b ts
             → Stands self.new b ts × HasRefusal self.old.most b ts (offset_of e) (number_of e)) }
         ensures told { IfErr result (λ e. e ≢ RespError.NoMemory → self.new.refusal ≡ Some e) }
         ensures untold { OnOk result (self.new.refusal ≡ None) }

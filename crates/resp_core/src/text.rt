@@ -8,71 +8,107 @@ ghost use Rattle.resp_core.specs.Value.{tree_of};
 
 use crate::error::RespError;
 use crate::value::{Value, Values};
+use itoa::{Buffer, write_digits};
 use std::alloc::{AllocError, Global};
+
+// How many digits a number of 64 bits has at most.
+const MAX_DIGITS: usize = 20;
+
+// Places for a type byte and digits, and the end of a line.
+const EMPTY_HEAD: [u8; 23] = *b"000000000000000000000\r\n";
 
 /// Appends the one spelling of the value, or nothing.
 ///
 /// Lengths and integers are written without a plus sign and without leading zeros, and zero as `0`. The value has to be
-/// plain: `Value::is_plain` tells. Refused 101 (no memory), and then nothing is appended.
-pub fn put_text(alloc: Global, value: &Value, out: &mut Vec<u8>) -> Result<(), RespError>
+/// plain: `Value::is_plain` tells. Memory is asked for once, for the whole text. Refused 101 (no memory), and then nothing
+/// is appended.
+pub fn put_text(_alloc: Global, value: &Value, out: &mut Vec<u8>) -> Result<(), RespError>
     requires { IsTrue (is_plain_tree (tree_of value.now)) }
     ensures ok { OnOk result (out.new.items ≡ out.old.items ++ text (tree_of value.now)) }
     ensures err { OnErr result (out.new.items ≡ out.old.items) }
     ensures memory { OnErr result (IsErrOf result RespError.NoMemory) }
 {
     let len = out.len();
-    if append_value(alloc, value, out).is_err() {
+    out.reserve(value.text_len() as usize)?;
+    if append_value(value, out).is_err() {
         out.truncate(len);
         return Err(RespError::NoMemory);
     }
     Ok(())
 }
 
+/// Appends the text of a bulk string with this payload, or nothing.
+///
+/// Memory is asked for once. It is refused only where there is none.
+pub fn put_bulk(payload: &[u8], out: &mut Vec<u8>) -> Result<(), AllocError>
+    ensures ok { OnOk result (out.new.items ≡ out.old.items ++ text (bulk payload.now)) }
+    ensures err { OnErr result (out.new.items ≡ out.old.items) }
+{
+    let before = out.len();
+    out.reserve(bulk_len(payload.len() as u64) as usize)?;
+    if append_bulk(payload, out).is_err() {
+        out.truncate(before);
+        return Err(AllocError);
+    }
+    Ok(())
+}
+
 #[cycle(text)]
-fn append_value(alloc: Global, value: &Value, out: &mut Vec<u8>) -> Result<(), AllocError>
+fn append_value(value: &Value, out: &mut Vec<u8>) -> Result<(), AllocError>
     ensures ok { OnOk result (out.new.items ≡ out.old.items ++ text (tree_of value.now)) }
     ensures err { OnErr result (Extends out.old.items out.new.items) }
 {
     match value {
         Value::Simple(text) => append_line(b'+', text.as_slice(), out),
         Value::Fault(text) => append_line(b'-', text.as_slice(), out),
-        Value::Whole(n) => append_line(b':', n.to_string(alloc)?.as_bytes(), out),
-        Value::Bulk(payload) => append_bulk(alloc, payload.as_slice(), out),
+        Value::Whole(n) => append_line(b':', Buffer::new().format(*n).as_bytes(), out),
+        Value::Bulk(payload) => append_bulk(payload.as_slice(), out),
         Value::NullBulk => append_line(b'$', b"-1", out),
-        Value::List(values) => append_list(alloc, values, out),
+        Value::List(values) => append_list(values, out),
         Value::NullList => append_line(b'*', b"-1", out),
     }
 }
 
 #[cycle(text)]
 #[tactic(auto, using(crate::proofs::TreeLemmas::length_members))]
-fn append_list(alloc: Global, values: &Values, out: &mut Vec<u8>) -> Result<(), AllocError>
+fn append_list(values: &Values, out: &mut Vec<u8>) -> Result<(), AllocError>
     ensures ok { OnOk result (out.new.items ≡ out.old.items ++ text (list (trees_of values.now))) }
     ensures err { OnErr result (Extends out.old.items out.new.items) }
 {
-    append_line(b'*', values.0.len().to_string(alloc)?.as_bytes(), out)?;
-    append_values(alloc, values, out)?;
+    append_count(b'*', values.0.len() as u64, out)?;
+    append_values(values, out)?;
     Ok(())
 }
 
 #[cycle(text)]
-fn append_values(alloc: Global, values: &Values, out: &mut Vec<u8>) -> Result<(), AllocError>
+fn append_values(values: &Values, out: &mut Vec<u8>) -> Result<(), AllocError>
     ensures ok { OnOk result (out.new.items ≡ out.old.items ++ texts (trees_of values.now)) }
     ensures err { OnErr result (Extends out.old.items out.new.items) }
 {
     for value in &values.0 {
-        append_value(alloc, value, out)?;
+        append_value(value, out)?;
     }
     Ok(())
 }
 
-fn append_bulk(alloc: Global, payload: &[u8], out: &mut Vec<u8>) -> Result<(), AllocError>
+fn append_bulk(payload: &[u8], out: &mut Vec<u8>) -> Result<(), AllocError>
     ensures ok { OnOk result (out.new.items ≡ out.old.items ++ text (bulk payload.now)) }
     ensures err { OnErr result (Extends out.old.items out.new.items) }
 {
-    append_line(b'$', payload.len().to_string(alloc)?.as_bytes(), out)?;
+    append_count(b'$', payload.len() as u64, out)?;
     out.extend_from_slice(payload)?;
     out.extend_from_slice(b"\r\n")
+}
+
+// Appends a type byte and the line of a number, which are put together before they are copied.
+fn append_count(kind: u8, count: u64, out: &mut Vec<u8>) -> Result<(), AllocError>
+    ensures ok { OnOk result (out.new.items ≡ out.old.items ++ line kind (decimal count)) }
+    ensures err { OnErr result (Extends out.old.items out.new.items) }
+{
+    let mut head = EMPTY_HEAD;
+    let digits = write_digits(count, &mut head, MAX_DIGITS + 1);
+    head[digits - 1] = kind;
+    out.extend_from_slice(&head[digits - 1..])
 }
 
 fn append_line(kind: u8, bytes: &[u8], out: &mut Vec<u8>) -> Result<(), AllocError>
@@ -120,8 +156,9 @@ fn members_len(values: &Values) -> u64
     total
 }
 
-// The length of a bulk string's text, of so many bytes of payload.
-fn bulk_len(payload: u64) -> u64
+/// The length of a bulk string's text, of so many bytes of payload, where the greatest number of 64 bits stands for any
+/// more.
+pub fn bulk_len(payload: u64) -> u64
     ensures { result ≡ told_offset (length (decimal payload) + 3 + payload + 2) }
 {
     line_len(digits(payload))

@@ -3,16 +3,17 @@
 use crate::parts::Part;
 use crate::proxies::Proxies;
 use crate::text::first_word;
-use anyhow::Result;
+use anyhow::{Result, bail};
 use std::alloc::Global;
 
-/// What the actions of a row are made on.
+/// What the actions of a row are made on. Each stands in a block of its own, so that who holds a subject needn't know how
+/// large the largest of them is.
 #[derive(Drop)]
 pub enum Subject {
     /// The core, the plain program, or both.
-    Proxies(Proxies),
+    Proxies(Box<Proxies>),
     /// A part of a proxy.
-    Part(Part),
+    Part(Box<Part>),
 }
 
 impl Subject {
@@ -20,10 +21,8 @@ impl Subject {
     pub(crate) fn open(alloc: Global, words: &str) -> Result<Subject> {
         let (name, arguments) = first_word(words);
         match name {
-            "core" | "plain" | "both" => Ok(Subject::Proxies(Proxies::open(
-                alloc, name, arguments,
-            )?)),
-            _ => Ok(Subject::Part(Part::open(alloc, name, arguments)?)),
+            "core" | "plain" | "both" => of_proxies(alloc, Proxies::open(alloc, name, arguments)?),
+            _ => of_part(alloc, Part::open(alloc, name, arguments)?),
         }
     }
 
@@ -33,5 +32,19 @@ impl Subject {
             Subject::Proxies(proxies) => proxies.act(alloc, line),
             Subject::Part(part) => part.act(alloc, line),
         }
+    }
+}
+
+fn of_proxies(alloc: Global, proxies: Proxies) -> Result<Subject> {
+    match Box::new(alloc, proxies) {
+        Ok(proxies) => Ok(Subject::Proxies(proxies)),
+        Err(_) => bail!("no memory for a row"),
+    }
+}
+
+fn of_part(alloc: Global, part: Part) -> Result<Subject> {
+    match Box::new(alloc, part) {
+        Ok(part) => Ok(Subject::Part(part)),
+        Err(_) => bail!("no memory for a row"),
     }
 }

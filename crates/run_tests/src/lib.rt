@@ -5,6 +5,10 @@
 #[cfg(test)]
 mod command_line_tests;
 #[cfg(test)]
+mod devices;
+#[cfg(test)]
+mod ending_tests;
+#[cfg(test)]
 mod link_tests;
 #[cfg(test)]
 mod local_tests;

@@ -7,6 +7,7 @@ use Rattle.resp_core.specs.Within.{is_long}
 use Rattle.splitter.specs.declared.plans.Join.{Join}
 use Rattle.splitter.specs.declared.plans.Join.TheVariants.{Same, Get, Set, Sum}
 
+-- the error where a part's value doesn't fit its join
 abbrev pub upstream_protocol_error : Tree
 upstream_protocol_error = fault (codes "upstream protocol error")
 
@@ -39,6 +40,7 @@ is_done null_bulk = false
 is_done (list ts) = false
 is_done null_list = false
 
+-- whether a value is an integer
 abbrev pub is_whole : Tree → Bool
 is_whole (simple s) = false
 is_whole (fault s) = false
@@ -71,6 +73,7 @@ told_sum n = if is_long n then whole n else upstream_protocol_error
 abbrev pub unless_failed : ℕ → Tree → Tree
 unless_failed failed t = if failed == 0 then t else finished_with failed
 
+-- what the parts' values become
 abbrev pub join_of : Join → List Tree → Tree
 join_of Same ts = first_of ts
 join_of Get ts = list (trees_of (map in_place ts))

@@ -9,5 +9,6 @@ use Rattle.splitter.specs.declared.plans.PartPlan.{PartPlan}
 abbrev pub head_of : ℕ → List ℕ → List ℕ
 head_of words name = line 42 (decimal words) ++ text (bulk name)
 
+-- a part with this key and text
 abbrev pub part_of : List ℕ → List ℕ → PartPlan
 part_of key bytes = record { key = key; text = bytes }

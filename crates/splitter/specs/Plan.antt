@@ -27,9 +27,11 @@ shown_byte b = if nat_le 32 b && nat_le b 126 then b else 63
 abbrev pub shown : List ℕ → List ℕ
 shown name = map shown_byte (take 64 name)
 
+-- the text for a name that isn't in the table
 abbrev pub unsupported : List ℕ → List ℕ
 unsupported name = codes "unsupported command '" ++ shown name ++ codes "'"
 
+-- the text for a wrong number of words
 abbrev pub wrong_number : Row → List ℕ
 wrong_number r = codes "wrong number of arguments for '" ++ r.name ++ codes "' command"
 
@@ -57,6 +59,7 @@ plan_by SplitGet r words = plan_of_parts r words
 plan_by SplitSet r words = plan_of_parts r words
 plan_by SplitSum r words = plan_of_parts r words
 
+-- the plan of a command by its row, if it has one
 abbrev pub plan_by_row : Option Row → Words → Plan
 plan_by_row None words = here Unsupported (fault (unsupported (word words 0)))
 plan_by_row (Some r) words = if takes r.kind r.least (length words) then plan_by r.kind r words else here WrongNumber (fault (wrong_number r))

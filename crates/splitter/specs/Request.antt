@@ -1,5 +1,7 @@
 -- What a client asks.
+use Rattle.std.specs.Prelude.{ℕ, length}
 use Rattle.resp_core.specs.Tree.{Tree}
+use Rattle.resp_core.specs.Text.{text}
 use Rattle.resp_core.specs.Value.{tree_of}
 use Rattle.splitter.specs.declared.request.Request.{Request as Request'}
 use Rattle.splitter.specs.declared.request.Request.TheVariants as requests
@@ -9,6 +11,12 @@ pub data Request : Type 0 where
   read : Tree → Request
   broken : Request
 
+-- what a request of the code asks
 abbrev pub request_of : Request' → Request
 request_of (requests.Read v) = read (tree_of v)
 request_of requests.Broken = broken
+
+-- how many bytes the text of a request's value has, also where it has a CR or an LF that can't be written
+abbrev pub length_of : Request' → ℕ
+length_of (requests.Read v) = length (text (tree_of v))
+length_of requests.Broken = 0

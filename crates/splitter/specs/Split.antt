@@ -32,6 +32,7 @@ split_by SplitGet name words = map (λ key. codes "GET" ∷ key ∷ []) (drop 1 
 split_by SplitSet name words = map (λ pair. codes "SET" ∷ pair.0 ∷ pair.1 ∷ []) (pairs (drop 1 words))
 split_by SplitSum name words = map (λ key. str_to_ascii_uppercase name ∷ key ∷ []) (drop 1 words)
 
+-- the commands that a command is split into
 abbrev pub split : Row → Words → List Words
 split r words = split_by r.kind r.name words
 

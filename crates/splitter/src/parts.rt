@@ -10,8 +10,9 @@ ghost use Rattle.splitter.specs.Part.{head_of, part_of};
 use crate::error::SplitError;
 use crate::plans::{PartPlan, PartPlans};
 use bytes::Bytes;
-use resp_core::{Value, Values, put_text};
-use std::alloc::Global;
+use itoa::Buffer;
+use resp_core::{Value, Values, bulk_len, put_bulk, put_text};
+use std::alloc::{AllocError, Global};
 
 /// The one part of a command that goes whole to the host of its word `key_at`. The value has to be a command, of these
 /// words.
@@ -39,7 +40,8 @@ pub(crate) fn whole_part(
 /// A part for each word behind the first: a command of this name and that word, which is the part's key.
 pub(crate) fn key_parts(alloc: Global, name: Bytes, words: &Values) -> Result<PartPlans, SplitError>
     requires { are_words words.now ≡ true }
-    ensures parts { IfOk result (λ ps. ps ≡ map (λ key. part_at 1 (name ∷ key ∷ [])) (drop 1 (map payload_of words.now))) }
+    ensures parts { IfOk result
+        (λ ps. ps ≡ map (λ key. part_at 1 (name ∷ key ∷ [])) (drop 1 (map payload_of words.now))) }
     ensures err { IfErr result (λ e. e ≡ SplitError.NoMemory) }
 {
     let head = head(alloc, 2, name)?;
@@ -73,19 +75,19 @@ fn head(alloc: Global, words: usize, name: Bytes) -> Result<Vec<u8>, SplitError>
 {
     let mut head = Vec::new(alloc);
     head.push(b'*')?;
-    head.extend_from_slice(words.to_string(alloc)?.as_bytes())?;
+    head.extend_from_slice(Buffer::new().format(words).as_bytes())?;
     head.extend_from_slice(b"\r\n")?;
-    put_word(alloc, &name, &mut head)?;
+    put_bulk(name.as_slice(), &mut head)?;
     Ok(head)
 }
 
-// Appends a word of a command.
-fn put_word(alloc: Global, word: &Bytes, out: &mut Vec<u8>) -> Result<(), SplitError>
-    ensures text { OnOk result (out.new.items ≡ out.old.items ++ text (bulk word.now)) }
-    ensures err { IfErr result (λ e. e ≡ SplitError.NoMemory) }
+// The beginning of a command's text, with room for words of so many bytes behind it.
+fn begun(alloc: Global, head: &[u8], words: u64) -> Result<Vec<u8>, AllocError>
+    ensures { IfOk result (λ text. text.items ≡ head.now) }
 {
-    put_text(alloc, &Value::Bulk(word.clone()?), out)?;
-    Ok(())
+    let mut text = Vec::with_capacity(alloc, head.len().saturating_add(words as usize))?;
+    text.extend_from_slice(head)?;
+    Ok(text)
 }
 
 // The part of a command of a key alone, whose text begins like this.
@@ -93,8 +95,8 @@ fn key_part(alloc: Global, head: &[u8], key: &Bytes) -> Result<PartPlan, SplitEr
     ensures part { IfOk result (λ p. p ≡ part_of key.now (head.now ++ text (bulk key.now))) }
     ensures err { IfErr result (λ e. e ≡ SplitError.NoMemory) }
 {
-    let mut text = Vec::from_slice(alloc, head)?;
-    put_word(alloc, key, &mut text)?;
+    let mut text = begun(alloc, head, bulk_len(key.len() as u64))?;
+    put_bulk(key.as_slice(), &mut text)?;
     Ok(PartPlan {
         key: key.clone()?,
         text: Bytes::from_vec(text)?,
@@ -103,12 +105,14 @@ fn key_part(alloc: Global, head: &[u8], key: &Bytes) -> Result<PartPlan, SplitEr
 
 // The part of a command of a key and its value, whose text begins like this.
 fn pair_part(alloc: Global, head: &[u8], key: &Bytes, value: &Bytes) -> Result<PartPlan, SplitError>
-    ensures part { IfOk result (λ p. p ≡ part_of key.now (head.now ++ text (bulk key.now) ++ text (bulk value.now))) }
+    ensures part { IfOk result
+        (λ p. p ≡ part_of key.now (head.now ++ text (bulk key.now) ++ text (bulk value.now))) }
     ensures err { IfErr result (λ e. e ≡ SplitError.NoMemory) }
 {
-    let mut text = Vec::from_slice(alloc, head)?;
-    put_word(alloc, key, &mut text)?;
-    put_word(alloc, value, &mut text)?;
+    let words = bulk_len(key.len() as u64).saturating_add(bulk_len(value.len() as u64));
+    let mut text = begun(alloc, head, words)?;
+    put_bulk(key.as_slice(), &mut text)?;
+    put_bulk(value.as_slice(), &mut text)?;
     Ok(PartPlan {
         key: key.clone()?,
         text: Bytes::from_vec(text)?,

@@ -46,7 +46,9 @@ pub fn plan(alloc: Global, request: &Request) -> Result<Plan, SplitError>
 fn plan_command(alloc: Global, command: &Value, words: &Values) -> Result<Plan, SplitError>
     requires words { are_words words.now ≡ true }
     requires array { IsArrayOf words.now (tree_of command.now) }
-    ensures plan { IfOk result (λ p. plan_in p ≡ plan_by_row (row_named (word (map payload_of words.now) 0)) (map payload_of words.now)) }
+    ensures plan { IfOk result
+        (λ p. plan_in p ≡ plan_by_row (row_named (word (map payload_of words.now) 0))
+        (map payload_of words.now)) }
     ensures err { IfErr result (λ e. e ≡ SplitError.NoMemory) }
 {
     let name = words.word(0).as_slice();
@@ -84,7 +86,8 @@ fn plan_known(
     requires array { IsArrayOf words.now (tree_of command.now) }
     requires known { Contains rows (row_of entry) }
     requires takes { takes entry.kind entry.least (length words.now) ≡ true }
-    ensures plan { IfOk result (λ p. plan_in p ≡ plan_by entry.kind (row_of entry) (map payload_of words.now)) }
+    ensures plan { IfOk result
+        (λ p. plan_in p ≡ plan_by entry.kind (row_of entry) (map payload_of words.now)) }
     ensures err { IfErr result (λ e. e ≡ SplitError.NoMemory) }
 {
     let (how, list) = match entry.kind {

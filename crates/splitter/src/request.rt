@@ -1,4 +1,6 @@
 //! What a client asks.
+ghost use Rattle.std.specs.Prelude.{◌≡◌};
+ghost use Rattle.resp_core.specs.Stream.{told_offset};
 
 use resp_core::Value;
 
@@ -9,4 +11,19 @@ pub enum Request {
     Read(Value),
     /// The reader refused the input.
     Broken,
+}
+
+impl Request {
+    ghost use Rattle.splitter.specs.Request.{length_of};
+
+    /// How many bytes the text of the value has in its one spelling, where the greatest number of 64 bits stands for any
+    /// more: 0 for bytes that are no text.
+    pub fn text_len(&self) -> u64
+        ensures { result ≡ told_offset (length_of self.now) }
+    {
+        match self {
+            Request::Read(value) => value.text_len(),
+            Request::Broken => 0,
+        }
+    }
 }

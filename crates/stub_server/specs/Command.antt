@@ -10,9 +10,11 @@ pub record Row : Type 0 where
   pub name : List ℕ
   pub command : Command
 
+-- a row of the table
 abbrev pub row : List ℕ → Command → Row
 row name command = record { name = name; command = command }
 
+-- the table
 abbrev pub rows : List Row
 rows =
     row (codes "get") Get
@@ -28,6 +30,7 @@ rows =
 abbrev pub command_in : List Row → List ℕ → Option Command
 command_in rs name = option_map (λ r. r.command) (find (λ r. bytes_eq (str_to_ascii_lowercase name) (str_to_ascii_lowercase r.name)) rs)
 
+-- the command of a name
 abbrev pub command_named : List ℕ → Option Command
 command_named name = command_in rows name
 

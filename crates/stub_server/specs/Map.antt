@@ -5,6 +5,7 @@ use Rattle.std.specs.Option.{option_map}
 use Rattle.std.specs.Str.{bytes_eq}
 use Rattle.stub_server.specs.declared.map.Entry.{Entry}
 
+-- the entries, each with its key and value
 abbrev pub Map : Type 0
 Map = List Entry
 
@@ -16,6 +17,7 @@ is_of key e = bytes_eq e.key key
 abbrev pub value_at : List ℕ → Map → Option (List ℕ)
 value_at key m = option_map (λ e. e.value) (find (is_of key) m)
 
+-- whether a key has a value
 abbrev pub is_key : Map → List ℕ → Bool
 is_key m key = list_any (is_of key) m
 

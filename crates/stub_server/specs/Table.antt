@@ -14,18 +14,23 @@ pub record Outcome : Type 0 where
   pub answer : Tree
   pub map : Map
 
+-- an answer, and the map as it was or another
 abbrev pub gives : Tree → Map → Outcome
 gives answer m = record { answer = answer; map = m }
 
+-- the answer to what was done
 abbrev pub done : Tree
 done = simple (codes "OK")
 
+-- the error of a name that isn't in the table
 abbrev pub unknown_command : Tree
 unknown_command = fault (codes "ERR unknown command")
 
+-- the error of a wrong number of words
 abbrev pub wrong_number : Tree
 wrong_number = fault (codes "ERR wrong number of arguments")
 
+-- the error of a value that is no number
 abbrev pub no_number : Tree
 no_number = fault (codes "ERR value is not an integer or out of range")
 
@@ -39,6 +44,7 @@ abbrev pub number_of_value : Option (List ℕ) → Option ℤ
 number_of_value None = Some (pos 0)
 number_of_value (Some value) = number_in value
 
+-- the number at a key, where there is one
 abbrev pub number_at : List ℕ → Map → Option ℤ
 number_at key m = number_of_value (value_at key m)
 
@@ -60,10 +66,12 @@ outcome_by m Del words = gives (whole (pos (count_among (drop 1 words) m))) (wit
 outcome_by m Exists words = gives (whole (pos (count_keys m (drop 1 words)))) m
 outcome_by m Incr words = incremented m (word words 1) (number_at (word words 1) m)
 
+-- what a command comes to by its name
 abbrev pub outcome_named : Map → Option Command → List (List ℕ) → Outcome
 outcome_named m None words = gives unknown_command m
 outcome_named m (Some command) words = if takes command (length words) then outcome_by m command words else gives wrong_number m
 
+-- what a command comes to by its words
 abbrev pub outcome_of_words : Map → List (List ℕ) → Outcome
 outcome_of_words m words = outcome_named m (command_named (word words 0)) words
 
@@ -72,9 +80,11 @@ outcome_of_words m words = outcome_named m (command_named (word words 0)) words
 abbrev pub outcome_of : Map → Tree → Outcome
 outcome_of m t = if is_command t then outcome_of_words m (words_of t) else gives unknown_command m
 
+-- the answer to a request
 abbrev pub answer_of : Map → Tree → Tree
 answer_of m t = (outcome_of m t).answer
 
+-- the map behind a request
 abbrev pub map_after : Map → Tree → Map
 map_after m t = (outcome_of m t).map
 

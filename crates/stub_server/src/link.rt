@@ -84,7 +84,8 @@ impl Read for StubReader {
 impl Write for StubWriter {
     fn write(&mut self, bytes: &[u8]) -> io::Result<usize>
         ensures bound { WritesAtMost result bytes.now }
-        ensures kinds { IfErr result (λ e. (error_kind e ≡ ErrorKind.WouldBlock) ⊎ (error_kind e ≡ ErrorKind.BrokenPipe)) }
+        ensures kinds { IfErr result
+            (λ e. (error_kind e ≡ ErrorKind.WouldBlock) ⊎ (error_kind e ≡ ErrorKind.BrokenPipe)) }
     {
         match self.session.try_lock() {
             Some(mut session) => Ok(session.write(bytes)?),

@@ -59,7 +59,8 @@ pub(crate) fn count_among(entries: &[Entry], keys: &[Value]) -> usize
 
 /// Takes out the entries of these keys. It takes no memory.
 pub(crate) fn take_out(entries: &mut Vec<Entry>, keys: &[Value])
-    ensures { entries.new.items ≡ without (map payload_of (map tree_of keys.now)) entries.old.items }
+    ensures { entries.new.items ≡ without
+        (map payload_of (map tree_of keys.now)) entries.old.items }
 {
     entries.retain(|entry| !is_among(keys, entry.key.as_slice()));
 }

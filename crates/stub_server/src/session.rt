@@ -55,7 +55,8 @@ impl Session {
     // None are taken while requests that came before wait, for memory or for room for their replies.
     pub(crate) fn write(&mut self, bytes: &[u8]) -> Result<usize, ErrorKind>
         ensures taken { IfOk result (λ n. n ≤ length bytes.now) }
-        ensures kinds { IfErr result (λ kind. (kind ≡ ErrorKind.WouldBlock) ⊎ (kind ≡ ErrorKind.BrokenPipe)) }
+        ensures kinds { IfErr result
+            (λ kind. (kind ≡ ErrorKind.WouldBlock) ⊎ (kind ≡ ErrorKind.BrokenPipe)) }
     {
         let waits = !self.serve_all();
         if self.is_over {
@@ -157,7 +158,8 @@ impl Session {
 
     // What the stub's response to a request leads to.
     fn serve_by_script(&mut self, request: &Value) -> Result<Next, StubError>
-        ensures requests { (self.new.requests ≡ self.old.requests) × (self.new.next ≡ self.old.next) }
+        ensures requests { (self.new.requests ≡ self.old.requests)
+            × (self.new.next ≡ self.old.next) }
         ensures next { IfOk result (λ next. steps_of next ≤ 1) }
     {
         match self.stub.serve(request)? {

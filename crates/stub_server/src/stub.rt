@@ -77,8 +77,12 @@ impl Stub {
     ///
     /// `Act::Hold` is the act of all later requests too. Refused 1501 (no memory), and then nothing has changed.
     pub fn serve(&mut self, request: &Value) -> Result<Response, StubError>
-        ensures response { IfOk result (λ response. IsResponse (act_of self.old.script) self.old.map (tree_of request.now) response) }
-        ensures map { IfOk result (λ _. self.new.map ≡ map_by (act_of self.old.script) self.old.map (tree_of request.now)) }
+        ensures response { IfOk result
+            (λ response. IsResponse (act_of self.old.script) self.old.map
+            (tree_of request.now) response) }
+        ensures map { IfOk result
+            (λ _. self.new.map ≡ map_by (act_of self.old.script) self.old.map
+            (tree_of request.now)) }
         ensures script { IfOk result (λ _. self.new.script ≡ acts_after self.old.script) }
         ensures err { OnErr result (self.new ≡ self.old) }
         ensures memory { IfErr result (λ e. e ≡ StubError.NoMemory) }
@@ -108,8 +112,10 @@ impl Stub {
     /// Names are compared without ASCII case. The script is neither asked nor changed. Refused 1501 (no memory), and then
     /// the map is as it was.
     pub fn answer(&mut self, request: &Value) -> Result<Value, StubError>
-        ensures answer { IfOk result (λ answer. tree_of answer ≡ answer_of self.old.map (tree_of request.now)) }
-        ensures map { IfOk result (λ _. self.new.map ≡ map_after self.old.map (tree_of request.now)) }
+        ensures answer { IfOk result
+            (λ answer. tree_of answer ≡ answer_of self.old.map (tree_of request.now)) }
+        ensures map { IfOk result
+            (λ _. self.new.map ≡ map_after self.old.map (tree_of request.now)) }
         ensures script { self.new.script ≡ self.old.script }
         ensures err { OnErr result (self.new ≡ self.old) }
         ensures memory { IfErr result (λ e. e ≡ StubError.NoMemory) }
@@ -124,8 +130,12 @@ impl Stub {
 // The answer to a request of these words.
 fn answer_words(alloc: Global, entries: &mut Vec<Entry>, words: &Values) -> Result<Value, StubError>
     requires { are_words words.now ≡ true }
-    ensures answer { IfOk result (λ answer. tree_of answer ≡ (outcome_of_words entries.old.items (map payload_of words.now)).answer) }
-    ensures map { IfOk result (λ _. entries.new.items ≡ (outcome_of_words entries.old.items (map payload_of words.now)).map) }
+    ensures answer { IfOk result
+        (λ answer. tree_of answer ≡
+        (outcome_of_words entries.old.items (map payload_of words.now)).answer) }
+    ensures map { IfOk result
+        (λ _. entries.new.items ≡
+        (outcome_of_words entries.old.items (map payload_of words.now)).map) }
     ensures err { OnErr result (entries.new.items ≡ entries.old.items) }
     ensures memory { IfErr result (λ e. e ≡ StubError.NoMemory) }
 {
@@ -147,8 +157,12 @@ fn answer_command(
 ) -> Result<Value, StubError>
     requires words { are_words words.now ≡ true }
     requires count { takes command (length words.now) ≡ true }
-    ensures answer { IfOk result (λ answer. tree_of answer ≡ (outcome_by entries.old.items command (map payload_of words.now)).answer) }
-    ensures map { IfOk result (λ _. entries.new.items ≡ (outcome_by entries.old.items command (map payload_of words.now)).map) }
+    ensures answer { IfOk result
+        (λ answer. tree_of answer ≡
+        (outcome_by entries.old.items command (map payload_of words.now)).answer) }
+    ensures map { IfOk result
+        (λ _. entries.new.items ≡
+        (outcome_by entries.old.items command (map payload_of words.now)).map) }
     ensures err { OnErr result (entries.new.items ≡ entries.old.items) }
     ensures memory { IfErr result (λ e. e ≡ StubError.NoMemory) }
 {
@@ -163,7 +177,8 @@ fn answer_command(
 
 // GET
 fn get(entries: &[Entry], key: &Bytes) -> Result<Value, StubError>
-    ensures answer { IfOk result (λ answer. tree_of answer ≡ bulk_of (value_at key.now entries.now)) }
+    ensures answer { IfOk result
+        (λ answer. tree_of answer ≡ bulk_of (value_at key.now entries.now)) }
     ensures memory { IfErr result (λ e. e ≡ StubError.NoMemory) }
 {
     match value_at(entries, key.as_slice()) {
@@ -175,7 +190,8 @@ fn get(entries: &[Entry], key: &Bytes) -> Result<Value, StubError>
 // SET
 fn set(entries: &mut Vec<Entry>, key: &Bytes, value: &Bytes) -> Result<Value, StubError>
     ensures answer { IfOk result (λ answer. tree_of answer ≡ done) }
-    ensures map { IfOk result (λ _. entries.new.items ≡ with_value key.now value.now entries.old.items) }
+    ensures map { IfOk result
+        (λ _. entries.new.items ≡ with_value key.now value.now entries.old.items) }
     ensures err { OnErr result (entries.new.items ≡ entries.old.items) }
     ensures memory { IfErr result (λ e. e ≡ StubError.NoMemory) }
 {
@@ -185,8 +201,11 @@ fn set(entries: &mut Vec<Entry>, key: &Bytes, value: &Bytes) -> Result<Value, St
 
 // DEL and UNLINK
 fn delete(entries: &mut Vec<Entry>, keys: &[Value]) -> Result<Value, StubError>
-    ensures answer { IfOk result (λ answer. tree_of answer ≡ whole (pos (count_among (map payload_of (map tree_of keys.now)) entries.old.items))) }
-    ensures map { IfOk result (λ _. entries.new.items ≡ without (map payload_of (map tree_of keys.now)) entries.old.items) }
+    ensures answer { IfOk result
+        (λ answer. tree_of answer ≡ whole
+        (pos (count_among (map payload_of (map tree_of keys.now)) entries.old.items))) }
+    ensures map { IfOk result
+        (λ _. entries.new.items ≡ without (map payload_of (map tree_of keys.now)) entries.old.items) }
     ensures err { OnErr result (entries.new.items ≡ entries.old.items) }
     ensures memory { IfErr result (λ e. e ≡ StubError.NoMemory) }
 {
@@ -197,8 +216,12 @@ fn delete(entries: &mut Vec<Entry>, keys: &[Value]) -> Result<Value, StubError>
 
 // INCR
 fn increment(alloc: Global, entries: &mut Vec<Entry>, key: &Bytes) -> Result<Value, StubError>
-    ensures answer { IfOk result (λ answer. tree_of answer ≡ (incremented entries.old.items key.now (number_at key.now entries.old.items)).answer) }
-    ensures map { IfOk result (λ _. entries.new.items ≡ (incremented entries.old.items key.now (number_at key.now entries.old.items)).map) }
+    ensures answer { IfOk result
+        (λ answer. tree_of answer ≡
+        (incremented entries.old.items key.now (number_at key.now entries.old.items)).answer) }
+    ensures map { IfOk result
+        (λ _. entries.new.items ≡
+        (incremented entries.old.items key.now (number_at key.now entries.old.items)).map) }
     ensures err { OnErr result (entries.new.items ≡ entries.old.items) }
     ensures memory { IfErr result (λ e. e ≡ StubError.NoMemory) }
 {

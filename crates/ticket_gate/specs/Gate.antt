@@ -40,9 +40,11 @@ module _ {E A C : Type 0} where
   IsSamePass before after = (after.gate ≡ before.gate) × (after.number ≡ before.number) × (after.known.setting ≡ before.known.setting)
 
 module _ {S E A C : Type 0} where
+  -- what contracts see of a place without a number
   abbrev pub spare_facts : Seat (Option S) (View E A C) → SpareFacts E A C
   spare_facts seat = record { gate = seat.table_id; known = seat.me.0.own }
 
+  -- what contracts see of a place with a number
   abbrev pub pass_facts : ℕ → Seat (Option S) (View E A C) → PassFacts E A C
   pass_facts number seat = record { gate = seat.table_id; number = number; known = seat.me.0.own }
 

@@ -59,6 +59,7 @@ pub record OneJournal {S E A C : Type 0} (journal : S → List (ℕ × E × A)) 
   pub own : (j n : ℕ) (k : Knowledge E A C) → IsAt s j k → k.number ≡ Some n → steps_of n log ≡ steps_of n k.seen
   pub one_setting : (j : ℕ) (k : Knowledge E A C) (d : C) → IsAt s j k → k.setting ≡ Some d → d ≡ c
 
+-- the rule of the gate in plain sentences
 pub record PlainRule {S E A C : Type 0} (journal : S → List (ℕ × E × A)) (setting : S → C) (legal : C → List (ℕ × E × A) → Type 0) (c : C) (s : State (Option S) (View E A C)) : Type 0 where
   pub drawn : ℕ
   pub serving : ℕ

@@ -36,6 +36,7 @@ module _ {E A C : Type 0} (g : Standing E A) (c : C) where
   OtherAgrees j k None = Unit {0}
   OtherAgrees j k (Some l) = Agrees j l × (l.ticket ≡ None) × (l.inside ≡ false) × ((n m : ℕ) → k.number ≡ Some n → l.number ≡ Some m → n ≢ m)
 
+  -- what a seat knows fits the words and the state
   abbrev pub ViewAgrees : ℕ → View E A C → Type 0
   ViewAgrees j v = Agrees j v.own × OtherAgrees j v.own v.other
 

@@ -5,9 +5,11 @@ use Rattle.ticket_gate.specs.declared.running_total.AdditionRefusal.{AdditionRef
 use Rattle.ticket_gate.specs.declared.running_total.AdditionRefusal.TheVariants.{PastLimit, NoMemory}
 use Rattle.ticket_gate.specs.Totals.{steps_in, amount_sum}
 
+-- the journal of the running total
 abbrev pub journal_of : RunningTotal → List (ℕ × ℕ × ℕ)
 journal_of state = steps_in state.additions.items
 
+-- its limit
 abbrev pub limit_of : RunningTotal → ℕ
 limit_of state = state.limit
 

@@ -15,13 +15,16 @@ module _ {E A C : Type 0} where
   abbrev pub pair_of : View E A C → View E A C → View E A C
   pair_of v w = record { own = v.own; other = Some w.own }
 
+  -- what the first of two joined seats knows
   abbrev pub first_of : View E A C → View E A C
   first_of v = view_of v.own
 
+  -- what a seat knows, or nothing
   abbrev pub view_or_spent : Option (Knowledge E A C) → View E A C
   view_or_spent (Some k) = view_of k
   view_or_spent None = spent_view
 
+  -- what the second of two joined seats knows
   abbrev pub second_of : View E A C → View E A C
   second_of v = view_or_spent v.other
 
@@ -42,6 +45,7 @@ abbrev pub Sitting : Type 0 → Type 0 → Type 0 → Type 0 → Type 0
 Sitting S E A C = Me (Option S) (View E A C)
 
 module _ {S E A C : Type 0} where
+  -- the count of passes is read
   abbrev pub ReadsEnrolled : Step (Option S) → Sitting S E A C → ℕ → Sitting S E A C → Type 0
   ReadsEnrolled step me n me' = (me' ≡ (with_own me.0 (record me.0.own { last_enrolled = n }), me.1)) × (n ≤ 256)
 
@@ -51,9 +55,11 @@ module _ {S E A C : Type 0} where
       (n ≡ step.first → me' ≡ (with_own me.0 (record me.0.own { number = Some step.first; seen = [] }), me.1))
       × (n ≢ step.first → me' ≡ me)
 
+  -- the count of tickets is read
   abbrev pub ReadsDrawn : Step (Option S) → Sitting S E A C → ℕ → Sitting S E A C → Type 0
   ReadsDrawn step me n me' = me' ≡ (with_own me.0 (record me.0.own { last_drawn = n }), me.1)
 
+  -- a ticket is drawn
   abbrev pub DrawsTicket : Step (Option S) → Sitting S E A C → ℕ → Sitting S E A C → Type 0
   DrawsTicket step me n me' =
       (n ≡ step.first → me' ≡ (with_own me.0 (record me.0.own { ticket = Some step.first }), me.1))

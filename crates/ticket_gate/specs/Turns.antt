@@ -18,6 +18,7 @@ pub record SeatedFacts (E A C : Type 0) : Type 0 where
   pub gate : GateFacts C
   pub pass : PassFacts E A C
 
+-- a pass at its gate
 abbrev pub seated_at : {E A C : Type 0} → GateFacts C → PassFacts E A C → SeatedFacts E A C
 seated_at gate pass = record { gate = gate; pass = pass }
 
@@ -26,6 +27,7 @@ pub record AloneFacts (S : Type 0) : Type 0 where
   pub state : S
   pub pass : ℕ
 
+-- a state with the number that its turns are under
 abbrev pub alone_with : {S : Type 0} → S → ℕ → AloneFacts S
 alone_with state pass = record { state = state; pass = pass }
 

@@ -36,7 +36,8 @@ impl<S: Recorded> Gate<S> {
         requires { IsSpareOf self.now spare }
         ensures pass { IfOk result (λ pass. IsPassOf self.now pass × (pass.known.seen ≡ [])
             × (pass.number < 256)) }
-        ensures crowded { IfErr result (λ refused. (refused.0 ≡ Crowded) × IsSpareOf self.now refused.1
+        ensures crowded { IfErr result (λ refused. (refused.0 ≡ Crowded)
+            × IsSpareOf self.now refused.1
             × (refused.1.known.last_enrolled ≡ 256)) }
     {
         let Spare { mut seat } = spare;

@@ -88,7 +88,8 @@ impl<S: Recorded> Gate<S> {
 
     // Waits until the ticket is served.
     fn wait<R: Wait>(&self, rt: &R, seat: &mut Place<S>, ticket: u64)
-        requires { (seat.old.table_id ≡ self.now.id) × HoldsTicket seat.old.me.0.own ticket seat.old }
+        requires { (seat.old.table_id ≡ self.now.id)
+            × HoldsTicket seat.old.me.0.own ticket seat.old }
         ensures gate { seat.new.table_id ≡ seat.old.table_id }
         ensures inside { IsInside S.journal S.setting S.legal seat.old.me.0.own ticket seat.new }
     {

@@ -109,7 +109,8 @@ impl<S: Recorded> Gate<S> {
     /// Where memory is refused the answer is `NoMemory` (1204) with the state, as it was.
     pub fn new(alloc: Global, state: S) -> Result<(Gate<S>, Spare<S>), (GateRefusal, S)>
         requires { S.journal state ≡ [] }
-        ensures gate { IfOk result (λ made. (made.0.setting ≡ S.setting state) × IsSpareOf made.0 made.1) }
+        ensures gate { IfOk result (λ made. (made.0.setting ≡ S.setting state)
+            × IsSpareOf made.0 made.1) }
         ensures first { IfOk result (λ made. (made.1.known.last_served ≡ 0)
             × (made.1.known.last_drawn ≡ 0)) }
         ensures refused { IfErr result (λ refused. (refused.0 ≡ NoMemory) × (refused.1 ≡ state)) }
@@ -125,7 +126,8 @@ impl<S: Recorded> Gate<S> {
         first: u64,
     ) -> Result<(Gate<S>, Spare<S>), (GateRefusal, S)>
         requires { S.journal state ≡ [] }
-        ensures gate { IfOk result (λ made. (made.0.setting ≡ S.setting state) × IsSpareOf made.0 made.1) }
+        ensures gate { IfOk result (λ made. (made.0.setting ≡ S.setting state)
+            × IsSpareOf made.0 made.1) }
         ensures first { IfOk result (λ made. (made.1.known.last_served ≡ first)
             × (made.1.known.last_drawn ≡ first)) }
         ensures refused { IfErr result (λ refused. (refused.0 ≡ NoMemory) × (refused.1 ≡ state)) }

@@ -16,7 +16,8 @@ impl<S: Recorded> Gate<S> {
     pub fn meet(&self, first: Pass<S>, second: Pass<S>) -> (Pass<S>, Pass<S>)
         requires { IsPassOf self.now first × IsPassOf self.now second }
         ensures same { IsSamePass first result.0 × IsSamePass second result.1 }
-        ensures seen { (result.0.known.seen ≡ first.known.seen) × (result.1.known.seen ≡ second.known.seen) }
+        ensures seen { (result.0.known.seen ≡ first.known.seen)
+            × (result.1.known.seen ≡ second.known.seen) }
         ensures meet { Meets (S.legal self.now.setting)
             first.number first.known.seen second.number second.known.seen }
     {

@@ -49,10 +49,12 @@ pub trait Recorded {
         event: Self::Event,
     ) -> Result<Self::Answer, (Self::Refusal, Self::Event)>
         ensures setting { setting self.new ≡ setting self.old }
-        ensures answered { IfOk result (λ answer. journal self.new ≡ journal self.old ++ (pass, event, answer) ∷ []) }
+        ensures answered { IfOk result
+            (λ answer. journal self.new ≡ journal self.old ++ (pass, event, answer) ∷ []) }
         ensures legal { IfOk result (λ answer. legal (setting self.old) (journal self.old)
             → legal (setting self.old) (journal self.new)) }
-        ensures refused { IfErr result (λ refused. (journal self.new ≡ journal self.old) × (refused.1 ≡ event)
+        ensures refused { IfErr result (λ refused. (journal self.new ≡ journal self.old)
+            × (refused.1 ≡ event)
             × cause (setting self.old) refused.0 event (journal self.old)) };
 
     /// The empty journal is legal.

@@ -44,6 +44,33 @@ impl<'a, S: Recorded> Seated<'a, S> {
     }
 }
 
+impl<'a, S: Recorded> Seated<'a, S> {
+    ghost use Rattle.std.specs.Prelude.{IfOk, IfErr, OnOk};
+    ghost use Rattle.ticket_gate.specs.Gate.{IsSamePass};
+    ghost use Rattle.ticket_gate.specs.Journal.{GrowsByOthers};
+    ghost use Rattle.ticket_gate.specs.declared.refusal.TurnRefusal.TheVariants.{Spent};
+
+    /// Looks at the state inside the gate, as `Gate::sight` does, and adds no step to its journal.
+    ///
+    /// Answered: the sight is that of the journal which the pass sees now. Refused `Spent` (1202)
+    /// alone, where all tickets were drawn: the pass has seen nothing new.
+    pub fn sight<R: Wait>(&mut self, rt: &R) -> Result<S::Sight, TurnRefusal<S::Refusal, ()>>
+        ensures gate { self.new.gate ≡ self.old.gate }
+        ensures same { IsSamePass self.old.pass self.new.pass }
+        ensures sight { IfOk result (λ sight.
+            sight ≡ S.sight_of self.old.gate.setting self.new.pass.known.seen) }
+        ensures legal { OnOk result
+            (S.legal self.old.gate.setting self.new.pass.known.seen) }
+        ensures seen { OnOk result (GrowsByOthers self.old.pass.number
+            self.old.pass.known.seen self.new.pass.known.seen) }
+        ensures refused { IfErr result (λ why. (why ≡ Spent tt)
+            × (self.new.pass.known.seen ≡ self.old.pass.known.seen)
+            × (self.new.pass.known.last_drawn ≡ 2 ^ 64 - 1)) }
+    {
+        self.gate.sight(rt, &mut self.pass)
+    }
+}
+
 impl<'a, S: Recorded> Turns for Seated<'a, S> {
     type Event = S::Event;
 

@@ -16,9 +16,11 @@ pub record HasSent (p : PipeState) (sent : List (Option Owner)) (count : ℕ) : 
   pub some : count ≤ length sent
   pub flying : p.flying ≡ drop count sent
 
+-- nothing has changed
 abbrev pub IsAsBefore : PipeState → PipeState → Type 0
 IsAsBefore old new = new ≡ old
 
+-- whose a part is
 abbrev pub owner_in : Part → Owner
 owner_in part = part.owner
 

@@ -116,7 +116,8 @@ impl Pipe {
         ensures waiting { OnOk result (self.new.waiting ≡ self.old.waiting ++ part ∷ []) }
         ensures flying { self.new.flying ≡ self.old.flying }
         ensures epoch { self.new.epoch ≡ self.old.epoch }
-        ensures full { IfErr result (λ e. (e.0 ≡ PipeRefusal.Full) ↔ (MAX_WAITING ≤ length self.old.waiting)) }
+        ensures full { IfErr result (λ e. (e.0 ≡ PipeRefusal.Full)
+            ↔ (MAX_WAITING ≤ length self.old.waiting)) }
         ensures accepted { OnOk result (length self.old.waiting < MAX_WAITING) }
         ensures memory { IfErr result (λ e. e.0 ≢ PipeRefusal.Full → e.0 ≡ PipeRefusal.NoMemory) }
         ensures reserved { 0 < self.old.room → IfErr result (λ e. e.0 ≡ PipeRefusal.Full) }
@@ -141,8 +142,10 @@ impl Pipe {
     pub fn take(&mut self) -> Option<Part>
         ensures none { IfNone result ((self.old.waiting ≡ []) × IsAsBefore self.old self.new) }
         ensures waiting { IfSome result (λ part. self.old.waiting ≡ part ∷ self.new.waiting) }
-        ensures flying { IfSome result (λ part. self.new.flying ≡ self.old.flying ++ Some part.owner ∷ []) }
-        ensures sent { IfSome result (λ part. (sent : List (Option Owner)) (count : ℕ) → HasSent self.old sent count
+        ensures flying { IfSome result
+            (λ part. self.new.flying ≡ self.old.flying ++ Some part.owner ∷ []) }
+        ensures sent { IfSome result (λ part. (sent : List (Option Owner)) (count : ℕ)
+            → HasSent self.old sent count
             → HasSent self.new (sent ++ Some part.owner ∷ []) count) }
         ensures epoch { self.new.epoch ≡ self.old.epoch }
         ensures room { self.old.room ≤ self.new.room }
@@ -157,11 +160,14 @@ impl Pipe {
     ///
     /// Refused 603 (stale) exactly if the epoch isn't the pipe's, and 604 (unasked) exactly if it is and no part flies.
     pub fn answered(&mut self, epoch: u64) -> Result<Option<Owner>, PipeRefusal>
-        ensures place { IfOk result (λ owner. (sent : List (Option Owner)) (count : ℕ) → HasSent self.old sent count
+        ensures place { IfOk result (λ owner. (sent : List (Option Owner)) (count : ℕ)
+            → HasSent self.old sent count
             → (slice_get sent count ≡ Some owner) × HasSent self.new sent (count + 1)) }
         ensures flying { IfOk result (λ owner. self.old.flying ≡ owner ∷ self.new.flying) }
-        ensures stale { IsErrOf result (PipeRefusal.Stale self.old.epoch) ↔ (epoch ≢ self.old.epoch) }
-        ensures unasked { IsErrOf result PipeRefusal.Unasked ↔ ((epoch ≡ self.old.epoch) × (self.old.flying ≡ [])) }
+        ensures stale { IsErrOf result (PipeRefusal.Stale self.old.epoch)
+            ↔ (epoch ≢ self.old.epoch) }
+        ensures unasked { IsErrOf result PipeRefusal.Unasked
+            ↔ ((epoch ≡ self.old.epoch) × (self.old.flying ≡ [])) }
         ensures refused { IfErr result (λ e. (epoch ≢ self.old.epoch) ⊎ (self.old.flying ≡ [])) }
         ensures waiting { self.new.waiting ≡ self.old.waiting }
         ensures epoch { self.new.epoch ≡ self.old.epoch }
@@ -190,9 +196,12 @@ impl Pipe {
         ensures empty { OnOk result ((self.new.flying ≡ []) × (self.new.waiting ≡ [])) }
         ensures epoch { OnOk result (self.new.epoch ≡ self.old.epoch + 1) }
         ensures room { self.old.room ≤ self.new.room }
-        ensures stale { IsErrOf result (PipeRefusal.Stale self.old.epoch) ↔ (epoch ≢ self.old.epoch) }
-        ensures spent { IsErrOf result PipeRefusal.EpochsSpent ↔ ((epoch ≡ self.old.epoch) × (epoch ≡ 2 ^ 64 - 1)) }
-        ensures memory { epoch ≡ self.old.epoch → epoch < 2 ^ 64 - 1 → IfErr result (λ e. e ≡ PipeRefusal.NoMemory) }
+        ensures stale { IsErrOf result (PipeRefusal.Stale self.old.epoch)
+            ↔ (epoch ≢ self.old.epoch) }
+        ensures spent { IsErrOf result PipeRefusal.EpochsSpent
+            ↔ ((epoch ≡ self.old.epoch) × (epoch ≡ 2 ^ 64 - 1)) }
+        ensures memory { epoch ≡ self.old.epoch → epoch < 2 ^ 64 - 1
+            → IfErr result (λ e. e ≡ PipeRefusal.NoMemory) }
         ensures idle { epoch ≡ self.old.epoch → epoch < 2 ^ 64 - 1
             → self.old.flying ≡ [] → self.old.waiting ≡ [] → IsOk result }
         ensures err { OnErr result (IsAsBefore self.old self.new) }

@@ -1,6 +1,6 @@
 -- Up to here each part has what it gets at once.
 use Rattle.std.proofs.Common.{◌≡◌, ◌+◌, ◌-◌, ◌++◌, ◌∷◌, [], None, length, map, take, replicate}
-use Rattle.proxy_core.specs.Arrivals.{value_of_placed}
+use Rattle.proxy_core.specs.Places.{value_of_placed}
 use Rattle.proxy_core.proofs.connection.queue_parts.Given as goal
 
 abbrev pub invariant-loop-part : goal.invariant-loop-part

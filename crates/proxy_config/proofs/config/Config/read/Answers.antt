@@ -5,6 +5,7 @@ use Rattle.serde_json.specs.View.{view, members_view}
 use Rattle.proxy_config.specs.File.{IsObject, HasUnknownKey}
 use Rattle.proxy_config.specs.Values.{values_of}
 use Rattle.proxy_config.proofs.Objects.{is_object, unknown_given, unknown_name, told_unknown, read_settings, refuses}
+use Rattle.proxy_config.proofs.RingParts.{ring_parts}
 use Rattle.proxy_config.proofs.config.Config.read.Goals as goal
 
 pub returns-then-has_unknown_key-clause-refused : goal.returns-then-has_unknown_key-clause-refused
@@ -29,3 +30,6 @@ returns-clause-refused c =
     let is : IsObject c.args.bytes.now (members_view es) = record { utf8 = c.in-Ok.ensures.ok.0; read_as = c.in-Ok.ensures.ok.1 ∙ ap Some o } in
     let known : ¬ HasUnknownKey (members_view es) = λ u. let t = c.has_unknown_key.ensures.1 (unknown_name es u) in let f = c.if-has_unknown_key.false in cc in
     IfErr-weaker _ _ _ (λ e refused. refuses c.args.bytes.now (members_view es) (view c.in-Ok.file) e is known o refused) c.from_object.ensures.refused
+
+pub returns-clause-parts : goal.returns-clause-parts
+returns-clause-parts c = IfOk-weaker _ _ _ (λ config fit. ring_parts _ _ _ _ fit.1.0 fit.1.1.0) c.from_object.ensures.ok

@@ -1,4 +1,3 @@
-use Rattle.std.proofs.Common.{◌∙◌}
 use Rattle.std.proofs.lemmas.Result.{IfOk-weaker}
 use Rattle.splitter.specs.Planned.{plan_in}
 use Rattle.proxy_history.specs.Past.{past}
@@ -9,11 +8,11 @@ use Rattle.proxy_core.proofs.machine.Machine.accept.Goals as goal
 pub accept_plan-requires-clause-pipelines : goal.accept_plan-requires-clause-pipelines
 accept_plan-requires-clause-pipelines c =
     let now = c.ready_to_arrive.new.self in
-    now.pipelines.ok.0 ∙ ready_pipelines c.args.self.now now c.args.conn c.args.request.now c.requires c.in_ok-plan.ensures.ready
+    ready_pipelines c.args.self.now now c.args.conn c.args.request.now c.requires.kept c.in_ok-plan.ensures.ready
 
 pub accept_plan-requires-clause-open : goal.accept_plan-requires-clause-open
 accept_plan-requires-clause-open c =
-    ready_accepts c.args.self.now c.ready_to_arrive.new.self c.args.conn c.args.request.now c.requires c.in_ok-plan.ensures.ready
+    ready_accepts c.args.self.now c.ready_to_arrive.new.self c.args.conn c.args.request.now c.requires.kept c.in_ok-plan.ensures.ready
 
 pub accept_plan-requires-clause-join : goal.accept_plan-requires-clause-join
 accept_plan-requires-clause-join c =
@@ -28,5 +27,5 @@ returns-clause-accepted c =
     let x = past (setting_in m) (history_in m) in
     IfOk-weaker c.accept_plan.result _ _
     (λ a is. accepted_before m now c.accept_plan.new.self c.args.conn request (plan_in c.in_ok-plan.plan) x a c.in_ok-plan.ensures.plan ready
-    (is x (ready_tells m now c.args.conn request c.requires ready)))
+    (is x (ready_tells m now c.args.conn request c.requires.kept ready)))
     c.accept_plan.ensures.accepted

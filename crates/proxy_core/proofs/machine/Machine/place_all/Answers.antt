@@ -1,8 +1,8 @@
-use Rattle.std.proofs.Common.{◌≡◌, ◌<◌, ◌∷◌, ◌++◌, [], ℕ, vec_len, Option, Some, length, map, refl, sym, ap, ◌∙◌, subst, arith}
+use Rattle.std.proofs.Common.{◌≡◌, ◌<◌, ◌∷◌, ◌++◌, [], ℕ, Option, Some, length, map, refl, sym, ap, ◌∙◌, subst, arith}
 use Rattle.std.specs.Prelude.{IfSome}
 use Rattle.std.specs.Vec.Iter.{into_iter_items}
 use Rattle.std.proofs.lemmas.Grind.{common_steps}
-use Rattle.std.proofs.lemmas.List.{length-append, length-map}
+use Rattle.std.proofs.lemmas.List.{length-append}
 use Rattle.std.proofs.lemmas.List.FromFn.{length-map-range_with_len}
 use Rattle.ketama.specs.Key.{point_of}
 use Rattle.ketama.specs.Owner.{owner_of}
@@ -10,10 +10,10 @@ use Rattle.ejector.specs.State.{hosts_of}
 use Rattle.ejector.specs.Usable.{is_usable}
 use Rattle.proxy_history.specs.Arrival.{usable, host_for}
 use Rattle.proxy_history.specs.Waiting.{waiting}
+use Rattle.proxy_core.specs.Places.{counted_at, next_place}
 use Rattle.proxy_core.specs.declared.place.Placed.{Placed}
-use Rattle.proxy_core.specs.Arrivals.{counted_at, next_place}
-use Rattle.proxy_core.specs.Pipelines.{state_of}
-use Rattle.proxy_core.specs.Machine.{setting_in, memory_in, pipeline_at}
+use Rattle.proxy_core.specs.Pipelines.{pipeline_at}
+use Rattle.proxy_core.specs.Machine.{setting_in, memory_in}
 use Rattle.proxy_core.proofs.Places.{AreSoFar, one_more, counted_more, all_placed}
 use Rattle.proxy_core.proofs.machine.Machine.place_all.Goals as goal
 
@@ -23,7 +23,7 @@ place_one-requires c =
     record {
       pipelines = c.requires.pipelines ∙ c.requires.hosts;
       usable = ap length c.requires.usable ∙ length-map-range_with_len (is_usable m.ejector.rules m.ejector.state) 0 m.ejector.rules.hosts ∙ c.requires.hosts;
-      counts = c.loop-plan.invariant.counted.as_many ∙ length-map m.pipelines.items state_of ∙ sym m.pipelines.ok.0;
+      counts = c.loop-plan.invariant.counted.as_many;
     }
 
 -- the host of the owner is one of those that there are
@@ -41,8 +41,7 @@ loop-plan-preserved c =
     let placed = c.loop-plan.placed.items in
     let counts = c.loop-plan.counts in
     let host = owner_of m.ring.pairs (point_of p.key m.ejector.rules.settings.tags) c.args.usable.now in
-    let as_many : vec_len m.pipelines ≡ length pipelines = m.pipelines.ok.0 ∙ sym (length-map m.pipelines.items state_of) in
-    let within : (h : ℕ) → host ≡ Some h → h < length pipelines = λ h e. inside host (vec_len m.pipelines) (length pipelines) c.place_one.ensures.host h e as_many in
+    let within : (h : ℕ) → host ≡ Some h → h < length pipelines = λ h e. inside host (length pipelines) (length pipelines) c.place_one.ensures.host h e refl in
     let number : c.len-number.result ≡ length placed = c.len-number.ensures ∙ c.loop-plan.placed.ok.0 in
     let part : Placed = record { number = length placed; place = next_place pipelines counts host; text = p.text } in
     let is : c.place_one.result ≡ part = c.place_one.ensures.placed ∙ ap (λ n. record { number = n; place = next_place pipelines counts host; text = p.text }) number in
@@ -57,7 +56,7 @@ loop-plan-preserved c =
           let its : host_for S x p.key ≡ host = ap (owner_of m.ring.pairs (point_of p.key m.ejector.rules.settings.tags)) known in
           let so_far = subst (λ z. AreSoFar S x conn command c.args.list placed z) steps (c.loop-plan.invariant.placed x conn command tells) in
           let of_host : (h : ℕ) → h < length pipelines → length (pipeline_at h pipelines).waiting ≡ length (waiting h x) =
-          λ h l. tells.waiting_are h (omega (arith, l, as_many, c.requires.pipelines)) in
+          λ h l. tells.waiting_are h (omega (arith, l, c.requires.pipelines)) in
           rw items (one_more S x conn command c.args.list placed p rest pipelines counts host its within of_host c.loop-plan.invariant.counted so_far);
     }
 

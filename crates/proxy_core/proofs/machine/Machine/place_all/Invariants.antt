@@ -2,8 +2,9 @@
 use Rattle.std.proofs.Common.{◌≡◌, ◌+◌, ◌≤◌, ℕ, length, vec_capacity}
 use Rattle.std.specs.Vec.Iter.{into_iter_items}
 use Rattle.proxy_history.specs.Part.{Past}
+use Rattle.proxy_core.specs.Places.{AreCounted}
 use Rattle.proxy_core.specs.Machine.{setting_in, memory_in}
-use Rattle.proxy_core.specs.Arrivals.{AreCounted, Tells}
+use Rattle.proxy_core.specs.Arrivals.{Tells}
 use Rattle.proxy_core.proofs.Places.{AreSoFar}
 use Rattle.proxy_core.proofs.machine.Machine.place_all.Given as goal
 

@@ -13,7 +13,7 @@ pub returns-then-is_late-clause-works : goal.returns-then-is_late-clause-works
 returns-then-is_late-clause-works g c =
     let went = some_told _ (told_by_turn c.take_one.result) c.take_one.ensures.goes in
     let fails = c.in_ok-give_up.ensures.fails in
-    let late : IsLate c.take_one.new.self.line c.args.moment = rw (← c.self.view_is) (c.is_late.ensures.late c.if-is_late.true) in
+    let late : IsLate c.take_one.new.self.line c.args.moment = rw (← c.self.view_is) (c.is_late.ensures.0 c.if-is_late.true) in
     works_fault _ _ None (record { line = c.take_one.new.self.line; link = None; fault = None }) c.give_up.new.self Kind.Late None _ _ _ c.args.moment went.0 _ went.1
     (rw c.take_one.ensures.link at (rw c.take_one.ensures.pass at fails.0)) fails.1 fails.2 (refl, refl, late) refl
 

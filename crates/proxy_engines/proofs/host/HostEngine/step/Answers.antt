@@ -3,6 +3,7 @@ use Rattle.std.proofs.lemmas.Result.{err_from_is_err_and}
 use Rattle.proxy_history.specs.declared.refusal.Refusal.{Refusal}
 use Rattle.proxy_engines.specs.HostStep.{HostState}
 use Rattle.proxy_engines.proofs.HostLemmas.{steps_after}
+use Rattle.proxy_engines.proofs.HostMoves.{starts_then}
 use Rattle.proxy_engines.proofs.host.HostEngine.step.Goals as goal
 
 pub returns-in_err-progress-clause-steps : goal.returns-in_err-progress-clause-steps
@@ -20,3 +21,6 @@ returns-clause-steps g c =
     let fails = c.in_ok-give_up.ensures.fails in
     inl (steps_after (g.T.Turns.cause (g.T.Turns.setting c.args.turns.now) Refusal.Unasked) (g.T.Turns.seen c.args.turns.now) (g.T.Turns.seen c.give_up.new.turns) (g.T.Turns.seen c.go_on-2.new.turns) c.args.moment c.give_up.ensures.seen
     c.args.self.now c.give_up.new.self c.go_on-2.new.self c.in-Some.kind _ _ _ (Ok c.in_ok-progress.progress) _ was fails.0 fails.1 fails.2 (rw c.give_up.ensures.setting at (rw c.give_up.ensures.pass at c.in_ok-progress.ensures.works)) c.after_fault.ensures)
+
+pub returns-clause-seen : goal.returns-clause-seen
+returns-clause-seen g c = starts_then (g.T.Turns.seen c.args.turns.now) (g.T.Turns.seen c.give_up.new.turns) (g.T.Turns.seen c.go_on-2.new.turns) c.give_up.ensures.seen c.go_on-2.ensures.seen

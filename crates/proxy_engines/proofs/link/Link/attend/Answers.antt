@@ -5,7 +5,7 @@ use Rattle.proxy_history.specs.declared.refusal.Refusal.{Refusal}
 use Rattle.proxy_engines.specs.Device.{Counts, HasRisen}
 use Rattle.proxy_engines.specs.Ends.{Receiving}
 use Rattle.proxy_engines.specs.Turned.{HasHeld}
-use Rattle.proxy_engines.proofs.FaultLemmas.{either_still, idle_then}
+use Rattle.proxy_engines.proofs.FaultLemmas.{either_still, idle_then, not_late}
 use Rattle.proxy_engines.proofs.MoveLemmas.{moves-err, as_faulty}
 use Rattle.proxy_engines.proofs.link.Link.attend.Goals as goal
 
@@ -32,3 +32,6 @@ returns-clause-idle g c = λ e.
 
 pub returns-clause-goes : goal.returns-clause-goes
 returns-clause-goes g c = rw c.or.ensures.is (told_either _ _ _ _ _ _ _ _ _ _ c.in_ok-sent.sent c.in_ok-received.received c.in_ok-sent.ensures.goes (rw c.send.ensures.pass at c.in_ok-received.ensures.goes))
+
+pub returns-clause-in_time : goal.returns-clause-in_time
+returns-clause-in_time g c = λ _. not_late c.receive.new.line c.args.moment c.is_late.result c.if-is_late.false c.is_late.ensures

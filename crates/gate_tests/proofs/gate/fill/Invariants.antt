@@ -1,5 +1,0 @@
-use Rattle.ticket_gate.specs.Gate.{IsSpareOf}
-use Rattle.gate_tests.proofs.gate.fill.Given as goal
-
-abbrev pub invariant-loop-number : goal.invariant-loop-number
-invariant-loop-number g l = IsSpareOf l.gate l.spare

@@ -1,0 +1,149 @@
+//! Works that run at the same time: two clients that meet.
+use crate::core_at_gate::core;
+use proxy_core::Core;
+use proxy_engines::{ClientEngine, ClientWork, EngineError, Tallied, run_all};
+use std::alloc::Global;
+use std::io::{ErrorKind, Read, Write};
+use std::sync::Wait;
+use std::sync::atomic::Ordering::SeqCst;
+use std::sync::atomic::{AtomicBool, AtomicU64};
+use std::test::Fail;
+use std::{io, thread};
+use ticket_gate::Alone;
+
+const MOST_LOOKS: u32 = 1_000_000;
+
+// How a reader goes on once its text was given.
+#[derive(Clone, Copy, Debug, PartialEq, Eq)]
+enum Then {
+    Ends,
+    Fails,
+}
+
+// Where two readers meet, and how many bytes their writers took.
+#[derive(Drop)]
+struct Room {
+    first_is_here: AtomicBool,
+    second_is_here: AtomicBool,
+    taken: AtomicU64,
+}
+
+impl Room {
+    fn new() -> Room {
+        Room {
+            first_is_here: AtomicBool::new(false),
+            second_is_here: AtomicBool::new(false),
+            taken: AtomicU64::new(0),
+        }
+    }
+}
+
+// Looks at the flag, with a yield after each look, until it is up. False where it never was.
+fn rises(flag: &AtomicBool) -> bool {
+    for _ in 0..MOST_LOOKS {
+        if flag.load(SeqCst) {
+            return true;
+        }
+        thread::yield_now();
+    }
+    false
+}
+
+// Gives its text only once the other reader is here too. It fails where that never comes.
+#[derive(Drop)]
+struct Meeting<'a> {
+    room: &'a Room,
+    is_first: bool,
+    text: &'static [u8],
+    then: Then,
+}
+
+impl Meeting<'_> {
+    fn meets(&self) -> bool {
+        if self.is_first {
+            self.room.first_is_here.store(true, SeqCst);
+            rises(&self.room.second_is_here)
+        } else {
+            self.room.second_is_here.store(true, SeqCst);
+            rises(&self.room.first_is_here)
+        }
+    }
+}
+
+impl Read for Meeting<'_> {
+    fn read(&mut self, buffer: &mut [u8]) -> io::Result<usize> {
+        if !self.meets() {
+            return Err(io::Error::from(ErrorKind::TimedOut));
+        }
+        if self.text.is_empty() && self.then == Then::Fails {
+            return Err(io::Error::from(ErrorKind::ConnectionReset));
+        }
+        let most = buffer.len().min(self.text.len());
+        let (now, later) = self.text.split_at(most);
+        buffer[..most].copy_from_slice(now);
+        self.text = later;
+        Ok(most)
+    }
+}
+
+// Counts the bytes that it takes.
+#[derive(Drop)]
+struct Counter<'a> {
+    room: &'a Room,
+}
+
+impl Write for Counter<'_> {
+    fn write(&mut self, bytes: &[u8]) -> io::Result<usize> {
+        self.room.taken.fetch_add(bytes.len() as u64, SeqCst);
+        Ok(bytes.len())
+    }
+
+    fn flush(&mut self) -> io::Result<()> {
+        Ok(())
+    }
+}
+
+type Client<'a> = ClientWork<Alone<Core>, Tallied<Meeting<'a>>, Tallied<Counter<'a>>>;
+
+// A client that sends a PING, on a core of its own.
+fn client<'a, R: Wait>(
+    rt: &R,
+    alloc: Global,
+    room: &'a Room,
+    is_first: bool,
+    then: Then,
+) -> Result<Client<'a>, Fail> {
+    let mut turns = Alone::new(core(alloc)?, 0);
+    let reader = Tallied::new(Meeting {
+        room,
+        is_first,
+        text: b"*1\r\n$4\r\nPING\r\n",
+        then,
+    });
+    let writer = Tallied::new(Counter { room });
+    match ClientEngine::open(rt, alloc, &mut turns, reader, writer) {
+        Ok(engine) => Ok(ClientWork { engine, turns }),
+        Err(_) => Err(Fail::from("no memory for a client")),
+    }
+}
+
+// Two clients that meet, the second with a reader that fails in the end.
+fn clients<'a, R: Wait>(rt: &R, alloc: Global, room: &'a Room) -> Result<Vec<Client<'a>>, Fail> {
+    let mut works = Vec::new(alloc);
+    works.push(client(rt, alloc, room, true, Then::Ends)?)?;
+    works.push(client(rt, alloc, room, false, Then::Fails)?)?;
+    Ok(works)
+}
+
+// Works that ran one after another would not meet, and the first of them would answer that its reader failed.
+#[test]
+fn two_workers_meet(rt: HostRuntime) -> Result<(), Fail> {
+    let room = Room::new();
+    let works = clients(&rt, rt.alloc(), &room)?;
+    let answers = run_all(&rt, rt.alloc(), works)?;
+    assert!(rt; answers.len() == 2);
+    assert!(rt; answers[0] == Ok(()));
+    assert!(rt; answers[1] == Err(EngineError::ReadFailed));
+    assert!(rt; room.taken.load(SeqCst) == 14);
+    Ok(())
+}

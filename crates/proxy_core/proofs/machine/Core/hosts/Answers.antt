@@ -1,0 +1,30 @@
+use Rattle.std.proofs.Common.{◌≡◌, ◌∙◌, ap, subst, arith}
+use Rattle.ejector.specs.Settings.{IsInRange}
+use Rattle.ejector.specs.Opening.{IsOpening}
+use Rattle.ejector.proofs.CallerLemmas.{in_range}
+use Rattle.proxy_history.specs.Setting.{hosts}
+use Rattle.proxy_history.specs.Proxy.{Kept}
+use Rattle.proxy_core.proofs.TurnedAsked.{asked_hosts}
+use Rattle.proxy_core.proofs.machine.Core.hosts.Goals as goal
+
+pub returns-clause-hosts : goal.returns-clause-hosts
+returns-clause-hosts c = c.len.ensures ∙ asked_hosts c.self.inside.machine c.self.invariant ∙ ap (λ (k : Kept). hosts k.setting) c.self.view_is
+
+pub returns-clause-ring : goal.returns-clause-ring
+returns-clause-ring c =
+    let m = c.self.inside.machine in
+    c.len.ensures ∙ asked_hosts m c.self.invariant ∙ c.self.invariant.hosts ∙ ap (λ (k : Kept). k.setting.ring.hosts) c.self.view_is
+
+pub returns-clause-range : goal.returns-clause-range
+returns-clause-range c =
+    subst (λ (k : Kept). IsInRange k.setting.rules) c.self.view_is (in_range c.self.inside.machine.ejector.rules c.self.invariant.rules)
+
+pub returns-clause-opening : goal.returns-clause-opening
+returns-clause-opening c =
+    subst (λ (k : Kept). IsOpening k.setting.rules k.setting.opening) c.self.view_is c.self.invariant.opening
+
+pub returns-clause-few : goal.returns-clause-few
+returns-clause-few c =
+    let m = c.self.inside.machine in
+    let same : c.len.result ≡ m.ejector.rules.hosts = c.len.ensures ∙ asked_hosts m c.self.invariant in
+    omega (arith, same, (in_range m.ejector.rules c.self.invariant.rules).few_hosts)

@@ -1,0 +1,34 @@
+use Rattle.std.proofs.Common.{◌≡◌, [], None, sym, ap, ◌∙◌, subst}
+use Rattle.ketama.specs.Continuum.{Continuum}
+use Rattle.ejector.specs.Ejector.{Ejection}
+use Rattle.ejector.specs.Opening.{IsOpening}
+use Rattle.ejector.specs.Settings.{first_difference}
+use Rattle.ejector.proofs.CallerLemmas.{opening_first, no_difference}
+use Rattle.proxy_history.specs.Proxy.{Kept, rules_of, setting_from}
+use Rattle.proxy_core.specs.Core.{detected}
+use Rattle.proxy_core.proofs.machine.Core.new_from.Goals as goal
+
+-- with an empty journal outlier detection stands where it was
+detected-handed : (k : Kept) (ring : Continuum) (e : Ejection) → k.setting ≡ setting_from ring e → k.steps ≡ [] → IsOpening e.rules e.state → detected k ≡ e.state
+detected-handed k ring e setting steps opening =
+    let same : k ≡ record { setting = setting_from ring e; steps = [] } = λ i. record { setting = setting i; steps = steps i } in
+    ap detected same ∙ opening_first e.rules e.state opening
+
+pub returns-in_ok-with-in-Ok-clause-rules : goal.returns-in_ok-with-in-Ok-clause-rules
+returns-in_ok-with-in-Ok-clause-rules c =
+    let R = rules_of c.args.ring c.args.settings in
+    let from = c.args.from.detection in
+    let hosts : c.hosts.result ≡ c.args.ring.hosts = c.hosts.ensures.value in
+    let none : first_difference R from.rules ≡ None =
+    ap (λ n. first_difference (record { hosts = n; settings = c.args.settings }) from.rules) (sym hosts)
+    ∙ ap (first_difference (record { hosts = c.hosts.result; settings = c.args.settings })) (sym c.rules.ensures.rules)
+    ∙ sym c.first_difference.ensures ∙ c.in_default.is in
+    let made : c.in-Ok.ejector ≡ from = c.in-Ok.ensures.made ∙ c.into_detection.ensures in
+    ap (λ z. z.rules) c.in_ok-with-in-Ok.ensures.0 ∙ ap (λ (e : Ejection). e.rules) made ∙ sym (no_difference R from.rules none)
+
+pub returns-in_ok-with-in-Ok-clause-state : goal.returns-in_ok-with-in-Ok-clause-state
+returns-in_ok-with-in-Ok-clause-state c =
+    let made : c.in-Ok.ejector ≡ c.args.from.detection = c.in-Ok.ensures.made ∙ c.into_detection.ensures in
+    let opening = subst (λ (e : Ejection). IsOpening e.rules e.state) (sym made) c.rules.ensures.opening in
+    detected-handed _ c.args.ring c.in-Ok.ejector c.in_ok-with-in-Ok.ensures.0 c.in_ok-with-in-Ok.ensures.1 opening
+    ∙ ap (λ (e : Ejection). e.state) made

@@ -1,0 +1,98 @@
+//! A reply is handed out.
+ghost use Rattle.std.specs.Prelude.{◌≡◌, length, IfOk, IfErr, IfSome, IsSome, IsTrue, OnErr};
+ghost use Rattle.std.specs.Option.{option_map};
+ghost use Rattle.resp_core.specs.Text.{text};
+ghost use Rattle.resp_core.specs.Tree.{is_plain_tree};
+ghost use Rattle.resp_core.specs.Value.{tree_of};
+ghost use Rattle.reply_queue.specs.Queue.{front_reply};
+ghost use Rattle.proxy_history.specs.declared.answer.Answer.TheVariants as answers;
+ghost use Rattle.proxy_history.specs.declared.event.Event.TheVariants as events;
+ghost use Rattle.proxy_core.specs.Connections.{handing, with_connection, connection_at, reply_in};
+ghost use Rattle.proxy_core.specs.Machine.{memory_in, text_in, IsDone, IsSame, IsReady, HasCauseIn};
+
+use crate::machine::{Done, Machine, make_room};
+use bytes::Bytes;
+use proxy_history::{Answer, Refusal};
+use reply_queue::Queue;
+use resp_core::{Value, put_text};
+use std::alloc::{AllocError, Global};
+
+impl Machine {
+    /// Hands out the reply to the oldest command of the connection that isn't handed out.
+    pub(crate) fn hand(&mut self, conn: u64) -> Result<Done, Refusal>
+        requires plain { IfSome (reply_in (connection_at conn self.old.connections.numbered))
+            (λ v. IsTrue (is_plain_tree v)) }
+        ensures done { IfOk result
+            (λ d. (d.answer ≡ answers.Bytes (text_in (memory_in self.old) (events.Handed conn)))
+            × IsDone self.old self.new (events.Handed conn) d (record (memory_in self.old) {
+              connections = with_connection handing conn self.old.connections.numbered;
+            })) }
+        ensures refused { IfErr result (λ r. IsSame self.old self.new
+            × HasCauseIn self.old (events.Handed conn) r) }
+    {
+        let (text, shared) = self.ready_to_hand(conn)?;
+        self.connections.hand(conn);
+        let bytes = text.len() as u64;
+        Ok(Done {
+            answer: Answer::Bytes { text },
+            recorded: Answer::Bytes { text: shared },
+            bytes,
+        })
+    }
+
+    // Looks for a cause, writes the reply's text, twice in one place, and makes room.
+    fn ready_to_hand(&mut self, conn: u64) -> Result<(Bytes, Bytes), Refusal>
+        requires plain { IfSome (reply_in (connection_at conn self.old.connections.numbered))
+            (λ v. IsTrue (is_plain_tree v)) }
+        ensures ready { IfOk result
+            (λ texts. (texts.0 ≡ text_in (memory_in self.old) (events.Handed conn))
+            × (texts.1 ≡ text_in (memory_in self.old) (events.Handed conn))
+            × IsReady self.old self.new (events.Handed conn)) }
+        ensures refused { IfErr result (λ r. IsSame self.old self.new
+            × HasCauseIn self.old (events.Handed conn) r) }
+    {
+        let Some(connection) = self.connections.get(conn) else {
+            return Err(Refusal::NoSuchConnection);
+        };
+        let Some(text) = front_text(self.alloc, &connection.queue)? else {
+            let left = connection.queue.left() as u64;
+            return Err(Refusal::NotReady { left });
+        };
+        let shared = text.clone()?;
+        match make_room(&mut self.journal, text.len() as u64) {
+            Ok(()) => Ok((text, shared)),
+            Err(cause) => Err(cause),
+        }
+    }
+}
+
+// The text of the reply to the oldest command, which has to be plain, if there is one. A reply that is one value is written from
+// where it stands.
+fn front_text(alloc: Global, queue: &Queue) -> Result<Option<Bytes>, AllocError>
+    requires plain { IfSome (front_reply queue.now.commands) (λ v. IsTrue (is_plain_tree v)) }
+    ensures text { IfOk result (λ o. o ≡ option_map text (front_reply queue.now.commands)) }
+    ensures ready { OnErr result (IsSome (front_reply queue.now.commands)) }
+{
+    if let Some(reply) = queue.same_front() {
+        return Ok(Some(text_of(alloc, reply)?));
+    }
+    let Ok(reply) = queue.front() else {
+        return Err(AllocError);
+    };
+    match reply {
+        Some(reply) => Ok(Some(text_of(alloc, &reply)?)),
+        None => Ok(None),
+    }
+}
+
+// The text of a value, which has to be plain.
+fn text_of(alloc: Global, value: &Value) -> Result<Bytes, AllocError>
+    requires { IsTrue (is_plain_tree (tree_of value.now)) }
+    ensures { IfOk result (λ bytes. bytes ≡ text (tree_of value.now)) }
+{
+    let mut text = Vec::new(alloc);
+    if put_text(alloc, value, &mut text).is_err() {
+        return Err(AllocError);
+    }
+    Ok(Bytes::from_vec(text)?)
+}

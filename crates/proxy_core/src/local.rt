@@ -1,0 +1,29 @@
+//! The values that the proxy gives to parts itself.
+ghost use Rattle.std.specs.Prelude.{◌≡◌};
+ghost use Rattle.resp_core.specs.Value.{tree_of};
+ghost use Rattle.proxy_history.specs.Value.{upstream_failure};
+ghost use Rattle.proxy_history.specs.Arrival.{no_upstream_host, proxy_busy};
+
+use bytes::Bytes;
+use resp_core::Value;
+
+/// The value of a part whose host failed before its reply came.
+pub(crate) fn upstream_failure() -> Value
+    ensures { tree_of result ≡ upstream_failure }
+{
+    Value::Fault(Bytes::from_static(b"upstream failure"))
+}
+
+/// The value of a part for whose key no host is usable.
+pub(crate) fn no_upstream_host() -> Value
+    ensures { tree_of result ≡ no_upstream_host }
+{
+    Value::Fault(Bytes::from_static(b"no upstream host"))
+}
+
+/// The value of a part that finds as many parts waiting for its host as may.
+pub(crate) fn proxy_busy() -> Value
+    ensures { tree_of result ≡ proxy_busy }
+{
+    Value::Fault(Bytes::from_static(b"proxy busy"))
+}

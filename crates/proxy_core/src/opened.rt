@@ -1,0 +1,33 @@
+//! A connection is opened.
+ghost use Rattle.std.specs.Prelude.{◌≡◌, ◌++◌, ◌∷◌, [], Some, length, IfOk, IfErr};
+ghost use Rattle.proxy_history.specs.declared.answer.Answer.TheVariants as answers;
+ghost use Rattle.proxy_history.specs.declared.event.Event.TheVariants as events;
+ghost use Rattle.proxy_core.specs.Connections.{fresh_connection};
+ghost use Rattle.proxy_core.specs.Machine.{memory_in, IsDone, IsSame, HasCauseIn};
+
+use crate::machine::{Done, Machine, make_room};
+use proxy_history::{Answer, MAX_CONNECTIONS, Refusal};
+
+impl Machine {
+    /// Opens a connection, whose number is that of the connections opened before.
+    pub(crate) fn open(&mut self) -> Result<Done, Refusal>
+        ensures done { IfOk result
+            (λ d. (d.answer ≡ answers.Opened (length self.old.connections.numbered))
+            × IsDone self.old self.new events.Opened d (record (memory_in self.old) {
+              connections = self.old.connections.numbered ++ Some fresh_connection ∷ [];
+            })) }
+        ensures refused { IfErr result (λ r. IsSame self.old self.new
+            × HasCauseIn self.old events.Opened r) }
+    {
+        if self.connections.open_count() >= MAX_CONNECTIONS {
+            return Err(Refusal::TooManyConnections);
+        }
+        make_room(&mut self.journal, 0)?;
+        let conn = self.connections.open()?;
+        Ok(Done {
+            answer: Answer::Opened { conn },
+            recorded: Answer::Opened { conn },
+            bytes: 0,
+        })
+    }
+}

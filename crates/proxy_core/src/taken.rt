@@ -1,0 +1,63 @@
+//! A part is sent to its host.
+ghost use Rattle.std.specs.Prelude.{◌≡◌, ◌<◌, ◌+◌, ◌^◌, length, IfOk, IfErr};
+ghost use Rattle.proxy_history.specs.Setting.{hosts};
+ghost use Rattle.proxy_history.specs.declared.answer.Answer.TheVariants as answers;
+ghost use Rattle.proxy_history.specs.declared.event.Event.TheVariants as events;
+ghost use Rattle.proxy_core.specs.Pipelines.{taken_from, with_pipeline, pipeline_at};
+ghost use Rattle.proxy_core.specs.Machine.{setting_in, memory_in, text_in, IsDone, IsSame, IsReady, HasCauseIn};
+
+use crate::machine::{Done, Machine, make_room};
+use bytes::Bytes;
+use proxy_history::{Answer, Refusal};
+
+impl Machine {
+    /// Takes the oldest part that waits for the host, which flies from now on.
+    pub(crate) fn take(&mut self, host: usize) -> Result<Done, Refusal>
+        requires hosts { length self.old.pipelines.states ≡ hosts (setting_in self.old) }
+        requires taken { (pipeline_at host (memory_in self.old).pipelines).taken + 1 < 2 ^ 64 }
+        ensures done { IfOk result
+            (λ d. (d.answer ≡ answers.Sent (pipeline_at host (memory_in self.old).pipelines).epoch
+            (pipeline_at host (memory_in self.old).pipelines).taken
+            (text_in (memory_in self.old) (events.Taken host)))
+            × IsDone self.old self.new (events.Taken host) d
+            (record (memory_in self.old) {
+              pipelines = with_pipeline taken_from host (memory_in self.old).pipelines;
+            })) }
+        ensures refused { IfErr result (λ r. IsSame self.old self.new
+            × HasCauseIn self.old (events.Taken host) r) }
+    {
+        let shared = self.ready_to_take(host)?;
+        let (epoch, place) = (self.pipelines.epoch(host), self.pipelines.taken(host));
+        let text = self.pipelines.take(host);
+        let bytes = text.len() as u64;
+        let recorded = Answer::Sent {
+            epoch,
+            place,
+            text: shared,
+        };
+        Ok(Done {
+            answer: Answer::Sent { epoch, place, text },
+            recorded,
+            bytes,
+        })
+    }
+
+    // Looks for a cause, shares the text of the part, and makes room.
+    fn ready_to_take(&mut self, host: usize) -> Result<Bytes, Refusal>
+        requires hosts { length self.old.pipelines.states ≡ hosts (setting_in self.old) }
+        ensures ready { IfOk result
+            (λ text. (text ≡ text_in (memory_in self.old) (events.Taken host))
+            × IsReady self.old self.new (events.Taken host)) }
+        ensures refused { IfErr result (λ r. IsSame self.old self.new
+            × HasCauseIn self.old (events.Taken host) r) }
+    {
+        if host >= self.pipelines.len() {
+            return Err(Refusal::NoSuchHost);
+        }
+        let Some(part) = self.pipelines.oldest(host) else {
+            return Err(Refusal::NothingWaiting);
+        };
+        make_room(&mut self.journal, part.text.len() as u64)?;
+        Ok(part.text.clone()?)
+    }
+}

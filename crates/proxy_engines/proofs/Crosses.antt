@@ -1,0 +1,44 @@
+-- What engines hold may go to another thread.
+use denote.Param.Send.{IsSend, sendable}
+use denote.Hole.{as_row}
+use denote.Param.SendFields.{as_row_send}
+use Rattle.std.proofs.Crossing.{crosses, Vec-send}
+use Rattle.std.specs.contracts.alloc.Global as Global
+use Rattle.std.specs.contracts.impls.GlobalAllocator.TheImpl.{ghosts}
+use Rattle.bytes.specs.contracts.shared.Bytes as Bytes
+use Rattle.bytes.proofs.shared.Bytes.TheSendSync as bytes
+use Rattle.bytes.proofs.unique.BytesMut.TheSendSync as mutable
+use Rattle.resp_core.specs.contracts.value.Value as Value
+use Rattle.resp_core.specs.contracts.value.Values as Values
+use Rattle.resp_core.specs.contracts.begun.Begun as Begun
+use Rattle.resp_core.specs.contracts.progress.Progress as Progress
+use Rattle.resp_core.specs.contracts.reader.Reader as Reader
+use Rattle.resp_core.proofs.value.Values.TheLaws.TheKnot as knot
+use Rattle.splitter.specs.contracts.request.Request as Request
+
+pub bytes_send : IsSend (Bytes.the_row Global.the_row ghosts)
+bytes_send = search (bytes.the_send, crosses, sendable) depth 20
+
+bytes_row_send : IsSend (as_row (Bytes.the_field Global.the_row ghosts))
+bytes_row_send = as_row_send (Bytes.the_field Global.the_row ghosts) bytes_send
+
+values_send : IsSend Values.the_row
+values_send = knot.send-Values Vec-send bytes_row_send (search sendable)
+
+value_field_send : IsSend (Value.the_field).row
+value_field_send = knot.send-Value bytes_send (search sendable) values_send
+
+pub request_send : IsSend Request.the_row
+request_send = search (value_field_send, crosses, sendable) depth 20
+
+value_send : IsSend Value.the_row
+value_send = as_row_send Value.the_field value_field_send
+
+begun_send : IsSend Begun.the_row
+begun_send = search (values_send, crosses, sendable) depth 20
+
+progress_send : IsSend (Progress.the_field).row
+progress_send = search (value_send, begun_send, mutable.the_send, crosses, sendable) depth 60 fits 20000
+
+pub reader_send : IsSend Reader.the_row
+reader_send = search (progress_send, crosses, sendable) depth 40 fits 20000

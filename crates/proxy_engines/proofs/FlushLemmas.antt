@@ -1,0 +1,54 @@
+-- A writer that passes on what it gathered moves nothing of what an engine carries.
+use Rattle.std.proofs.Common.{◌≡◌, ℕ, Bool, false, true, List, [], ◌++◌, Option, Some, None, append-nil, refl}
+use Rattle.std.specs.Io.KnownBytes.{Appends, Keeps}
+use Rattle.splitter.specs.Request.{Request}
+use Rattle.splitter.specs.declared.request.Request.{Request as Request'}
+use Rattle.proxy_history.specs.History.{History}
+use Rattle.proxy_engines.specs.Ends.{Receiving, Sending}
+use Rattle.proxy_engines.specs.Client.{Client, Goes, IsAtStage, IsDone, asked}
+use Rattle.proxy_engines.specs.declared.client.Stage.{Stage}
+use Rattle.proxy_engines.proofs.ClientMoves.{Consumes-none}
+
+Appends-kept : (a b : Option (List ℕ)) → Keeps a b → Appends a b []
+Appends-kept None b k = tt
+Appends-kept (Some xs) None k = absurd k
+Appends-kept (Some xs) (Some ys) k = rw (append-nil xs) k
+
+-- a stage looks at the end alone, whether all is done
+stage_with : (s : Stage) (D E : Type 0) (asks : List Request) (d : Bool) (i : Receiving) (next : Option Request') (b : List ℕ) (given : List Request) → (D → E)
+    → IsAtStage s D asks d i next b given → IsAtStage s E asks d i next b given
+stage_with Stage.Open D E asks d i next b given f at = at
+stage_with Stage.AtEnd D E asks d i next b given f at = at
+stage_with Stage.Finishing D E asks d i next b given f at = at
+stage_with Stage.Failed D E asks d i next b given f at = at
+stage_with (Stage.Closed true) D E asks d i next b given f at = at
+stage_with (Stage.Closed false) D E asks d i next b given f at = (at.0, f at.1)
+
+module _ (e : Client) (o : Sending) (H : History) (same : o.pending ≡ e.outbox.pending) where
+  done_still : IsDone e H → IsDone (record e { outbox = o }) H
+  done_still d = record { all_written = rw same d.all_written; all_handed = d.all_handed; closed = d.closed }
+
+  pub flushed_goes : Keeps e.outbox.held o.held → Goes e (record e { outbox = o }) H H false
+  flushed_goes held = record {
+    got = [];
+    gave = [];
+    steps = [];
+    reads = Consumes-none e.inbox.left;
+    writes = Appends-kept e.outbox.held o.held held;
+    conn = refl;
+    drained = refl;
+    unread = λ _. record { none = refl; left = refl; counts = refl };
+    adds = refl;
+    moved_is = refl;
+    alone = refl;
+    carries = λ taken b k. rw (append-nil taken, append-nil b) (record {
+      given = k.given;
+      out_is = rw same k.out_is;
+      holds = k.holds;
+      most_is = k.most_is;
+      given_are = k.given_are;
+      accepted_is = k.accepted_is;
+      handed_is = k.handed_is;
+      stage_is = stage_with e.stage (IsDone e H) (IsDone (record e { outbox = o }) H) (asked e.conn H) e.is_drained e.inbox e.next b k.given done_still k.stage_is;
+    });
+  }

@@ -1,0 +1,8 @@
+use Rattle.std.proofs.Common.{rules}
+use Rattle.std.proofs.lemmas.Slice.Zip.{all_zipped_more}
+use Rattle.proxy_engines.proofs.threads.answer_all.Goals as goal
+
+pub loop-work-preserved : goal.loop-work-preserved
+loop-work-preserved g c =
+    let more = all_zipped_more _ c.loop-work.yielded c.loop-work.answers.items c.in-Some.work c.answer.result c.loop-work.invariant.3 c.answer.ensures in
+    (search rules, search rules, search rules, rw c.push_reserved.ensures.items more)

@@ -1,0 +1,33 @@
+use Rattle.std.proofs.Common.{◌∙◌, refl, sym, append-nil, [], false}
+use Rattle.proxy_engines.proofs.ClientMoves.{same_goes, goes_told}
+use Rattle.proxy_engines.proofs.HostMoves.{starts_then}
+use Rattle.proxy_engines.proofs.work.ClientWorkWork.run.Goals as goal
+
+pub loop-init : goal.loop-init
+loop-init g c = ((false, same_goes c.args.self.now.engine _ _ refl), refl, refl, ([], sym (append-nil _)))
+
+pub returns-in_err-step-clause-goes : goal.returns-in_err-step-clause-goes
+returns-in_err-step-clause-goes g c =
+    let kept = c.loop.invariant in goes_told _ _ _ _ _ _ _ kept.0 (rw kept.1 at c.step.ensures.goes)
+
+pub returns-in-Ended-clause-goes : goal.returns-in-Ended-clause-goes
+returns-in-Ended-clause-goes g c =
+    let kept = c.loop.invariant in goes_told _ _ _ _ _ _ _ kept.0 (rw kept.1 at c.step.ensures.goes)
+
+pub loop-preserved-in-Idle : goal.loop-preserved-in-Idle
+loop-preserved-in-Idle g c =
+    let kept = c.loop.invariant in (
+      goes_told _ _ _ _ _ _ _ kept.0 (rw kept.1 at c.step.ensures.goes),
+      c.step.ensures.pass ∙ kept.1,
+      c.step.ensures.setting ∙ kept.2,
+      starts_then _ _ _ kept.3 c.step.ensures.seen,
+    )
+
+pub loop-preserved : goal.loop-preserved
+loop-preserved g c =
+    let kept = c.loop.invariant in (
+      goes_told _ _ _ _ _ _ _ kept.0 (rw kept.1 at c.step.ensures.goes),
+      c.step.ensures.pass ∙ kept.1,
+      c.step.ensures.setting ∙ kept.2,
+      starts_then _ _ _ kept.3 c.step.ensures.seen,
+    )

@@ -1,0 +1,231 @@
+//! Works at the same time, each in a thread of its own.
+ghost use Rattle.std.specs.Prelude.{◌≡◌, ◌≤◌, IfOk, IfErr, vec_len, vec_capacity, ⊤, [], Result, All};
+ghost use Rattle.std.specs.List.{AllZip};
+ghost use Rattle.proxy_engines.specs.Works.{Answers, IsBegun, IsCallable, Settles};
+ghost use Rattle.proxy_engines.specs.declared.error.EngineError.{EngineError};
+
+use crate::error::EngineError;
+use crate::work::Work;
+use std::alloc::Global;
+use std::marker::{Model, PhantomData};
+use std::snapshot::Snapshot;
+use std::sync::Wait;
+use std::thread;
+use std::thread::{Promise, PromisedHandle, Scope, Threads};
+
+// What the run of a work answers.
+type Ended = Result<(), EngineError>;
+
+// The promise that an answer is one that the work may give.
+#[derive(Drop)]
+struct AnswerOf<Rt: Wait, K: Work<Rt>> {
+    work: Snapshot<K>,
+    at: PhantomData<*const Rt>,
+}
+
+impl<Rt: Wait, K: Work<Rt>> Promise<Ended> for AnswerOf<Rt, K> {
+    ghost use Rattle.std.specs.Prelude.{◌≡◌};
+
+    ghost kept_by = { λ promise answer. K.may_answer promise.work.value answer };
+}
+
+// A thread that runs a work. Contracts see the work.
+#[derive(Drop)]
+struct Started<Rt: Wait, K: Work<Rt>> {
+    handle: PromisedHandle<Ended, AnswerOf<Rt, K>>,
+}
+
+impl<Rt: Wait, K: Work<Rt>> Model for Started<Rt, K> {
+    ghost use Rattle.std.specs.Prelude.{◌≡◌};
+
+    ghost Value = { K };
+
+    ghost view = { λ s. s.handle.promise.work.value };
+}
+
+impl<Rt: Wait, K: Work<Rt>> Started<Rt, K> {
+    // Waits for its answer.
+    fn join<H: Threads>(self, rt: &H) -> Ended
+        ensures { K.may_answer self result }
+    {
+        let Started { handle } = self;
+        handle.join(rt)
+    }
+}
+
+// A work that was begun: a thread runs it, or its call found none.
+#[derive(Drop)]
+enum Begun<Rt: Wait, K: Work<Rt>, F> {
+    There(Started<Rt, K>),
+    Left(F),
+}
+
+// A work that a thread runs, or that has answered.
+#[derive(Drop)]
+enum Settled<Rt: Wait, K: Work<Rt>> {
+    There(Started<Rt, K>),
+    Here(Ended),
+}
+
+impl<Rt: Wait, K: Work<Rt>, F: FnOnce() -> Ended> Begun<Rt, K, F> {
+    // Runs the work here if no thread does.
+    fn settle(self) -> Settled<Rt, K>
+        requires { IsCallable F.pre self }
+        ensures { Settles F.post K.may_answer self result }
+    {
+        match self {
+            Begun::There(started) => Settled::There(started),
+            Begun::Left(call) => Settled::Here(call()),
+        }
+    }
+}
+
+impl<Rt: Wait, K: Work<Rt>> Settled<Rt, K> {
+    // Its answer, for which this may wait.
+    fn answer<H: Threads>(self, rt: &H) -> Ended
+        ensures { Answers K.may_answer self result }
+    {
+        match self {
+            Settled::There(started) => started.join(rt),
+            Settled::Here(answer) => answer,
+        }
+    }
+}
+
+// Starts a thread for the call that runs the work.
+fn begin<'s, E, Rt: Wait, K: Work<Rt>, F: FnOnce() -> Ended + Send + 's>(
+    scope: &Scope<'s, E>,
+    work: Snapshot<K>,
+    call: F,
+) -> Begun<Rt, K, F>
+    requires runs { F.pre call }
+    requires answers { (answer : Result ⊤ EngineError) → F.post call answer
+        → K.may_answer work.value answer }
+    ensures callable { IsCallable F.pre result }
+    ensures begun { IsBegun F.post K.may_answer work.value result }
+{
+    let promise = AnswerOf {
+        work,
+        at: PhantomData,
+    };
+    match scope.spawn_with(promise, call) {
+        Ok(handle) => Begun::There(Started { handle }),
+        Err(refused) => Begun::Left(refused.value),
+    }
+}
+
+// Starts a thread for each work, as the call that `make` makes of it. There is room for them.
+fn begin_all<
+    's,
+    E,
+    Rt: Wait,
+    K: Work<Rt> + Drop,
+    F: FnOnce() -> Ended + Send + Drop + 's,
+    G: Fn(K) -> F,
+>(scope: &Scope<'s, E>, works: Vec<K>, make: G, room: Vec<Begun<Rt, K, F>>) -> Vec<Begun<Rt, K, F>>
+    requires empty { room.items ≡ [] }
+    requires room { vec_len works ≤ vec_capacity room }
+    requires fresh { All K.is_fresh works.items }
+    requires makes { (work : K) → K.is_fresh work → G.pre make work }
+    requires callable { (work : K) (call : F) → K.is_fresh work → G.post make work call
+        → F.pre call }
+    requires answers { (work : K) (call : F) (answer : Result ⊤ EngineError)
+        → G.post make work call → F.post call answer → K.may_answer work answer }
+    ensures callable { All (IsCallable F.pre) result.items }
+    ensures begun { AllZip (IsBegun F.post K.may_answer) works.items result.items }
+    ensures len { vec_len result ≡ vec_len works }
+{
+    let mut begun = room;
+    for work in works {
+        let of = Snapshot::of(&work);
+        begun.push_reserved(begin(scope, of, make(work)));
+    }
+    begun
+}
+
+// Runs the works that no thread runs, one after another. There is room for them.
+fn settle_all<Rt: Wait, K: Work<Rt>, F: FnOnce() -> Ended + Drop>(
+    begun: Vec<Begun<Rt, K, F>>,
+    room: Vec<Settled<Rt, K>>,
+) -> Vec<Settled<Rt, K>>
+    requires empty { room.items ≡ [] }
+    requires room { vec_len begun ≤ vec_capacity room }
+    requires callable { All (IsCallable F.pre) begun.items }
+    ensures settled { AllZip (Settles F.post K.may_answer) begun.items result.items }
+    ensures len { vec_len result ≡ vec_len begun }
+{
+    let mut settled = room;
+    for work in begun {
+        settled.push_reserved(work.settle());
+    }
+    settled
+}
+
+// The answers, for which this may wait. There is room for them.
+fn answer_all<Rt: Wait, K: Work<Rt>, H: Threads>(
+    rt: &H,
+    settled: Vec<Settled<Rt, K>>,
+    room: Vec<Ended>,
+) -> Vec<Ended>
+    requires empty { room.items ≡ [] }
+    requires room { vec_len settled ≤ vec_capacity room }
+    ensures { AllZip (Answers K.may_answer) settled.items result.items }
+{
+    let mut answers = room;
+    for work in settled {
+        answers.push_reserved(work.answer(rt));
+    }
+    answers
+}
+
+// Room for so many items.
+fn room_for<T>(alloc: Global, count: usize) -> Result<Vec<T>, EngineError>
+    ensures ok { IfOk result (λ v. (v.items ≡ []) × (count ≤ vec_capacity v)) }
+    ensures err { IfErr result (λ e. e ≡ EngineError.NoMemory) }
+{
+    match Vec::with_capacity(alloc, count) {
+        Ok(room) => Ok(room),
+        Err(_) => Err(EngineError::NoMemory),
+    }
+}
+
+// Runs the work in whichever thread this is.
+fn run_one<Rt: Wait, K: Work<Rt> + Drop>(rt: &Rt, mut work: K) -> Ended
+    requires { K.is_fresh work }
+    ensures { K.may_answer work result }
+{
+    work.run(rt)
+}
+
+/// Runs each work once, all at the same time: a thread is started for each, and the works for which none could be had are run
+/// here, one after another, once the others were started. Then it waits for all. Gives each work's answer in its place.
+///
+/// Refused 1401 where there is no memory for the answers; no work was begun then, and the works are dropped.
+pub fn run_all<Rt: Threads + Wait + Sync, K: Work<Rt> + Send + Drop>(
+    rt: &Rt,
+    alloc: Global,
+    works: Vec<K>,
+) -> Result<Vec<Result<(), EngineError>>, EngineError>
+    requires fresh { All K.is_fresh works.items }
+    ensures each { IfOk result (λ answers. AllZip K.may_answer works.items answers.items) }
+    ensures err { IfErr result (λ e. e ≡ EngineError.NoMemory) }
+{
+    thread::scope(
+        thread::scope_env(),
+        rt,
+        |scope| -> Result<Vec<Ended>, EngineError>
+            requires { All K.is_fresh works.items }
+            ensures each { IfOk result (λ answers. AllZip K.may_answer works.items answers.items) }
+            ensures err { IfErr result (λ e. e ≡ EngineError.NoMemory) }
+        {
+            let count = works.len();
+            let begun = room_for(alloc, count)?;
+            let settled = room_for(alloc, count)?;
+            let answers = room_for(alloc, count)?;
+            let begun = begin_all(scope, works, |work| move || run_one(rt, work), begun);
+            let settled = settle_all(begun, settled);
+            let answers = answer_all(rt, settled, answers);
+            Ok(answers)
+        },
+    )
+}

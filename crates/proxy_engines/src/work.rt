@@ -1,0 +1,71 @@
+//! What a thread does, from its start to its end.
+ghost use Rattle.std.specs.Prelude.{◌≡◌, ◌⊎◌, Result, Bool, true, None, IfErr, OnOk, ⊤};
+ghost use Rattle.ticket_gate.specs.Journal.{StartsWith};
+ghost use Rattle.proxy_engines.specs.Client.{Goes};
+ghost use Rattle.proxy_engines.specs.Moves.{AsTold};
+ghost use Rattle.proxy_engines.specs.OwnSteps.{own_steps};
+ghost use Rattle.proxy_engines.specs.declared.client.Stage.{Stage};
+ghost use Rattle.proxy_engines.specs.declared.error.EngineError.{EngineError};
+
+use crate::client::{ClientEngine, Progress};
+use crate::error::EngineError;
+use crate::tally::{ReadTally, WriteTally};
+use proxy_core::CoreTurns;
+use std::sync::Wait;
+use std::thread;
+
+/// What a thread does, from its start to its end. [`run_all`](crate::run_all) runs many at the same time.
+pub trait Work<Rt: Wait> {
+    /// Whether it may be run. Nothing says that it may be again after a run.
+    ghost is_fresh: { Self → Type 0 };
+
+    /// What its run may answer.
+    ghost may_answer: { Self → Result ⊤ EngineError → Type 0 };
+
+    /// Runs it to its end.
+    fn run(&mut self, rt: &Rt) -> Result<(), EngineError>
+        requires { is_fresh self.old }
+        ensures { may_answer self.old result };
+}
+
+/// A client's engine with the turns that it makes: it steps until the connection is closed.
+#[derive(Drop)]
+pub struct ClientWork<T: CoreTurns, R: ReadTally, W: WriteTally> {
+    /// The engine.
+    pub engine: ClientEngine<R, W>,
+    /// What it makes turns of.
+    pub turns: T,
+}
+
+impl<Rt: Wait, T: CoreTurns, R: ReadTally, W: WriteTally> Work<Rt> for ClientWork<T, R, W> {
+    ghost is_fresh = { λ work. ⊤ };
+
+    ghost may_answer = { λ work answer. ⊤ };
+
+    /// Steps until the connection is closed, for whatever cause, or a step is refused. After a step that could do nothing it
+    /// lets other threads run.
+    ///
+    /// Refused as the step was: after 1402 and 1403 the connection is closed; after 1401 and 1404 a further run goes on from
+    /// the same place.
+    fn run(&mut self, rt: &Rt) -> Result<(), EngineError>
+        ensures pass { T.pass self.new.turns ≡ T.pass self.old.turns }
+        ensures setting { T.setting self.new.turns ≡ T.setting self.old.turns }
+        ensures seen { StartsWith (T.seen self.new.turns) (T.seen self.old.turns) }
+        ensures goes { AsTold (Goes self.old.engine self.new.engine
+            (own_steps (T.pass self.old.turns) (T.seen self.old.turns))
+            (own_steps (T.pass self.old.turns) (T.seen self.new.turns))) None }
+        ensures closed { OnOk result ((is_cut : Bool)
+            × (self.new.engine.stage ≡ Stage.Closed is_cut)) }
+        ensures failed { IfErr result (λ e. (e ≡ EngineError.ReadFailed)
+            ⊎ (e ≡ EngineError.WriteFailed) → self.new.engine.stage ≡ Stage.Closed true) }
+    {
+        for _ in rt.forever() {
+            match self.engine.step(rt, &mut self.turns)? {
+                Progress::Ended | Progress::Cut => return Ok(()),
+                Progress::Idle => thread::yield_now(),
+                Progress::Moved | Progress::NeedsLink => {}
+            }
+        }
+        unreachable!()
+    }
+}

@@ -1,0 +1,12 @@
+use Rattle.proxy_run.proofs.MoveLemmas.{IsBeside-step}
+use Rattle.proxy_run.proofs.local.step_host.Goals as goal
+
+pub returns-in-Idle-clause-beside : goal.returns-in-Idle-clause-beside
+returns-in-Idle-clause-beside g c = IsBeside-step _ _ _ _ _ _ _ c.step.ensures.steps
+
+pub returns-in_default : goal.returns-in_default
+returns-in_default g c = record {
+  pass = c.step.ensures.pass;
+  setting = c.step.ensures.setting;
+  beside = IsBeside-step _ _ _ _ _ _ _ c.step.ensures.steps;
+}

@@ -1,0 +1,26 @@
+-- What one client and some hosts do beside one another, over the steps of their caller.
+use Rattle.std.specs.Prelude.{◌≡◌, ◌≢◌, ℕ, List, [], ◌++◌}
+use Rattle.std.specs.Io.KnownBytes.{Consumes, Appends}
+use Rattle.proxy_history.specs.History.{History}
+use Rattle.proxy_history.specs.Own.{connection_steps}
+use Rattle.proxy_engines.specs.Client.{Client, Carries}
+
+-- Some steps were made, none of them a connection's.
+pub record IsBeside (H H' : History) : Type 0 where
+  pub later : History
+  pub adds : H' ≡ later ++ H
+  pub none : (c : ℕ) → connection_steps c later ≡ []
+
+-- Some moves of a client, and of hosts beside it: bytes that were read, bytes that were taken, steps of no other
+-- connection, and what the client carries; whether it reads no more stays as it was.
+pub record GoesBeside (old new : Client) (H H' : History) : Type 0 where
+  pub got : List ℕ
+  pub gave : List ℕ
+  pub later : History
+  pub reads : Consumes old.inbox.left new.inbox.left got
+  pub writes : Appends old.outbox.held new.outbox.held gave
+  pub conn : new.conn ≡ old.conn
+  pub drained : new.is_drained ≡ old.is_drained
+  pub adds : H' ≡ later ++ H
+  pub alone : (c : ℕ) → c ≢ old.conn → connection_steps c later ≡ []
+  pub carries : (taken b : List ℕ) → Carries old H taken b → Carries new H' (taken ++ gave) (b ++ got)

@@ -1,0 +1,3 @@
+mod OutgoingLemmas
+mod OwnLemmas
+mod ServeCrosses

@@ -1,0 +1,10 @@
+use Rattle.std.proofs.Common.{take, drop}
+use Rattle.proxy_serve.proofs.OutgoingLemmas.{drop-written}
+use Rattle.proxy_serve.proofs.gatherer.Gatherer.write_some.Goals as goal
+
+pub returns-in-Ok : goal.returns-in-Ok
+returns-in-Ok g c = (
+  take c.in-Ok.count (drop c.self.inside.written c.self.inside.bytes.items),
+  rw (← c.self.view_is) (rw (c.split_at.ensures.back, c.deref.ensures.value) at c.in-Ok.ensures.bytes),
+  rw (← c.self.view_is) (drop-written c.self.inside.written c.in-Ok.count c.self.inside.bytes.items),
+)

@@ -1,0 +1,14 @@
+-- What goes out by a writer that is given large pieces.
+use Rattle.std.specs.Prelude.{◌≡◌, ◌++◌, ℕ, List, Option}
+use Rattle.std.specs.Io.KnownBytes.{Appends}
+
+-- what a writer took, as far as it tells, and the bytes that are gathered for it
+pub record Outgoing : Type 0 where
+  pub held : Option (List ℕ)
+  pub gathered : List ℕ
+
+-- These bytes go out behind what was gathered, and no other: what the writer took since and what is gathered now are what
+-- was gathered before and these bytes.
+abbrev pub GoesOut : Outgoing → Outgoing → List ℕ → Type 0
+GoesOut old new bytes =
+    (gave : List ℕ) × Appends old.held new.held gave × (gave ++ new.gathered ≡ old.gathered ++ bytes)

@@ -1,0 +1,291 @@
+//! A client's connection, as a worker has it.
+
+use crate::hall::Hall;
+use crate::port::{Port, PortReader, PortWriter, ends};
+use crate::watched::Watched;
+use mio::event::Event as Readiness;
+use mio::net::TcpStream;
+use proxy_core::CoreTurns;
+use proxy_engines::{ClientEngine, EngineError, Progress, Tallied};
+use proxy_run::Ending;
+use std::alloc::Global;
+use std::cell::RefCell;
+use std::rc::Rc;
+use std::sync::Wait;
+
+// Steps of one connection in one pass, so that one pipeline doesn't starve the others.
+const MOST_STEPS: u32 = 256;
+
+// A connection whose unfinished command has fewer bytes isn't ended for what all of them have.
+const MOST_SPARED: u64 = 16_384;
+
+// For so long a closed connection's bytes are still read and thrown away, in milliseconds: a socket that is let go with bytes
+// unread would take the last answers from its peer.
+const LINGER_MS: u64 = 1_000;
+
+type Engine = ClientEngine<Tallied<PortReader>, Tallied<PortWriter>>;
+
+/// How far a client has come.
+#[derive(Clone, Copy, Debug, PartialEq, Eq, Drop)]
+enum Stage {
+    Served,
+    /// The connection is closed, and its last bytes are to be written.
+    Leaving,
+    /// Nothing is sent more; what still comes is thrown away until this moment.
+    Lingering { until: u64 },
+}
+
+/// What a pass over a client did.
+#[derive(Clone, Copy, Debug, PartialEq, Eq, Drop)]
+pub(crate) enum Attended {
+    /// Nothing more can be done for now.
+    Rests,
+    /// More can be done at once.
+    Goes,
+    /// The socket is to be let go.
+    Gone,
+}
+
+#[derive(Drop)]
+pub(crate) struct Client {
+    engine: Engine,
+    port: Rc<RefCell<Port>>,
+    stage: Stage,
+    // Commands that are accepted and not yet handed out.
+    unanswered: u64,
+    // How many replies had come to all clients when this one was last asked for its own.
+    replies: u64,
+    // The last pass ended before all was done.
+    has_more: bool,
+    // How many bytes had come when a command was last accepted, and how many came since.
+    begun: u64,
+    unfinished: u64,
+}
+
+/// Why a worker could not go on with a step.
+#[derive(Clone, Copy, Debug, PartialEq, Eq, Drop)]
+pub(crate) enum Hitch {
+    /// There was no memory; the step is made again.
+    Memory,
+    /// The serving ends.
+    Ends(Ending),
+    /// The device failed, or the turn has no meaning: the connection or link ends alone.
+    Alone,
+}
+
+/// What an engine's refusal means to its worker.
+pub(crate) fn hitch_of(error: EngineError) -> Hitch {
+    match error {
+        EngineError::NoMemory | EngineError::TurnRefused { number: 1001 } => Hitch::Memory,
+        EngineError::TurnRefused { number: 1002 } => Hitch::Ends(Ending::JournalFull),
+        EngineError::TurnRefused { number: 1202 } => Hitch::Ends(Ending::Spent),
+        _ => Hitch::Alone,
+    }
+}
+
+impl Client {
+    /// Opens a connection on a socket.
+    pub(crate) fn open<R: Wait, T: CoreTurns>(
+        rt: &R,
+        alloc: Global,
+        turns: &mut Watched<T>,
+        stream: TcpStream,
+    ) -> Result<Client, EngineError> {
+        let Ok(port) = Rc::new(alloc, RefCell::new(Port::new(alloc, stream))) else {
+            return Err(EngineError::NoMemory);
+        };
+        let Some((reader, writer)) = ends(&port) else {
+            return Err(EngineError::NoMemory);
+        };
+        let engine = ClientEngine::open(
+            rt,
+            alloc,
+            turns,
+            Tallied::new(reader),
+            Tallied::new(writer),
+        )?;
+        Ok(Client {
+            engine,
+            port,
+            stage: Stage::Served,
+            unanswered: 0,
+            replies: 0,
+            has_more: true,
+            begun: 0,
+            unfinished: 0,
+        })
+    }
+
+    /// Takes note of what the poll tells.
+    pub(crate) fn note(&mut self, event: &Readiness) {
+        if let Ok(mut port) = self.port.try_borrow_mut() {
+            port.note(event);
+        }
+    }
+
+    /// Reads nothing more, as if the input had ended.
+    pub(crate) fn drain(&mut self) {
+        if self.stage == Stage::Served {
+            if let Ok(mut port) = self.port.try_borrow_mut() {
+                port.drain();
+            }
+        }
+        self.has_more = true;
+    }
+
+    /// Whether its connection isn't counted as closed yet.
+    pub(crate) fn is_uncounted(&self) -> bool {
+        !matches!(self.stage, Stage::Lingering { .. })
+    }
+
+    /// Whether a pass can bring anything.
+    pub(crate) fn may_go(&self, hall: &Hall<'_>, now: u64) -> bool {
+        if self.has_more {
+            return true;
+        }
+        if let Stage::Lingering { until } = self.stage {
+            return now >= until || self.is_stirred();
+        }
+        self.is_stirred() || (self.unanswered > 0 && self.replies != hall.replies())
+    }
+
+    // Whether the socket may have or take something.
+    fn is_stirred(&self) -> bool {
+        match self.port.try_borrow() {
+            Ok(port) => port.may_read() || port.may_write(),
+            Err(_) => false,
+        }
+    }
+
+    /// Steps the engine as far as it goes, and writes what it gathered.
+    pub(crate) fn attend<R: Wait, T: CoreTurns>(
+        &mut self,
+        rt: &R,
+        turns: &mut Watched<T>,
+        hall: &Hall<'_>,
+        room: &mut Vec<u8>,
+        now: u64,
+    ) -> Result<Attended, Hitch> {
+        self.has_more = false;
+        match self.stage {
+            Stage::Served => {
+                self.replies = hall.replies();
+                self.lend(room);
+                let stepped = self.step_on(rt, turns, hall.share());
+                self.count(turns, hall);
+                self.write_out(room);
+                self.has_more = self.has_more || stepped.is_err();
+                stepped?;
+            }
+            Stage::Leaving => self.write_out(room),
+            Stage::Lingering { .. } => {}
+        }
+        Ok(self.leave(hall, now))
+    }
+
+    fn lend(&mut self, room: &mut Vec<u8>) {
+        if let Ok(mut port) = self.port.try_borrow_mut() {
+            port.borrow_room(room);
+        }
+    }
+
+    fn write_out(&mut self, room: &mut Vec<u8>) {
+        if let Ok(mut port) = self.port.try_borrow_mut() {
+            port.write_out(room);
+        }
+    }
+
+    // Steps until nothing more can be done for now, for so many steps, or until so many parts have come.
+    fn step_on<R: Wait, T: CoreTurns>(
+        &mut self,
+        rt: &R,
+        turns: &mut Watched<T>,
+        most_parts: u64,
+    ) -> Result<(), Hitch> {
+        for _ in 0..MOST_STEPS {
+            if turns.parts() >= most_parts {
+                break;
+            }
+            match self.engine.step(rt, turns) {
+                Ok(Progress::Moved) => {}
+                Ok(Progress::Idle | Progress::NeedsLink) => return Ok(()),
+                Ok(Progress::Cut | Progress::Ended) => {
+                    self.stage = Stage::Leaving;
+                    return Ok(());
+                }
+                Err(error) => match hitch_of(error) {
+                    Hitch::Alone => {
+                        self.stage = Stage::Leaving;
+                        return Ok(());
+                    }
+                    other => return Err(other),
+                },
+            }
+        }
+        self.has_more = true;
+        Ok(())
+    }
+
+    // Counts what is unanswered, and tells others of parts.
+    fn count<T: CoreTurns>(&mut self, turns: &mut Watched<T>, hall: &Hall<'_>) {
+        let notes = turns.take_notes();
+        self.unanswered = self
+            .unanswered
+            .saturating_add(notes.accepted)
+            .saturating_sub(notes.handed);
+        if notes.parts > 0 {
+            hall.tell_parts(notes.parts);
+        }
+        self.weigh(hall, notes.accepted > 0);
+    }
+
+    // Counts what came of a command that isn't whole yet, and ends the connection where all of them have too much.
+    fn weigh(&mut self, hall: &Hall<'_>, has_accepted: bool) {
+        let Ok(mut port) = self.port.try_borrow_mut() else {
+            return;
+        };
+        let taken = port.taken();
+        if has_accepted {
+            self.begun = taken;
+        }
+        let unfinished = taken.saturating_sub(self.begun);
+        hall.note_unfinished(unfinished, self.unfinished);
+        let grows = unfinished > self.unfinished;
+        self.unfinished = unfinished;
+        if grows && unfinished > MOST_SPARED && hall.is_overfull() {
+            port.break_off();
+            self.has_more = true;
+        }
+    }
+
+    // What is still to be done of a connection that was closed.
+    fn leave(&mut self, hall: &Hall<'_>, now: u64) -> Attended {
+        let Ok(mut port) = self.port.try_borrow_mut() else {
+            return Attended::Rests;
+        };
+        if self.stage == Stage::Leaving {
+            if port.has_gathered() && !port.is_broken() {
+                return Attended::Rests;
+            }
+            port.shut();
+            hall.house().count_closed();
+            hall.note_unfinished(0, self.unfinished);
+            self.unfinished = 0;
+            self.stage = Stage::Lingering {
+                until: now.saturating_add(LINGER_MS),
+            };
+        }
+        let Stage::Lingering { until } = self.stage else {
+            return if self.has_more {
+                Attended::Goes
+            } else {
+                Attended::Rests
+            };
+        };
+        if now >= until || port.is_broken() || port.throw_away() {
+            Attended::Gone
+        } else {
+            Attended::Rests
+        }
+    }
+}

@@ -1,0 +1,271 @@
+//! A writer that is given large pieces.
+ghost use Rattle.std.specs.Prelude.{◌≡◌, ◌==◌, ℕ, [], ◌++◌, length, take, IfOk, OnOk, OnErr};
+ghost use Rattle.std.specs.Io.{WritesAtMost};
+ghost use Rattle.proxy_serve.specs.Outgoing.{GoesOut};
+
+use std::alloc::{AllocError, Global};
+use std::io::{ErrorKind, Write};
+use std::marker::Model;
+use std::{io, mem};
+
+/// So many bytes or more are written before further ones are gathered, and a text of so many isn't gathered at all.
+pub(crate) const MOST_GATHERED: usize = 65_536;
+
+/// A writer, and the bytes that it is still to be given.
+///
+/// Contracts see what the writer took, as far as it tells, and what is gathered.
+#[derive(Drop)]
+pub(crate) struct Gatherer<W: Write> {
+    alloc: Global,
+    writer: W,
+    bytes: Vec<u8>,
+    // So many of them, in front, are written.
+    written: usize,
+    // Whether the writer may take something.
+    is_open: bool,
+    is_broken: bool,
+}
+
+impl<W: Write> Model for Gatherer<W> {
+    ghost use Rattle.std.specs.Prelude.{◌≤◌, drop, length};
+    ghost use Rattle.proxy_serve.specs.Outgoing.{Outgoing};
+
+    ghost Value = { Outgoing };
+
+    ghost view = { λ g. record { held = W.contents g.writer; gathered = drop g.written g.bytes.items } };
+
+    ghost invariant = { λ g. g.written ≤ length g.bytes.items };
+}
+
+fn paused() -> io::Error {
+    io::Error::from(ErrorKind::WouldBlock)
+}
+
+fn broken() -> io::Error {
+    io::Error::from(ErrorKind::BrokenPipe)
+}
+
+impl<W: Write> Gatherer<W> {
+    /// Nothing is gathered, and the writer may take something.
+    pub(crate) fn new(alloc: Global, writer: W) -> Gatherer<W>
+        ensures held { result.held ≡ W.contents writer }
+        ensures gathered { result.gathered ≡ [] }
+    {
+        Gatherer {
+            alloc,
+            writer,
+            bytes: Vec::new(alloc),
+            written: 0,
+            is_open: true,
+            is_broken: false,
+        }
+    }
+
+    /// The writer.
+    pub(crate) fn writer(&self) -> &W {
+        &self.writer
+    }
+
+    /// The writer may take something again.
+    pub(crate) fn reopen(&mut self)
+        ensures { self.new ≡ self.old }
+    {
+        self.is_open = true;
+    }
+
+    /// From here on it is as if a write had failed.
+    pub(crate) fn break_off(&mut self)
+        ensures { self.new ≡ self.old }
+    {
+        self.is_broken = true;
+    }
+
+    /// Whether a write failed.
+    pub(crate) fn is_broken(&self) -> bool {
+        self.is_broken
+    }
+
+    /// Whether nothing is gathered.
+    pub(crate) fn is_empty(&self) -> bool
+        ensures { result ≡ (length self.now.gathered == 0) }
+    {
+        self.count() == 0
+    }
+
+    /// Whether bytes are gathered that the writer may take.
+    pub(crate) fn may_write(&self) -> bool {
+        self.is_open && !self.is_broken && !self.is_empty()
+    }
+
+    /// Gathers in this room from here on, where nothing is gathered. What stood in the room is dropped.
+    pub(crate) fn borrow_room(&mut self, room: &mut Vec<u8>)
+        ensures { self.new ≡ self.old }
+    {
+        if self.is_empty() {
+            room.clear();
+            self.bytes.clear();
+            self.written = 0;
+            mem::swap(&mut self.bytes, room);
+        }
+    }
+
+    /// Writes what is gathered, as far as the writer takes it. Where all of it was taken, the room is given back.
+    pub(crate) fn write_out(&mut self, room: &mut Vec<u8>)
+        ensures { GoesOut self.old self.new [] }
+    {
+        self.write_gathered();
+        if self.is_empty() {
+            self.bytes.clear();
+            self.written = 0;
+            if room.capacity() < self.bytes.capacity() {
+                mem::swap(&mut self.bytes, room);
+            }
+            self.bytes = Vec::new(self.alloc);
+        }
+    }
+
+    // One write of what is gathered, of which there is something.
+    fn write_some(&mut self)
+        ensures { GoesOut self.old self.new [] }
+    {
+        let rest = self.bytes.split_at(self.written).1;
+        match self.writer.write(rest) {
+            Ok(0) => self.is_broken = true,
+            Ok(count) => {
+                self.written += count;
+                self.is_open = self.is_empty();
+            }
+            Err(error) => self.note_refused(error.kind()),
+        }
+    }
+
+    fn note_refused(&mut self, kind: ErrorKind)
+        ensures { self.new ≡ self.old }
+    {
+        match kind {
+            ErrorKind::WouldBlock => self.is_open = false,
+            ErrorKind::Interrupted => {}
+            _ => self.is_broken = true,
+        }
+    }
+
+    // Writes until all is taken or the writer takes no more.
+    fn write_gathered(&mut self)
+        ensures { GoesOut self.old self.new [] }
+    {
+        for _ in 0..self.bytes.len() {
+            if !self.may_write() {
+                break;
+            }
+            self.write_some();
+        }
+    }
+
+    // Moves what isn't written to the front, once much is written.
+    fn close_up(&mut self)
+        ensures { self.new ≡ self.old }
+    {
+        if self.written >= MOST_GATHERED || self.is_empty() {
+            self.bytes.drain(..self.written);
+            self.written = 0;
+        }
+    }
+
+    // How many bytes are gathered.
+    fn count(&self) -> usize
+        ensures { result ≡ length self.now.gathered }
+    {
+        self.bytes.len() - self.written
+    }
+
+    // Writes past what is gathered, of which there is nothing.
+    fn write_through(&mut self, bytes: &[u8]) -> io::Result<usize>
+        requires { self.old.gathered ≡ [] }
+        ensures bound { WritesAtMost result bytes.now }
+        ensures ok { IfOk result (λ n. GoesOut self.old self.new (take n bytes.now)) }
+        ensures err { OnErr result (GoesOut self.old self.new []) }
+    {
+        match self.writer.write(bytes) {
+            Ok(count) => {
+                self.is_open = count == bytes.len();
+                Ok(count)
+            }
+            Err(error) => {
+                self.note_refused(error.kind());
+                Err(error)
+            }
+        }
+    }
+
+    // Gathers these bytes behind the others.
+    fn gather(&mut self, bytes: &[u8]) -> Result<(), AllocError>
+        ensures ok { OnOk result (self.new
+            ≡ record self.old { gathered = self.old.gathered ++ bytes.now }) }
+        ensures err { OnErr result (self.new ≡ self.old) }
+    {
+        match self.bytes.extend_from_slice(bytes) {
+            Ok(()) => Ok(()),
+            Err(_) => Err(AllocError),
+        }
+    }
+
+    // Writes first where so many bytes more are too many.
+    fn make_room(&mut self, count: usize)
+        ensures { GoesOut self.old self.new [] }
+    {
+        if self.count() >= MOST_GATHERED || count >= MOST_GATHERED {
+            self.write_gathered();
+        }
+    }
+
+    fn take_in(&mut self, bytes: &[u8]) -> io::Result<usize>
+        ensures bound { WritesAtMost result bytes.now }
+        ensures ok { IfOk result (λ n. GoesOut self.old self.new (take n bytes.now)) }
+        ensures err { OnErr result (GoesOut self.old self.new []) }
+    {
+        if self.is_broken {
+            return Err(broken());
+        }
+        if bytes.len() >= MOST_GATHERED {
+            return self.write_long(bytes);
+        }
+        if self.count() >= MOST_GATHERED {
+            return Err(paused());
+        }
+        self.close_up();
+        match self.gather(bytes) {
+            Ok(()) => Ok(bytes.len()),
+            Err(_) => self.write_long(bytes),
+        }
+    }
+
+    /// Takes these bytes, all of them where they are fewer than 65,536. They are gathered behind the others; a text that is
+    /// longer is written at once.
+    ///
+    /// Answers `WouldBlock`, and has taken nothing, where 65,536 bytes are gathered that the writer doesn't take, and where
+    /// there is no memory; `BrokenPipe` once a write has failed.
+    pub(crate) fn write(&mut self, bytes: &[u8]) -> io::Result<usize>
+        ensures bound { WritesAtMost result bytes.now }
+        ensures ok { IfOk result (λ n. GoesOut self.old self.new (take n bytes.now)) }
+        ensures err { OnErr result (GoesOut self.old self.new []) }
+    {
+        self.make_room(bytes.len());
+        self.take_in(bytes)
+    }
+
+    // A text that isn't gathered.
+    fn write_long(&mut self, bytes: &[u8]) -> io::Result<usize>
+        ensures bound { WritesAtMost result bytes.now }
+        ensures ok { IfOk result (λ n. GoesOut self.old self.new (take n bytes.now)) }
+        ensures err { OnErr result (GoesOut self.old self.new []) }
+    {
+        self.write_gathered();
+        if self.is_broken {
+            return Err(broken());
+        }
+        if !self.is_empty() || !self.is_open {
+            return Err(paused());
+        }
+        self.write_through(bytes)
+    }
+}

@@ -1,0 +1,26 @@
+//! Serves clients on sockets, with real hosts behind them, from many threads.
+//!
+//! One thread listens, and deals sockets to workers in turn. The workers of a generation step the engines of their clients
+//! and of their hosts, which make their turns at the generation's gate; one thread of it sweeps. When its journal is nearly
+//! full another generation is opened, which goes on from its state of outlier detection; new connections go there, and the
+//! old one ends once its clients have got their answers.
+//!
+//! What is proved of the answers is proved of the engines and of the core. Here stands what brings bytes, readiness and
+//! moments to them.
+#![tactic(auto)]
+
+mod client;
+mod dealing;
+mod gatherer;
+mod generation;
+mod hall;
+mod house;
+mod port;
+mod serving;
+mod sweeping;
+mod upstream;
+mod watched;
+mod worker;
+
+pub use generation::Marks;
+pub use serving::serve_run;

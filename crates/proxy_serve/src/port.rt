@@ -1,0 +1,197 @@
+//! A socket that is asked only where it may have something, and is written in large pieces.
+ghost use Rattle.std.specs.Io.{ReadsAtMost, WritesAtMost};
+
+use crate::gatherer::Gatherer;
+use mio::event::Event;
+use mio::net::TcpStream;
+use std::alloc::Global;
+use std::cell::RefCell;
+use std::io;
+use std::io::{ErrorKind, Read, Write};
+use std::net::Shutdown;
+use std::rc::Rc;
+
+// So many reads of a closed connection's socket are made at most.
+const MOST_THROWN: u32 = 64;
+
+/// A socket with what is known of it, and the bytes that it is still to be given.
+#[derive(Drop)]
+pub(crate) struct Port {
+    output: Gatherer<TcpStream>,
+    is_readable: bool,
+    // The peer sends nothing more: an end of the input stands behind what is unread.
+    is_ended: bool,
+    // Nothing more is read, as if the input had ended.
+    is_drained: bool,
+    // So many bytes were read.
+    taken: u64,
+}
+
+fn paused() -> io::Error {
+    io::Error::from(ErrorKind::WouldBlock)
+}
+
+impl Port {
+    /// A socket that may have something and may take something.
+    pub(crate) fn new(alloc: Global, stream: TcpStream) -> Port {
+        Port {
+            output: Gatherer::new(alloc, stream),
+            is_readable: true,
+            is_ended: false,
+            is_drained: false,
+            taken: 0,
+        }
+    }
+
+    /// Takes note of what the poll tells.
+    pub(crate) fn note(&mut self, event: &Event) {
+        if event.is_readable() || event.is_read_closed() || event.is_error() {
+            self.is_readable = true;
+        }
+        if event.is_read_closed() || event.is_error() {
+            self.is_ended = true;
+        }
+        if event.is_writable() || event.is_write_closed() || event.is_error() {
+            self.output.reopen();
+        }
+    }
+
+    /// Reads nothing more: from here on a read finds the end of the input.
+    pub(crate) fn drain(&mut self) {
+        self.is_drained = true;
+        self.is_readable = true;
+    }
+
+    /// Reads and writes fail from here on.
+    pub(crate) fn break_off(&mut self) {
+        self.output.break_off();
+        self.is_readable = true;
+    }
+
+    /// How many bytes were read.
+    pub(crate) fn taken(&self) -> u64 {
+        self.taken
+    }
+
+    /// Whether a read may bring something.
+    pub(crate) fn may_read(&self) -> bool {
+        self.is_readable
+    }
+
+    /// Whether bytes are gathered that the socket may take.
+    pub(crate) fn may_write(&self) -> bool {
+        self.output.may_write()
+    }
+
+    /// Whether bytes are gathered.
+    pub(crate) fn has_gathered(&self) -> bool {
+        !self.output.is_empty()
+    }
+
+    /// Whether a write failed.
+    pub(crate) fn is_broken(&self) -> bool {
+        self.output.is_broken()
+    }
+
+    /// Gives the room that is lent for gathering, where the socket has nothing gathered.
+    pub(crate) fn borrow_room(&mut self, room: &mut Vec<u8>) {
+        self.output.borrow_room(room);
+    }
+
+    /// Writes what is gathered, and gives the room back where all of it was taken.
+    pub(crate) fn write_out(&mut self, room: &mut Vec<u8>) {
+        self.output.write_out(room);
+    }
+
+    fn read(&mut self, buffer: &mut [u8]) -> io::Result<usize>
+        ensures { ReadsAtMost result buffer.new }
+    {
+        if self.output.is_broken() {
+            return Err(io::Error::from(ErrorKind::BrokenPipe));
+        }
+        if self.is_drained {
+            return Ok(0);
+        }
+        if !self.is_readable {
+            return Err(paused());
+        }
+        self.read_socket(buffer)
+    }
+
+    // One read. A short one has taken all that there was, as the poll tells of what comes later.
+    fn read_socket(&mut self, buffer: &mut [u8]) -> io::Result<usize>
+        ensures { ReadsAtMost result buffer.new }
+    {
+        let mut stream: &TcpStream = self.output.writer();
+        match stream.read(buffer) {
+            Ok(count) => {
+                self.taken = self.taken.saturating_add(count as u64);
+                if count < buffer.len() && count > 0 && !self.is_ended {
+                    self.is_readable = false;
+                }
+                Ok(count)
+            }
+            Err(error) => {
+                if error.kind() == ErrorKind::WouldBlock {
+                    self.is_readable = false;
+                }
+                Err(error)
+            }
+        }
+    }
+
+    /// Reads what has come and throws it away. True says that the input has ended or failed.
+    pub(crate) fn throw_away(&mut self) -> bool {
+        let mut piece = [0u8; 1_024];
+        for _ in 0..MOST_THROWN {
+            match self.read_socket(&mut piece) {
+                Ok(0) => return true,
+                Ok(_) => {}
+                Err(error) => return error.kind() != ErrorKind::WouldBlock,
+            }
+        }
+        true
+    }
+
+    /// Sends nothing more.
+    pub(crate) fn shut(&self) {
+        let _ = self.output.writer().shutdown(Shutdown::Write);
+    }
+}
+
+/// The reading end of a shared socket.
+#[derive(Drop)]
+pub(crate) struct PortReader(Rc<RefCell<Port>>);
+
+/// The writing end of a shared socket.
+#[derive(Drop)]
+pub(crate) struct PortWriter(Rc<RefCell<Port>>);
+
+/// The two ends of a socket, for an engine.
+pub(crate) fn ends(port: &Rc<RefCell<Port>>) -> Option<(PortReader, PortWriter)> {
+    let reader = PortReader(port.clone().ok()?);
+    let writer = PortWriter(port.clone().ok()?);
+    Some((reader, writer))
+}
+
+impl Read for PortReader {
+    fn read(&mut self, buffer: &mut [u8]) -> io::Result<usize> {
+        match self.0.try_borrow_mut() {
+            Ok(mut port) => port.read(buffer),
+            Err(_) => Err(paused()),
+        }
+    }
+}
+
+impl Write for PortWriter {
+    fn write(&mut self, bytes: &[u8]) -> io::Result<usize> {
+        match self.0.try_borrow_mut() {
+            Ok(mut port) => port.output.write(bytes),
+            Err(_) => Err(paused()),
+        }
+    }
+
+    fn flush(&mut self) -> io::Result<()> {
+        Ok(())
+    }
+}

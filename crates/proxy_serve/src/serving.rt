@@ -1,0 +1,288 @@
+//! Serving, from its listener to its last line.
+ghost use Rattle.proxy_config.specs.RingParts.{AreRingParts};
+
+use crate::dealing::Rota;
+use crate::generation::{Ground, Marks, Plan, keep};
+use crate::house::{Asked, House};
+use crate::worker::MOST_TRIES;
+use mio::net::TcpListener;
+use mio::{Events, Interest, Poll, Token, Waker};
+use proxy_config::Config;
+use proxy_core::Handover;
+use proxy_run::Ending;
+use proxy_stats::Counts;
+use std::alloc::Global;
+use std::io::{ErrorKind, Write};
+use std::net::Net;
+use std::rt::Clock;
+use std::sync::Wait;
+use std::thread::{JoinHandle, Threads};
+use std::time::Duration;
+use std::{io, thread};
+
+const LISTENER: Token = Token(0);
+
+const WAKER: Token = Token(1);
+
+// So many sockets are taken at once at most.
+const MOST_TAKEN: u32 = 1_024;
+
+// The thread that listens looks after so many milliseconds at the latest what is to be done.
+const PAUSE_MS: u64 = 10;
+
+// Errors by which the system says that it has no room for a further socket just now: Linux's numbers for no memory, no file
+// number, in the system or in the process, and no room for buffers.
+const NO_ROOM: [i32; 4] = [12, 23, 24, 105];
+
+/// What the thread that listens has before it.
+#[derive(Drop)]
+struct Porter<'a> {
+    poll: Poll,
+    listener: TcpListener,
+    house: &'a House,
+    // To which worker the next socket goes.
+    rota: Rota,
+}
+
+impl<'a> Porter<'a> {
+    fn wait(&mut self, events: &mut Events) -> Result<(), Ending> {
+        match self
+            .poll
+            .poll(events, Some(Duration::from_millis(PAUSE_MS)))
+        {
+            Ok(()) => Ok(()),
+            Err(_) => Err(Ending::Socket),
+        }
+    }
+
+    // Deals the sockets of new connections to the workers in turn.
+    fn deal<R: Wait>(&mut self, rt: &R) -> Result<(), Ending> {
+        for _ in 0..MOST_TAKEN {
+            match self.listener.accept() {
+                Ok((stream, _)) => self.house.put(rt, self.rota.take(), stream),
+                Err(error) => {
+                    if error.kind() == ErrorKind::WouldBlock || has_no_room(&error) {
+                        break;
+                    }
+                    // (a peer may be gone before it is taken)
+                    if error.kind() != ErrorKind::ConnectionAborted
+                        && error.kind() != ErrorKind::Interrupted
+                    {
+                        return Err(Ending::Socket);
+                    }
+                }
+            }
+        }
+        Ok(())
+    }
+}
+
+fn has_no_room(error: &io::Error) -> bool {
+    match error.raw_os_error() {
+        Some(number) => NO_ROOM.contains(&number),
+        None => false,
+    }
+}
+
+// What wakes the thread that listens, and its poll.
+fn open<R: Net>(rt: &R, listener: &mut TcpListener) -> Result<(Poll, Waker), Ending> {
+    let Ok(poll) = Poll::new(rt) else {
+        return Err(Ending::Socket);
+    };
+    let registered = poll
+        .registry()
+        .register(listener, LISTENER, Interest::READABLE);
+    match (registered, Waker::new(poll.registry(), WAKER)) {
+        (Ok(()), Ok(waker)) => Ok((poll, waker)),
+        _ => Err(Ending::Socket),
+    }
+}
+
+/// Serves clients on the listener by the settings, until so many connections have closed; 0 is never. Then it writes
+/// `accepted <a> handed <o> sent <s> answered <r> lost <l> ejections <e>` and a newline, of all that happened.
+///
+/// Once a journal is as long as the marks say another one is opened. At most two are kept at a time.
+///
+/// Ends with `Socket` (5) where the listener, a poll or the writer fails, `Memory` (6) for want of memory: where a thread
+/// found none 1,000 times in a row, or at the start; `Spent` (7) where a gate has no ticket left. All threads have ended
+/// then.
+pub fn serve_run<
+    R: Threads
+        + Wait
+        + Net<Listener = std::net::TcpListener, Stream = std::net::TcpStream>
+        + Clock
+        + Eprint
+        + Sync,
+    W: Write,
+>(
+    rt: &R,
+    alloc: Global,
+    mut listener: TcpListener,
+    config: Config,
+    connections: u64,
+    marks: Marks,
+    output: &mut W,
+) -> Result<(), Ending>
+    requires { AreRingParts config.hosts.items config.weights.items }
+{
+    let (poll, waker) = open(rt, &mut listener)?;
+    let house = House::new(alloc, config.workers, waker, connections)?;
+    tell_start(rt, &listener, &config);
+    let porter = Porter {
+        poll,
+        listener,
+        house: &house,
+        rota: Rota::new(house.workers()),
+    };
+    serve_on(rt, alloc, porter, &house, &config, marks)?;
+    if let Some(ending) = house.ending() {
+        return Err(ending);
+    }
+    write_counts(house.counts(rt), output)
+}
+
+// Keeps one generation after the other until the serving ends.
+fn serve_on<R: Ground>(
+    rt: &R,
+    alloc: Global,
+    mut porter: Porter<'_>,
+    house: &House,
+    config: &Config,
+    marks: Marks,
+) -> Result<(), Ending>
+    requires { AreRingParts config.now.hosts.items config.now.weights.items }
+{
+    let mut events = Events::with_capacity(alloc, 4)?;
+    thread::scope(
+        thread::scope_env(),
+        rt,
+        |scope|
+            requires { AreRingParts config.now.hosts.items config.now.weights.items }
+        {
+            let mut line = Line::new();
+            for _ in rt.forever() {
+                if !house.runs() {
+                    break;
+                }
+                if let Some(from) = line.due.take() {
+                    let plan = Plan {
+                        house,
+                        config,
+                        marks,
+                        number: line.number,
+                        from,
+                    };
+                    let begun = scope.spawn(
+                        move ||
+                            requires { AreRingParts plan.config.now.hosts.items
+                                plan.config.now.weights.items }
+                        { keep(rt, alloc, plan) },
+                    );
+                    match begun {
+                        Ok(handle) => line.newer = Some(handle),
+                        Err(_) => line.miss(house),
+                    }
+                }
+                if porter.wait(&mut events).is_err() || porter.deal(rt).is_err() {
+                    house.end(Ending::Socket);
+                }
+                if let Some(asked) = house.take_asked(rt) {
+                    line.ask(rt, house, asked);
+                }
+            }
+            join(rt, line.older.take());
+            join(rt, line.newer.take());
+        },
+    );
+    Ok(())
+}
+
+fn join<R: Threads>(rt: &R, generation: Option<JoinHandle<()>>) {
+    if let Some(handle) = generation {
+        handle.join(rt);
+    }
+}
+
+/// The generations that there are: one that serves, one before it that drains, and one that is to be opened.
+#[derive(Drop)]
+struct Line {
+    older: Option<JoinHandle<()>>,
+    newer: Option<JoinHandle<()>>,
+    // The number of the last one that was begun or is due.
+    number: u64,
+    // That one is due, and from where it goes on.
+    due: Option<Option<Handover>>,
+    // Tries in a row to open one.
+    tries: u32,
+}
+
+impl Line {
+    // The first one is due.
+    fn new() -> Line {
+        Line {
+            older: None,
+            newer: None,
+            number: 0,
+            due: Some(None),
+            tries: 0,
+        }
+    }
+
+    // There is no thread for the one that was due. It is asked for again, but for the first one.
+    fn miss(&self, house: &House) {
+        if self.number == 0 {
+            house.end(Ending::Memory);
+        } else {
+            house.fail(self.number);
+        }
+    }
+
+    // Makes another one due: those before the one that asks are shut, and it drains once the new one is open.
+    fn ask<R: Threads>(&mut self, rt: &R, house: &House, asked: Asked) {
+        if asked.by == self.number {
+            self.tries = 0;
+            house.shut_before(asked.by);
+            join(rt, self.older.take());
+            self.older = self.newer.take();
+        } else if house.has_failed(self.number) {
+            // (the one that asks is the older one still)
+            self.tries = self.tries.saturating_add(1);
+            join(rt, self.newer.take());
+            if self.tries >= MOST_TRIES {
+                house.end(Ending::Memory);
+            }
+        } else {
+            return;
+        }
+        self.number = self.number.saturating_add(1);
+        self.due = Some(Some(asked.from));
+    }
+}
+
+fn tell_start<R: Eprint>(rt: &R, listener: &TcpListener, config: &Config) {
+    let address = listener.local_addr().unwrap_or(config.listen);
+    let hosts = config.hosts.len();
+    let workers = config.workers;
+    let _ = eprintln!(rt; "redproxy: listening on {address}, {hosts} hosts, {workers} workers");
+}
+
+fn write_counts<W: Write>(counts: Option<Counts>, output: &mut W) -> Result<(), Ending> {
+    let (accepted, handed, sent, answered, lost, ejections) = match counts {
+        None => (0, 0, 0, 0, 0, 0),
+        Some(all) => (
+            all.accepted,
+            all.handed,
+            all.sent,
+            all.answered,
+            all.lost,
+            all.ejections,
+        ),
+    };
+    let written = output.write_fmt(format_args!(
+        "accepted {accepted} handed {handed} sent {sent} answered {answered} lost {lost} ejections {ejections}\n"
+    ));
+    match written {
+        Ok(()) => Ok(()),
+        Err(_) => Err(Ending::Socket),
+    }
+}

@@ -1,0 +1,322 @@
+//! A host, as its worker has it.
+ghost use Rattle.std.specs.Prelude.{◌≡◌, None};
+
+use crate::client::{Hitch, hitch_of};
+use crate::hall::Hall;
+use crate::port::{Port, PortReader, PortWriter, ends};
+use crate::watched::Watched;
+use mio::event::Event as Readiness;
+use mio::net::TcpStream;
+use mio::{Interest, Registry, Token};
+use proxy_core::CoreTurns;
+use proxy_engines::{HostEngine, Progress, Tallied};
+use std::alloc::Global;
+use std::cell::RefCell;
+use std::net::{Net, SocketAddr};
+use std::rc::Rc;
+use std::sync::Wait;
+
+// Steps of one host in one pass.
+const MOST_STEPS: u32 = 4_096;
+
+// A host is looked at after so long at the latest, in milliseconds, so that a late reply is found.
+const LOOK_MS: u64 = 10;
+
+// It is told again that a host can't be reached after so many milliseconds.
+const TELL_MS: u64 = 1_000;
+
+type Engine = HostEngine<Tallied<PortReader>, Tallied<PortWriter>>;
+
+/// The socket to a host.
+#[derive(Drop)]
+enum Socket {
+    Absent,
+    /// A connection is being made since this moment; whether the poll told anything of it.
+    Dialled {
+        stream: TcpStream,
+        since: u64,
+        is_told: bool,
+    },
+    Attached(Rc<RefCell<Port>>),
+}
+
+/// What came of a connection that is being made.
+#[derive(Clone, Copy, Debug, PartialEq, Eq, Drop)]
+enum Dialled {
+    Waits,
+    Refused,
+    Stands,
+}
+
+#[derive(Drop)]
+pub(crate) struct Upstream {
+    alloc: Global,
+    engine: Engine,
+    address: SocketAddr,
+    token: Token,
+    reply_ms: u64,
+    socket: Socket,
+    // How often parts had come for all hosts when this one was last asked for its own.
+    parts: u64,
+    looked: u64,
+    has_more: bool,
+    // When it was last told that the host can't be reached.
+    told: Option<u64>,
+}
+
+impl Upstream {
+    pub(crate) fn new(
+        alloc: Global,
+        host: usize,
+        address: SocketAddr,
+        token: Token,
+        reply_ms: u64,
+    ) -> Upstream {
+        Upstream {
+            alloc,
+            engine: HostEngine::new(alloc, host, reply_ms),
+            address,
+            token,
+            reply_ms,
+            socket: Socket::Absent,
+            parts: 0,
+            looked: 0,
+            has_more: true,
+            told: None,
+        }
+    }
+
+    /// Where it is.
+    pub(crate) fn address(&self) -> SocketAddr {
+        self.address
+    }
+
+    /// Takes note of what the poll tells.
+    pub(crate) fn note(&mut self, event: &Readiness) {
+        match &mut self.socket {
+            Socket::Absent => {}
+            Socket::Dialled { is_told, .. } => *is_told = true,
+            Socket::Attached(port) => {
+                if let Ok(mut port) = port.try_borrow_mut() {
+                    port.note(event);
+                }
+            }
+        }
+    }
+
+    /// Whether a pass can bring anything.
+    pub(crate) fn may_go(&self, hall: &Hall<'_>, now: u64) -> bool {
+        self.has_more
+            || self.parts != hall.parts()
+            || now.saturating_sub(self.looked) >= LOOK_MS
+            || self.is_stirred()
+    }
+
+    fn is_stirred(&self) -> bool {
+        match &self.socket {
+            Socket::Absent => false,
+            Socket::Dialled { is_told, .. } => *is_told,
+            Socket::Attached(port) => match port.try_borrow() {
+                Ok(port) => port.may_read() || port.may_write(),
+                Err(_) => false,
+            },
+        }
+    }
+
+    /// Steps the engine as far as it goes, writes what it gathered, and makes a link where one is needed. True says that
+    /// the host couldn't be reached, and that this is to be told.
+    pub(crate) fn attend<R: Wait + Net, T: CoreTurns>(
+        &mut self,
+        rt: &R,
+        turns: &mut Watched<T>,
+        hall: &Hall<'_>,
+        registry: &Registry,
+        room: &mut Vec<u8>,
+        now: u64,
+    ) -> Result<bool, Hitch> {
+        self.has_more = false;
+        self.looked = now;
+        self.parts = hall.parts();
+        self.lend(room);
+        let stepped = self.step_on(rt, turns, registry, now);
+        self.write_out(room);
+        if turns.take_notes().has_replies {
+            hall.tell_replies();
+        }
+        self.has_more = self.has_more || stepped.is_err();
+        Ok(stepped? && self.is_to_be_told(now))
+    }
+
+    // Whether it is time to tell again that the host can't be reached.
+    fn is_to_be_told(&mut self, now: u64) -> bool {
+        let is_due = match self.told {
+            None => true,
+            Some(told) => now.saturating_sub(told) >= TELL_MS,
+        };
+        if is_due {
+            self.told = Some(now);
+        }
+        is_due
+    }
+
+    fn lend(&mut self, room: &mut Vec<u8>) {
+        if let Socket::Attached(port) = &self.socket {
+            if let Ok(mut port) = port.try_borrow_mut() {
+                port.borrow_room(room);
+            }
+        }
+    }
+
+    fn write_out(&mut self, room: &mut Vec<u8>) {
+        if let Socket::Attached(port) = &self.socket {
+            if let Ok(mut port) = port.try_borrow_mut() {
+                port.write_out(room);
+            }
+        }
+    }
+
+    fn step_on<R: Wait + Net, T: CoreTurns>(
+        &mut self,
+        rt: &R,
+        turns: &mut Watched<T>,
+        registry: &Registry,
+        now: u64,
+    ) -> Result<bool, Hitch> {
+        let mut is_refused = false;
+        for _ in 0..MOST_STEPS {
+            let stepped = self.engine.step(rt, turns, now);
+            self.let_go();
+            match stepped {
+                Ok(Progress::Moved) => {}
+                Ok(Progress::NeedsLink) => match self.link_up(rt, registry, now)? {
+                    Dialled::Waits => return Ok(is_refused),
+                    Dialled::Refused => {
+                        is_refused = true;
+                        self.refuse(rt, turns, now)?;
+                    }
+                    Dialled::Stands => self.attach()?,
+                },
+                Ok(Progress::Idle | Progress::Cut | Progress::Ended) => return Ok(is_refused),
+                Err(error) => match hitch_of(error) {
+                    Hitch::Alone => {}
+                    other => return Err(other),
+                },
+            }
+        }
+        self.has_more = true;
+        Ok(is_refused)
+    }
+
+    // Lets the socket go once the engine has given the link up.
+    fn let_go(&mut self)
+        ensures { self.new.engine ≡ self.old.engine }
+    {
+        if let Socket::Attached(port) = &self.socket {
+            if Rc::strong_count(port) < 3 {
+                self.socket = Socket::Absent;
+            }
+        }
+    }
+
+    // Begins a connection, or looks what came of it.
+    fn link_up<R: Net>(&mut self, rt: &R, registry: &Registry, now: u64) -> Result<Dialled, Hitch>
+        ensures { self.new.engine ≡ self.old.engine }
+    {
+        if let Socket::Dialled {
+            stream,
+            since,
+            is_told,
+        } = &mut self.socket
+        {
+            let overdue = now.saturating_sub(*since) >= self.reply_ms;
+            let found = look(stream, *is_told, overdue);
+            *is_told = false;
+            return Ok(found);
+        }
+        match TcpStream::connect(rt, self.address) {
+            Ok(mut stream) => {
+                let _ = stream.set_nodelay(true);
+                let interests = Interest::READABLE | Interest::WRITABLE;
+                if registry
+                    .register(&mut stream, self.token, interests)
+                    .is_err()
+                {
+                    return Ok(Dialled::Refused);
+                }
+                self.socket = Socket::Dialled {
+                    stream,
+                    since: now,
+                    is_told: false,
+                };
+                Ok(Dialled::Waits)
+            }
+            Err(_) => Ok(Dialled::Refused),
+        }
+    }
+
+    fn refuse<R: Wait, T: CoreTurns>(
+        &mut self,
+        rt: &R,
+        turns: &mut Watched<T>,
+        now: u64,
+    ) -> Result<(), Hitch>
+        requires { self.old.engine.link ≡ None }
+    {
+        self.socket = Socket::Absent;
+        match self.engine.refused(rt, turns, now) {
+            Ok(()) => Ok(()),
+            Err(error) => match hitch_of(error) {
+                Hitch::Alone => Ok(()),
+                other => Err(other),
+            },
+        }
+    }
+
+    // Gives the engine the link that stands.
+    fn attach(&mut self) -> Result<(), Hitch>
+        requires link { self.old.engine.link ≡ None }
+        requires fault { self.old.engine.fault ≡ None }
+    {
+        match std::mem::replace(&mut self.socket, Socket::Absent) {
+            Socket::Dialled { stream, .. } => {
+                let Ok(port) = Rc::new(self.alloc, RefCell::new(Port::new(self.alloc, stream)))
+                else {
+                    return Err(Hitch::Memory);
+                };
+                let Some((reader, writer)) = ends(&port) else {
+                    return Err(Hitch::Memory);
+                };
+                let attached = self
+                    .engine
+                    .attach(Tallied::new(reader), Tallied::new(writer));
+                if attached.is_err() {
+                    return Err(Hitch::Memory);
+                }
+                self.socket = Socket::Attached(port);
+                Ok(())
+            }
+            other => {
+                self.socket = other;
+                Ok(())
+            }
+        }
+    }
+}
+
+// What came of a connection that is being made.
+fn look(stream: &TcpStream, is_told: bool, is_overdue: bool) -> Dialled {
+    if is_told {
+        match stream.take_error() {
+            Ok(None) => {}
+            Ok(Some(_)) | Err(_) => return Dialled::Refused,
+        }
+        if stream.peer_addr().is_ok() {
+            return Dialled::Stands;
+        }
+    }
+    if is_overdue {
+        Dialled::Refused
+    } else {
+        Dialled::Waits
+    }
+}

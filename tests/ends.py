@@ -1,0 +1,290 @@
+"""What the tests on sockets share: Redis servers, redproxy before them, and clients.
+
+Whoever starts a process by `start` ends all by `end_all`.
+"""
+import bisect
+import contextlib
+import hashlib
+import json
+import os
+import re
+import shutil
+import signal
+import socket
+import subprocess
+import sys
+import tempfile
+import threading
+import time
+
+TOP = os.path.dirname(os.path.dirname(os.path.abspath(__file__)))
+PROGRAM = os.environ.get("REDPROXY", os.path.join(TOP, "redproxy"))
+# No call to a socket waits longer than so many seconds.
+PATIENCE = 20
+STARTED = []
+
+
+def free_port():
+    with socket.socket() as probe:
+        probe.bind(("127.0.0.1", 0))
+        return probe.getsockname()[1]
+
+
+def start(words, **rest):
+    process = subprocess.Popen(words, stdin=subprocess.DEVNULL, **rest)
+    STARTED.append(process)
+    return process
+
+
+def end_all():
+    for process in STARTED:
+        if process.poll() is None:
+            with contextlib.suppress(ProcessLookupError):
+                os.kill(process.pid, signal.SIGCONT)
+            process.kill()
+    for process in STARTED:
+        process.wait()
+
+
+def await_port(port, process):
+    limit = time.monotonic() + PATIENCE
+    while time.monotonic() < limit:
+        if process.poll() is not None:
+            raise AssertionError(f"{process.args[0]} ended with status {process.returncode}")
+        with contextlib.suppress(OSError):
+            socket.create_connection(("127.0.0.1", port), 1).close()
+            return
+        time.sleep(0.02)
+    raise AssertionError(f"nobody listens on {port}")
+
+
+class Redis:
+    """A Redis server without files."""
+
+    def __init__(self, port=None):
+        self.port = port or free_port()
+        self.start()
+
+    def start(self):
+        words = ["redis-server", "--port", str(self.port), "--bind", "127.0.0.1", "--save", "", "--appendonly", "no"]
+        self.process = start(words, stdout=subprocess.DEVNULL, stderr=subprocess.DEVNULL)
+        await_port(self.port, self.process)
+
+    def kill(self):
+        self.process.kill()
+        self.process.wait()
+
+    def stop(self):
+        os.kill(self.process.pid, signal.SIGSTOP)
+
+    def go_on(self):
+        os.kill(self.process.pid, signal.SIGCONT)
+
+    def clear(self):
+        with Client(self.port) as client:
+            client.ask("FLUSHALL")
+
+
+class Proxy:
+    """`redproxy serve` before some servers. The connection that asks whether it listens is counted by it too."""
+
+    def __init__(self, servers, connections=0, **settings):
+        self.port = free_port()
+        self.room = tempfile.mkdtemp(prefix="redproxy-")
+        self.names = [f"127.0.0.1:{server.port}" for server in servers]
+        self.file = os.path.join(self.room, "settings.json")
+        with open(self.file, "w", encoding="utf-8") as out:
+            json.dump({"listen": f"127.0.0.1:{self.port}", "hosts": self.names, **settings}, out)
+        words = [PROGRAM, "serve", "--config", self.file]
+        if connections:
+            words += ["--connections", str(connections)]
+        self.errors = open(os.path.join(self.room, "errors"), "w+", encoding="utf-8")
+        self.output = open(os.path.join(self.room, "output"), "w+", encoding="utf-8")
+        self.process = start(words, stdout=self.output, stderr=self.errors)
+
+    def __enter__(self):
+        await_port(self.port, self.process)
+        return self
+
+    def __exit__(self, *_):
+        self.process.kill()
+        self.process.wait()
+        self.errors.close()
+        self.output.close()
+        shutil.rmtree(self.room)
+
+    def ended(self):
+        """Its status, and what it wrote to its output and as errors."""
+        status = self.process.wait(PATIENCE)
+        texts = []
+        for file in (self.output, self.errors):
+            file.seek(0)
+            texts.append(file.read())
+        return status, *texts
+
+    def told(self):
+        self.errors.seek(0)
+        return self.errors.read()
+
+    def owner(self, key):
+        """Which server owns a key: libketama's ring of hosts of equal weight."""
+        if not hasattr(self, "ring"):
+            self.ring = sorted(
+                (int.from_bytes(hashlib.md5(f"{name}-{n}".encode()).digest()[4 * k:4 * k + 4], "little"), host)
+                for host, name in enumerate(self.names) for n in range(40) for k in range(4))
+        point = int.from_bytes(hashlib.md5(key.encode()).digest()[:4], "little")
+        return self.ring[bisect.bisect_left(self.ring, (point, -1)) % len(self.ring)][1]
+
+    def key_of(self, host, word="key"):
+        return next(key for key in (f"{word}{n}" for n in range(100_000)) if self.owner(key) == host)
+
+
+class Failure(str):
+    """An error reply."""
+
+
+class Client:
+    def __init__(self, port):
+        self.socket = socket.create_connection(("127.0.0.1", port), PATIENCE)
+        self.socket.setsockopt(socket.IPPROTO_TCP, socket.TCP_NODELAY, 1)
+        self.file = self.socket.makefile("rb")
+
+    def __enter__(self):
+        return self
+
+    def __exit__(self, *_):
+        self.close()
+
+    def close(self):
+        self.file.close()
+        self.socket.close()
+
+    def send(self, *words):
+        self.socket.sendall(text(*words))
+
+    def ask(self, *words):
+        self.send(*words)
+        return self.reply()
+
+    def reply(self):
+        line = self.file.readline()
+        if not line.endswith(b"\r\n"):
+            raise EOFError("the connection ended")
+        kind, rest = line[:1], line[1:-2]
+        if kind == b"+":
+            return rest
+        if kind == b"-":
+            return Failure(rest.decode())
+        if kind == b":":
+            return int(rest)
+        if kind == b"$":
+            if rest == b"-1":
+                return None
+            whole = self.file.read(int(rest) + 2)
+            assert whole.endswith(b"\r\n")
+            return whole[:-2]
+        assert kind == b"*", line
+        return None if rest == b"-1" else [self.reply() for _ in range(int(rest))]
+
+    def has_ended(self):
+        """Whether the peer ends the connection, and sends nothing more."""
+        return self.file.read(1) == b""
+
+
+def text(*words):
+    words = [word if isinstance(word, bytes) else str(word).encode() for word in words]
+    return b"*%d\r\n" % len(words) + b"".join(b"$%d\r\n%s\r\n" % (len(word), word) for word in words)
+
+
+def equal(found, wanted):
+    assert found == wanted, f"{found!r} is not {wanted!r}"
+
+
+def counts_in(line):
+    numbers = re.fullmatch(r"accepted (\d+) handed (\d+) sent (\d+) answered (\d+) lost (\d+) ejections (\d+)\n", line)
+    assert numbers, line
+    return dict(zip(("accepted", "handed", "sent", "answered", "lost", "ejections"), map(int, numbers.groups())))
+
+
+class Stream(threading.Thread):
+    """A client that sends pipelines of 100 and compares all that comes with what has to come. Where its connection ends it
+    connects again, and goes on with the next pipeline."""
+
+    # Ten digits that stand for a number of the pipeline, and so for values that no other has.
+    MARK = b"@@@@@@@@@@"
+
+    def __init__(self, proxy, number, on_end=None):
+        super().__init__(daemon=True)
+        self.proxy, self.number, self.on_end = proxy, number, on_end
+        self.goes, self.wrong = True, None
+        # Replies that came, connections that were made, and those that the proxy ended.
+        self.good, self.made, self.ended = 0, 0, 0
+        asked, wanted, self.ends = [], [], [0]
+        for place in range(50):
+            key, value = b"s%d-%d" % (number, place), b"%d-%d-" % (number, place) + self.MARK
+            for request, reply in ((text("SET", key, value), b"+OK\r\n"),
+                                   (text("GET", key), b"$%d\r\n%s\r\n" % (len(value), value))):
+                asked.append(request)
+                wanted.append(reply)
+                self.ends.append(self.ends[-1] + len(reply))
+        self.asked, self.wanted = b"".join(asked), b"".join(wanted)
+
+    def run(self):
+        turn = 0
+        try:
+            while self.goes:
+                with socket.create_connection(("127.0.0.1", self.proxy.port), PATIENCE) as connection:
+                    self.made += 1
+                    while self.goes and self.turn(connection, turn):
+                        turn += 1
+                    turn += 1
+        except Exception as problem:  # pylint: disable=broad-except
+            self.wrong = problem
+
+    def turn(self, connection, turn):
+        """One pipeline. False says that the connection ended."""
+        mark = b"%010d" % turn
+        with contextlib.suppress(BrokenPipeError, ConnectionResetError):
+            connection.sendall(self.asked.replace(self.MARK, mark))
+        wanted, got = self.wanted.replace(self.MARK, mark), b""
+        while len(got) < len(wanted):
+            piece = connection.recv(65_536)
+            if not piece:
+                break
+            got += piece
+        assert wanted.startswith(got), f"{got[-200:]!r} came of client {self.number}, pipeline {turn}"
+        assert len(got) in self.ends, "a reply was cut"
+        self.good += self.ends.index(len(got))
+        if len(got) == len(wanted):
+            return True
+        self.ended += 1
+        if self.on_end:
+            self.on_end()
+        return False
+
+
+def resident_mib(process):
+    """How much memory a process has now."""
+    with open(f"/proc/{process.pid}/status", encoding="utf-8") as status:
+        return int(re.search(r"VmRSS:\s+(\d+) kB", status.read())[1]) / 1024
+
+
+def thread_count(process):
+    """How many threads a process has now."""
+    return len(os.listdir(f"/proc/{process.pid}/task"))
+
+
+def install():
+    """Installs Redis where it is missing and that may be done; else ends with a line that says so."""
+    missing = [word for word in ("redis-server", "redis-cli", "redis-benchmark") if not shutil.which(word)]
+    if missing and os.geteuid() == 0 and shutil.which("apt-get"):
+        quiet = {"stdout": subprocess.DEVNULL, "stderr": subprocess.DEVNULL}
+        # (a server that the package starts by itself isn't wanted)
+        subprocess.run(["apt-get", "update", "-q"], check=False, **quiet)
+        subprocess.run(["apt-get", "install", "-y", "-q", "redis-server", "redis-tools"], check=False,
+                       env={**os.environ, "RUNLEVEL": "1", "DEBIAN_FRONTEND": "noninteractive"}, **quiet)
+        missing = [word for word in missing if not shutil.which(word)]
+    if missing:
+        print(f"the tests need {', '.join(missing)}: install Debian's redis-server and redis-tools", file=sys.stderr)
+        print("0 passed, 1 failed")
+        sys.exit(1)
