@@ -19,7 +19,7 @@ pub AreOwn-skip : (place workers hosts : ℕ) (own : List ℕ) → (hosts % work
 AreOwn-skip place workers hosts own other are = record {
   only = λ k d within. (below_next _ hosts (are.only k d within).0, (are.only k d within).1);
   all = λ h below is. elim (cases_lt h hosts) [
-      inl less ↦ are.all h less is
+    | inl less ↦ are.all h less is
     | inr above ↦ absurd (other (rw (← is_last h hosts below above) is))
   ];
 }
@@ -31,7 +31,7 @@ AreOwn-take place workers hosts own is_own are = record {
   only = All-push (λ h. (h < hosts + 1) × (h % workers ≡ place)) own hosts
       (λ k d within. (below_next _ hosts (are.only k d within).0, (are.only k d within).1)) (grind (arith), is_own);
   all = λ h below is. elim (cases_lt h hosts) [
-      inl less ↦ Contains-append_left own (hosts ∷ []) h (are.all h less is)
+    | inl less ↦ Contains-append_left own (hosts ∷ []) h (are.all h less is)
     | inr above ↦ rw (is_last h hosts below above) (Contains-append_right own (hosts ∷ []) hosts (0, grind (arith), refl))
   ];
 }

@@ -22,15 +22,12 @@ use std::thread::Threads;
 use ticket_gate::{Gate, Seated, Spare};
 
 /// What serving stands on: threads that wait, sockets, the clock, and standard error.
-pub(crate) trait Ground:
-    Threads
+pub(crate) trait Ground: Threads
     + Wait
     + Net<Listener = std::net::TcpListener, Stream = std::net::TcpStream>
     + Clock
     + Eprint
-    + Sync
-{
-}
+    + Sync {}
 
 impl<
     R: Threads
@@ -39,9 +36,7 @@ impl<
         + Clock
         + Eprint
         + Sync,
-> Ground for R
-{
-}
+> Ground for R {}
 
 /// How long a journal may be before another generation is opened.
 #[derive(Clone, Copy, Debug, PartialEq, Eq)]

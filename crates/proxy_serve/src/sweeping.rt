@@ -8,11 +8,10 @@ use proxy_config::Config;
 use proxy_core::{Core, Handover};
 use proxy_run::Ending;
 use std::alloc::AllocError;
-use std::mem;
 use std::rt::Clock;
 use std::sync::Wait;
-use std::thread;
 use std::time::Duration;
+use std::{mem, thread};
 use sweeper::{Pace, SweepRefusal, sweep_once};
 use ticket_gate::Seated;
 

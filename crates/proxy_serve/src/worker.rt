@@ -338,11 +338,7 @@ impl<'a> Floor<'a> {
         }
     }
 
-    fn attend_hosts<R: Wait + Net + Eprint>(
-        &mut self,
-        rt: &R,
-        now: u64,
-    ) -> Result<bool, Ending> {
+    fn attend_hosts<R: Wait + Net + Eprint>(&mut self, rt: &R, now: u64) -> Result<bool, Ending> {
         let parts = self.hall.parts();
         let mut moves = false;
         for place in 0..self.hosts.len() {
@@ -388,11 +384,7 @@ impl<'a> Floor<'a> {
     }
 
     // Each client in turn, beginning where the last pass stopped. Between two of them the parts that have come are taken.
-    fn attend_clients<R: Wait + Net + Eprint>(
-        &mut self,
-        rt: &R,
-        now: u64,
-    ) -> Result<bool, Ending> {
+    fn attend_clients<R: Wait + Net + Eprint>(&mut self, rt: &R, now: u64) -> Result<bool, Ending> {
         let mut moves = false;
         self.is_held = false;
         let count = self.clients.capacity();

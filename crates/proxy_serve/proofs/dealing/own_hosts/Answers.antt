@@ -8,10 +8,10 @@ loop-host-init c = rw c.new-own.ensures.items (AreOwn-none c.args.place c.args.w
 
 pub loop-host-preserved : goal.loop-host-preserved
 loop-host-preserved c = elim c.if-host-workers.branch [
-    then-host-workers+in_ok-push w ↦ rw (w.own-is, w.in_ok-push.ensures.items)
-        (AreOwn-take c.args.place c.args.workers c.loop-host.host c.loop-host.own.items w.if-host-workers.true c.loop-host.invariant)
+  | then-host-workers+in_ok-push w ↦ rw (w.own-is, w.in_ok-push.ensures.items)
+      (AreOwn-take c.args.place c.args.workers c.loop-host.host c.loop-host.own.items w.if-host-workers.true c.loop-host.invariant)
   | else-host-workers w ↦ rw w.own-is
-        (AreOwn-skip c.args.place c.args.workers c.loop-host.host c.loop-host.own.items w.if-host-workers.false c.loop-host.invariant)
+      (AreOwn-skip c.args.place c.args.workers c.loop-host.host c.loop-host.own.items w.if-host-workers.false c.loop-host.invariant)
 ]
 
 pub returns : goal.returns
