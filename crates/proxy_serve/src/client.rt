@@ -123,13 +123,9 @@ impl Client {
         }
     }
 
-    /// Reads nothing more, as if the input had ended.
+    /// Reads nothing more: what was asked is answered, and then the connection is closed.
     pub(crate) fn drain(&mut self) {
-        if self.stage == Stage::Served {
-            if let Ok(mut port) = self.port.try_borrow_mut() {
-                port.drain();
-            }
-        }
+        self.engine.drain();
         self.has_more = true;
     }
 

@@ -21,8 +21,6 @@ pub(crate) struct Port {
     is_readable: bool,
     // The peer sends nothing more: an end of the input stands behind what is unread.
     is_ended: bool,
-    // Nothing more is read, as if the input had ended.
-    is_drained: bool,
     // So many bytes were read.
     taken: u64,
 }
@@ -38,7 +36,6 @@ impl Port {
             output: Gatherer::new(alloc, stream),
             is_readable: true,
             is_ended: false,
-            is_drained: false,
             taken: 0,
         }
     }
@@ -54,12 +51,6 @@ impl Port {
         if event.is_writable() || event.is_write_closed() || event.is_error() {
             self.output.reopen();
         }
-    }
-
-    /// Reads nothing more: from here on a read finds the end of the input.
-    pub(crate) fn drain(&mut self) {
-        self.is_drained = true;
-        self.is_readable = true;
     }
 
     /// Reads and writes fail from here on.
@@ -108,9 +99,6 @@ impl Port {
     {
         if self.output.is_broken() {
             return Err(io::Error::from(ErrorKind::BrokenPipe));
-        }
-        if self.is_drained {
-            return Ok(0);
         }
         if !self.is_readable {
             return Err(paused());
