@@ -88,7 +88,7 @@ class Redis:
 class Proxy:
     """`redproxy serve` before some servers. The connection that asks whether it listens is counted by it too."""
 
-    def __init__(self, servers, connections=0, **settings):
+    def __init__(self, servers, connections=0, environment=None, **settings):
         self.port = free_port()
         self.room = tempfile.mkdtemp(prefix="redproxy-")
         self.names = [f"127.0.0.1:{server.port}" for server in servers]
@@ -100,7 +100,7 @@ class Proxy:
             words += ["--connections", str(connections)]
         self.errors = open(os.path.join(self.room, "errors"), "w+", encoding="utf-8")
         self.output = open(os.path.join(self.room, "output"), "w+", encoding="utf-8")
-        self.process = start(words, stdout=self.output, stderr=self.errors)
+        self.process = start(words, stdout=self.output, stderr=self.errors, env={**os.environ, **(environment or {})})
 
     def __enter__(self):
         await_port(self.port, self.process)
