@@ -112,9 +112,15 @@ fn run<
         + Net<Listener = std::net::TcpListener, Stream = std::net::TcpStream>
         + Sync,
 >(rt: &R) -> u8 {
-    let Ok(words) = env::args(rt) else {
-        let _ = eprintln!(rt; "error: the arguments are not UTF-8");
-        return BAD_COMMAND_LINE;
+    let words = match env::args(rt) {
+        Ok(words) => words,
+        Err(error) if error.kind() == io::ErrorKind::OutOfMemory => {
+            return ended(rt, Ending::Memory);
+        }
+        Err(_) => {
+            let _ = eprintln!(rt; "error: the arguments are not UTF-8");
+            return BAD_COMMAND_LINE;
+        }
     };
     let Ok(words) = words.collect::<Vec<String>>(rt.alloc()) else {
         return ended(rt, Ending::Memory);
