@@ -15,6 +15,7 @@
 mod ask;
 mod client;
 mod error;
+mod faulty;
 mod host;
 mod inbox;
 mod laws;
@@ -27,6 +28,7 @@ mod work;
 
 pub use client::{ClientEngine, Progress, Stage};
 pub use error::EngineError;
+pub use faulty::Faulty;
 pub use host::HostEngine;
 pub use inbox::READ_SIZE;
 pub use laws::{accepted_are_first, ended_is_whole, engines_leave_others, others_leave_engines};
