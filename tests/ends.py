@@ -24,6 +24,16 @@ PATIENCE = 20
 STARTED = []
 
 
+class Late(AssertionError):
+    """Something took longer than it may: on a machine that does much else a test has a second chance then."""
+
+
+def in_time(limit, what):
+    """Whether a moment of the clock is still to come; else `Late` says what didn't happen."""
+    if time.monotonic() >= limit:
+        raise Late(what)
+
+
 def free_port():
     with socket.socket() as probe:
         probe.bind(("127.0.0.1", 0))
@@ -217,8 +227,8 @@ class Stream(threading.Thread):
         super().__init__(daemon=True)
         self.proxy, self.number, self.on_end = proxy, number, on_end
         self.goes, self.wrong = True, None
-        # Replies that came, connections that were made, and those that the proxy ended.
-        self.good, self.made, self.ended = 0, 0, 0
+        # Replies that came, connections that were made, those that the proxy ended, and of them those that were reset.
+        self.good, self.made, self.ended, self.resets = 0, 0, 0, 0
         asked, wanted, self.ends = [], [], [0]
         for place in range(50):
             key, value = b"s%d-%d" % (number, place), b"%d-%d-" % (number, place) + self.MARK
@@ -246,15 +256,21 @@ class Stream(threading.Thread):
         mark = b"%010d" % turn
         with contextlib.suppress(BrokenPipeError, ConnectionResetError):
             connection.sendall(self.asked.replace(self.MARK, mark))
-        wanted, got = self.wanted.replace(self.MARK, mark), b""
+        wanted, got, is_reset = self.wanted.replace(self.MARK, mark), b"", False
         while len(got) < len(wanted):
-            piece = connection.recv(65_536)
+            try:
+                piece = connection.recv(65_536)
+            except ConnectionResetError:
+                is_reset = True
+                break
             if not piece:
                 break
             got += piece
         assert wanted.startswith(got), f"{got[-200:]!r} came of client {self.number}, pipeline {turn}"
-        assert len(got) in self.ends, "a reply was cut"
-        self.good += self.ends.index(len(got))
+        # (a reset takes bytes that had come and weren't read yet)
+        assert is_reset or len(got) in self.ends, "a reply was cut"
+        self.good += bisect.bisect_right(self.ends, len(got)) - 1
+        self.resets += is_reset
         if len(got) == len(wanted):
             return True
         self.ended += 1

@@ -129,6 +129,16 @@ impl Client {
         self.has_more = true;
     }
 
+    /// Writes what the socket takes at once, and sends nothing more. What has come is thrown away, as the end of a socket with
+    /// bytes unread would take the last answers from its peer.
+    pub(crate) fn part(&mut self, room: &mut Vec<u8>) {
+        if let Ok(mut port) = self.port.try_borrow_mut() {
+            port.write_out(room);
+            port.shut();
+            let _ = port.throw_away();
+        }
+    }
+
     /// Whether its connection isn't counted as closed yet.
     pub(crate) fn is_uncounted(&self) -> bool {
         !matches!(self.stage, Stage::Lingering { .. })

@@ -22,6 +22,10 @@ const MOST_STEPS: u32 = 4_096;
 // A host is looked at after so long at the latest, in milliseconds, so that a late reply is found.
 const LOOK_MS: u64 = 10;
 
+// For so long a link that is being made holds clients back, in milliseconds: until it stands nothing goes out to its host, and
+// what waits there has room for 1,024 parts alone. One that takes longer holds nobody back.
+const DIAL_MS: u64 = 20;
+
 // It is told again that a host can't be reached after so many milliseconds.
 const TELL_MS: u64 = 1_000;
 
@@ -89,6 +93,14 @@ impl Upstream {
     /// Where it is.
     pub(crate) fn address(&self) -> SocketAddr {
         self.address
+    }
+
+    /// Whether a link to it is being made, and that not for long.
+    pub(crate) fn is_dialled_newly(&self, now: u64) -> bool {
+        match &self.socket {
+            Socket::Dialled { since, .. } => now.saturating_sub(*since) < DIAL_MS,
+            Socket::Absent | Socket::Attached(_) => false,
+        }
     }
 
     /// Takes note of what the poll tells.

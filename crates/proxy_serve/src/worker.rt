@@ -206,13 +206,14 @@ impl<'a> Floor<'a> {
         }
     }
 
-    // The connections that are cut short are counted as closed.
+    // The connections that are cut short get what is gathered for them, and are counted as closed.
     fn leave(&mut self) {
         for key in 0..self.clients.capacity() {
             if let Some(client) = self.clients.get_mut(key) {
                 if client.is_uncounted() {
                     self.hall.house().count_closed();
                 }
+                client.part(&mut self.room);
                 self.hall.count_gone();
             }
         }
@@ -366,11 +367,15 @@ impl<'a> Floor<'a> {
                 Err(hitch) => self.bear(hitch)?,
             }
         }
-        self.note_seen(parts);
+        self.note_seen(parts, now);
         Ok(moves)
     }
 
-    fn note_seen(&self, parts: u64) {
+    // What came for a host whose link is being made isn't seen yet: too much of it holds clients back.
+    fn note_seen(&self, parts: u64, now: u64) {
+        if self.hosts.iter().any(|host| host.is_dialled_newly(now)) {
+            return;
+        }
         if let Some(desk) = self.hall.desk(self.place) {
             let seen = if self.hosts.is_empty() {
                 u64::MAX
