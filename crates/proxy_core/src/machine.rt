@@ -22,6 +22,7 @@ use journal_core::{Journal, JournalError, Step};
 use ketama::{MAX_HOSTS, Ring};
 use proxy_history::{Answer, Event, Refusal};
 use std::alloc::{AllocError, Global};
+use std::boxed::Box;
 use std::marker::Model;
 use std::snapshot::Snapshot;
 use ticket_gate::Recorded;
@@ -31,7 +32,8 @@ use ticket_gate::Recorded;
 /// Contracts see its setting, and its steps, which are a legal history.
 #[derive(Drop)]
 pub struct Core {
-    machine: Machine,
+    // On the heap, since a gate moves its state in and out at each turn.
+    machine: Box<Machine>,
 }
 
 impl Model for Core {
@@ -45,9 +47,12 @@ impl Model for Core {
 
     ghost coded = { Prim.hlevel (codes, tree_code) };
 
-    ghost view = { λ c. record { setting = setting_in c.machine; steps = c.machine.journal.steps } };
+    ghost view = { λ c. record {
+      setting = setting_in c.machine.value;
+      steps = c.machine.value.journal.steps;
+    } };
 
-    ghost invariant = { λ c. IsKept c.machine };
+    ghost invariant = { λ c. IsKept c.machine.value };
 }
 
 impl Core {
@@ -117,7 +122,9 @@ impl Core {
             connections: Connections::new(alloc),
             pipelines,
         };
-        Ok(Core { machine })
+        Ok(Core {
+            machine: Box::new(alloc, machine)?,
+        })
     }
 
     /// What another core needs to go on from here: the state of outlier detection after all steps so far, with the number of

@@ -1,23 +1,32 @@
-use Rattle.std.proofs.Common.{◌≡◌, ◌∙◌, ap, subst, arith}
+use Rattle.std.proofs.Common.{◌≡◌, ◌∙◌, ap, subst, arith, length}
 use Rattle.ejector.specs.Settings.{IsInRange}
 use Rattle.ejector.specs.Opening.{IsOpening}
 use Rattle.ejector.proofs.CallerLemmas.{in_range}
 use Rattle.proxy_history.specs.Setting.{hosts}
 use Rattle.proxy_history.specs.Proxy.{Kept}
+use Rattle.proxy_core.specs.declared.machine.Machine.{Machine}
 use Rattle.proxy_core.proofs.TurnedAsked.{asked_hosts}
 use Rattle.proxy_core.proofs.machine.Core.hosts.Goals as goal
 
 pub returns-clause-hosts : goal.returns-clause-hosts
-returns-clause-hosts c = c.len.ensures ∙ asked_hosts c.self.inside.machine c.self.invariant ∙ ap (λ (k : Kept). hosts k.setting) c.self.view_is
+returns-clause-hosts c =
+    c.len.ensures
+    ∙ ap (λ (m : Machine). length m.pipelines.states) c.deref.ensures
+    ∙ asked_hosts c.self.inside.machine.value c.self.invariant
+    ∙ ap (λ (k : Kept). hosts k.setting) c.self.view_is
 
 pub returns-clause-ring : goal.returns-clause-ring
 returns-clause-ring c =
-    let m = c.self.inside.machine in
-    c.len.ensures ∙ asked_hosts m c.self.invariant ∙ c.self.invariant.hosts ∙ ap (λ (k : Kept). k.setting.ring.hosts) c.self.view_is
+    let m = c.self.inside.machine.value in
+    c.len.ensures
+    ∙ ap (λ (k : Machine). length k.pipelines.states) c.deref.ensures
+    ∙ asked_hosts m c.self.invariant
+    ∙ c.self.invariant.hosts
+    ∙ ap (λ (k : Kept). k.setting.ring.hosts) c.self.view_is
 
 pub returns-clause-range : goal.returns-clause-range
 returns-clause-range c =
-    subst (λ (k : Kept). IsInRange k.setting.rules) c.self.view_is (in_range c.self.inside.machine.ejector.rules c.self.invariant.rules)
+    subst (λ (k : Kept). IsInRange k.setting.rules) c.self.view_is (in_range c.self.inside.machine.value.ejector.rules c.self.invariant.rules)
 
 pub returns-clause-opening : goal.returns-clause-opening
 returns-clause-opening c =
@@ -25,6 +34,7 @@ returns-clause-opening c =
 
 pub returns-clause-few : goal.returns-clause-few
 returns-clause-few c =
-    let m = c.self.inside.machine in
-    let same : c.len.result ≡ m.ejector.rules.hosts = c.len.ensures ∙ asked_hosts m c.self.invariant in
+    let m = c.self.inside.machine.value in
+    let found = ap (λ (k : Machine). length k.pipelines.states) c.deref.ensures in
+    let same : c.len.result ≡ m.ejector.rules.hosts = c.len.ensures ∙ found ∙ asked_hosts m c.self.invariant in
     omega (arith, same, (in_range m.ejector.rules c.self.invariant.rules).few_hosts)

@@ -2,8 +2,11 @@ use Rattle.std.proofs.Common.{◌∙◌, ap}
 use Rattle.proxy_history.specs.Payload.{payload}
 use Rattle.proxy_history.specs.Proxy.{Kept, history_in}
 use Rattle.proxy_core.specs.Kept.{Memory}
+use Rattle.proxy_core.specs.declared.machine.Machine.{Machine}
 use Rattle.proxy_core.proofs.machine.Core.journal.Goals as goal
 
 pub returns-clause-bytes : goal.returns-clause-bytes
 returns-clause-bytes c =
-    ap (λ (z : Memory). z.bytes) c.self.invariant.memory ∙ ap (λ (k : Kept). payload (history_in k)) c.self.view_is
+    ap (λ (m : Machine). m.journal.bytes) c.deref.ensures
+    ∙ ap (λ (z : Memory). z.bytes) c.self.invariant.memory
+    ∙ ap (λ (k : Kept). payload (history_in k)) c.self.view_is

@@ -1,6 +1,7 @@
-use Rattle.std.proofs.Common.{ap, ◌∙◌, replicate}
+use Rattle.std.proofs.Common.{ap, ◌∙◌, sym, subst, replicate}
 use Rattle.ejector.specs.declared.settings.Rules.{Rules}
 use Rattle.proxy_core.specs.Connections.{ConnectionTable}
+use Rattle.proxy_core.specs.Machine.{IsKept}
 use Rattle.proxy_core.specs.Pipelines.{no_pipeline}
 use Rattle.proxy_core.proofs.TurnedNew.{fresh_kept}
 use Rattle.proxy_core.proofs.machine.Core.with.Goals as goal
@@ -8,6 +9,7 @@ use Rattle.proxy_core.proofs.machine.Core.with.Goals as goal
 pub invariant_of-result : goal.invariant_of-result
 invariant_of-result c =
     let hosts = ap (λ (z : Rules). z.hosts) c.rules-rules.ensures.rules ∙ c.requires in
-    fresh_kept _ c.new-2.ensures.steps c.new-2.ensures.bytes (ap (λ (t : ConnectionTable). t.numbered) c.new-3.ensures) (ap (λ (t : ConnectionTable). t.closed) c.new-3.ensures)
+    subst IsKept (sym c.in_ok-new.ensures.ok)
+    (fresh_kept _ c.new-2.ensures.steps c.new-2.ensures.bytes (ap (λ (t : ConnectionTable). t.numbered) c.new-3.ensures) (ap (λ (t : ConnectionTable). t.closed) c.new-3.ensures)
     (c.in_ok-pipelines.ensures ∙ ap (λ n. replicate n no_pipeline) hosts)
-    c.requires c.of.ensures c.rules-rules.ensures.range c.rules-rules.ensures.opening
+    c.requires c.of.ensures c.rules-rules.ensures.range c.rules-rules.ensures.opening)
