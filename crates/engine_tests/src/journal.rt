@@ -1,6 +1,7 @@
 //! What a core's journal tells of a run.
 
-use proxy_core::{Answer, Core, Event, Kind, Step};
+use proxy_core::{Answer, Core, Event, Kind, Step, Trip};
+use std::test::Fail;
 
 // What a step was, without what it carries.
 #[derive(Clone, Copy, Debug, PartialEq, Eq)]
@@ -88,6 +89,73 @@ pub(crate) fn last_loss(core: &Core) -> Option<Loss> {
         }
     }
     found
+}
+
+// What the newest fault did to its host, and the epoch that it ended.
+pub(crate) fn last_trip(core: &Core) -> Option<(u64, Trip)> {
+    let journal = core.journal();
+    match journal.get(journal.len().saturating_sub(1)) {
+        Some(Step {
+            event: Event::Failed { epoch, .. },
+            answer: Answer::Lost { trip, .. },
+            ..
+        }) => Some((*epoch, *trip)),
+        _ => None,
+    }
+}
+
+// How many parts were sent in this epoch.
+pub(crate) fn sent_in(core: &Core, epoch: u64) -> usize {
+    let journal = core.journal();
+    let mut found = 0usize;
+    for i in 0..journal.len() {
+        if let Some(Step {
+            answer: Answer::Sent { epoch: sent, .. },
+            ..
+        }) = journal.get(i)
+        {
+            found = found.saturating_add(usize::from(*sent == epoch));
+        }
+    }
+    found
+}
+
+// Appends the texts of the parts that were sent in this epoch.
+pub(crate) fn put_sent(core: &Core, epoch: u64, texts: &mut Vec<u8>) -> Result<(), Fail> {
+    let journal = core.journal();
+    for i in 0..journal.len() {
+        match journal.get(i) {
+            Some(Step {
+                answer: Answer::Sent {
+                    epoch: sent, text, ..
+                },
+                ..
+            }) if *sent == epoch => texts.extend_from_slice(text.as_slice())?,
+            _ => {}
+        }
+    }
+    Ok(())
+}
+
+// How many replies were handed out before the newest command arrived.
+pub(crate) fn handed_before_last_arrival(core: &Core) -> usize {
+    let journal = core.journal();
+    let mut handed = 0usize;
+    let mut before = 0usize;
+    for i in 0..journal.len() {
+        match journal.get(i) {
+            Some(Step {
+                event: Event::Handed { .. },
+                ..
+            }) => handed = handed.saturating_add(1),
+            Some(Step {
+                event: Event::Arrived { .. },
+                ..
+            }) => before = handed,
+            _ => {}
+        }
+    }
+    before
 }
 
 // Whether two journals have the same deeds in the same order, with the same answers.

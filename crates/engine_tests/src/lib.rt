@@ -3,9 +3,13 @@
 #![tactic(auto)]
 
 #[cfg(test)]
+mod client_lies;
+#[cfg(test)]
 mod cut_tests;
 #[cfg(test)]
 mod devices;
+#[cfg(test)]
+mod host_lies;
 #[cfg(test)]
 mod journal;
 #[cfg(test)]

@@ -1,17 +1,18 @@
 //! Clients and hosts over one core, stepped in turn until nothing moves.
+ghost use Rattle.std.specs.Prelude.{◌≡◌, [], IfOk, None};
 
 use crate::devices::{Feed, HostReader, HostWriter, Pace, Sink, Source, Taken};
 use crate::journal::{Deed, last_deed};
 use crate::turns::Rationed;
 use ketama::Ring;
-use proxy_core::{Core, Settings};
+use proxy_core::{Core, Event, Refusal, Settings};
 use proxy_engines::{ClientEngine, EngineError, Faulty, HostEngine, Progress, Tallied};
 use std::alloc::Global;
 use std::cell::Cell;
 use std::sync::Wait;
 use std::test::Fail;
 use stub_server::{Act, Stub, StubLink};
-use ticket_gate::Alone;
+use ticket_gate::{Alone, TurnRefusal, Turns};
 
 pub(crate) type Client<'a> = ClientEngine<Tallied<Faulty<Source<'a>>>, Tallied<Faulty<Sink<'a>>>>;
 
@@ -128,6 +129,14 @@ impl<'a> Rig<'a> {
         self.turns.core()
     }
 
+    // Why a turn of the test's own is refused.
+    pub(crate) fn refusal<Rt: Wait>(&mut self, rt: &Rt, event: Event) -> Option<Refusal> {
+        match self.turns.turn(rt, event) {
+            Err(TurnRefusal::State { cause, .. }) => Some(cause),
+            _ => None,
+        }
+    }
+
     // One step of one client.
     pub(crate) fn step_client<Rt: Wait>(
         &mut self,
@@ -136,6 +145,17 @@ impl<'a> Rig<'a> {
     ) -> Result<Result<Progress, EngineError>, Fail> {
         let client = self.clients.get_mut(place).ok_or("no such client")?;
         Ok(client.step(rt, &mut self.turns))
+    }
+
+    // One step of one host.
+    pub(crate) fn step_host<Rt: Wait>(
+        &mut self,
+        rt: &Rt,
+        place: usize,
+        moment: u64,
+    ) -> Result<Result<Progress, EngineError>, Fail> {
+        let host = self.hosts.get_mut(place).ok_or("no such host")?;
+        Ok(host.step(rt, &mut self.turns, moment))
     }
 
     // One step of each client. False says that none moved.
