@@ -119,7 +119,8 @@ fn second_replies_end_the_link(rt: HostRuntime) -> Result<(), Fail> {
 fn garbled_replies_end_the_link(rt: HostRuntime) -> Result<(), Fail> {
     let talk = Talk::new(rt.alloc(), Feed::open(GET), Feed::open(b""));
     let mut rig = talk.rig(&rt)?;
-    rig.links.push(Link::to_stub(rt.alloc(), &[Act::Garble], &talk.asked)?)?;
+    rig.links
+        .push(Link::to_stub(rt.alloc(), &[Act::Garble], &talk.asked)?)?;
     rig.run(&rt, 3)?;
     assert!(rt; talk.answered.is(FAILURE));
     let loss = Loss {
@@ -130,7 +131,8 @@ fn garbled_replies_end_the_link(rt: HostRuntime) -> Result<(), Fail> {
     };
     assert_eq!(rt; last_loss(rig.core()), Some(loss));
     talk.client.set(Feed::whole(GET));
-    rig.links.push(Link::to_stub(rt.alloc(), &[], &talk.asked)?)?;
+    rig.links
+        .push(Link::to_stub(rt.alloc(), &[], &talk.asked)?)?;
     rig.run(&rt, 4)?;
     assert!(rt; talk.answered.is(b"-upstream failure\r\n$-1\r\n"));
     assert_eq!(rt; count(rig.core(), Deed::Failed), 1);
@@ -139,11 +141,14 @@ fn garbled_replies_end_the_link(rt: HostRuntime) -> Result<(), Fail> {
 }
 
 // An array of 65,536 bulk strings, the first of them as long as said, whose text has 8,388,496 bytes and the first.
-const HEAD_TO_LIMIT: &[u8] = b"*65536\r\n$112\r\n0123456789012345678901234567890123456789012345678901234567890123456789012345678901234567890123456789012345678901\r\n";
+const HEAD_TO_LIMIT: &[u8] =
+    b"*65536\r\n$112\r\n0123456789012345678901234567890123456789012345678901234567890123456789012345678901234567890123456789012345678901\r\n";
 
-const HEAD_PAST_LIMIT: &[u8] = b"*65536\r\n$113\r\n01234567890123456789012345678901234567890123456789012345678901234567890123456789012345678901234567890123456789012\r\n";
+const HEAD_PAST_LIMIT: &[u8] =
+    b"*65536\r\n$113\r\n01234567890123456789012345678901234567890123456789012345678901234567890123456789012345678901234567890123456789012\r\n";
 
-const MEMBER: &[u8] = b"$120\r\n012345678901234567890123456789012345678901234567890123456789012345678901234567890123456789012345678901234567890123456789\r\n";
+const MEMBER: &[u8] =
+    b"$120\r\n012345678901234567890123456789012345678901234567890123456789012345678901234567890123456789012345678901234567890123456789\r\n";
 
 // A reply of 8,388,608 bytes goes out as it came. One a byte longer is refused.
 #[test]
@@ -200,13 +205,13 @@ fn held_replies_are_late(rt: HostRuntime) -> Result<(), Fail> {
 #[test]
 fn held_commands_wait_for_room(rt: HostRuntime) -> Result<(), Fail> {
     let talk = Talk::new(rt.alloc(), Feed::repeated(GET, 1_025), Feed::open(b""));
+    let late = Taken::new(rt.alloc());
     let mut rig = talk.linked(&rt)?;
     rig.run(&rt, 0)?;
     assert_eq!(rt; count(rig.core(), Deed::Arrived), 1_024);
     assert_eq!(rt; talk.client.get().times, 0);
     assert_eq!(rt; sent_in(rig.core(), 0), 1_024);
     assert!(rt; talk.asked.is_repeated(GET, 1_024));
-    let late = Taken::new(rt.alloc());
     rig.links.push(Link::to_stub(rt.alloc(), &[], &late)?)?;
     rig.run(&rt, REPLY_MS)?;
     let loss = Loss {
@@ -229,7 +234,8 @@ fn held_commands_wait_for_room(rt: HostRuntime) -> Result<(), Fail> {
 }
 
 // Four parts: their texts have 87 bytes, and the replies of an empty stub 26.
-const FOUR_PARTS: &[u8] = b"*3\r\n$3\r\nSET\r\n$1\r\na\r\n$1\r\n1\r\n*2\r\n$3\r\nGET\r\n$1\r\na\r\n*3\r\n$4\r\nMGET\r\n$1\r\na\r\n$1\r\na\r\n";
+const FOUR_PARTS: &[u8] =
+    b"*3\r\n$3\r\nSET\r\n$1\r\na\r\n$1\r\n1\r\n*2\r\n$3\r\nGET\r\n$1\r\na\r\n*3\r\n$4\r\nMGET\r\n$1\r\na\r\n$1\r\na\r\n";
 
 // The first of two links fails after so many bytes, if they come to pass: that is told once, and each part is sent once at most
 // and answered or lost.
@@ -245,7 +251,11 @@ fn check_link<Rt: Wait + AllocGlobal + Abort>(
     let mut rig = talk.rig(rt)?;
     rig.links.push(Link::to_stub(alloc, &[], &later)?)?;
     let first = Link::to_stub(alloc, &[], &talk.asked)?;
-    rig.links.push(Link { reads, writes, ..first })?;
+    rig.links.push(Link {
+        reads,
+        writes,
+        ..first
+    })?;
     rig.run(rt, 3)?;
     let fault = error.map(|error| Fault {
         error,
@@ -256,7 +266,10 @@ fn check_link<Rt: Wait + AllocGlobal + Abort>(
     assert_eq!(rt; count(core, Deed::Failed), usize::from(error.is_some()));
     assert_eq!(rt; count(core, Deed::Handed), 3);
     let lost = last_loss(core).map_or(0, |loss| loss.parts);
-    assert_eq!(rt; (count(core, Deed::Answered) as u64).saturating_add(lost), 4);
+    assert_eq!(rt;
+        (count(core, Deed::Answered) as u64).saturating_add(lost),
+        4
+    );
     let mut sent = Vec::new(alloc);
     put_sent(core, 0, &mut sent)?;
     assert!(rt; talk.asked.begins(sent.as_slice()));
@@ -293,7 +306,8 @@ fn links_are_asked_for_where_bytes_wait(rt: HostRuntime) -> Result<(), Fail> {
         assert_eq!(rt; rig.step_host(&rt, 0, 0)?, Ok(Progress::NeedsLink));
     }
     let acts = [Act::Reply, Act::Drop];
-    rig.links.push(Link::to_stub(rt.alloc(), &acts, &talk.asked)?)?;
+    rig.links
+        .push(Link::to_stub(rt.alloc(), &acts, &talk.asked)?)?;
     rig.run(&rt, 0)?;
     assert_eq!(rt; rig.step_host(&rt, 0, 0)?, Ok(Progress::Idle));
     talk.client.set(Feed::open(GET));
@@ -308,6 +322,7 @@ fn links_are_asked_for_where_bytes_wait(rt: HostRuntime) -> Result<(), Fail> {
 }
 
 // A command of three parts, what a host replies to them, and what the client is answered.
+#[derive(Clone, Copy)]
 struct Joined {
     request: &'static [u8],
     replies: &'static [u8],

@@ -95,11 +95,13 @@ pub(crate) fn last_loss(core: &Core) -> Option<Loss> {
 pub(crate) fn last_trip(core: &Core) -> Option<(u64, Trip)> {
     let journal = core.journal();
     match journal.get(journal.len().saturating_sub(1)) {
-        Some(Step {
-            event: Event::Failed { epoch, .. },
-            answer: Answer::Lost { trip, .. },
-            ..
-        }) => Some((*epoch, *trip)),
+        Some(
+            Step {
+                event: Event::Failed { epoch, .. },
+                answer: Answer::Lost { trip, .. },
+                ..
+            },
+        ) => Some((*epoch, *trip)),
         _ => None,
     }
 }
@@ -109,10 +111,12 @@ pub(crate) fn sent_in(core: &Core, epoch: u64) -> usize {
     let journal = core.journal();
     let mut found = 0usize;
     for i in 0..journal.len() {
-        if let Some(Step {
-            answer: Answer::Sent { epoch: sent, .. },
-            ..
-        }) = journal.get(i)
+        if let Some(
+            Step {
+                answer: Answer::Sent { epoch: sent, .. },
+                ..
+            },
+        ) = journal.get(i)
         {
             found = found.saturating_add(usize::from(*sent == epoch));
         }
@@ -125,12 +129,16 @@ pub(crate) fn put_sent(core: &Core, epoch: u64, texts: &mut Vec<u8>) -> Result<(
     let journal = core.journal();
     for i in 0..journal.len() {
         match journal.get(i) {
-            Some(Step {
-                answer: Answer::Sent {
-                    epoch: sent, text, ..
+            Some(
+                Step {
+                    answer: Answer::Sent {
+                        epoch: sent,
+                        text,
+                        ..
+                    },
+                    ..
                 },
-                ..
-            }) if *sent == epoch => texts.extend_from_slice(text.as_slice())?,
+            ) if *sent == epoch => texts.extend_from_slice(text.as_slice())?,
             _ => {}
         }
     }
@@ -144,14 +152,18 @@ pub(crate) fn handed_before_last_arrival(core: &Core) -> usize {
     let mut before = 0usize;
     for i in 0..journal.len() {
         match journal.get(i) {
-            Some(Step {
-                event: Event::Handed { .. },
-                ..
-            }) => handed = handed.saturating_add(1),
-            Some(Step {
-                event: Event::Arrived { .. },
-                ..
-            }) => before = handed,
+            Some(
+                Step {
+                    event: Event::Handed { .. },
+                    ..
+                },
+            ) => handed = handed.saturating_add(1),
+            Some(
+                Step {
+                    event: Event::Arrived { .. },
+                    ..
+                },
+            ) => before = handed,
             _ => {}
         }
     }
