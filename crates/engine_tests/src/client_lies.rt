@@ -4,6 +4,8 @@ use crate::cut_tests::SET_AND_MGET;
 use crate::devices::{Feed, Pace, Taken};
 use crate::journal::{Deed, count};
 use crate::rig::{Ends, Fault, Link, Rig};
+use crate::scene::Scene;
+use crate::turns::Ration;
 use proxy_core::{Event, Refusal, Request};
 use proxy_engines::{EngineError, Progress};
 use std::cell::Cell;
@@ -36,7 +38,7 @@ fn check_writer<Rt: Wait + AllocGlobal + Abort>(
 ) -> Result<(), Fail> {
     let (asked, answered) = (Taken::new(rt.alloc()), Taken::new(rt.alloc()));
     let says = Cell::new(Feed::whole(SET_AND_MGET.0));
-    let mut rig = Rig::of_stubs(rt.alloc(), 0, &asked)?;
+    let mut rig = Rig::of_stubs(rt.alloc(), Ration::Free, &asked)?;
     let ends = Ends::paced(&says, Pace::FREE, &answered, pace);
     rig.open(rt, Ends { writes, ..ends })?;
     rig.run(rt, 0)?;
@@ -73,7 +75,7 @@ fn failing_readers_cut(rt: HostRuntime) -> Result<(), Fail> {
         for pace in [Pace::FREE, Pace::of(1)] {
             let (asked, answered) = (Taken::new(rt.alloc()), Taken::new(rt.alloc()));
             let says = Cell::new(Feed::whole(text));
-            let mut rig = Rig::of_stubs(rt.alloc(), 0, &asked)?;
+            let mut rig = Rig::of_stubs(rt.alloc(), Ration::Free, &asked)?;
             let ends = Ends::paced(&says, pace, &answered, Pace::FREE);
             let reads = len as u64;
             rig.open(&rt, Ends { reads, ..ends })?;
@@ -108,7 +110,7 @@ fn check_beside<Rt: Wait + AllocGlobal + Abort>(
     let (asked, answered, other) = (Taken::new(alloc), Taken::new(alloc), Taken::new(alloc));
     let says = Cell::new(Feed::whole(SET_AND_MGET.0));
     let others = Cell::new(Feed::whole(OTHER.0));
-    let mut rig = Rig::of_stubs(alloc, 0, &asked)?;
+    let mut rig = Rig::of_stubs(alloc, Ration::Free, &asked)?;
     let ends = Ends::paced(&says, Pace::of(3), &answered, Pace::of(2));
     rig.open(
         rt,
@@ -159,15 +161,14 @@ const GET: &[u8] = b"*2\r\n$3\r\nGET\r\n$1\r\na\r\n";
 // nothing moves while the client takes nothing; and nothing is lost.
 #[test]
 fn clients_that_never_read_stop_all(rt: HostRuntime) -> Result<(), Fail> {
-    let (asked, answered) = (Taken::new(rt.alloc()), Taken::new(rt.alloc()));
-    answered.is_shut.set(true);
-    let says = Cell::new(Feed::repeated(GET, 1_030));
-    let mut rig = Rig::new(rt.alloc(), 3, 0)?;
-    rig.open(&rt, Ends::new(&says, &answered))?;
+    let scene = Scene::new(rt.alloc(), Feed::repeated(GET, 1_030), Feed::open(b""));
+    scene.answered.is_shut.set(true);
+    let mut rig = scene.rig(&rt)?;
     rig.run(&rt, 0)?;
     assert_eq!(rt; count(rig.core(), Deed::Arrived), 1_024);
-    assert_eq!(rt; says.get().times, 5);
-    rig.links.push(Link::to_stub(rt.alloc(), &[], &asked)?)?;
+    assert_eq!(rt; scene.client.get().times, 5);
+    rig.links
+        .push(Link::to_stub(rt.alloc(), &[], &scene.asked)?)?;
     rig.run(&rt, 0)?;
     let steps = rig.core().journal().len();
     for _ in 0..50 {
@@ -176,11 +177,11 @@ fn clients_that_never_read_stop_all(rt: HostRuntime) -> Result<(), Fail> {
     assert_eq!(rt; rig.core().journal().len(), steps);
     assert_eq!(rt; count(rig.core(), Deed::Arrived), 1_024);
     assert_eq!(rt; count(rig.core(), Deed::Answered), 1_024);
-    assert_eq!(rt; says.get().times, 5);
-    assert_eq!(rt; answered.len(), 0);
-    answered.is_shut.set(false);
+    assert_eq!(rt; scene.client.get().times, 5);
+    assert_eq!(rt; scene.answered.len(), 0);
+    scene.answered.is_shut.set(false);
     rig.run(&rt, 0)?;
-    assert!(rt; answered.is_repeated(b"$-1\r\n", 1_030));
+    assert!(rt; scene.answered.is_repeated(b"$-1\r\n", 1_030));
     assert_eq!(rt; (rig.of_client, rig.of_host), (None, None));
     Ok(())
 }

@@ -1,13 +1,13 @@
 //! Hosts that answer in part, too much, wrongly, late or never, over links that fail at any byte.
 
-use crate::devices::{Feed, Taken};
+use crate::devices::Feed;
 use crate::journal::{
     Deed, Loss, count, handed_before_last_arrival, last_loss, last_trip, put_sent, sent_in,
 };
-use crate::rig::{Ends, Fault, Link, REPLY_MS, Rig};
+use crate::rig::{Fault, Link, REPLY_MS, Rig};
+use crate::scene::Scene;
 use proxy_core::{Event, Kind, Trip};
 use proxy_engines::{EngineError, Progress};
-use std::alloc::Global;
 use std::cell::Cell;
 use std::process::Abort;
 use std::sync::Wait;
@@ -22,50 +22,16 @@ const FAILURE: &[u8] = b"-upstream failure\r\n";
 
 const NOTHING: &[u8] = b"$-1\r\n";
 
-// What one client and one host say, and what both are told.
-#[derive(Drop)]
-struct Talk {
-    client: Cell<Feed>,
-    host: Cell<Feed>,
-    answered: Taken,
-    asked: Taken,
-}
-
-impl Talk {
-    fn new(alloc: Global, client: Feed, host: Feed) -> Talk {
-        Talk {
-            client: Cell::new(client),
-            host: Cell::new(host),
-            answered: Taken::new(alloc),
-            asked: Taken::new(alloc),
-        }
-    }
-
-    // The engines of both, without a link between them.
-    fn rig<'a, Rt: Wait + AllocGlobal>(&'a self, rt: &Rt) -> Result<Rig<'a>, Fail> {
-        let mut rig = Rig::new(rt.alloc(), 1, 0)?;
-        rig.open(rt, Ends::new(&self.client, &self.answered))?;
-        Ok(rig)
-    }
-
-    // The same with a link to the host, which says what it says whatever it is asked.
-    fn linked<'a, Rt: Wait + AllocGlobal>(&'a self, rt: &Rt) -> Result<Rig<'a>, Fail> {
-        let mut rig = self.rig(rt)?;
-        rig.links.push(Link::to_text(&self.host, &self.asked))?;
-        Ok(rig)
-    }
-}
-
 // After each byte of a reply but the last, the end: the link is dropped and the part lost.
 #[test]
 fn half_replies_are_lost(rt: HostRuntime) -> Result<(), Fail> {
     let reply = b"$1\r\nx\r\n";
     for len in 0..reply.len() {
         let (half, _) = reply.split_at(len);
-        let talk = Talk::new(rt.alloc(), Feed::whole(GET), Feed::whole(half));
-        let mut rig = talk.linked(&rt)?;
+        let scene = Scene::new(rt.alloc(), Feed::whole(GET), Feed::whole(half));
+        let mut rig = scene.linked(&rt)?;
         rig.run(&rt, 3)?;
-        assert!(rt; talk.answered.is(FAILURE));
+        assert!(rt; scene.answered.is(FAILURE));
         let loss = Loss {
             kind: Kind::Dropped,
             epoch: 0,
@@ -83,10 +49,10 @@ fn half_replies_are_lost(rt: HostRuntime) -> Result<(), Fail> {
 // put aside at the fourth that follows.
 #[test]
 fn second_replies_end_the_link(rt: HostRuntime) -> Result<(), Fail> {
-    let talk = Talk::new(rt.alloc(), Feed::whole(SET), Feed::open(b"+OK\r\n+OK\r\n"));
-    let mut rig = talk.linked(&rt)?;
+    let scene = Scene::new(rt.alloc(), Feed::whole(SET), Feed::open(b"+OK\r\n+OK\r\n"));
+    let mut rig = scene.linked(&rt)?;
     rig.run(&rt, 3)?;
-    assert!(rt; talk.answered.is(b"+OK\r\n"));
+    assert!(rt; scene.answered.is(b"+OK\r\n"));
     let loss = Loss {
         kind: Kind::Garbled,
         epoch: 0,
@@ -117,12 +83,12 @@ fn second_replies_end_the_link(rt: HostRuntime) -> Result<(), Fail> {
 // A garbled reply loses its part, and the next command goes over a new link.
 #[test]
 fn garbled_replies_end_the_link(rt: HostRuntime) -> Result<(), Fail> {
-    let talk = Talk::new(rt.alloc(), Feed::open(GET), Feed::open(b""));
-    let mut rig = talk.rig(&rt)?;
+    let scene = Scene::new(rt.alloc(), Feed::open(GET), Feed::open(b""));
+    let mut rig = scene.rig(&rt)?;
     rig.links
-        .push(Link::to_stub(rt.alloc(), &[Act::Garble], &talk.asked)?)?;
+        .push(Link::to_stub(rt.alloc(), &[Act::Garble], &scene.asked)?)?;
     rig.run(&rt, 3)?;
-    assert!(rt; talk.answered.is(FAILURE));
+    assert!(rt; scene.answered.is(FAILURE));
     let loss = Loss {
         kind: Kind::Garbled,
         epoch: 0,
@@ -130,49 +96,82 @@ fn garbled_replies_end_the_link(rt: HostRuntime) -> Result<(), Fail> {
         t: 3,
     };
     assert_eq!(rt; last_loss(rig.core()), Some(loss));
-    talk.client.set(Feed::whole(GET));
+    scene.client.set(Feed::whole(GET));
     rig.links
-        .push(Link::to_stub(rt.alloc(), &[], &talk.asked)?)?;
+        .push(Link::to_stub(rt.alloc(), &[], &scene.asked)?)?;
     rig.run(&rt, 4)?;
-    assert!(rt; talk.answered.is(b"-upstream failure\r\n$-1\r\n"));
+    assert!(rt; scene.answered.is(b"-upstream failure\r\n$-1\r\n"));
     assert_eq!(rt; count(rig.core(), Deed::Failed), 1);
     assert_eq!(rt; sent_in(rig.core(), 1), 1);
     Ok(())
 }
 
-// An array of 65,536 bulk strings, the first of them as long as said, whose text has 8,388,496 bytes and the first.
-const HEAD_TO_LIMIT: &[u8] =
-    b"*65536\r\n$112\r\n0123456789012345678901234567890123456789012345678901234567890123456789012345678901234567890123456789012345678901\r\n";
+const ZEROS: &[u8] = &[b'0'; 1_024];
 
-const HEAD_PAST_LIMIT: &[u8] =
-    b"*65536\r\n$113\r\n01234567890123456789012345678901234567890123456789012345678901234567890123456789012345678901234567890123456789012\r\n";
-
-const MEMBER: &[u8] =
-    b"$120\r\n012345678901234567890123456789012345678901234567890123456789012345678901234567890123456789012345678901234567890123456789\r\n";
+// Has the host say the head of a bulk string, so many times 1,024 zeros, some more, and its end. What it says is kept.
+fn say<Rt: Wait>(
+    rt: &Rt,
+    scene: &Scene,
+    rig: &mut Rig<'_>,
+    bulk: (&'static [u8], u32, usize),
+    said: &mut Vec<u8>,
+) -> Result<(), Fail> {
+    let (head, blocks, more) = bulk;
+    let (more, _) = ZEROS.split_at(more.min(ZEROS.len()));
+    for feed in [
+        Feed {
+            now: head,
+            ..Feed::repeated(ZEROS, blocks)
+        },
+        Feed::open(more),
+        Feed::open(b"\r\n"),
+    ] {
+        scene.host.set(feed);
+        rig.run(rt, 3)?;
+        said.extend_from_slice(feed.now)?;
+        for _ in 0..feed.times {
+            said.extend_from_slice(feed.later)?;
+        }
+    }
+    Ok(())
+}
 
 // A reply of 8,388,608 bytes goes out as it came. One a byte longer is refused.
 #[test]
 fn replies_have_a_greatest_length(rt: HostRuntime) -> Result<(), Fail> {
-    let mut text = Vec::new(rt.alloc());
-    text.extend_from_slice(HEAD_TO_LIMIT)?;
-    for _ in 0..65_535 {
-        text.extend_from_slice(MEMBER)?;
-    }
-    assert_eq!(rt; text.len(), 8_388_608);
-    for (head, answer) in [(HEAD_TO_LIMIT, text.as_slice()), (HEAD_PAST_LIMIT, FAILURE)] {
-        let says = Feed {
-            now: head,
-            ..Feed::repeated(MEMBER, 65_535)
-        };
-        let talk = Talk::new(rt.alloc(), Feed::whole(GET), says);
-        let mut rig = talk.linked(&rt)?;
+    let lasts: [(&[u8], u32, usize); 2] = [(b"$65426\r\n", 63, 914), (b"$65427\r\n", 63, 915)];
+    for last in lasts {
+        let scene = Scene::new(rt.alloc(), Feed::open(GET), Feed::open(b""));
+        let mut rig = scene.linked(&rt)?;
         rig.run(&rt, 3)?;
-        assert!(rt; talk.answered.is(answer));
-        let garbled = match last_loss(rig.core()) {
-            None => false,
-            Some(loss) => loss.kind == Kind::Garbled && loss.parts == 1,
-        };
-        assert_eq!(rt; garbled, head == HEAD_PAST_LIMIT);
+        let mut said = Vec::new(rt.alloc());
+        said.extend_from_slice(b"*9\r\n")?;
+        scene.host.set(Feed::open(b"*9\r\n"));
+        for _ in 0..8 {
+            rig.run(&rt, 3)?;
+            say(
+                &rt,
+                &scene,
+                &mut rig,
+                (b"$1040384\r\n", 1_016, 0),
+                &mut said,
+            )?;
+        }
+        say(&rt, &scene, &mut rig, last, &mut said)?;
+        if said.len() == 8_388_608 {
+            assert!(rt; scene.answered.is(said.as_slice()));
+            assert_eq!(rt; last_loss(rig.core()), None);
+        } else {
+            assert_eq!(rt; said.len(), 8_388_609);
+            assert!(rt; scene.answered.is(FAILURE));
+            let loss = Loss {
+                kind: Kind::Garbled,
+                epoch: 0,
+                parts: 1,
+                t: 3,
+            };
+            assert_eq!(rt; last_loss(rig.core()), Some(loss));
+        }
     }
     Ok(())
 }
@@ -180,8 +179,8 @@ fn replies_have_a_greatest_length(rt: HostRuntime) -> Result<(), Fail> {
 // A part that was taken at the moment 10 is late at 5,010, and not a millisecond earlier.
 #[test]
 fn held_replies_are_late(rt: HostRuntime) -> Result<(), Fail> {
-    let talk = Talk::new(rt.alloc(), Feed::open(GET), Feed::open(b""));
-    let mut rig = talk.linked(&rt)?;
+    let scene = Scene::new(rt.alloc(), Feed::open(GET), Feed::open(b""));
+    let mut rig = scene.linked(&rt)?;
     rig.run(&rt, 10)?;
     let steps = rig.core().journal().len();
     rig.run(&rt, 5_009)?;
@@ -196,7 +195,7 @@ fn held_replies_are_late(rt: HostRuntime) -> Result<(), Fail> {
     assert_eq!(rt; last_loss(rig.core()), Some(loss));
     assert_eq!(rt; rig.core().journal().len(), steps.saturating_add(1));
     rig.run(&rt, 5_010)?;
-    assert!(rt; talk.answered.is(FAILURE));
+    assert!(rt; scene.answered.is(FAILURE));
     Ok(())
 }
 
@@ -204,15 +203,15 @@ fn held_replies_are_late(rt: HostRuntime) -> Result<(), Fail> {
 // link then.
 #[test]
 fn held_commands_wait_for_room(rt: HostRuntime) -> Result<(), Fail> {
-    let talk = Talk::new(rt.alloc(), Feed::repeated(GET, 1_025), Feed::open(b""));
-    let late = Taken::new(rt.alloc());
-    let mut rig = talk.linked(&rt)?;
+    let scene = Scene::new(rt.alloc(), Feed::repeated(GET, 1_025), Feed::open(b""));
+    let mut rig = scene.linked(&rt)?;
     rig.run(&rt, 0)?;
     assert_eq!(rt; count(rig.core(), Deed::Arrived), 1_024);
-    assert_eq!(rt; talk.client.get().times, 0);
+    assert_eq!(rt; scene.client.get().times, 0);
     assert_eq!(rt; sent_in(rig.core(), 0), 1_024);
-    assert!(rt; talk.asked.is_repeated(GET, 1_024));
-    rig.links.push(Link::to_stub(rt.alloc(), &[], &late)?)?;
+    assert!(rt; scene.asked.is_repeated(GET, 1_024));
+    rig.links
+        .push(Link::to_stub(rt.alloc(), &[], &scene.asked_later)?)?;
     rig.run(&rt, REPLY_MS)?;
     let loss = Loss {
         kind: Kind::Late,
@@ -227,9 +226,9 @@ fn held_commands_wait_for_room(rt: HostRuntime) -> Result<(), Fail> {
         answers.extend_from_slice(FAILURE)?;
     }
     answers.extend_from_slice(NOTHING)?;
-    assert!(rt; talk.answered.is(answers.as_slice()));
+    assert!(rt; scene.answered.is(answers.as_slice()));
     assert_eq!(rt; sent_in(rig.core(), 1), 1);
-    assert!(rt; late.is(GET));
+    assert!(rt; scene.asked_later.is(GET));
     Ok(())
 }
 
@@ -246,11 +245,11 @@ fn check_link<Rt: Wait + AllocGlobal + Abort>(
     error: Option<EngineError>,
 ) -> Result<(), Fail> {
     let alloc = rt.alloc();
-    let talk = Talk::new(alloc, Feed::whole(FOUR_PARTS), Feed::open(b""));
-    let later = Taken::new(alloc);
-    let mut rig = talk.rig(rt)?;
-    rig.links.push(Link::to_stub(alloc, &[], &later)?)?;
-    let first = Link::to_stub(alloc, &[], &talk.asked)?;
+    let scene = Scene::new(alloc, Feed::whole(FOUR_PARTS), Feed::open(b""));
+    let mut rig = scene.rig(rt)?;
+    rig.links
+        .push(Link::to_stub(alloc, &[], &scene.asked_later)?)?;
+    let first = Link::to_stub(alloc, &[], &scene.asked)?;
     rig.links.push(Link {
         reads,
         writes,
@@ -272,10 +271,10 @@ fn check_link<Rt: Wait + AllocGlobal + Abort>(
     );
     let mut sent = Vec::new(alloc);
     put_sent(core, 0, &mut sent)?;
-    assert!(rt; talk.asked.begins(sent.as_slice()));
+    assert!(rt; scene.asked.begins(sent.as_slice()));
     sent.clear();
     put_sent(core, 1, &mut sent)?;
-    assert!(rt; later.is(sent.as_slice()));
+    assert!(rt; scene.asked_later.is(sent.as_slice()));
     assert!(rt; count(core, Deed::Taken) <= 4);
     Ok(())
 }
@@ -296,28 +295,28 @@ fn failing_links_are_dropped_once(rt: HostRuntime) -> Result<(), Fail> {
 #[test]
 fn links_are_asked_for_where_bytes_wait(rt: HostRuntime) -> Result<(), Fail> {
     let ping = b"*1\r\n$4\r\nPING\r\n";
-    let talk = Talk::new(rt.alloc(), Feed::open(ping), Feed::open(b""));
-    let mut rig = talk.rig(&rt)?;
+    let scene = Scene::new(rt.alloc(), Feed::open(ping), Feed::open(b""));
+    let mut rig = scene.rig(&rt)?;
     rig.run(&rt, 0)?;
     assert_eq!(rt; rig.step_host(&rt, 0, 0)?, Ok(Progress::Idle));
-    talk.client.set(Feed::open(GET));
+    scene.client.set(Feed::open(GET));
     rig.run(&rt, 0)?;
     for _ in 0..3 {
         assert_eq!(rt; rig.step_host(&rt, 0, 0)?, Ok(Progress::NeedsLink));
     }
     let acts = [Act::Reply, Act::Drop];
     rig.links
-        .push(Link::to_stub(rt.alloc(), &acts, &talk.asked)?)?;
+        .push(Link::to_stub(rt.alloc(), &acts, &scene.asked)?)?;
     rig.run(&rt, 0)?;
     assert_eq!(rt; rig.step_host(&rt, 0, 0)?, Ok(Progress::Idle));
-    talk.client.set(Feed::open(GET));
+    scene.client.set(Feed::open(GET));
     rig.run(&rt, 0)?;
     assert_eq!(rt; count(rig.core(), Deed::Failed), 1);
     assert_eq!(rt; rig.step_host(&rt, 0, 0)?, Ok(Progress::Idle));
-    talk.client.set(Feed::open(GET));
+    scene.client.set(Feed::open(GET));
     rig.run(&rt, 0)?;
     assert_eq!(rt; rig.step_host(&rt, 0, 0)?, Ok(Progress::NeedsLink));
-    assert!(rt; talk.answered.is(b"+PONG\r\n$-1\r\n-upstream failure\r\n"));
+    assert!(rt; scene.answered.is(b"+PONG\r\n$-1\r\n-upstream failure\r\n"));
     Ok(())
 }
 
@@ -410,13 +409,13 @@ const ERRORS: [Joined; 13] = [
 #[test]
 fn errors_of_parts_are_joined(rt: HostRuntime) -> Result<(), Fail> {
     for row in ERRORS {
-        let talk = Talk::new(rt.alloc(), Feed::open(row.request), Feed::open(b""));
-        let mut rig = talk.linked(&rt)?;
+        let scene = Scene::new(rt.alloc(), Feed::open(row.request), Feed::open(b""));
+        let mut rig = scene.linked(&rt)?;
         rig.run(&rt, 0)?;
         assert_eq!(rt; count(rig.core(), Deed::Taken), 3);
-        talk.host.set(Feed::open(row.replies));
+        scene.host.set(Feed::open(row.replies));
         rig.run(&rt, 0)?;
-        assert!(rt; talk.answered.is(row.answer));
+        assert!(rt; scene.answered.is(row.answer));
         assert_eq!(rt; count(rig.core(), Deed::Failed), 0);
     }
     Ok(())

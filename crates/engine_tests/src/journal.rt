@@ -170,16 +170,66 @@ pub(crate) fn handed_before_last_arrival(core: &Core) -> usize {
     before
 }
 
-// Whether two journals have the same deeds in the same order, with the same answers.
-pub(crate) fn are_alike(one: &Core, other: &Core) -> bool {
-    let (one, other) = (one.journal(), other.journal());
-    for i in 0..one.len() {
-        match (one.get(i), other.get(i)) {
-            (Some(one), Some(other))
-                if Deed::of(&one.event) == Deed::of(&other.event) && one.answer == other.answer =>
-                {}
+// Whose step it is: of a client's connection, or of a host.
+#[derive(Clone, Copy, Debug, PartialEq, Eq)]
+enum Whose {
+    Client,
+    Host(usize),
+    Nobody,
+}
+
+impl Whose {
+    fn of(event: &Event) -> Whose {
+        match event {
+            Event::Taken { host } | Event::Answered { host, .. } | Event::Failed { host, .. } => {
+                Whose::Host(*host)
+            }
+            Event::Swept { .. } => Whose::Nobody,
+            _ => Whose::Client,
+        }
+    }
+}
+
+// The first step of this one from a place on, and the place behind it.
+fn next_of(core: &Core, whose: Whose, from: usize) -> Option<(&Step<Event, Answer>, usize)> {
+    let journal = core.journal();
+    for i in from..journal.len() {
+        if let Some(step) = journal.get(i) {
+            if Whose::of(&step.event) == whose {
+                return Some((step, i.saturating_add(1)));
+            }
+        }
+    }
+    None
+}
+
+// Whether this one did the same in both journals, in the same order and with the same answers.
+fn goes_alike(one: &Core, other: &Core, whose: Whose) -> bool {
+    let (mut i, mut j) = (0, 0);
+    for _ in 0..=one.journal().len() {
+        match (next_of(one, whose, i), next_of(other, whose, j)) {
+            (None, None) => return true,
+            (Some((step, behind)), Some((other, behind_other)))
+                if Deed::of(&step.event) == Deed::of(&other.event) && step.answer == other.answer =>
+                {
+                    i = behind;
+                    j = behind_other;
+                }
             _ => return false,
         }
     }
-    one.len() == other.len()
+    false
+}
+
+// Whether the one client and each of three hosts did the same in both journals, whoever came first.
+pub(crate) fn go_alike(one: &Core, other: &Core) -> bool {
+    one.journal().len() == other.journal().len()
+        && [
+            Whose::Client,
+            Whose::Host(0),
+            Whose::Host(1),
+            Whose::Host(2),
+        ]
+        .iter()
+        .all(|whose| goes_alike(one, other, *whose))
 }

@@ -13,6 +13,10 @@ mod host_lies;
 #[cfg(test)]
 mod journal;
 #[cfg(test)]
+mod refusal_tests;
+#[cfg(test)]
 mod rig;
+#[cfg(test)]
+mod scene;
 #[cfg(test)]
 mod turns;

@@ -8,25 +8,55 @@ use proxy_core::{Answer, Core, CoreTurns, Event, Refusal};
 use std::sync::Wait;
 use ticket_gate::{Alone, TurnRefusal, Turns};
 
-// Turns of which each `every`th is refused, and none where that is 0.
+// Which turns are refused, counted from 1 as they are asked for.
+#[derive(Clone, Copy, Debug, PartialEq, Eq)]
+pub(crate) enum Ration {
+    // None.
+    Free,
+    // This one.
+    Without(u64),
+    // Each one of this distance.
+    WithoutEach(u64),
+    // This one and all behind it.
+    Before(u64),
+}
+
+impl Ration {
+    // Whether it refuses this turn.
+    fn refuses(self, turn: u64) -> bool {
+        match self {
+            Ration::Free => false,
+            Ration::Without(refused) => turn == refused,
+            Ration::WithoutEach(distance) => turn.checked_rem(distance) == Some(0),
+            Ration::Before(first) => turn >= first,
+        }
+    }
+}
+
+// Turns on a core of which some are refused.
 #[derive(Drop)]
 pub(crate) struct Rationed {
     alone: Alone<Core>,
-    every: u64,
+    ration: Ration,
     asked: u64,
 }
 
 impl Rationed {
-    pub(crate) fn new(alone: Alone<Core>, every: u64) -> Rationed {
+    pub(crate) fn new(alone: Alone<Core>, ration: Ration) -> Rationed {
         Rationed {
             alone,
-            every,
+            ration,
             asked: 0,
         }
     }
 
     pub(crate) fn core(&self) -> &Core {
         self.alone.state()
+    }
+
+    pub(crate) fn into_core(self) -> Core {
+        let Rationed { alone, .. } = self;
+        alone.into_state()
     }
 }
 
@@ -61,8 +91,7 @@ impl Turns for Rationed {
         event: Event,
     ) -> Result<Answer, TurnRefusal<Refusal, Event>> {
         self.asked = self.asked.saturating_add(1);
-        if self.every > 0 && self.asked >= self.every {
-            self.asked = 0;
+        if self.ration.refuses(self.asked) {
             return Err(TurnRefusal::Spent { event });
         }
         self.alone.turn(rt, event)
