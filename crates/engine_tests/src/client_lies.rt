@@ -38,7 +38,7 @@ fn check_writer<Rt: Wait + AllocGlobal + Abort>(
 ) -> Result<(), Fail> {
     let (asked, answered) = (Taken::new(rt.alloc()), Taken::new(rt.alloc()));
     let says = Cell::new(Feed::whole(SET_AND_MGET.0));
-    let mut rig = Rig::of_stubs(rt.alloc(), Ration::Free, &asked)?;
+    let mut rig = Rig::of_stubs(rt.alloc(), Ration::FREE, &asked)?;
     let ends = Ends::paced(&says, Pace::FREE, &answered, pace);
     rig.open(rt, Ends { writes, ..ends })?;
     rig.run(rt, 0)?;
@@ -75,7 +75,7 @@ fn failing_readers_cut(rt: HostRuntime) -> Result<(), Fail> {
         for pace in [Pace::FREE, Pace::of(1)] {
             let (asked, answered) = (Taken::new(rt.alloc()), Taken::new(rt.alloc()));
             let says = Cell::new(Feed::whole(text));
-            let mut rig = Rig::of_stubs(rt.alloc(), Ration::Free, &asked)?;
+            let mut rig = Rig::of_stubs(rt.alloc(), Ration::FREE, &asked)?;
             let ends = Ends::paced(&says, pace, &answered, Pace::FREE);
             let reads = len as u64;
             rig.open(&rt, Ends { reads, ..ends })?;
@@ -99,57 +99,59 @@ const OTHER: (&[u8], &[u8]) = (
     b"+OK\r\n*3\r\n$1\r\n1\r\n$-1\r\n$1\r\n1\r\n",
 );
 
-// A client whose devices fail after so many bytes, beside another: what it was answered stays, its later events are refused,
-// no host is at fault, and the other gets all answers.
+// Whether this event of a closed connection is refused.
+fn is_gone<Rt: Wait>(rt: &Rt, rig: &mut Rig<'_>, event: Event) -> bool {
+    rig.refusal(rt, event) == Some(Refusal::NoSuchConnection)
+}
+
+// Whether each event of the first connection is refused.
+fn is_all_gone<Rt: Wait>(rt: &Rt, rig: &mut Rig<'_>) -> bool {
+    let request = Request::Broken;
+    is_gone(rt, rig, Event::Arrived { conn: 0, request })
+        && is_gone(rt, rig, Event::Finished { conn: 0 })
+        && is_gone(rt, rig, Event::Handed { conn: 0 })
+        && is_gone(rt, rig, Event::Closed { conn: 0 })
+}
+
+// Two clients, of whom the first is cut after so many bytes: what it was answered stays, its later events are refused, no host
+// is at fault, and the other gets all answers.
 fn check_beside<Rt: Wait + AllocGlobal + Abort>(
     rt: &Rt,
+    scene: &Scene,
     reads: u64,
     writes: u64,
 ) -> Result<(), Fail> {
-    let alloc = rt.alloc();
-    let (asked, answered, other) = (Taken::new(alloc), Taken::new(alloc), Taken::new(alloc));
-    let says = Cell::new(Feed::whole(SET_AND_MGET.0));
-    let others = Cell::new(Feed::whole(OTHER.0));
-    let mut rig = Rig::of_stubs(alloc, Ration::Free, &asked)?;
-    let ends = Ends::paced(&says, Pace::of(3), &answered, Pace::of(2));
-    rig.open(
-        rt,
-        Ends {
-            reads,
-            writes,
-            ..ends
-        },
-    )?;
-    let ends = Ends::paced(&others, Pace::of(5), &other, Pace::of(1));
-    rig.open(rt, ends)?;
+    let mut rig = Rig::of_stubs(rt.alloc(), Ration::FREE, &scene.asked)?;
+    let first = Ends::paced(&scene.client, Pace::of(3), &scene.answered, Pace::of(2));
+    let first = Ends {
+        reads,
+        writes,
+        ..first
+    };
+    rig.open(rt, first)?;
+    let second = Ends::paced(&scene.host, Pace::of(5), &scene.asked_later, Pace::of(1));
+    rig.open(rt, second)?;
     rig.run(rt, 0)?;
     assert_eq!(rt; rig.step_client(rt, 0)?, Ok(Progress::Cut));
     assert_eq!(rt; rig.step_client(rt, 1)?, Ok(Progress::Ended));
-    assert!(rt; answered.begins(SET_AND_MGET.1));
-    assert!(rt; other.is(OTHER.1));
+    assert!(rt; scene.answered.begins(SET_AND_MGET.1));
+    assert!(rt; scene.asked_later.is(OTHER.1));
     assert_eq!(rt; count(rig.core(), Deed::Failed), 0);
-    let handed = count(rig.core(), Deed::Handed);
-    let request = Request::Broken;
-    for event in [
-        Event::Arrived { conn: 0, request },
-        Event::Finished { conn: 0 },
-        Event::Handed { conn: 0 },
-        Event::Closed { conn: 0 },
-    ] {
-        assert_eq!(rt; rig.refusal(rt, event), Some(Refusal::NoSuchConnection));
-    }
-    assert_eq!(rt; count(rig.core(), Deed::Handed), handed);
+    assert!(rt; is_all_gone(rt, &mut rig));
     Ok(())
 }
 
 // A client that is cut after each byte read and after each byte written disturbs nobody.
 #[test]
 fn cut_clients_leave_others(rt: HostRuntime) -> Result<(), Fail> {
-    for reads in 0..=SET_AND_MGET.0.len() {
-        check_beside(&rt, reads as u64, u64::MAX)?;
+    let (text, answers) = SET_AND_MGET;
+    for reads in 0..=text.len() {
+        let scene = Scene::new(rt.alloc(), Feed::whole(text), Feed::whole(OTHER.0));
+        check_beside(&rt, &scene, reads as u64, u64::MAX)?;
     }
-    for writes in 0..SET_AND_MGET.1.len() {
-        check_beside(&rt, u64::MAX, writes as u64)?;
+    for writes in 0..answers.len() {
+        let scene = Scene::new(rt.alloc(), Feed::whole(text), Feed::whole(OTHER.0));
+        check_beside(&rt, &scene, u64::MAX, writes as u64)?;
     }
     Ok(())
 }

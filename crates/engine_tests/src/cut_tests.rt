@@ -81,7 +81,7 @@ fn check<Rt: Wait + AllocGlobal + Abort>(
     let alloc = rt.alloc();
     let (asked, answered) = (Taken::new(alloc), Taken::new(alloc));
     let says = Cell::new(feed);
-    let mut rig = Rig::of_stubs(alloc, Ration::Free, &asked)?;
+    let mut rig = Rig::of_stubs(alloc, Ration::FREE, &asked)?;
     rig.open(rt, Ends::paced(&says, reads, &answered, writes))?;
     rig.run(rt, 0)?;
     assert!(rt; answered.is(answers));

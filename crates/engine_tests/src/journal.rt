@@ -170,66 +170,79 @@ pub(crate) fn handed_before_last_arrival(core: &Core) -> usize {
     before
 }
 
-// Whose step it is: of a client's connection, or of a host.
+// Steps that come in the same order whoever comes first: those of one deed, and of one host if it is a host's.
 #[derive(Clone, Copy, Debug, PartialEq, Eq)]
-enum Whose {
-    Client,
-    Host(usize),
-    Nobody,
+struct Kin {
+    deed: Deed,
+    host: Option<usize>,
 }
 
-impl Whose {
-    fn of(event: &Event) -> Whose {
-        match event {
+impl Kin {
+    fn of(event: &Event) -> Kin {
+        let host = match event {
             Event::Taken { host } | Event::Answered { host, .. } | Event::Failed { host, .. } => {
-                Whose::Host(*host)
+                Some(*host)
             }
-            Event::Swept { .. } => Whose::Nobody,
-            _ => Whose::Client,
-        }
+            _ => None,
+        };
+        let deed = Deed::of(event);
+        Kin { deed, host }
     }
-}
 
-// The first step of this one from a place on, and the place behind it.
-fn next_of(core: &Core, whose: Whose, from: usize) -> Option<(&Step<Event, Answer>, usize)> {
-    let journal = core.journal();
-    for i in from..journal.len() {
-        if let Some(step) = journal.get(i) {
-            if Whose::of(&step.event) == whose {
-                return Some((step, i.saturating_add(1)));
-            }
-        }
-    }
-    None
-}
-
-// Whether this one did the same in both journals, in the same order and with the same answers.
-fn goes_alike(one: &Core, other: &Core, whose: Whose) -> bool {
-    let (mut i, mut j) = (0, 0);
-    for _ in 0..=one.journal().len() {
-        match (next_of(one, whose, i), next_of(other, whose, j)) {
-            (None, None) => return true,
-            (Some((step, behind)), Some((other, behind_other)))
-                if Deed::of(&step.event) == Deed::of(&other.event) && step.answer == other.answer =>
-                {
-                    i = behind;
-                    j = behind_other;
+    // The answer to the first of these steps from a place on, and the place behind it.
+    fn next(self, core: &Core, from: usize) -> Option<(&Answer, usize)> {
+        let journal = core.journal();
+        for i in from..journal.len() {
+            if let Some(step) = journal.get(i) {
+                if Kin::of(&step.event) == self {
+                    return Some((&step.answer, i.saturating_add(1)));
                 }
-            _ => return false,
+            }
         }
+        None
     }
-    false
+
+    // Whether these steps have the same answers in both journals, in the same order.
+    fn goes_alike(self, one: &Core, other: &Core) -> bool {
+        let (mut i, mut j) = (0, 0);
+        for _ in 0..=one.journal().len() {
+            match (self.next(one, i), self.next(other, j)) {
+                (None, None) => return true,
+                (Some((answer, behind)), Some((other_answer, other_behind))) => {
+                    if answer != other_answer {
+                        return false;
+                    }
+                    i = behind;
+                    j = other_behind;
+                }
+                _ => return false,
+            }
+        }
+        false
+    }
 }
 
-// Whether the one client and each of three hosts did the same in both journals, whoever came first.
+// Whether one client and three hosts without faults did the same in both journals, whoever came first.
 pub(crate) fn go_alike(one: &Core, other: &Core) -> bool {
+    let clients = [
+        Deed::Opened,
+        Deed::Arrived,
+        Deed::Finished,
+        Deed::Handed,
+        Deed::Closed,
+    ];
+    for deed in clients {
+        if !(Kin { deed, host: None }).goes_alike(one, other) {
+            return false;
+        }
+    }
+    for host in 0..3 {
+        for deed in [Deed::Taken, Deed::Answered] {
+            let host = Some(host);
+            if !(Kin { deed, host }).goes_alike(one, other) {
+                return false;
+            }
+        }
+    }
     one.journal().len() == other.journal().len()
-        && [
-            Whose::Client,
-            Whose::Host(0),
-            Whose::Host(1),
-            Whose::Host(2),
-        ]
-        .iter()
-        .all(|whose| goes_alike(one, other, *whose))
 }

@@ -32,7 +32,7 @@ impl Scene {
 
     // The engines of both, without a link between them.
     pub(crate) fn rig<'a, Rt: Wait + AllocGlobal>(&'a self, rt: &Rt) -> Result<Rig<'a>, Fail> {
-        let mut rig = Rig::new(rt.alloc(), 1, Ration::Free)?;
+        let mut rig = Rig::new(rt.alloc(), 1, Ration::FREE)?;
         rig.open(rt, Ends::new(&self.client, &self.answered))?;
         Ok(rig)
     }

@@ -8,28 +8,26 @@ use proxy_core::{Answer, Core, CoreTurns, Event, Refusal};
 use std::sync::Wait;
 use ticket_gate::{Alone, TurnRefusal, Turns};
 
-// Which turns are refused, counted from 1 as they are asked for.
+// Which turns are refused, counted from 1 as they are asked for: from the first on so many.
 #[derive(Clone, Copy, Debug, PartialEq, Eq)]
-pub(crate) enum Ration {
-    // None.
-    Free,
-    // This one.
-    Without(u64),
-    // Each one of this distance.
-    WithoutEach(u64),
-    // This one and all behind it.
-    Before(u64),
+pub(crate) struct Ration {
+    first: u64,
+    refused: u64,
 }
 
 impl Ration {
-    // Whether it refuses this turn.
+    // No turn is refused.
+    pub(crate) const FREE: Ration = Ration {
+        first: 0,
+        refused: 0,
+    };
+
+    pub(crate) fn without(first: u64, refused: u64) -> Ration {
+        Ration { first, refused }
+    }
+
     fn refuses(self, turn: u64) -> bool {
-        match self {
-            Ration::Free => false,
-            Ration::Without(refused) => turn == refused,
-            Ration::WithoutEach(distance) => turn.checked_rem(distance) == Some(0),
-            Ration::Before(first) => turn >= first,
-        }
+        turn >= self.first && turn.saturating_sub(self.first) < self.refused
     }
 }
 
