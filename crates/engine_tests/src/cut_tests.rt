@@ -3,7 +3,6 @@
 use crate::devices::{Feed, Pace, Taken};
 use crate::journal::{Deed, count, last_deed};
 use crate::rig::{Ends, Rig};
-use crate::turns::Ration;
 use proxy_engines::Progress;
 use std::cell::Cell;
 use std::io::ErrorKind;
@@ -81,7 +80,7 @@ fn check<Rt: Wait + AllocGlobal + Abort>(
     let alloc = rt.alloc();
     let (asked, answered) = (Taken::new(alloc), Taken::new(alloc));
     let says = Cell::new(feed);
-    let mut rig = Rig::of_stubs(alloc, Ration::FREE, &asked)?;
+    let mut rig = Rig::of_stubs(alloc, 0, &asked)?;
     rig.open(rt, Ends::paced(&says, reads, &answered, writes))?;
     rig.run(rt, 0)?;
     assert!(rt; answered.is(answers));

@@ -167,14 +167,6 @@ impl Taken {
         }
     }
 
-    // Whether what was taken is a beginning of these bytes.
-    pub(crate) fn begins(&self, bytes: &[u8]) -> bool {
-        match self.bytes.try_borrow() {
-            Ok(taken) => bytes.starts_with(taken.as_slice()),
-            Err(_) => false,
-        }
-    }
-
     // Whether a text was taken so many times, and nothing else.
     pub(crate) fn is_repeated(&self, text: &[u8], times: usize) -> bool {
         match self.bytes.try_borrow() {

@@ -3,20 +3,12 @@
 #![tactic(auto)]
 
 #[cfg(test)]
-mod client_lies;
-#[cfg(test)]
 mod cut_tests;
 #[cfg(test)]
 mod devices;
 #[cfg(test)]
-mod host_lies;
-#[cfg(test)]
 mod journal;
 #[cfg(test)]
-mod refusal_tests;
-#[cfg(test)]
 mod rig;
-#[cfg(test)]
-mod scene;
 #[cfg(test)]
 mod turns;

@@ -3,16 +3,16 @@ ghost use Rattle.std.specs.Prelude.{◌≡◌, [], IfOk, None};
 
 use crate::devices::{Feed, HostReader, HostWriter, Pace, Sink, Source, Taken};
 use crate::journal::{Deed, last_deed};
-use crate::turns::{Ration, Rationed};
+use crate::turns::Rationed;
 use ketama::Ring;
-use proxy_core::{Core, Event, Refusal, Settings};
+use proxy_core::{Core, Settings};
 use proxy_engines::{ClientEngine, EngineError, Faulty, HostEngine, Progress, Tallied};
 use std::alloc::Global;
 use std::cell::Cell;
 use std::sync::Wait;
 use std::test::Fail;
 use stub_server::{Act, Stub, StubLink};
-use ticket_gate::{Alone, TurnRefusal, Turns};
+use ticket_gate::Alone;
 
 pub(crate) type Client<'a> = ClientEngine<Tallied<Faulty<Source<'a>>>, Tallied<Faulty<Sink<'a>>>>;
 
@@ -80,9 +80,9 @@ fn core(alloc: Global, hosts: usize) -> Result<Core, Fail>
 }
 
 impl<'a> Rig<'a> {
-    // Hosts without links and no client, over turns that are refused by this ration.
-    pub(crate) fn new(alloc: Global, hosts: usize, ration: Ration) -> Result<Rig<'a>, Fail> {
-        let turns = Rationed::new(Alone::new(core(alloc, hosts)?, 0), ration);
+    // Hosts without links and clients, over turns of which each `every`th is refused, and none where that is 0.
+    pub(crate) fn new(alloc: Global, hosts: usize, every: u64) -> Result<Rig<'a>, Fail> {
+        let turns = Rationed::new(Alone::new(core(alloc, hosts)?, 0), every);
         let mut engines = Vec::new(alloc);
         for host in 0..hosts {
             engines.push(HostEngine::new(alloc, host, REPLY_MS))?;
@@ -99,12 +99,8 @@ impl<'a> Rig<'a> {
     }
 
     // Three hosts without faults, each an empty stub. What they are asked is kept together.
-    pub(crate) fn of_stubs(
-        alloc: Global,
-        ration: Ration,
-        asked: &'a Taken,
-    ) -> Result<Rig<'a>, Fail> {
-        let mut rig = Rig::new(alloc, 3, ration)?;
+    pub(crate) fn of_stubs(alloc: Global, every: u64, asked: &'a Taken) -> Result<Rig<'a>, Fail> {
+        let mut rig = Rig::new(alloc, 3, every)?;
         for _ in 0..3 {
             rig.links.push(Link::to_stub(alloc, &[], asked)?)?;
         }
@@ -116,7 +112,7 @@ impl<'a> Rig<'a> {
         &mut self,
         rt: &Rt,
         ends: Ends<'a>,
-    ) -> Result<(), EngineError> {
+    ) -> Result<(), Fail> {
         let Ends {
             source,
             reads,
@@ -126,27 +122,11 @@ impl<'a> Rig<'a> {
         let reader = Tallied::new(Faulty::new(source, reads));
         let writer = Tallied::new(Faulty::new(sink, writes));
         let client = ClientEngine::open(rt, rt.alloc(), &mut self.turns, reader, writer)?;
-        match self.clients.push(client) {
-            Ok(()) => Ok(()),
-            Err(_) => Err(EngineError::NoMemory),
-        }
+        Ok(self.clients.push(client)?)
     }
 
     pub(crate) fn core(&self) -> &Core {
         self.turns.core()
-    }
-
-    pub(crate) fn into_core(self) -> Core {
-        let Rig { turns, .. } = self;
-        turns.into_core()
-    }
-
-    // Why a turn of the test's own is refused.
-    pub(crate) fn refusal<Rt: Wait>(&mut self, rt: &Rt, event: Event) -> Option<Refusal> {
-        match self.turns.turn(rt, event) {
-            Err(TurnRefusal::State { cause, .. }) => Some(cause),
-            _ => None,
-        }
     }
 
     // One step of one client.
@@ -159,24 +139,14 @@ impl<'a> Rig<'a> {
         Ok(client.step(rt, &mut self.turns))
     }
 
-    // One step of one host.
-    pub(crate) fn step_host<Rt: Wait>(
-        &mut self,
-        rt: &Rt,
-        place: usize,
-        moment: u64,
-    ) -> Result<Result<Progress, EngineError>, Fail> {
-        let host = self.hosts.get_mut(place).ok_or("no such host")?;
-        Ok(host.step(rt, &mut self.turns, moment))
-    }
-
-    // One step of each client. False says that none moved; a step that is refused is no move.
+    // One step of each client. False says that none moved.
     pub(crate) fn step_clients<Rt: Wait>(&mut self, rt: &Rt) -> bool {
         let mut has_moved = false;
         for client in self.clients.iter_mut() {
             match client.step(rt, &mut self.turns) {
                 Ok(progress) => has_moved |= progress == Progress::Moved,
                 Err(error) => {
+                    has_moved = true;
                     self.of_client = Some(Fault {
                         error,
                         deed: last_deed(self.turns.core()),
@@ -202,6 +172,7 @@ impl<'a> Rig<'a> {
                 }
                 Ok(progress) => has_moved |= progress == Progress::Moved,
                 Err(error) => {
+                    has_moved = true;
                     self.of_host = Some(Fault {
                         error,
                         deed: last_deed(self.turns.core()),

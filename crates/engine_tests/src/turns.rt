@@ -8,53 +8,25 @@ use proxy_core::{Answer, Core, CoreTurns, Event, Refusal};
 use std::sync::Wait;
 use ticket_gate::{Alone, TurnRefusal, Turns};
 
-// Which turns are refused, counted from 1 as they are asked for: from the first on so many.
-#[derive(Clone, Copy, Debug, PartialEq, Eq)]
-pub(crate) struct Ration {
-    first: u64,
-    refused: u64,
-}
-
-impl Ration {
-    // No turn is refused.
-    pub(crate) const FREE: Ration = Ration {
-        first: 0,
-        refused: 0,
-    };
-
-    pub(crate) fn without(first: u64, refused: u64) -> Ration {
-        Ration { first, refused }
-    }
-
-    fn refuses(self, turn: u64) -> bool {
-        turn >= self.first && turn.saturating_sub(self.first) < self.refused
-    }
-}
-
-// Turns on a core of which some are refused.
+// Turns of which each `every`th is refused, and none where that is 0.
 #[derive(Drop)]
 pub(crate) struct Rationed {
     alone: Alone<Core>,
-    ration: Ration,
+    every: u64,
     asked: u64,
 }
 
 impl Rationed {
-    pub(crate) fn new(alone: Alone<Core>, ration: Ration) -> Rationed {
+    pub(crate) fn new(alone: Alone<Core>, every: u64) -> Rationed {
         Rationed {
             alone,
-            ration,
+            every,
             asked: 0,
         }
     }
 
     pub(crate) fn core(&self) -> &Core {
         self.alone.state()
-    }
-
-    pub(crate) fn into_core(self) -> Core {
-        let Rationed { alone, .. } = self;
-        alone.into_state()
     }
 }
 
@@ -89,7 +61,8 @@ impl Turns for Rationed {
         event: Event,
     ) -> Result<Answer, TurnRefusal<Refusal, Event>> {
         self.asked = self.asked.saturating_add(1);
-        if self.ration.refuses(self.asked) {
+        if self.every > 0 && self.asked >= self.every {
+            self.asked = 0;
             return Err(TurnRefusal::Spent { event });
         }
         self.alone.turn(rt, event)
