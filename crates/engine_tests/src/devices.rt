@@ -80,24 +80,6 @@ impl Feed {
         }
     }
 
-    // A text in one piece, and then pauses.
-    pub(crate) fn open(text: &'static [u8]) -> Feed {
-        Feed {
-            ends: false,
-            ..Feed::whole(text)
-        }
-    }
-
-    // A text so many times, and then pauses.
-    pub(crate) fn repeated(text: &'static [u8], times: u32) -> Feed {
-        Feed {
-            now: &[],
-            later: text,
-            times,
-            ends: false,
-        }
-    }
-
     // At most so many of the bytes that come next, which are given by that, or a pause.
     fn give(&mut self, most: usize) -> io::Result<&'static [u8]> {
         if self.now.is_empty() && self.times > 0 {
@@ -164,24 +146,6 @@ impl Taken {
         match self.bytes.try_borrow() {
             Ok(taken) => taken.as_slice() == bytes,
             Err(_) => false,
-        }
-    }
-
-    // Whether a text was taken so many times, and nothing else.
-    pub(crate) fn is_repeated(&self, text: &[u8], times: usize) -> bool {
-        match self.bytes.try_borrow() {
-            Ok(taken) => {
-                taken.len() == text.len().saturating_mul(times)
-                    && taken.chunks(text.len().max(1)).all(|piece| piece == text)
-            }
-            Err(_) => false,
-        }
-    }
-
-    pub(crate) fn len(&self) -> usize {
-        match self.bytes.try_borrow() {
-            Ok(taken) => taken.len(),
-            Err(_) => 0,
         }
     }
 

@@ -255,28 +255,11 @@ impl<'a> Link<'a> {
             writes: u64::MAX,
         })
     }
-
-    // A link that never fails to a host that says what stands in the cell, whatever it is asked. What it is asked is kept.
-    pub(crate) fn to_text(says: &'a Cell<Feed>, asked: &'a Taken) -> Link<'a> {
-        Link {
-            reader: HostReader::Text(Source::new(says, Pace::FREE)),
-            reads: u64::MAX,
-            writer: HostWriter {
-                stub: None,
-                sink: Sink::new(asked, Pace::FREE),
-            },
-            writes: u64::MAX,
-        }
-    }
 }
 
 impl<'a> Ends<'a> {
-    // The ends of a client that never fail: it says what stands in the cell, and what it is answered is kept.
-    pub(crate) fn new(says: &'a Cell<Feed>, answered: &'a Taken) -> Ends<'a> {
-        Ends::paced(says, Pace::FREE, answered, Pace::FREE)
-    }
-
-    // The same, with a pace of the reader and one of the writer.
+    // The ends of a client that never fail, with a pace of the reader and one of the writer: it says what stands in the cell, and
+    // what it is answered is kept.
     pub(crate) fn paced(
         says: &'a Cell<Feed>,
         reads: Pace,
