@@ -1,5 +1,4 @@
-//! The tests of the engines of clients and hosts over devices that stop short, pause, fail and lie, and over turns that are
-//! refused.
+//! The tests of the engines of clients and hosts over devices that stop short and pause.
 #![tactic(auto)]
 
 #[cfg(test)]
