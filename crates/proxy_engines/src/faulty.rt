@@ -1,6 +1,5 @@
 //! Readers and writers that fail for good once so many bytes have passed.
-ghost use Rattle.std.specs.Prelude.{◌≡◌, ◌+◌, ℕ, min, length};
-ghost use Rattle.std.specs.Prelude.{IsErr, OnErr, IfOk};
+ghost use Rattle.std.specs.Prelude.{◌≡◌, ◌+◌, min, IsErr, OnErr, IfOk};
 ghost use Rattle.std.specs.Io.{ReadsAtMost, WritesAtMost};
 ghost use Rattle.std.specs.Io.KnownBytes.{ReadConsumes, WriteAppends};
 
