@@ -8,7 +8,7 @@ use Rattle.ejector.specs.declared.mark.Mark.TheVariants.{Good, Bad, Sweep}
 use Rattle.ejector.specs.declared.host.HostState.{HostState}
 use Rattle.ejector.specs.declared.settings.Rules.{Rules}
 use Rattle.ejector.specs.State.{State, at_moment}
-use Rattle.ejector.specs.Ejection.{state, trip, swept, trip_of, swept_of, deed_by}
+use Rattle.ejector.specs.Ejection.{state, trip, sweep_answer, trip_of, swept_of, deed_by}
 use Rattle.ejector.specs.Ejector.{Ejection}
 use Rattle.ejector.specs.Next.{next}
 use Rattle.ejector.specs.Opening.{IsOpening}
@@ -70,7 +70,7 @@ trip_is : (R : Rules) (O : State) (h t : ℕ) (marks : List Mark) (x : State) �
 trip_is R O h t marks x e l = ap (λ (y : State). trip_of (deed_by R (at_moment t y) (Bad h t))) e ∙ trip_link R (at_moment t x) h t l
 
 swept_is : (R : Rules) (O : State) (t : ℕ) (marks : List Mark) (x : State) → state R O marks ≡ x → length x.hosts ≡ R.hosts
-    → swept R O (Sweep t) marks ≡ swept_counts R (max x.clock t) x.hosts
+    → sweep_answer R O (Sweep t) marks ≡ swept_counts R (max x.clock t) x.hosts
 swept_is R O t marks x e l = ap (λ (y : State). swept_of (deed_by R (at_moment t y) (Sweep t))) e ∙ swept_link R (at_moment t x) t l
 
 -- the same for what an ejector has
@@ -82,7 +82,7 @@ trip_told e R x h t v l a is =
 
 pub swept_told : (e : Ejection) (R : Rules) (x : State) (t : ℕ) → record { rules = R; state = x } ≡ e → length x.hosts ≡ R.hosts
     → (a : Swept) → a ≡ swept_counts R (max x.clock t) x.hosts
-    → (O : State) (marks : List Mark) → state e.rules O marks ≡ e.state → a ≡ swept e.rules O (Sweep t) marks
+    → (O : State) (marks : List Mark) → state e.rules O marks ≡ e.state → a ≡ sweep_answer e.rules O (Sweep t) marks
 swept_told e R x t v l a is =
-    subst (λ (e : Ejection). (O : State) (marks : List Mark) → state e.rules O marks ≡ e.state → a ≡ swept e.rules O (Sweep t) marks) v
+    subst (λ (e : Ejection). (O : State) (marks : List Mark) → state e.rules O marks ≡ e.state → a ≡ sweep_answer e.rules O (Sweep t) marks) v
     (λ O marks known. is ∙ sym (swept_is R O t marks x known l))

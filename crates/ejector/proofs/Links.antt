@@ -11,13 +11,13 @@ use Rattle.ejector.specs.declared.mark.Mark.TheVariants.{Good, Bad, Sweep}
 use Rattle.ejector.specs.declared.host.HostState.{HostState}
 use Rattle.ejector.specs.declared.settings.Rules.{Rules}
 use Rattle.ejector.specs.Deeds.{Deed}
-use Rattle.ejector.specs.Counted.{max_results, raised, lowered}
+use Rattle.ejector.specs.Counted.{max_results, raised_multiplier, lowered_multiplier}
 use Rattle.ejector.specs.State.{State, hosts_of, host_of, is_out, out_count, fresh_host}
 use Rattle.ejector.specs.Trips.{may_eject, is_trip}
 use Rattle.ejector.specs.Sweeps.{is_time_over, comes_back, stays_out, rate_after_returns, rates, trips_by, trips_in_sweep, is_ejected_in_sweep, is_kept_in_sweep, out_at_turn}
 use Rattle.ejector.specs.Ejection.{nothing_by, deed_by, sweep_by, trip_of, swept_of}
 use Rattle.ejector.specs.Next.{host_with, with_deed, with_mark}
-use Rattle.ejector.specs.Counting.{counted, with_good, with_bad, tripped, trips_then, trip_then, outs, with_good_result, with_bad_result, with_return, is_returning, rate_then, in_new_interval, at_turn, is_ejected_at, is_kept_at, tripping_of, swept_hosts, swept_counts}
+use Rattle.ejector.specs.Counting.{host_with_result, with_good, with_bad, tripped_host, trips_then, trip_then, outs, with_good_result, with_bad_result, with_return, is_returning, rate_then, in_new_interval, at_turn, is_ejected_at, is_kept_at, tripping_of, swept_hosts, swept_counts}
 use Rattle.ejector.proofs.Ranges.{among_filter}
 use Rattle.ejector.proofs.Few.{hosts_are}
 
@@ -58,7 +58,7 @@ bad_deed h t trips may =
     if trips then (if may then record (nothing_by (Bad h t)) { ejected = h ∷ [] } else record (nothing_by (Bad h t)) { kept = h ∷ [] }) else nothing_by (Bad h t)
 
 pub bad_here : (R : Rules) (c h t : ℕ) (trips may : Bool) (s : HostState)
-    → host_with R c (bad_deed h t trips may) h s ≡ (if trips then tripped R c may (counted false s) else with_bad R s)
+    → host_with R c (bad_deed h t trips may) h s ≡ (if trips then tripped_host R c may (host_with_result false s) else with_bad R s)
 bad_here R c h t true true s = elim (cases_Bool (nat_lt s.results max_results)) [ inl y ↦ rw (eq-eqb h h refl, y) refl | inr n ↦ rw (eq-eqb h h refl, n) refl ]
 bad_here R c h t true false s = elim (cases_Bool (nat_lt s.results max_results)) [ inl y ↦ rw (eq-eqb h h refl, y) refl | inr n ↦ rw (eq-eqb h h refl, n) refl ]
 bad_here R c h t false may s = elim (cases_Bool (nat_lt s.results max_results)) [
@@ -105,8 +105,8 @@ swept_case : (R : Rules) (now : ℕ) (out over trips may : Bool) (start streak g
       streak = if (false || ((trips && may) || (trips && not may)) || (out && over)) then 0 else streak;
       good_results = 0;
       results = 0;
-      multiplier = raised R (trips && may) (lowered (not out) m);
-    }) ≡ in_new_interval (if trips then tripped R now may back else back))
+      multiplier = raised_multiplier R (trips && may) (lowered_multiplier (not out) m);
+    }) ≡ in_new_interval (if trips then tripped_host R now may back else back))
 swept_case R now true true true true start streak good results m = refl
 swept_case R now true true true false start streak good results m = refl
 swept_case R now true true false may start streak good results m = refl
@@ -118,7 +118,7 @@ swept_case R now false over true false start streak good results m = refl
 swept_case R now false over false may start streak good results m = refl
 
 pub sweep_at : (R : Rules) (x : State) (t k : ℕ) → k < R.hosts → host_with R x.clock (sweep_by R x (Sweep t)) k (host_of x k)
-    ≡ in_new_interval (if trips_in_sweep R x k then tripped R x.clock (may_eject R (out_at_turn R x k)) (with_return R x.clock (host_of x k)) else with_return R x.clock (host_of x k))
+    ≡ in_new_interval (if trips_in_sweep R x k then tripped_host R x.clock (may_eject R (out_at_turn R x k)) (with_return R x.clock (host_of x k)) else with_return R x.clock (host_of x k))
 sweep_at R x t k l =
     let s = host_of x k in
     rw (
@@ -177,11 +177,11 @@ tripping_is R x e = ap (trips_by R) (rates_are R x e)
 
 turn_at : (R : Rules) (x : State) (k : ℕ) → length x.hosts ≡ R.hosts → k < R.hosts
     → at_turn R x.clock (tripping_of R (back_of R x)) (outs (back_of R x)) (back_of R x) k
-    ≡ (if trips_in_sweep R x k then tripped R x.clock (may_eject R (out_at_turn R x k)) (with_return R x.clock (host_of x k)) else with_return R x.clock (host_of x k))
+    ≡ (if trips_in_sweep R x k then tripped_host R x.clock (may_eject R (out_at_turn R x k)) (with_return R x.clock (host_of x k)) else with_return R x.clock (host_of x k))
 turn_at R x k e l =
     ap (λ (tripping : ℕ → Bool). at_turn R x.clock tripping (outs (back_of R x)) (back_of R x) k) (tripping_is R x e)
     ∙ ap (λ (first : ℕ). at_turn R x.clock (trips_in_sweep R x) first (back_of R x) k) (first_is R x e)
-    ∙ ap (λ (s : HostState). if trips_in_sweep R x k then tripped R x.clock (may_eject R (out_at_turn R x k)) s else s) (back_at R x k e l)
+    ∙ ap (λ (s : HostState). if trips_in_sweep R x k then tripped_host R x.clock (may_eject R (out_at_turn R x k)) s else s) (back_at R x k e l)
 
 pub sweep_link : (R : Rules) (x : State) (t : ℕ) → length x.hosts ≡ R.hosts → (with_mark R (Sweep t) x).hosts ≡ swept_hosts R x.clock x.hosts
 sweep_link R x t e =

@@ -13,7 +13,7 @@ use Rattle.ejector.specs.Trips.{may_eject, is_trip}
 use Rattle.ejector.specs.Sweeps.{comes_back, is_time_over, trips_by, trips_in_sweep, out_at_turn}
 use Rattle.ejector.specs.Ejection.{state, deed_by, nothing_by}
 use Rattle.ejector.specs.Next.{host_with}
-use Rattle.ejector.specs.Counting.{tripped, with_return, in_new_interval}
+use Rattle.ejector.specs.Counting.{tripped_host, with_return, in_new_interval}
 use Rattle.ejector.specs.Laws.{IsTimeOver, BringsBack, BackOnceTimeIsOver, OutUntilTimeIsOver, GoodEndsStreak, OthersChangeNothing, FindsTheSame, OthersMatterByLimitAndRates}
 use Rattle.ejector.proofs.Ranges.{among_filter}
 use Rattle.ejector.proofs.Step.{next_is, host_at}
@@ -165,7 +165,7 @@ matter_at R (Sweep t) O P marks others h l e c same =
     ∙ sym (host_next R P (Sweep t) others h l ∙ sweep_at R y t h l)
   where
     after : ℕ → Bool → Bool → HostState → HostState
-    after now trips may s = in_new_interval (if trips then tripped R now may (with_return R now s) else with_return R now s)
+    after now trips may s = in_new_interval (if trips then tripped_host R now may (with_return R now s) else with_return R now s)
 
 pub others_matter : OthersMatterByLimitAndRates
 others_matter R m O P marks others h e c same = elim (cases_lt h R.hosts) [

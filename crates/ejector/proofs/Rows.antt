@@ -8,7 +8,7 @@ use Rattle.ejector.specs.declared.mark.Mark.TheVariants.{Good, Bad, Sweep}
 use Rattle.ejector.specs.declared.settings.Rules.{Rules}
 use Rattle.ejector.specs.Settings.{default_settings}
 use Rattle.ejector.specs.State.{State, fresh_state, host_of, is_out}
-use Rattle.ejector.specs.Ejection.{state, trip, swept, deeds, trip_of}
+use Rattle.ejector.specs.Ejection.{state, trip, sweep_answer, deeds, trip_of}
 use Rattle.ejector.specs.Deeds.{Deed}
 use Rattle.ejector.specs.Usable.{is_panic, is_usable}
 
@@ -28,7 +28,7 @@ abbrev answers : Rules → List Mark → List Trip
 answers R marks = reverse (answers_in (deeds R (fresh_state R) (reverse marks)))
 
 abbrev last_sweep : Rules → List Mark → ℕ → Swept
-last_sweep R marks t = swept R (fresh_state R) (Sweep t) (reverse marks)
+last_sweep R marks t = sweep_answer R (fresh_state R) (Sweep t) (reverse marks)
 
 abbrev sums : ℕ → ℕ → ℕ → Swept
 sums r e k = record { returned = r; ejected = e; kept = k }

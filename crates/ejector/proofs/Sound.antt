@@ -17,14 +17,14 @@ use Rattle.ejector.specs.Trips.{may_eject, is_trip}
 use Rattle.ejector.specs.Sweeps.{is_time_over}
 use Rattle.ejector.specs.Ejection.{nothing_by}
 use Rattle.ejector.specs.Next.{host_with, with_mark}
-use Rattle.ejector.specs.Counting.{counted, with_good, with_bad, tripped, trips_then, outs, with_return, in_new_interval, at_turn, tripping_of, swept_hosts}
+use Rattle.ejector.specs.Counting.{host_with_result, with_good, with_bad, tripped_host, trips_then, outs, with_return, in_new_interval, at_turn, tripping_of, swept_hosts}
 use Rattle.ejector.proofs.Few.{hosts_are}
 use Rattle.ejector.proofs.Links.{good_link, good_other, bad_deed, bad_link, bad_other, sweep_link}
 
 module _ (R : Rules) where
   -- RESULTS
 
-  sound_counted : (ok : Bool) (s : HostState) → IsSound R s → IsSound R (counted ok s)
+  sound_counted : (ok : Bool) (s : HostState) → IsSound R s → IsSound R (host_with_result ok s)
   sound_counted ok s w = elim (cases_Bool (nat_lt s.results max_results)) [
     | inl y ↦ rw y (record {
       share = one ok;
@@ -50,9 +50,9 @@ module _ (R : Rules) where
   }
 
   sound_good : (s : HostState) → IsSound R s → IsSound R (with_good s)
-  sound_good s w = sound_ended (counted true s) (sound_counted true s w)
+  sound_good s w = sound_ended (host_with_result true s) (sound_counted true s w)
 
-  sound_tripped : (now : ℕ) (may : Bool) (s : HostState) → IsSound R s → IsSound R (tripped R now may s)
+  sound_tripped : (now : ℕ) (may : Bool) (s : HostState) → IsSound R s → IsSound R (tripped_host R now may s)
   sound_tripped now true s w = record {
     share = w.share;
     few_results = w.few_results;
@@ -81,7 +81,7 @@ module _ (R : Rules) where
   still_none true c n none e = none e
   still_none false c n none e = absurd (false≢true e)
 
-  counted_out : (ok : Bool) (s : HostState) → (counted ok s).is_out ≡ s.is_out
+  counted_out : (ok : Bool) (s : HostState) → (host_with_result ok s).is_out ≡ s.is_out
   counted_out ok s = elim (cases_Bool (nat_lt s.results max_results)) [ inl y ↦ rw y refl | inr n ↦ rw n refl ]
 
   sound_bad : (s : HostState) → IsSound R s → trips_then R s ≡ false → IsSound R (with_bad R s)
@@ -93,9 +93,9 @@ module _ (R : Rules) where
     multiplier = c.multiplier;
   }
 
-  sound_bad_result : (now : ℕ) (may : Bool) (s : HostState) → IsSound R s → IsSound R (if trips_then R s then tripped R now may (counted false s) else with_bad R s)
+  sound_bad_result : (now : ℕ) (may : Bool) (s : HostState) → IsSound R s → IsSound R (if trips_then R s then tripped_host R now may (host_with_result false s) else with_bad R s)
   sound_bad_result now may s w = elim (cases_Bool (trips_then R s)) [
-    | inl t ↦ rw t (sound_tripped now may (counted false s) (sound_counted false s w))
+    | inl t ↦ rw t (sound_tripped now may (host_with_result false s) (sound_counted false s w))
     | inr f ↦ rw f (sound_bad s w f)
   ]
 
@@ -119,7 +119,7 @@ module _ (R : Rules) where
     multiplier = omega (arith, w.multiplier);
   }
 
-  sound_turn : (now : ℕ) (trips may : Bool) (s : HostState) → IsSound R s → IsSound R (if trips then tripped R now may s else s)
+  sound_turn : (now : ℕ) (trips may : Bool) (s : HostState) → IsSound R s → IsSound R (if trips then tripped_host R now may s else s)
   sound_turn now true may s w = sound_tripped now may s w
   sound_turn now false may s w = w
 

@@ -68,18 +68,18 @@ abbrev pub max_multiplier : Rules → ℕ
 max_multiplier R = (R.settings.max_ms + R.settings.base_ms - 1) / R.settings.base_ms
 
 -- one higher for each ejection, up to the most
-abbrev pub raised : Rules → Bool → ℕ → ℕ
-raised R ejected m = if ejected then min (m + 1) (max_multiplier R) else m
+abbrev pub raised_multiplier : Rules → Bool → ℕ → ℕ
+raised_multiplier R ejected m = if ejected then min (m + 1) (max_multiplier R) else m
 
 -- one lower for each sweep that found the host not out, but not below 0
-abbrev pub lowered : Bool → ℕ → ℕ
-lowered not_out m = if not_out then m - 1 else m
+abbrev pub lowered_multiplier : Bool → ℕ → ℕ
+lowered_multiplier not_out m = if not_out then m - 1 else m
 
 -- from the opening's on
 abbrev pub multiplier_of : Rules → State → ℕ → List Deed → ℕ
 multiplier_of R O h [] = (host_of O h).multiplier
 multiplier_of R O h (d ∷ before) =
-    raised R (ejects h d) (lowered (lowers h d) (multiplier_of R O h before))
+    raised_multiplier R (ejects h d) (lowered_multiplier (lowers h d) (multiplier_of R O h before))
 
 -- THE STATE AFTER DEEDS
 

@@ -7,7 +7,7 @@ use Rattle.ejector.specs.declared.answer.Trip.TheVariants as answer
 use Rattle.ejector.specs.declared.answer.Swept.{Swept}
 use Rattle.ejector.specs.declared.host.HostState.{HostState}
 use Rattle.ejector.specs.declared.settings.Rules.{Rules}
-use Rattle.ejector.specs.Counted.{max_results, raised}
+use Rattle.ejector.specs.Counted.{max_results, raised_multiplier}
 use Rattle.ejector.specs.State.{fresh_host}
 use Rattle.ejector.specs.Trips.{may_eject}
 use Rattle.ejector.specs.Sweeps.{is_time_over, trips_by, out_at}
@@ -15,29 +15,29 @@ use Rattle.ejector.specs.Sweeps.{is_time_over, trips_by, out_at}
 -- ONE HOST
 
 -- a host with one result more in the interval, while it still counts
-abbrev pub counted : Bool → HostState → HostState
-counted ok s =
+abbrev pub host_with_result : Bool → HostState → HostState
+host_with_result ok s =
     if nat_lt s.results max_results then record s { good_results = if ok then s.good_results + 1 else s.good_results; results = s.results + 1 } else s
 
 -- a host after a good result
 abbrev pub with_good : HostState → HostState
-with_good s = record (counted true s) { streak = 0 }
+with_good s = record (host_with_result true s) { streak = 0 }
 
 -- a host after a bad result, before it may trip
 abbrev pub with_bad : Rules → HostState → HostState
-with_bad R s = record (counted false s) { streak = if s.is_out || (R.settings.consecutive == 0) then s.streak else s.streak + 1 }
+with_bad R s = record (host_with_result false s) { streak = if s.is_out || (R.settings.consecutive == 0) then s.streak else s.streak + 1 }
 
 -- a host that is put aside at a moment
-abbrev pub ejected : Rules → ℕ → HostState → HostState
-ejected R now s = record s { is_out = true; start = now; streak = 0; multiplier = raised R true s.multiplier }
+abbrev pub ejected_host : Rules → ℕ → HostState → HostState
+ejected_host R now s = record s { is_out = true; start = now; streak = 0; multiplier = raised_multiplier R true s.multiplier }
 
 -- a host that tripped and stays
-abbrev pub kept : HostState → HostState
-kept s = record s { streak = 0 }
+abbrev pub kept_host : HostState → HostState
+kept_host s = record s { streak = 0 }
 
 -- with a trip, where `may` says whether one more may be out
-abbrev pub tripped : Rules → ℕ → Bool → HostState → HostState
-tripped R now may s = if may then ejected R now s else kept s
+abbrev pub tripped_host : Rules → ℕ → Bool → HostState → HostState
+tripped_host R now may s = if may then ejected_host R now s else kept_host s
 
 -- whether a host that is out has had its time at a moment
 abbrev pub is_returning : Rules → ℕ → HostState → Bool
@@ -79,7 +79,7 @@ trips_then R s = not s.is_out && nat_lt 0 R.settings.consecutive && (s.streak + 
 abbrev pub with_bad_result : Rules → ℕ → ℕ → List HostState → List HostState
 with_bad_result R now h hosts =
     let s = get_or hosts h fresh_host in
-    set hosts h (if trips_then R s then tripped R now (may_eject R (outs hosts)) (counted false s) else with_bad R s)
+    set hosts h (if trips_then R s then tripped_host R now (may_eject R (outs hosts)) (host_with_result false s) else with_bad R s)
 
 -- what a bad result does to its host
 abbrev pub trip_then : Rules → ℕ → List HostState → Trip
@@ -89,7 +89,7 @@ trip_then R h hosts =
 -- a host at its turn in the sweep, where these trip
 abbrev pub at_turn : Rules → ℕ → (ℕ → Bool) → ℕ → List HostState → ℕ → HostState
 at_turn R now tripping first hosts h =
-    if tripping h then tripped R now (may_eject R (out_at R tripping first h)) (get_or hosts h fresh_host) else get_or hosts h fresh_host
+    if tripping h then tripped_host R now (may_eject R (out_at R tripping first h)) (get_or hosts h fresh_host) else get_or hosts h fresh_host
 
 -- whether a host that trips in a sweep is put aside, with those before it
 abbrev pub is_ejected_at : Rules → (ℕ → Bool) → ℕ → ℕ → Bool

@@ -74,5 +74,5 @@ abbrev pub trip : Rules → State → Mark → List Mark → Trip
 trip R O m before = trip_of (deed_after R (state R O before) m)
 
 -- what a sweep tells behind some marks
-abbrev pub swept : Rules → State → Mark → List Mark → Swept
-swept R O m before = swept_of (deed_after R (state R O before) m)
+abbrev pub sweep_answer : Rules → State → Mark → List Mark → Swept
+sweep_answer R O m before = swept_of (deed_after R (state R O before) m)

@@ -5,7 +5,7 @@ use Rattle.ejector.specs.declared.mark.Mark.{Mark}
 use Rattle.ejector.specs.declared.settings.Rules.{Rules}
 use Rattle.ejector.specs.Marks.{moment, is_good, is_bad, is_result, is_sweep}
 use Rattle.ejector.specs.Deeds.{Deed, ejects, returns, lowers, ends_streak}
-use Rattle.ejector.specs.Counted.{max_results, raised, lowered}
+use Rattle.ejector.specs.Counted.{max_results, raised_multiplier, lowered_multiplier}
 use Rattle.ejector.specs.State.{State, hosts_of, host_of, at_moment}
 use Rattle.ejector.specs.Ejection.{deed_by}
 
@@ -23,7 +23,7 @@ host_with R clock d h s = record {
       else (if is_bad h d.mark && not (s.is_out || (R.settings.consecutive == 0)) then s.streak + 1 else s.streak);
   good_results = if is_sweep d.mark then 0 else (if counts (is_good h d.mark) s then s.good_results + 1 else s.good_results);
   results = if is_sweep d.mark then 0 else (if counts (is_result h d.mark) s then s.results + 1 else s.results);
-  multiplier = raised R (ejects h d) (lowered (lowers h d) s.multiplier);
+  multiplier = raised_multiplier R (ejects h d) (lowered_multiplier (lowers h d) s.multiplier);
 }
 
 -- a state with one deed more, whose moment has come

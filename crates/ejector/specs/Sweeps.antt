@@ -1,7 +1,7 @@
 -- What a sweep does, by the state before it with the sweep's clock. First hosts come back, then outliers trip one after the other.
 use Rattle.std.specs.Prelude.{ℕ, zero, suc, Bool, ◌+◌, ◌-◌, ◌*◌, ◌||◌, ◌&&◌, not, min, nat_lt, nat_le, if◌then◌else◌, List, Option, None, length, map, count_by}
 use Rattle.rate_core.specs.Rate.{rate_of}
-use Rattle.rate_core.specs.Outlier.{known, is_outlier}
+use Rattle.rate_core.specs.Outlier.{known_rates, is_outlier}
 use Rattle.ejector.specs.declared.host.HostState.{HostState}
 use Rattle.ejector.specs.declared.settings.Rules.{Rules}
 use Rattle.ejector.specs.State.{State, hosts_of, host_of, is_out}
@@ -35,7 +35,7 @@ rates R x = map (rate_after_returns R x) (hosts_of R)
 
 -- whether a host trips: it is an outlier, and hosts enough have a rate
 abbrev pub trips_by : Rules → List (Option ℕ) → ℕ → Bool
-trips_by R rates h = nat_le R.settings.success_hosts (length (known rates)) && is_outlier rates h R.settings.factor
+trips_by R rates h = nat_le R.settings.success_hosts (length (known_rates rates)) && is_outlier rates h R.settings.factor
 
 -- whether a host trips in a sweep
 abbrev pub trips_in_sweep : Rules → State → ℕ → Bool

@@ -5,7 +5,7 @@ ghost use Rattle.ejector.specs.Counted.{max_multiplier};
 ghost use Rattle.ejector.specs.Opening.{IsSound};
 ghost use Rattle.ejector.specs.State.{fresh_host};
 ghost use Rattle.ejector.specs.Trips.{may_eject};
-ghost use Rattle.ejector.specs.Counting.{counted, with_bad, ejected, kept, tripped, outs, trips_then, with_good_result, with_bad_result, trip_then, is_in};
+ghost use Rattle.ejector.specs.Counting.{host_with_result, with_bad, ejected_host, kept_host, tripped_host, outs, trips_then, with_good_result, with_bad_result, trip_then, is_in};
 
 use crate::answer::Trip;
 use crate::host::HostState;
@@ -14,7 +14,7 @@ use crate::settings::Rules;
 /// One result more in the interval, while it still counts.
 fn counted(host: HostState, ok: bool) -> HostState
     requires { host.good_results ≤ host.results }
-    ensures { result ≡ counted ok host }
+    ensures { result ≡ host_with_result ok host }
 {
     if host.results == u32::MAX {
         return host;
@@ -37,7 +37,7 @@ fn max_multiplier(rules: &Rules) -> u32
 
 /// The host with its streak at an end.
 fn without_streak(host: HostState) -> HostState
-    ensures { result ≡ kept host }
+    ensures { result ≡ kept_host host }
 {
     HostState { streak: 0, ..host }
 }
@@ -45,7 +45,7 @@ fn without_streak(host: HostState) -> HostState
 /// The host put aside from now on, for longer than the last time.
 fn ejected(rules: &Rules, now: u64, host: HostState) -> HostState
     requires { IsInRange rules.now }
-    ensures { result ≡ ejected rules.now now host }
+    ensures { result ≡ ejected_host rules.now now host }
 {
     let raised = host.multiplier.saturating_add(1);
     HostState {
@@ -60,7 +60,7 @@ fn ejected(rules: &Rules, now: u64, host: HostState) -> HostState
 /// The host after a trip, where `may` says whether one more host may be out.
 pub(crate) fn tripped(rules: &Rules, now: u64, may: bool, host: HostState) -> HostState
     requires { IsInRange rules.now }
-    ensures { result ≡ tripped rules.now now may host }
+    ensures { result ≡ tripped_host rules.now now may host }
 {
     if may {
         ejected(rules, now, host)

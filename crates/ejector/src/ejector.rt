@@ -6,7 +6,7 @@ ghost use Rattle.ejector.specs.declared.mark.Mark.TheVariants.{Sweep};
 ghost use Rattle.ejector.specs.State.{State, fresh_state, host_of, hosts_of, is_out, out_count};
 ghost use Rattle.ejector.specs.Opening.{IsOpening};
 ghost use Rattle.ejector.specs.Trips.{most_out};
-ghost use Rattle.ejector.specs.Ejection.{state, trip, swept};
+ghost use Rattle.ejector.specs.Ejection.{state, trip, sweep_answer};
 ghost use Rattle.ejector.specs.Usable.{is_usable, is_panic};
 ghost use Rattle.ejector.specs.Ejector.{result_mark};
 
@@ -141,7 +141,7 @@ impl Ejector {
             → self.new.state ≡ state self.old.rules O (Sweep t ∷ marks) }
         ensures swept { IfOk result (λ answer. (O : State) (marks : List Mark)
             → state self.old.rules O marks ≡ self.old.state
-            → answer ≡ swept self.old.rules O (Sweep t) marks) }
+            → answer ≡ sweep_answer self.old.rules O (Sweep t) marks) }
         ensures limit { out_count self.new.state ≤ most_out self.new.rules }
         ensures succeeds { IsOk result }
         ensures rules { self.new.rules ≡ self.old.rules }

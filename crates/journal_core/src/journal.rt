@@ -33,7 +33,8 @@ impl<E, A> Model for Journal<E, A> {
 
     ghost view = { λ j. record { steps = j.steps.items; bytes = j.bytes; room = j.room } };
 
-    ghost invariant = { λ j. IsWithinLimits (vec_len j.steps) j.bytes × HasRoom (vec_len j.steps) (vec_capacity j.steps) j.bytes j.room };
+    ghost invariant = { λ j. IsWithinLimits (vec_len j.steps) j.bytes
+        × HasRoom (vec_len j.steps) (vec_capacity j.steps) j.bytes j.room };
 }
 
 impl<E, A> Journal<E, A> {

@@ -3,7 +3,7 @@ use Rattle.std.proofs.Common.{◌≡◌, ℕ, ◌<◌, ◌≤◌, Bool, true, fa
 use Rattle.std.proofs.lemmas.Bool.{cases_Bool, cases_order, ltb-true, ltb-false, eqb-true, eqb-false, or_cases, or_parts, and_parts, and_cases, cond-true, cond-false}
 use Rattle.std.proofs.lemmas.List.{take_more}
 use Rattle.std.proofs.lemmas.List.Elements.{Contains-append_left, Contains-push, Contains-push_cases}
-use Rattle.ketama.specs.Owner.{is_usable, IsUsablePairFrom, IsAtOrBefore, IsLeast, IsLeastIfAny, lesser}
+use Rattle.ketama.specs.Owner.{is_usable, IsUsablePairFrom, IsAtOrBefore, IsLeast, IsLeastIfAny, lesser_pair}
 
 -- ---- the order
 
@@ -37,7 +37,7 @@ not_less a b above fails =
       | inr apart ↦ elim apart [ inl less ↦ inl less | inr more ↦ absurd (omega arith) ]
     ]
 
-pub lesser_cases : (a b : ℕ × ℕ) → ((lesser a (Some b) ≡ b) × IsAtOrBefore b a) ⊎ ((lesser a (Some b) ≡ a) × IsAtOrBefore a b)
+pub lesser_cases : (a b : ℕ × ℕ) → ((lesser_pair a (Some b) ≡ b) × IsAtOrBefore b a) ⊎ ((lesser_pair a (Some b) ≡ a) × IsAtOrBefore a b)
 unfolding lesser_test
 lesser_cases a b =
     elim (cases_Bool (lesser_test a b)) [
@@ -62,7 +62,7 @@ IsLeastIfAny-same K L to from None none = λ pair l. none pair (from pair l)
 IsLeastIfAny-same K L to from (Some least) is = record { kind = to least is.kind; first = λ pair l. is.first pair (from pair l) }
 
 -- one more pair comes to the kind
-pub IsLeastIfAny-lesser : (K L : ℕ × ℕ → Type 0) (new : ℕ × ℕ) → ((pair : ℕ × ℕ) → K pair → L pair) → L new → ((pair : ℕ × ℕ) → L pair → K pair ⊎ (new ≡ pair)) → (least : Option (ℕ × ℕ)) → IsLeastIfAny K least → IsLeast L (lesser new least)
+pub IsLeastIfAny-lesser : (K L : ℕ × ℕ → Type 0) (new : ℕ × ℕ) → ((pair : ℕ × ℕ) → K pair → L pair) → L new → ((pair : ℕ × ℕ) → L pair → K pair ⊎ (new ≡ pair)) → (least : Option (ℕ × ℕ)) → IsLeastIfAny K least → IsLeast L (lesser_pair new least)
 IsLeastIfAny-lesser K L new to is_new cases None none =
     record { kind = is_new; first = λ pair l. elim (cases pair l) [ inl k ↦ absurd (none pair k) | inr same ↦ subst (IsAtOrBefore new) same (IsAtOrBefore-refl new) ] }
 IsLeastIfAny-lesser K L new to is_new cases (Some least) is =
@@ -96,7 +96,7 @@ cases_pushed pairs from usable new pair is =
     ]
 
 -- a pair that passes comes
-pub least-taken : (pairs : List (ℕ × ℕ)) (from : ℕ) (usable : List Bool) (new : ℕ × ℕ) (least : Option (ℕ × ℕ)) → from ≤ new.0 → is_usable usable new.1 ≡ true → IsLeastIfAny (IsUsablePairFrom pairs from usable) least → IsLeastIfAny (IsUsablePairFrom (pairs ++ new ∷ []) from usable) (Some (lesser new least))
+pub least-taken : (pairs : List (ℕ × ℕ)) (from : ℕ) (usable : List Bool) (new : ℕ × ℕ) (least : Option (ℕ × ℕ)) → from ≤ new.0 → is_usable usable new.1 ≡ true → IsLeastIfAny (IsUsablePairFrom pairs from usable) least → IsLeastIfAny (IsUsablePairFrom (pairs ++ new ∷ []) from usable) (Some (lesser_pair new least))
 least-taken pairs from usable new least above on is =
     IsLeastIfAny-lesser (IsUsablePairFrom pairs from usable) (IsUsablePairFrom (pairs ++ new ∷ []) from usable) new
     (from_pushed pairs from usable new)

@@ -4,7 +4,7 @@ use Rattle.std.specs.Option.{option_map}
 use Rattle.std.proofs.lemmas.Bool.{cases_Bool, cases_eq, cases_lt, both_ways, leb-true, le-leb, cond-true, cond-false}
 use Rattle.std.proofs.lemmas.List.{get_or-set_other, get_or-set_same, set_past, get_or-replicate, get_or_past}
 use Rattle.ketama.specs.Owner.{is_usable, IsUsablePair, IsUsablePairFrom, IsLeast, IsLeastIfAny, Owns, IsOwner, least_of, usable_pairs, usable_pairs_from, first_of, owner_of}
-use Rattle.ketama.specs.OwnerLaws.{without, all_usable, OthersKeepTheirPoints, FirstChoiceStands, OwnersGoByMembers}
+use Rattle.ketama.specs.OwnerLaws.{usable_without, all_usable, OthersKeepTheirPoints, FirstChoiceStands, OwnersGoByMembers}
 use Rattle.ketama.proofs.Least.{same_host, IsLeastIfAny-same, IsLeastIfAny-lesser}
 
 -- ---- one owner at most
@@ -158,26 +158,26 @@ fewer_owner_of pairs point usable fewer subset still =
 
 -- ---- a host goes out
 
-out-without : (usable : List Bool) (host : ℕ) → is_usable (without usable host) host ≡ false
+out-without : (usable : List Bool) (host : ℕ) → is_usable (usable_without usable host) host ≡ false
 out-without usable host = elim (cases_lt host (length usable)) [
   | inl within ↦ get_or-set_same usable host false false within
   | inr past ↦ rw (set_past usable host false past) (get_or_past usable host false past)
 ]
 
-subset-without : (usable : List Bool) (host h : ℕ) → is_usable (without usable host) h ≡ true → is_usable usable h ≡ true
+subset-without : (usable : List Bool) (host h : ℕ) → is_usable (usable_without usable host) h ≡ true → is_usable usable h ≡ true
 subset-without usable host h on = elim (cases_eq h host) [
-  | inl same ↦ absurd (both_ways _ (out-without usable host) (subst (λ k. is_usable (without usable host) k ≡ true) same on))
+  | inl same ↦ absurd (both_ways _ (out-without usable host) (subst (λ k. is_usable (usable_without usable host) k ≡ true) same on))
   | inr other ↦ sym (get_or-set_other usable host h false false other) ∙ on
 ]
 
-still_usable : (pairs : List (ℕ × ℕ)) (point : ℕ) (usable : List Bool) (host : ℕ) (answer : Option ℕ) → IsOwner pairs point usable answer → answer ≢ Some host → IfSome answer (λ h. is_usable (without usable host) h ≡ true)
+still_usable : (pairs : List (ℕ × ℕ)) (point : ℕ) (usable : List Bool) (host : ℕ) (answer : Option ℕ) → IsOwner pairs point usable answer → answer ≢ Some host → IfSome answer (λ h. is_usable (usable_without usable host) h ≡ true)
 still_usable pairs point usable host None is other = tt
 still_usable pairs point usable host (Some h) is other =
     get_or-set_other usable host h false false (λ same. other (ap (λ k. Some k) same)) ∙ (owned_pair pairs point usable h is).1.host_usable
 
 pub others_keep_their_points : OthersKeepTheirPoints
 others_keep_their_points pairs point usable host other =
-    sym (fewer_owner_of pairs point usable (without usable host) (subset-without usable host)
+    sym (fewer_owner_of pairs point usable (usable_without usable host) (subset-without usable host)
     (still_usable pairs point usable host (owner_of pairs point usable) (owner_of-is pairs point usable) other))
 
 -- ---- others are out

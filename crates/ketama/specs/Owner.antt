@@ -51,15 +51,15 @@ IsOwner pairs point usable (Some host) = Owns pairs point usable host
 -- ---- the same as a function
 
 -- the lesser of a pair and another, if there is another
-abbrev pub lesser : ℕ × ℕ → Option (ℕ × ℕ) → ℕ × ℕ
-lesser pair None = pair
-lesser pair (Some other) =
+abbrev pub lesser_pair : ℕ × ℕ → Option (ℕ × ℕ) → ℕ × ℕ
+lesser_pair pair None = pair
+lesser_pair pair (Some other) =
     if nat_lt other.0 pair.0 || (other.0 == pair.0 && nat_lt other.1 pair.1) then other else pair
 
 -- the least pair of a list
 abbrev pub least_of : List (ℕ × ℕ) → Option (ℕ × ℕ)
 least_of [] = None
-least_of (pair ∷ pairs) = Some (lesser pair (least_of pairs))
+least_of (pair ∷ pairs) = Some (lesser_pair pair (least_of pairs))
 
 -- the usable pairs of a list, and those of them at the point or above
 abbrev pub usable_pairs : List (ℕ × ℕ) → List Bool → List (ℕ × ℕ)

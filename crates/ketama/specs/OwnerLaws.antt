@@ -3,8 +3,8 @@ use Rattle.std.specs.Prelude.{◌≡◌, ◌≢◌, ◌↔◌, ℕ, Bool, true, 
 use Rattle.ketama.specs.Owner.{is_usable, IsOwner, owner_of}
 
 -- the usable hosts without one of them
-abbrev pub without : List Bool → ℕ → List Bool
-without usable host = slice_set usable host false
+abbrev pub usable_without : List Bool → ℕ → List Bool
+usable_without usable host = slice_set usable host false
 
 -- as many hosts, all usable
 abbrev pub all_usable : List Bool → List Bool
@@ -19,7 +19,7 @@ pub record OwnerIsOne (pairs : List (ℕ × ℕ)) (point : ℕ) (usable : List B
 abbrev pub OthersKeepTheirPoints : Type 0
 OthersKeepTheirPoints = (pairs : List (ℕ × ℕ)) (point : ℕ) (usable : List Bool) (host : ℕ)
     → owner_of pairs point usable ≢ Some host
-    → owner_of pairs point (without usable host) ≡ owner_of pairs point usable
+    → owner_of pairs point (usable_without usable host) ≡ owner_of pairs point usable
 
 -- where the owner among all hosts is usable, it is the owner, whichever others are out
 abbrev pub FirstChoiceStands : Type 0

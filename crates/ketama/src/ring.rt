@@ -31,7 +31,11 @@ impl Model for Ring {
 
     ghost view = { λ r. record { hosts = r.hosts; digests = r.digests; pairs = r.pairs.items } };
 
-    ghost invariant = { λ r. IsContinuum (record { hosts = r.hosts; digests = r.digests; pairs = r.pairs.items }) };
+    ghost invariant = { λ r. IsContinuum (record {
+      hosts = r.hosts;
+      digests = r.digests;
+      pairs = r.pairs.items;
+    }) };
 }
 
 impl Ring {

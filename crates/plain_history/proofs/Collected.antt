@@ -9,7 +9,7 @@ use Rattle.std.proofs.lemmas.Option.{slice_get_past}
 use Rattle.resp_core.specs.Tree.{Tree}
 use Rattle.splitter.specs.declared.request.Request.{Request}
 use Rattle.proxy_history.specs.History.{History, Step, times, has, requests, request_by}
-use Rattle.proxy_history.specs.Replies.{came, reply_by}
+use Rattle.proxy_history.specs.Replies.{replies_from, reply_by}
 use Rattle.plain_history.specs.Scan.{history_of}
 use Rattle.proxy_history.specs.declared.event.Event.{Event}
 
@@ -63,11 +63,11 @@ module _ {X : Type 0} (by : Event → List X) where
 
 -- THE REPLIES OF A HOST
 
-came-collected : (h e : ℕ) (H : History) → came h e H ≡ collected (reply_by h e) H
+came-collected : (h e : ℕ) (H : History) → replies_from h e H ≡ collected (reply_by h e) H
 came-collected h e [] = refl
 came-collected h e (s ∷ before) = ap (λ z. z ++ reply_by h e s.event) (came-collected h e before)
 
-came-flat : (h e : ℕ) (steps : List Step) → came h e (history_of steps) ≡ flat (reply_by h e) steps
+came-flat : (h e : ℕ) (steps : List Step) → replies_from h e (history_of steps) ≡ flat (reply_by h e) steps
 came-flat h e steps = came-collected h e (history_of steps) ∙ collected_is_flat (reply_by h e) steps
 
 requests-collected : (c : ℕ) (H : History) → requests c H ≡ collected (request_by c) H
@@ -78,16 +78,16 @@ requests-flat : (c : ℕ) (steps : List Step) → requests c (history_of steps) 
 requests-flat c steps = requests-collected c (history_of steps) ∙ collected_is_flat (request_by c) steps
 
 -- one found, and none, in the words of replies and of requests
-pub reply_found : (h e : ℕ) (steps : List Step) (i : ℕ) (d : Step) (x : Tree) (n : ℕ) → i < length steps → reply_by h e (get_or steps i d).event ≡ x ∷ [] → n ≡ length (came h e (history_of (take i steps))) → slice_get (came h e (history_of steps)) n ≡ Some x
+pub reply_found : (h e : ℕ) (steps : List Step) (i : ℕ) (d : Step) (x : Tree) (n : ℕ) → i < length steps → reply_by h e (get_or steps i d).event ≡ x ∷ [] → n ≡ length (replies_from h e (history_of (take i steps))) → slice_get (replies_from h e (history_of steps)) n ≡ Some x
 reply_found h e steps i d x n l b m = ap (λ z. slice_get z n) (came-flat h e steps) ∙ found_at (reply_by h e) steps i d x n l b (m ∙ ap length (came-flat h e (take i steps)))
 
-pub replies-one : (h e : ℕ) (steps : List Step) (i : ℕ) (d : Step) (x : Tree) → i < length steps → reply_by h e (get_or steps i d).event ≡ x ∷ [] → length (came h e (history_of (take (i + 1) steps))) ≡ length (came h e (history_of (take i steps))) + 1
+pub replies-one : (h e : ℕ) (steps : List Step) (i : ℕ) (d : Step) (x : Tree) → i < length steps → reply_by h e (get_or steps i d).event ≡ x ∷ [] → length (replies_from h e (history_of (take (i + 1) steps))) ≡ length (replies_from h e (history_of (take i steps))) + 1
 replies-one h e steps i d x l b = ap length (came-flat h e (take (i + 1) steps)) ∙ length-more_one (reply_by h e) steps i d x l b ∙ ap (λ z. length z + 1) (sym (came-flat h e (take i steps)))
 
-pub replies-none : (h e : ℕ) (steps : List Step) (i : ℕ) (d : Step) → i < length steps → reply_by h e (get_or steps i d).event ≡ [] → length (came h e (history_of (take (i + 1) steps))) ≡ length (came h e (history_of (take i steps)))
+pub replies-none : (h e : ℕ) (steps : List Step) (i : ℕ) (d : Step) → i < length steps → reply_by h e (get_or steps i d).event ≡ [] → length (replies_from h e (history_of (take (i + 1) steps))) ≡ length (replies_from h e (history_of (take i steps)))
 replies-none h e steps i d l b = ap length (came-flat h e (take (i + 1) steps)) ∙ length-more_none (reply_by h e) steps i d l b ∙ ap length (sym (came-flat h e (take i steps)))
 
-pub reply_not_found : (h e : ℕ) (steps : List Step) (i n : ℕ) → length steps ≤ i → length (came h e (history_of (take i steps))) ≤ n → slice_get (came h e (history_of steps)) n ≡ None
+pub reply_not_found : (h e : ℕ) (steps : List Step) (i n : ℕ) → length steps ≤ i → length (replies_from h e (history_of (take i steps))) ≤ n → slice_get (replies_from h e (history_of steps)) n ≡ None
 reply_not_found h e steps i n l m = ap (λ z. slice_get z n) (came-flat h e steps) ∙ none_at (reply_by h e) steps i n l (omega (arith, m, ap length (came-flat h e (take i steps))))
 
 pub request_found : (c : ℕ) (steps : List Step) (i : ℕ) (d : Step) (x : Request) (n : ℕ) → i < length steps → request_by c (get_or steps i d).event ≡ x ∷ [] → n ≡ length (requests c (history_of (take i steps))) → slice_get (requests c (history_of steps)) n ≡ Some x

@@ -7,7 +7,7 @@ use Rattle.std.proofs.lemmas.Bool.{cases_Bool}
 use Rattle.resp_core.specs.Tree.{Tree}
 use Rattle.proxy_history.specs.Part.{Part, Past, is_same}
 use Rattle.proxy_history.specs.Waiting.{sent_to}
-use Rattle.proxy_history.specs.Replies.{came}
+use Rattle.proxy_history.specs.Replies.{replies_from}
 use Rattle.proxy_history.specs.Value.{reply_to}
 use Rattle.plain_history.specs.Scan.{place_in}
 
@@ -27,6 +27,6 @@ reply_in_place p (q ∷ ps) (v ∷ vs) = elim (cases_Bool (is_same p q)) [
   | inr e ↦ rw e (one_further v vs (place_in p ps) ∙ reply_in_place p ps vs)
 ]
 
-pub reply_to-is : (p : Part) (host : ℕ) (x : Past) (o : Option ℕ) → o ≡ place_in p (sent_to host p.epoch x) → option_and_then (λ k. slice_get (came host p.epoch x.steps) k) o ≡ reply_to p host x
+pub reply_to-is : (p : Part) (host : ℕ) (x : Past) (o : Option ℕ) → o ≡ place_in p (sent_to host p.epoch x) → option_and_then (λ k. slice_get (replies_from host p.epoch x.steps) k) o ≡ reply_to p host x
 reply_to-is p host x o e =
-    ap (λ z. option_and_then (λ k. slice_get (came host p.epoch x.steps) k) z) e ∙ reply_in_place p (sent_to host p.epoch x) (came host p.epoch x.steps)
+    ap (λ z. option_and_then (λ k. slice_get (replies_from host p.epoch x.steps) k) z) e ∙ reply_in_place p (sent_to host p.epoch x) (replies_from host p.epoch x.steps)

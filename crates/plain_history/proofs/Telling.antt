@@ -11,7 +11,7 @@ use Rattle.proxy_history.specs.Answer.{answer_to}
 use Rattle.proxy_history.specs.Cause.{own_cause}
 use Rattle.proxy_history.specs.History.{History, Step}
 use Rattle.proxy_history.specs.Past.{past, parts_in, sent_in, marks_in}
-use Rattle.plain_history.specs.Scan.{Shows, history_of, parts_of, seen}
+use Rattle.plain_history.specs.Scan.{Shows, history_of, parts_of, past_of_scan}
 use Rattle.plain_history.specs.declared.replay.Replay.{Replay}
 use Rattle.resp_core.specs.declared.value.Value.{Value}
 use Rattle.proxy_history.specs.declared.event.Kind.{Kind}
@@ -36,25 +36,25 @@ by_host (Err error) ring rules now x event h = tt
 -- where the answer is told of any past with these marks
 pub by_reply : {E : Type 0} (r : Result Answer E) (ring : Continuum) (rules : Rules) (now : State) (steps : List Step) (replay : Replay) (host epoch t : ℕ) (value : Value)
     → IfOk r (λ a. (S : Setting) (y : Past) (e : ℕ) (v : Value) → S.rules ≡ rules → now ≡ state S.rules S.opening y.marks → a ≡ answer_to S y (Answered host e v t))
-    → IfOk r (λ a. IsAnswer ring rules now (λ marks. seen steps marks replay) (Answered host epoch value t) a)
-by_reply (Ok a) ring rules now steps replay host epoch t value h = λ S marks f g k. h S (seen steps marks replay) epoch value g k
+    → IfOk r (λ a. IsAnswer ring rules now (λ marks. past_of_scan steps marks replay) (Answered host epoch value t) a)
+by_reply (Ok a) ring rules now steps replay host epoch t value h = λ S marks f g k. h S (past_of_scan steps marks replay) epoch value g k
 by_reply (Err error) ring rules now steps replay host epoch t value h = tt
 
 pub by_fault : {E : Type 0} (r : Result Answer E) (ring : Continuum) (rules : Rules) (now : State) (steps : List Step) (replay : Replay) (host epoch t : ℕ) (kind : Kind)
-    → IfOk r (λ a. (S : Setting) (marks : List Mark) (e : ℕ) → S.rules ≡ rules → now ≡ state S.rules S.opening marks → a ≡ answer_to S (seen steps marks replay) (Failed host e kind t))
-    → IfOk r (λ a. IsAnswer ring rules now (λ marks. seen steps marks replay) (Failed host epoch kind t) a)
+    → IfOk r (λ a. (S : Setting) (marks : List Mark) (e : ℕ) → S.rules ≡ rules → now ≡ state S.rules S.opening marks → a ≡ answer_to S (past_of_scan steps marks replay) (Failed host e kind t))
+    → IfOk r (λ a. IsAnswer ring rules now (λ marks. past_of_scan steps marks replay) (Failed host epoch kind t) a)
 by_fault (Ok a) ring rules now steps replay host epoch t kind h = λ S marks f g k. h S marks epoch g k
 by_fault (Err error) ring rules now steps replay host epoch t kind h = tt
 
 pub by_sweep : {E : Type 0} (r : Result Answer E) (ring : Continuum) (rules : Rules) (now : State) (steps : List Step) (replay : Replay) (t : ℕ)
     → IfOk r (λ a. (S : Setting) (y : Past) → S.rules ≡ rules → now ≡ state S.rules S.opening y.marks → a ≡ answer_to S y (Swept t))
-    → IfOk r (λ a. IsAnswer ring rules now (λ marks. seen steps marks replay) (Swept t) a)
-by_sweep (Ok a) ring rules now steps replay t h = λ S marks f g k. h S (seen steps marks replay) g k
+    → IfOk r (λ a. IsAnswer ring rules now (λ marks. past_of_scan steps marks replay) (Swept t) a)
+by_sweep (Ok a) ring rules now steps replay t h = λ S marks f g k. h S (past_of_scan steps marks replay) g k
 by_sweep (Err error) ring rules now steps replay t h = tt
 
 -- the state of a replay that shows a history
 pub told_here : (S : Setting) (H : History) (steps : List Step) (r : Replay) (a : Answer) (event : Event) → H ≡ history_of steps → Shows S H r
-    → IsAnswer S.ring S.rules r.ejector.state (λ marks. seen steps marks r) event a → a ≡ answer_to S (past S H) event
+    → IsAnswer S.ring S.rules r.ejector.state (λ marks. past_of_scan steps marks r) event a → a ≡ answer_to S (past S H) event
 told_here S H steps r a event e shows told =
     told S (marks_in S H) refl refl shows.state
     ∙ ap (λ (ps : List Part). answer_to S (record { steps = history_of steps; parts = ps; sent = parts_of r.sent.items; marks = marks_in S H }) event) shows.parts
@@ -63,7 +63,7 @@ told_here S H steps r a event e shows told =
 
 -- a cause doesn't hang on the marks
 pub cause_here : (S : Setting) (H : History) (steps : List Step) (r : Replay) (event : Event) → H ≡ history_of steps → Shows S H r
-    → own_cause S (seen steps [] r) event ≡ own_cause S (past S H) event
+    → own_cause S (past_of_scan steps [] r) event ≡ own_cause S (past S H) event
 cause_here S H steps r event e shows =
     ap (λ (ps : List Part). own_cause S (record { steps = history_of steps; parts = ps; sent = parts_of r.sent.items; marks = [] }) event) shows.parts
     ∙ ap (λ (ss : List Part). own_cause S (record { steps = history_of steps; parts = parts_in S H; sent = ss; marks = [] }) event) shows.sent

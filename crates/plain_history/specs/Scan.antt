@@ -71,8 +71,8 @@ abbrev pub parts_of : List Part' → List Part
 parts_of ps = map part_of ps
 
 -- A history with what the plain program keeps of it. The marks are in the ejector's state, and no list of them is kept.
-abbrev pub seen : List Step → List Mark → Replay → Past
-seen steps marks r = record { steps = history_of steps; parts = parts_of r.parts.items; sent = parts_of r.sent.items; marks = marks }
+abbrev pub past_of_scan : List Step → List Mark → Replay → Past
+past_of_scan steps marks r = record { steps = history_of steps; parts = parts_of r.parts.items; sent = parts_of r.sent.items; marks = marks }
 
 -- What is kept of a history is what the history determines.
 pub record Shows (S : Setting) (H : History) (r : Replay) : Type 0 where

@@ -8,7 +8,7 @@ ghost use Rattle.proxy_history.specs.Setting.{Setting};
 ghost use Rattle.proxy_history.specs.Part.{Past};
 ghost use Rattle.proxy_history.specs.Legal.{IsLegal};
 ghost use Rattle.proxy_history.specs.Answer.{answer_to, accepts, is_hostless, is_busy};
-ghost use Rattle.plain_history.specs.Scan.{Shows, history_of, parts_of, seen};
+ghost use Rattle.plain_history.specs.Scan.{Shows, history_of, parts_of, past_of_scan};
 ghost use Rattle.proxy_history.specs.declared.event.Event.TheVariants.{Arrived, Taken, Answered, Failed, Swept, Handed};
 ghost use Rattle.resp_core.specs.declared.value.Value.{Value};
 
@@ -41,7 +41,8 @@ pub(crate) fn accepted(
     ensures { IfOk result (λ answer. (S : Setting) (marks : List Mark) → S.ring ≡ ring.now
         → S.rules ≡ replay.now.ejector.rules
         → replay.now.ejector.state ≡ state S.rules S.opening marks
-        → answer ≡ answer_to S (seen steps.now marks replay.now) (Arrived conn request.now)) }
+        → answer ≡ answer_to S (past_of_scan steps.now marks replay.now)
+        (Arrived conn request.now)) }
 {
     let index = times(steps, Wanted::Arrival(conn));
     let Ok(plan) = plan(alloc, request) else {
@@ -107,7 +108,7 @@ pub(crate) fn taken(
     host: usize,
 ) -> Result<Answer, AllocError>
     ensures { IfOk result (λ answer. (S : Setting) (marks : List Mark)
-        → answer ≡ answer_to S (seen steps.now marks replay.now) (Taken host)) }
+        → answer ≡ answer_to S (past_of_scan steps.now marks replay.now) (Taken host)) }
 {
     let epoch = times(steps, Wanted::Fault(host));
     let text = match first_waiting(steps, replay, host) {
@@ -126,7 +127,8 @@ pub(crate) fn matched(ejector: &mut Ejector, host: usize, t: u64) -> Result<Answ
     requires { host < ejector.old.rules.hosts }
     ensures { IfOk result (λ answer. (S : Setting) (x : Past) (epoch : ℕ) (value : Value)
         → S.rules ≡ ejector.old.rules
-        → ejector.old.state ≡ state S.rules S.opening x.marks → answer ≡ answer_to S x (Answered host epoch value t)) }
+        → ejector.old.state ≡ state S.rules S.opening x.marks
+        → answer ≡ answer_to S x (Answered host epoch value t)) }
 {
     Ok(Answer::Matched {
         trip: trip(ejector, host, true, t)?,
@@ -157,7 +159,9 @@ pub(crate) fn lost(
     requires { host < replay.old.ejector.rules.hosts }
     ensures { IfOk result (λ answer. (S : Setting) (marks : List Mark) (epoch : ℕ)
         → S.rules ≡ replay.old.ejector.rules
-        → replay.old.ejector.state ≡ state S.rules S.opening marks → answer ≡ answer_to S (seen steps.now marks replay.old) (Failed host epoch kind t)) }
+        → replay.old.ejector.state ≡ state S.rules S.opening marks
+        → answer ≡ answer_to S (past_of_scan steps.now marks replay.old)
+        (Failed host epoch kind t)) }
 {
     let parts = waiting(steps, replay, host) + flying(steps, replay, host);
     let trip = if is_excused(steps, replay, host, kind) {
@@ -193,7 +197,7 @@ pub(crate) fn handed_out(
     requires { (S : Setting) × IsLegal S (history_of steps.now)
         × Shows S (history_of steps.now) replay.now }
     ensures { IfOk result (λ answer. (S : Setting) (marks : List Mark)
-        → answer ≡ answer_to S (seen steps.now marks replay.now) (Handed conn)) }
+        → answer ≡ answer_to S (past_of_scan steps.now marks replay.now) (Handed conn)) }
 {
     let index = times(steps, Wanted::Handing(conn));
     let mut text = Vec::new(alloc);

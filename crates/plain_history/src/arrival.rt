@@ -6,10 +6,10 @@ ghost use Rattle.ejector.specs.Ejection.{state};
 ghost use Rattle.ejector.specs.State.{hosts_of};
 ghost use Rattle.ejector.specs.Usable.{is_usable};
 ghost use Rattle.proxy_history.specs.Setting.{Setting, max_waiting};
-ghost use Rattle.proxy_history.specs.History.{accepted, epoch};
+ghost use Rattle.proxy_history.specs.History.{accepted_count, epoch};
 ghost use Rattle.proxy_history.specs.Part.{is_of};
-ghost use Rattle.proxy_history.specs.Arrival.{placing, usable as usable_hosts, with_host, hostless, before_it, proxy_busy};
-ghost use Rattle.plain_history.specs.Scan.{history_of, part_of, parts_of, seen, value_at_once};
+ghost use Rattle.proxy_history.specs.Arrival.{parts_placed, usable_flags, with_host, hostless, before_it, proxy_busy};
+ghost use Rattle.plain_history.specs.Scan.{history_of, part_of, parts_of, past_of_scan, value_at_once};
 
 use crate::part::{AtOnce, Part};
 use crate::pipe::{is_of, waiting};
@@ -37,7 +37,9 @@ pub(crate) fn placed_parts(
     ensures { IfOk result (λ parts. (S : Setting) (marks : List Mark) → S.ring ≡ ring.now
         → S.rules ≡ replay.now.ejector.rules
         → replay.now.ejector.state ≡ state S.rules S.opening marks
-        → parts_of parts.items ≡ placing S (seen steps.now marks replay.now) conn (accepted conn (history_of steps.now)) [] list.now) }
+        → parts_of parts.items
+        ≡ parts_placed S (past_of_scan steps.now marks replay.now) conn
+        (accepted_count conn (history_of steps.now)) [] list.now) }
 {
     let mut hosts = [false; MAX_HOSTS];
     let usable = &mut hosts[..ring.hosts()];
@@ -70,8 +72,10 @@ fn place_all(
     requires { length usable.now ≡ ring.now.hosts }
     ensures { IfOk result (λ parts. (S : Setting) (marks : List Mark) → S.ring ≡ ring.now
         → S.rules.settings.tags ≡ tags
-        → usable_hosts S (seen steps.now marks replay.now) ≡ usable.now
-        → parts_of parts.items ≡ placing S (seen steps.now marks replay.now) conn (accepted conn (history_of steps.now)) [] list.now) }
+        → usable_flags S (past_of_scan steps.now marks replay.now) ≡ usable.now
+        → parts_of parts.items
+        ≡ parts_placed S (past_of_scan steps.now marks replay.now) conn
+        (accepted_count conn (history_of steps.now)) [] list.now) }
 {
     let command = times(steps, Wanted::Arrival(conn));
     let mut placed = Vec::new(alloc);
@@ -94,7 +98,8 @@ fn placed_part(
     plan: &PartPlan,
 ) -> Result<Part, AllocError>
     ensures { IfOk result (λ part. part_of part
-        ≡ with_host (seen steps.now [] replay.now) (parts_of placed.now) host (hostless conn command (length placed.now) plan.now)) }
+        ≡ with_host (past_of_scan steps.now [] replay.now) (parts_of placed.now) host
+        (hostless conn command (length placed.now) plan.now)) }
 {
     let text = plan.text.clone()?;
     let (epoch, local) = match host {
@@ -116,7 +121,9 @@ fn placed_part(
 fn at_host(steps: &[Turn], replay: &Replay, placed: &[Part], host: usize) -> (u64, Option<AtOnce>)
     ensures epoch { result.0 ≡ epoch host (history_of steps.now) }
     ensures local { option_map value_at_once result.1
-        ≡ (if nat_lt (before_it host (seen steps.now [] replay.now) (parts_of placed.now)) max_waiting then None else Some proxy_busy) }
+        ≡ (if nat_lt
+        (before_it host (past_of_scan steps.now [] replay.now) (parts_of placed.now)) max_waiting
+        then None else Some proxy_busy) }
 {
     let epoch = times(steps, Wanted::Fault(host));
     let before = waiting(steps, replay, host).saturating_add(count_of(placed, host, epoch));

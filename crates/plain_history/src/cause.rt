@@ -2,9 +2,9 @@
 ghost use Rattle.std.specs.Prelude.{◌≡◌, ◌-◌, ℕ, [], List, Some, None, IfOk, true, false};
 ghost use Rattle.resp_core.specs.Value.{tree_of};
 ghost use Rattle.proxy_history.specs.Setting.{Setting, hosts};
-ghost use Rattle.proxy_history.specs.History.{is_open, accepted, handed};
-ghost use Rattle.proxy_history.specs.Cause.{own_cause, first_true, no_such_connection, finishing, no_such_host, stale};
-ghost use Rattle.plain_history.specs.Scan.{history_of, seen};
+ghost use Rattle.proxy_history.specs.History.{is_open, accepted_count, handed_count};
+ghost use Rattle.proxy_history.specs.Cause.{own_cause, first_true, no_such_connection, finishing_cause, no_such_host, stale_cause};
+ghost use Rattle.plain_history.specs.Scan.{history_of, past_of_scan};
 ghost use Rattle.plain_history.specs.declared.replay.Replay.{Replay};
 ghost use Rattle.proxy_history.specs.declared.event.Event.TheVariants.{Opened, Arrived, Finished, Taken, Answered, Failed, Swept, Handed, Closed};
 ghost use Rattle.proxy_history.specs.declared.event.Kind.{Kind};
@@ -26,7 +26,8 @@ pub(crate) fn is_open(steps: &[Turn], conn: u64) -> bool
 
 /// How many commands of the connection are accepted and not handed out.
 pub(crate) fn left(steps: &[Turn], conn: u64) -> u64
-    ensures { result ≡ accepted conn (history_of steps.now) - handed conn (history_of steps.now) }
+    ensures { result
+        ≡ accepted_count conn (history_of steps.now) - handed_count conn (history_of steps.now) }
 {
     times(steps, Wanted::Arrival(conn)).saturating_sub(times(steps, Wanted::Handing(conn)))
 }
@@ -34,7 +35,7 @@ pub(crate) fn left(steps: &[Turn], conn: u64) -> u64
 /// Why no connection is opened, if none is.
 pub(crate) fn opening_cause(steps: &[Turn]) -> Option<Refusal>
     ensures { (S : Setting) (replay : Replay)
-        → result ≡ own_cause S (seen steps.now [] replay) Opened }
+        → result ≡ own_cause S (past_of_scan steps.now [] replay) Opened }
 {
     let open = times(steps, Wanted::Opening).saturating_sub(times(steps, Wanted::AnyClosing));
     if open >= MAX_CONNECTIONS as u64 {
@@ -46,7 +47,7 @@ pub(crate) fn opening_cause(steps: &[Turn]) -> Option<Refusal>
 /// Why a request isn't accepted, if it isn't.
 pub(crate) fn arrival_cause(steps: &[Turn], conn: u64) -> Option<Refusal>
     ensures { (S : Setting) (replay : Replay) (request : Request)
-        → result ≡ own_cause S (seen steps.now [] replay) (Arrived conn request) }
+        → result ≡ own_cause S (past_of_scan steps.now [] replay) (Arrived conn request) }
 {
     if !is_open(steps, conn) {
         Some(Refusal::NoSuchConnection)
@@ -62,7 +63,7 @@ pub(crate) fn arrival_cause(steps: &[Turn], conn: u64) -> Option<Refusal>
 /// Why a connection doesn't finish, if it doesn't.
 pub(crate) fn finish_cause(steps: &[Turn], conn: u64) -> Option<Refusal>
     ensures { (S : Setting) (replay : Replay)
-        → result ≡ own_cause S (seen steps.now [] replay) (Finished conn) }
+        → result ≡ own_cause S (past_of_scan steps.now [] replay) (Finished conn) }
 {
     if !is_open(steps, conn) {
         Some(Refusal::NoSuchConnection)
@@ -81,7 +82,7 @@ pub(crate) fn take_cause(
     host: usize,
 ) -> Option<Refusal>
     ensures { (S : Setting) → hosts S ≡ host_count
-        → result ≡ own_cause S (seen steps.now [] replay.now) (Taken host) }
+        → result ≡ own_cause S (past_of_scan steps.now [] replay.now) (Taken host) }
 {
     if host >= host_count {
         Some(Refusal::NoSuchHost)
@@ -103,7 +104,7 @@ pub(crate) fn answer_cause(
 ) -> Option<Refusal>
     ensures { (S : Setting) (v : Value) (t : ℕ) → hosts S ≡ host_count
         → tree_of v ≡ tree_of value.now
-        → result ≡ own_cause S (seen steps.now [] replay.now) (Answered host epoch v t) }
+        → result ≡ own_cause S (past_of_scan steps.now [] replay.now) (Answered host epoch v t) }
 {
     let current = times(steps, Wanted::Fault(host));
     if host >= host_count {
@@ -127,7 +128,7 @@ pub(crate) fn fault_cause(
     epoch: u64,
 ) -> Option<Refusal>
     ensures { (S : Setting) (replay : Replay) (kind : Kind) (t : ℕ) → hosts S ≡ host_count
-        → result ≡ own_cause S (seen steps.now [] replay) (Failed host epoch kind t) }
+        → result ≡ own_cause S (past_of_scan steps.now [] replay) (Failed host epoch kind t) }
 {
     let current = times(steps, Wanted::Fault(host));
     if host >= host_count {
@@ -142,7 +143,7 @@ pub(crate) fn fault_cause(
 /// Why a connection isn't closed, if it isn't.
 pub(crate) fn close_cause(steps: &[Turn], conn: u64) -> Option<Refusal>
     ensures { (S : Setting) (replay : Replay)
-        → result ≡ own_cause S (seen steps.now [] replay) (Closed conn) }
+        → result ≡ own_cause S (past_of_scan steps.now [] replay) (Closed conn) }
 {
     if is_open(steps, conn) {
         None

@@ -4,8 +4,8 @@ ghost use Rattle.std.specs.List.{list_any};
 ghost use Rattle.std.specs.Option.{option_map, option_copied};
 ghost use Rattle.proxy_history.specs.History.{Step};
 ghost use Rattle.proxy_history.specs.Part.{is_of, is_same};
-ghost use Rattle.proxy_history.specs.Waiting.{waits, waiting, sent_to, flying};
-ghost use Rattle.plain_history.specs.Scan.{part_of, parts_of, first_of, place_in, seen};
+ghost use Rattle.proxy_history.specs.Waiting.{waits, waiting_parts, sent_to, flying_count};
+ghost use Rattle.plain_history.specs.Scan.{part_of, parts_of, first_of, place_in, past_of_scan};
 
 use crate::part::Part;
 use crate::replay::Replay;
@@ -39,7 +39,7 @@ fn was_sent(replay: &Replay, part: &Part) -> bool
 
 /// Whether the part waits for the host.
 pub(crate) fn waits(steps: &[Turn], replay: &Replay, host: usize, part: &Part) -> bool
-    ensures { result ≡ waits host (seen steps.now [] replay.now) (part_of part.now) }
+    ensures { result ≡ waits host (past_of_scan steps.now [] replay.now) (part_of part.now) }
 {
     is_of(part, host, times(steps, Wanted::Fault(host)))
         && !was_sent(replay, part)
@@ -48,7 +48,7 @@ pub(crate) fn waits(steps: &[Turn], replay: &Replay, host: usize, part: &Part) -
 
 /// How many parts wait for the host.
 pub(crate) fn waiting(steps: &[Turn], replay: &Replay, host: usize) -> u64
-    ensures value { result ≡ length (waiting host (seen steps.now [] replay.now)) }
+    ensures value { result ≡ length (waiting_parts host (past_of_scan steps.now [] replay.now)) }
     ensures few { result < 2 ^ 63 }
 {
     let mut count = 0;
@@ -63,7 +63,7 @@ pub(crate) fn waiting(steps: &[Turn], replay: &Replay, host: usize) -> u64
 /// The oldest part that waits for the host.
 pub(crate) fn first_waiting<'a>(steps: &[Turn], replay: &'a Replay, host: usize) -> Option<&'a Part>
     ensures { option_map part_of (option_copied result) ≡ first_of
-        (waiting host (seen steps.now [] replay.now)) }
+        (waiting_parts host (past_of_scan steps.now [] replay.now)) }
 {
     for part in &replay.parts {
         if waits(steps, replay, host, part) {
@@ -76,7 +76,7 @@ pub(crate) fn first_waiting<'a>(steps: &[Turn], replay: &'a Replay, host: usize)
 /// How many parts were sent to the host in the epoch.
 pub(crate) fn sent(replay: &Replay, host: usize, epoch: u64) -> u64
     ensures value { (steps : List Step)
-        → result ≡ length (sent_to host epoch (seen steps [] replay.now)) }
+        → result ≡ length (sent_to host epoch (past_of_scan steps [] replay.now)) }
     ensures few { result < 2 ^ 63 }
 {
     let mut count = 0;
@@ -90,7 +90,7 @@ pub(crate) fn sent(replay: &Replay, host: usize, epoch: u64) -> u64
 
 /// How many parts that were sent to the host in its present epoch have no reply.
 pub(crate) fn flying(steps: &[Turn], replay: &Replay, host: usize) -> u64
-    ensures value { result ≡ flying host (seen steps.now [] replay.now) }
+    ensures value { result ≡ flying_count host (past_of_scan steps.now [] replay.now) }
     ensures few { result < 2 ^ 63 }
 {
     let epoch = times(steps, Wanted::Fault(host));
@@ -101,7 +101,7 @@ pub(crate) fn flying(steps: &[Turn], replay: &Replay, host: usize) -> u64
 pub(crate) fn place(replay: &Replay, host: usize, part: &Part) -> Option<u64>
     ensures { (steps : List Step)
         → result ≡ place_in (part_of part.now)
-        (sent_to host part.now.epoch (seen steps [] replay.now)) }
+        (sent_to host part.now.epoch (past_of_scan steps [] replay.now)) }
 {
     let mut before = 0;
     for other in &replay.sent {

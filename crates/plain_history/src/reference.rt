@@ -12,7 +12,7 @@ ghost use Rattle.proxy_history.specs.Cause.{own_cause};
 ghost use Rattle.proxy_history.specs.Answer.{answer_to};
 ghost use Rattle.proxy_history.specs.Hosts.{HasHost};
 ghost use Rattle.proxy_history.specs.Legal.{IsLegal, MayFollow, IsCause};
-ghost use Rattle.plain_history.specs.Scan.{Shows, history_of, seen};
+ghost use Rattle.plain_history.specs.Scan.{Shows, history_of, past_of_scan};
 ghost use Rattle.proxy_history.specs.Proxy.{history_in, rules_of, setting_of, IsStep, HasCause};
 ghost use Rattle.proxy_history.specs.declared.event.Event.TheVariants.{Handed};
 
@@ -168,7 +168,7 @@ fn own_cause(
 ) -> Result<Option<Refusal>, AllocError>
     requires { (S : Setting) × Shows S (history_of steps.now) replay.now }
     ensures { IfOk result (λ cause. (S : Setting) → S.rules.hosts ≡ hosts
-        → cause ≡ own_cause S (seen steps.now [] replay.now) event.now) }
+        → cause ≡ own_cause S (past_of_scan steps.now [] replay.now) event.now) }
 {
     Ok(match event {
         Event::Opened => opening_cause(steps),
@@ -197,7 +197,7 @@ fn hand_cause(
 ) -> Result<Option<Refusal>, AllocError>
     requires { (S : Setting) × Shows S (history_of steps.now) replay.now }
     ensures { IfOk result (λ cause. (S : Setting)
-        → cause ≡ own_cause S (seen steps.now [] replay.now) (Handed conn)) }
+        → cause ≡ own_cause S (past_of_scan steps.now [] replay.now) (Handed conn)) }
 {
     if !is_open(steps, conn) {
         return Ok(Some(Refusal::NoSuchConnection));
@@ -229,7 +229,7 @@ fn has_outcome(
 ) -> Result<bool, AllocError>
     requires { (S : Setting) × Shows S (history_of steps.now) replay.now }
     ensures { IfOk result
-        (λ has. has ≡ is_some (outcome conn index (seen steps.now [] replay.now))) }
+        (λ has. has ≡ is_some (outcome conn index (past_of_scan steps.now [] replay.now))) }
 {
     match outcome(alloc, steps, replay, conn, index) {
         Ok(Some(_)) => Ok(true),
@@ -254,7 +254,8 @@ fn answer_to(
     requires host { HasHost ring.now.hosts event.now }
     ensures { IfOk result (λ a. (S : Setting) (marks : List Mark) → S.ring ≡ ring.now
         → S.rules ≡ replay.old.ejector.rules
-        → replay.old.ejector.state ≡ state S.rules S.opening marks → a ≡ answer_to S (seen steps.now marks replay.old) event.now) }
+        → replay.old.ejector.state ≡ state S.rules S.opening marks
+        → a ≡ answer_to S (past_of_scan steps.now marks replay.old) event.now) }
 {
     match event {
         Event::Opened => Ok(Answer::Opened {

@@ -12,7 +12,7 @@ ghost use Rattle.proxy_history.specs.Arrival.{parts_by};
 ghost use Rattle.proxy_history.specs.Marks.{is_excused, mark_by};
 ghost use Rattle.proxy_history.specs.Proxy.{rules_of};
 ghost use Rattle.proxy_history.specs.Hosts.{HasHost, HaveHosts};
-ghost use Rattle.plain_history.specs.Scan.{Shows, history_of, part_of, parts_of, seen};
+ghost use Rattle.plain_history.specs.Scan.{Shows, history_of, part_of, parts_of, past_of_scan};
 
 use crate::arrival::placed_parts;
 use crate::part::Part;
@@ -84,7 +84,8 @@ fn grow(
     requires tags { tags ≡ replay.old.ejector.rules.settings.tags }
     ensures shows { OnOk result ((S : Setting) (s : Step) → S.ring ≡ ring.now → s.event ≡ event.now
         → HasHost ring.now.hosts event.now
-        → Shows S (history_of steps.now) replay.old → Shows S (s ∷ history_of steps.now) replay.new) }
+        → Shows S (history_of steps.now) replay.old
+        → Shows S (s ∷ history_of steps.now) replay.new) }
     ensures rules { replay.new.ejector.rules ≡ replay.old.ejector.rules }
 {
     let mut parts = parts_by(alloc, ring, tags, steps, replay, event)?;
@@ -109,7 +110,7 @@ fn parts_by(
     ensures { IfOk result (λ parts. (S : Setting) (marks : List Mark) → S.ring ≡ ring.now
         → S.rules ≡ replay.now.ejector.rules
         → replay.now.ejector.state ≡ state S.rules S.opening marks
-        → parts_of parts.items ≡ parts_by S (seen steps.now marks replay.now) event.now) }
+        → parts_of parts.items ≡ parts_by S (past_of_scan steps.now marks replay.now) event.now) }
 {
     let Event::Arrived { conn, request } = event else {
         return Ok(Vec::new(alloc));
@@ -131,7 +132,7 @@ fn sent_by(
     event: &Event,
 ) -> Result<Vec<Part>, AllocError>
     ensures { IfOk result
-        (λ parts. parts_of parts.items ≡ sent_by (seen steps.now [] replay.now) event.now) }
+        (λ parts. parts_of parts.items ≡ sent_by (past_of_scan steps.now [] replay.now) event.now) }
 {
     let mut sent = Vec::new(alloc);
     if let Event::Taken { host } = event {
@@ -166,8 +167,11 @@ fn take_mark(
 ) -> Result<(), AllocError>
     requires { hosts ≡ replay.old.ejector.rules.hosts }
     ensures state { OnOk result (HasHost hosts event.now
-        → (O : State) (marks : List Mark) → state replay.old.ejector.rules O marks ≡ replay.old.ejector.state
-        → replay.new.ejector.state ≡ state replay.old.ejector.rules O (mark_by (seen steps.now [] replay.old) event.now ++ marks)) }
+        → (O : State) (marks : List Mark)
+        → state replay.old.ejector.rules O marks ≡ replay.old.ejector.state
+        → replay.new.ejector.state
+        ≡ state replay.old.ejector.rules O
+        (mark_by (past_of_scan steps.now [] replay.old) event.now ++ marks)) }
     ensures rules { replay.new.ejector.rules ≡ replay.old.ejector.rules }
     ensures parts { replay.new.parts ≡ replay.old.parts }
     ensures sent { replay.new.sent ≡ replay.old.sent }
@@ -190,7 +194,7 @@ fn take_mark(
 
 // Whether such a fault is none of the host's: its link ended while nothing waited for it and nothing flew to it.
 pub(crate) fn is_excused(steps: &[Turn], replay: &Replay, host: usize, kind: Kind) -> bool
-    ensures { result ≡ is_excused (seen steps.now [] replay.now) host kind }
+    ensures { result ≡ is_excused (past_of_scan steps.now [] replay.now) host kind }
 {
     match kind {
         Kind::Dropped => waiting(steps, replay, host) == 0 && flying(steps, replay, host) == 0,

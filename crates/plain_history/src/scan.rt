@@ -6,7 +6,7 @@ ghost use Rattle.std.specs.Prelude.{slice_get, min, ◌^◌, ◌-◌};
 ghost use Rattle.splitter.specs.Plan.{is_last, plan_of};
 ghost use Rattle.splitter.specs.Request.{request_of};
 ghost use Rattle.proxy_history.specs.History.{times, has, requests, request_by, plan_for};
-ghost use Rattle.proxy_history.specs.Replies.{came, reply_by};
+ghost use Rattle.proxy_history.specs.Replies.{replies_from, reply_by};
 ghost use Rattle.plain_history.specs.Scan.{is_wanted, is_quit_row, history_of};
 ghost use Rattle.list_words.specs.Lists.{list_of};
 ghost use Rattle.command_table.specs.Table.{row_named};
@@ -124,7 +124,7 @@ fn request_of(event: &Event, conn: u64) -> Option<&Request>
 
 /// How many replies of the host came in the epoch.
 pub(crate) fn replies(steps: &[Turn], host: usize, epoch: u64) -> u64
-    ensures { result ≡ length (came host epoch (history_of steps.now)) }
+    ensures { result ≡ length (replies_from host epoch (history_of steps.now)) }
 {
     let mut count = 0;
     for step in steps {
@@ -138,7 +138,7 @@ pub(crate) fn replies(steps: &[Turn], host: usize, epoch: u64) -> u64
 /// The reply of the host that came in this place of the epoch.
 pub(crate) fn reply_at(steps: &[Turn], host: usize, epoch: u64, place: u64) -> Option<&Value>
     ensures { option_map tree_of (option_copied result) ≡ slice_get
-        (came host epoch (history_of steps.now)) place }
+        (replies_from host epoch (history_of steps.now)) place }
 {
     let mut before = 0;
     for step in steps {

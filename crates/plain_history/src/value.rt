@@ -5,10 +5,10 @@ ghost use Rattle.resp_core.specs.Text.{text};
 ghost use Rattle.resp_core.specs.Value.{tree_of};
 ghost use Rattle.splitter.specs.Join.{MayJoin, join_of};
 ghost use Rattle.proxy_history.specs.Setting.{Setting};
-ghost use Rattle.proxy_history.specs.History.{handed};
+ghost use Rattle.proxy_history.specs.History.{handed_count};
 ghost use Rattle.proxy_history.specs.Value.{reply_to, upstream_failure, value_of};
 ghost use Rattle.proxy_history.specs.Outcome.{is_part_of, outcome, parts_of as command_parts, values_of};
-ghost use Rattle.plain_history.specs.Scan.{Shows, history_of, part_of, seen, value_at_once};
+ghost use Rattle.plain_history.specs.Scan.{Shows, history_of, part_of, past_of_scan, value_at_once};
 
 use crate::part::{AtOnce, Part};
 use crate::pipe::place;
@@ -28,7 +28,8 @@ pub(crate) fn value_of(
     part: &Part,
 ) -> Result<Option<Value>, RespError>
     ensures value { IfOk result
-        (λ v. option_map tree_of v ≡ value_of (seen steps.now [] replay.now) (part_of part.now)) }
+        (λ v. option_map tree_of v
+        ≡ value_of (past_of_scan steps.now [] replay.now) (part_of part.now)) }
     ensures err { IfErr result (λ e. e ≡ RespError.NoMemory) }
 {
     if let Some(at_once) = part.local {
@@ -65,7 +66,7 @@ fn upstream_failure() -> Value
 // The reply of the host that came in the part's place.
 fn reply_to<'a>(steps: &'a [Turn], replay: &Replay, host: usize, part: &Part) -> Option<&'a Value>
     ensures { option_map tree_of (option_copied result) ≡ reply_to (part_of part.now) host
-        (seen steps.now [] replay.now) }
+        (past_of_scan steps.now [] replay.now) }
 {
     match place(replay, host, part) {
         Some(place) => reply_at(steps, host, part.epoch, place),
@@ -85,7 +86,7 @@ pub(crate) fn outcome(
 ) -> Result<Option<Value>, SplitError>
     requires { (S : Setting) × Shows S (history_of steps.now) replay.now }
     ensures value { IfOk result
-        (λ v. option_map tree_of v ≡ outcome conn index (seen steps.now [] replay.now)) }
+        (λ v. option_map tree_of v ≡ outcome conn index (past_of_scan steps.now [] replay.now)) }
     ensures err { IfErr result (λ e. e ≡ SplitError.NoMemory) }
 {
     let Some(request) = request_at(steps, conn, index) else {
@@ -123,7 +124,8 @@ fn values_of(
     index: u64,
 ) -> Result<Option<Vec<Value>>, SplitError>
     ensures values { IfOk result (λ values. option_map (λ vs. map tree_of vs.items) values
-        ≡ values_of (seen steps.now [] replay.now) (command_parts conn index (seen steps.now [] replay.now))) }
+        ≡ values_of (past_of_scan steps.now [] replay.now)
+        (command_parts conn index (past_of_scan steps.now [] replay.now))) }
     ensures err { IfErr result (λ e. e ≡ SplitError.NoMemory) }
 {
     let mut values = Vec::new(alloc);

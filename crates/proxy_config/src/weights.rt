@@ -15,7 +15,8 @@ use std::alloc::Global;
 /// The weights that a settings file gives to these hosts.
 pub(crate) fn weights(alloc: Global, file: &Value, hosts: &[Host]) -> Result<Vec<u32>, ConfigError>
     ensures ok { IfOk result
-        (λ weights. AreWeightsOr (length hosts.now) (get (codes "weights") (view file.now)) weights.items) }
+        (λ weights. AreWeightsOr (length hosts.now)
+        (get (codes "weights") (view file.now)) weights.items) }
     ensures fault { IfErr result (λ e. ¬ (e ≡ ConfigError.Memory) → IsFault e (codes "weights")) }
     ensures none { IfErr result (λ e. ¬ (e ≡ ConfigError.Memory) → (weights : List ℕ)
         → ¬ AreWeightsOr (length hosts.now) (get (codes "weights") (view file.now)) weights) }

@@ -9,10 +9,10 @@ use Rattle.splitter.specs.declared.plans.Join.{Join}
 use Rattle.splitter.specs.declared.plans.PartPlan.{PartPlan}
 use Rattle.splitter.specs.declared.request.Request.{Request}
 use Rattle.proxy_history.specs.Setting.{Setting, hosts, max_waiting, max_unwritten, max_steps, max_payload}
-use Rattle.proxy_history.specs.History.{accepted, plan_for}
+use Rattle.proxy_history.specs.History.{accepted_count, plan_for}
 use Rattle.proxy_history.specs.Part.{Part, Past}
 use Rattle.proxy_history.specs.Past.{past}
-use Rattle.proxy_history.specs.Arrival.{placed_by, placing, placed_part, with_host, host_for, hostless, before_it, no_upstream_host, proxy_busy}
+use Rattle.proxy_history.specs.Arrival.{placed_by, parts_placed, placed_part, with_host, host_for, hostless, before_it, no_upstream_host, proxy_busy}
 use Rattle.proxy_history.specs.Answer.{accepts, local_of, is_hostless, is_busy}
 use Rattle.proxy_history.specs.Payload.{length_of_request}
 use Rattle.proxy_history.specs.Cause.{causes, own_cause}
@@ -22,7 +22,7 @@ use Rattle.proxy_core.specs.Places.{place_by, placed_as, value_at, value_of_plac
 use Rattle.proxy_core.specs.Pipelines.{PipelineState, pushed_part, pushed_parts, pipeline_at}
 use Rattle.proxy_core.specs.Kept.{Memory}
 use Rattle.proxy_core.specs.Machine.{setting_in, memory_in, history_in, own_cause_in, IsKept, IsReady}
-use Rattle.proxy_core.specs.Connections.{with_connection, accepting, arrived_command, connection_at, MayAccept, next_index}
+use Rattle.proxy_core.specs.Connections.{with_connection, connection_with_command, arrived_command, connection_at, MayAccept, next_index}
 use Rattle.proxy_core.specs.declared.connection.Connection.{Connection}
 use Rattle.proxy_core.specs.declared.machine.Machine.{Machine}
 use Rattle.proxy_core.specs.declared.place.Placed.{Placed}
@@ -53,7 +53,7 @@ told_more : (ps : List Part) (p : Part) → AreTold ps → value_of_placed (plac
 told_more [] p a e = (e, tt)
 told_more (q ∷ ps) p a e = (a.0, told_more ps p a.1 e)
 
-placing_is_told : (S : Setting) (x : Past) (conn command : ℕ) (placed : List Part) (list : List PartPlan) → AreTold placed → AreTold (placing S x conn command placed list)
+placing_is_told : (S : Setting) (x : Past) (conn command : ℕ) (placed : List Part) (list : List PartPlan) → AreTold placed → AreTold (parts_placed S x conn command placed list)
 placing_is_told S x conn command placed [] a = a
 placing_is_told S x conn command placed (p ∷ list) a =
     placing_is_told S x conn command (placed ++ placed_part S x conn command placed p ∷ []) list
@@ -64,8 +64,8 @@ told_values [] a = refl
 told_values (p ∷ ps) a = rw (a.0, told_values ps a.1) refl
 
 pub placed_values : (S : Setting) (x : Past) (conn command : ℕ) (list : List PartPlan)
-    → map value_of_placed (map placed_as (placing S x conn command [] list)) ≡ map (λ (p : Part). p.local) (placing S x conn command [] list)
-placed_values S x conn command list = told_values (placing S x conn command [] list) (placing_is_told S x conn command [] list tt)
+    → map value_of_placed (map placed_as (parts_placed S x conn command [] list)) ≡ map (λ (p : Part). p.local) (parts_placed S x conn command [] list)
+placed_values S x conn command list = told_values (parts_placed S x conn command [] list) (placing_is_told S x conn command [] list tt)
 
 -- COUNTS
 
@@ -164,24 +164,24 @@ pub accepted_as : (ps : List Part) (placed : List Placed) (index n : ℕ) → pl
 accepted_as ps placed index n e f = rw (e, f, length-map ps placed_as, hostless_count ps, busy_count ps) refl
 
 pub list_accepted : (old : Machine) (connections : List (Option Connection)) (pipelines : List PipelineState) (conn index : ℕ) (how : Join) (list : List PartPlan) (x : Past) (placed : List Placed)
-    → index ≡ accepted conn x.steps → placed ≡ map placed_as (placing (setting_in old) x conn (accepted conn x.steps) [] list)
-    → connections ≡ with_connection (accepting (record { how = how; values = map value_of_placed placed }) false) conn old.connections.numbered
+    → index ≡ accepted_count conn x.steps → placed ≡ map placed_as (parts_placed (setting_in old) x conn (accepted_count conn x.steps) [] list)
+    → connections ≡ with_connection (connection_with_command (record { how = how; values = map value_of_placed placed }) false) conn old.connections.numbered
     → pipelines ≡ pushed_all conn index placed old.pipelines.states
     → record (memory_in old) { connections = connections; pipelines = pipelines } ≡ with_arrival old conn (parts how list) x
 list_accepted old connections pipelines conn index how list x placed e f g h =
     let S = setting_in old in
-    let ps = placing S x conn (accepted conn x.steps) [] list in
-    let values : map value_of_placed placed ≡ map (λ (p : Part). p.local) ps = ap (map value_of_placed) f ∙ placed_values S x conn (accepted conn x.steps) list in
-    let its : connections ≡ with_connection (accepting (record { how = how; values = map (λ (p : Part). p.local) ps }) false) conn old.connections.numbered =
-    g ∙ ap (λ z. with_connection (accepting (record { how = how; values = z }) false) conn old.connections.numbered) values in
+    let ps = parts_placed S x conn (accepted_count conn x.steps) [] list in
+    let values : map value_of_placed placed ≡ map (λ (p : Part). p.local) ps = ap (map value_of_placed) f ∙ placed_values S x conn (accepted_count conn x.steps) list in
+    let its : connections ≡ with_connection (connection_with_command (record { how = how; values = map (λ (p : Part). p.local) ps }) false) conn old.connections.numbered =
+    g ∙ ap (λ z. with_connection (connection_with_command (record { how = how; values = z }) false) conn old.connections.numbered) values in
     let pushed : pipelines ≡ pushed_parts ps old.pipelines.states =
-    h ∙ ap (λ z. pushed_all conn z placed old.pipelines.states) e ∙ ap (λ z. pushed_all conn (accepted conn x.steps) z old.pipelines.states) f
-    ∙ pushed_as_parts conn (accepted conn x.steps) ps old.pipelines.states (are_placed S x conn list) in
+    h ∙ ap (λ z. pushed_all conn z placed old.pipelines.states) e ∙ ap (λ z. pushed_all conn (accepted_count conn x.steps) z old.pipelines.states) f
+    ∙ pushed_as_parts conn (accepted_count conn x.steps) ps old.pipelines.states (are_placed S x conn list) in
     ap (λ z. record (memory_in old) { connections = z; pipelines = pipelines }) its
-    ∙ ap (λ z. record (memory_in old) { connections = with_connection (accepting (record { how = how; values = map (λ (p : Part). p.local) ps }) false) conn old.connections.numbered; pipelines = z }) pushed
+    ∙ ap (λ z. record (memory_in old) { connections = with_connection (connection_with_command (record { how = how; values = map (λ (p : Part). p.local) ps }) false) conn old.connections.numbered; pipelines = z }) pushed
 
 -- the index that the next command gets is the one that the history gives it
-pub index_told : (S : Setting) (m : Memory) (conn : ℕ) (x : Past) → Tells S m conn x → MayAccept (connection_at conn m.connections) → next_index (connection_at conn m.connections) ≡ accepted conn x.steps
+pub index_told : (S : Setting) (m : Memory) (conn : ℕ) (x : Past) → Tells S m conn x → MayAccept (connection_at conn m.connections) → next_index (connection_at conn m.connections) ≡ accepted_count conn x.steps
 index_told S m conn x tells may = ap next_index may.is_open ∙ tells.index_is may.connection may.is_open
 
 -- ONCE ROOM WAS MADE
@@ -229,7 +229,7 @@ abbrev arrival_of : Setting → Memory → ℕ → Plan → Past → Memory
 arrival_of S m conn plan x =
     let placed = placed_by S x conn plan in
     record m {
-      connections = with_connection (accepting (arrived_command plan placed) (is_last plan)) conn m.connections;
+      connections = with_connection (connection_with_command (arrived_command plan placed) (is_last plan)) conn m.connections;
       pipelines = pushed_parts placed m.pipelines;
     }
 
@@ -243,8 +243,8 @@ accepted_before old ready new conn request plan x a e r is =
     ∙ ap (λ S. arrival_of S (memory_in ready) conn (plan_for request) x) same.setting
     ∙ ap (λ z. arrival_of (setting_in old) z conn (plan_for request) x) same.memory in
     record {
-      answer_is = is.answer_is ∙ ap (λ p. accepts (accepted conn x.steps) (local_of p) (placed_by (setting_in ready) x conn p)) e
-          ∙ ap (λ S. accepts (accepted conn x.steps) (local_of (plan_for request)) (placed_by S x conn (plan_for request))) same.setting;
+      answer_is = is.answer_is ∙ ap (λ p. accepts (accepted_count conn x.steps) (local_of p) (placed_by (setting_in ready) x conn p)) e
+          ∙ ap (λ S. accepts (accepted_count conn x.steps) (local_of (plan_for request)) (placed_by S x conn (plan_for request))) same.setting;
       setting = is.setting ∙ same.setting;
       steps = is.steps ∙ same.steps;
       memory = is.memory ∙ arrived;

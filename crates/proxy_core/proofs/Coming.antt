@@ -7,7 +7,7 @@ use Rattle.list_words.proofs.CallerLemmas.{Contains-filter, Contains-filter_pass
 use Rattle.resp_core.specs.Tree.{Tree}
 use Rattle.splitter.specs.declared.request.Request.{Request}
 use Rattle.proxy_history.specs.Setting.{Setting}
-use Rattle.proxy_history.specs.History.{History, Step, handed, requests, is_closed, is_finishing}
+use Rattle.proxy_history.specs.History.{History, Step, handed_count, requests, is_closed, is_finishing}
 use Rattle.proxy_history.specs.Part.{Past, Part, is_same}
 use Rattle.proxy_history.specs.Past.{past}
 use Rattle.proxy_history.specs.Value.{value_of}
@@ -96,11 +96,11 @@ come-connections S H s ps v legal n e f =
 
 -- the same parts and requests
 pub nothing-new : (f : Values) (ps : List Part) (H : History) (c : ℕ) →
-    (if is_closed c H then None else Some (record { queue = record { popped = handed c H; commands = drop (handed c H) (valued_from f (ps ++ []) c 0 (requests c H ++ [])) }; is_finishing = is_finishing c H }))
+    (if is_closed c H then None else Some (record { queue = record { popped = handed_count c H; commands = drop (handed_count c H) (valued_from f (ps ++ []) c 0 (requests c H ++ [])) }; is_finishing = is_finishing c H }))
     ≡ valued_connection f ps H c
 nothing-new f ps H c =
-    ap (λ (z : List Part). if is_closed c H then None else Some (record { queue = record { popped = handed c H; commands = drop (handed c H) (valued_from f z c 0 (requests c H ++ [])) }; is_finishing = is_finishing c H })) (append-nil ps)
-    ∙ ap (λ (z : List Request). if is_closed c H then None else Some (record { queue = record { popped = handed c H; commands = drop (handed c H) (valued_from f ps c 0 z) }; is_finishing = is_finishing c H })) (append-nil (requests c H))
+    ap (λ (z : List Part). if is_closed c H then None else Some (record { queue = record { popped = handed_count c H; commands = drop (handed_count c H) (valued_from f z c 0 (requests c H ++ [])) }; is_finishing = is_finishing c H })) (append-nil ps)
+    ∙ ap (λ (z : List Request). if is_closed c H then None else Some (record { queue = record { popped = handed_count c H; commands = drop (handed_count c H) (valued_from f ps c 0 z) }; is_finishing = is_finishing c H })) (append-nil (requests c H))
 
 -- OWNERS
 

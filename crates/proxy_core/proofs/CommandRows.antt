@@ -11,8 +11,8 @@ use Rattle.splitter.specs.declared.request.Request.{Request}
 use Rattle.reply_queue.specs.Command.{AwaitedCommand, reply_to, all_values}
 use Rattle.reply_queue.specs.Queue.{front_reply}
 use Rattle.proxy_history.specs.Setting.{Setting}
-use Rattle.proxy_history.specs.History.{Step, accepted, is_fault, requests, request_by, plan_for}
-use Rattle.proxy_history.specs.Replies.{came, reply_by}
+use Rattle.proxy_history.specs.History.{Step, accepted_count, is_fault, requests, request_by, plan_for}
+use Rattle.proxy_history.specs.Replies.{replies_from, reply_by}
 use Rattle.proxy_history.specs.Part.{Part, Past}
 use Rattle.proxy_history.specs.Past.{after}
 use Rattle.proxy_history.specs.Waiting.{sent_by}
@@ -32,7 +32,7 @@ pub length-awaited_from : (x : Past) (c i : ℕ) (rs : List Request) → length 
 length-awaited_from x c i [] = refl
 length-awaited_from x c i (r ∷ rs) = omega (arith, length-awaited_from x c (i + 1) rs)
 
-pub length-row : (x : Past) (c : ℕ) → length (row x c) ≡ accepted c x.steps
+pub length-row : (x : Past) (c : ℕ) → length (row x c) ≡ accepted_count c x.steps
 length-row x c = length-awaited_from x c 0 (requests c x.steps) ∙ length-requests c x.steps
 
 pub slice_get-awaited_from : (x : Past) (c i : ℕ) (rs : List Request) (k : ℕ)
@@ -99,7 +99,7 @@ pub record IsQuiet (x : Past) (event : Event) : Type 0 where
 quiet_at : (S : Setting) (x : Past) (s : Step) (p : Part) (o : Option ℕ) → IsQuiet x s.event → value_at (after S s x) p o ≡ value_at x p o
 quiet_at S x s p None q = refl
 quiet_at S x s p (Some h) q =
-    rw (q.is_no_fault h, q.sends_none, q.brings_none h p.epoch, append-nil x.sent, append-nil (came h p.epoch x.steps)) refl
+    rw (q.is_no_fault h, q.sends_none, q.brings_none h p.epoch, append-nil x.sent, append-nil (replies_from h p.epoch x.steps)) refl
 
 -- it changes no value
 pub quiet_value : (S : Setting) (x : Past) (s : Step) (p : Part) → IsQuiet x s.event → value_of (after S s x) p ≡ value_of x p
@@ -112,7 +112,7 @@ same_values f g e (p ∷ ps) = rw (e p, same_values f g e ps) refl
 -- ROWS A STEP LATER
 
 -- A command whose parts keep their values stays as it is.
-steady_command : (S : Setting) (x : Past) (s : Step) (c i : ℕ) (plan : Plan) → ((p : Part) → value_of (after S s x) p ≡ value_of x p) → i < accepted c x.steps
+steady_command : (S : Setting) (x : Past) (s : Step) (c i : ℕ) (plan : Plan) → ((p : Part) → value_of (after S s x) p ≡ value_of x p) → i < accepted_count c x.steps
     → awaited_by (after S s x) c i plan ≡ awaited_by x c i plan
 steady_command S x s c i (here name value) same l = refl
 steady_command S x s c i (leave name value) same l = refl
@@ -120,7 +120,7 @@ steady_command S x s c i (parts how list) same l =
     ap (λ z. record { how = how; values = map (value_of (after S s x)) z }) (parts_stay S x c i s l)
     ∙ ap (λ z. record { how = how; values = z }) (same_values (value_of (after S s x)) (value_of x) same (parts_of c i x))
 
-steady_from : (S : Setting) (x : Past) (s : Step) (c i : ℕ) (rs : List Request) → ((p : Part) → value_of (after S s x) p ≡ value_of x p) → i + length rs ≤ accepted c x.steps
+steady_from : (S : Setting) (x : Past) (s : Step) (c i : ℕ) (rs : List Request) → ((p : Part) → value_of (after S s x) p ≡ value_of x p) → i + length rs ≤ accepted_count c x.steps
     → awaited_from (after S s x) c i rs ≡ awaited_from x c i rs
 steady_from S x s c i [] same l = refl
 steady_from S x s c i (r ∷ rs) same l =

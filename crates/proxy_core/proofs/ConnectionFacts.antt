@@ -12,10 +12,10 @@ use Rattle.resp_core.specs.Text.{text}
 use Rattle.splitter.specs.declared.request.Request.{Request}
 use Rattle.reply_queue.specs.Queue.{front_reply}
 use Rattle.proxy_history.specs.Setting.{Setting, max_connections}
-use Rattle.proxy_history.specs.History.{History, times, opened, accepted, handed, is_open, is_closed, is_finishing, is_any_closing, requests, plan_for}
+use Rattle.proxy_history.specs.History.{History, times, openings, accepted_count, handed_count, is_open, is_closed, is_finishing, is_any_closing, requests, plan_for}
 use Rattle.proxy_history.specs.Part.{Past}
 use Rattle.proxy_history.specs.Past.{past}
-use Rattle.proxy_history.specs.Cause.{own_cause, is_ready, left, first_true}
+use Rattle.proxy_history.specs.Cause.{own_cause, is_ready, commands_left, first_true}
 use Rattle.proxy_history.specs.Outcome.{outcome, outcome_by}
 use Rattle.proxy_history.specs.Answer.{answer_to}
 use Rattle.proxy_history.specs.Payload.{payload_of}
@@ -32,8 +32,8 @@ use Rattle.proxy_core.proofs.Counts.{handed_were_accepted, open_parts}
 
 -- THE CONNECTION OF A NUMBER
 
-pub length-connections_of : (x : Past) → length (connections_of x) ≡ opened x.steps
-length-connections_of x = length-map-range_with_len (connection_of x) 0 (opened x.steps)
+pub length-connections_of : (x : Past) → length (connections_of x) ≡ openings x.steps
+length-connections_of x = length-map-range_with_len (connection_of x) 0 (openings x.steps)
 
 -- an open connection
 abbrev pub open_connection : Past → ℕ → Connection
@@ -45,12 +45,12 @@ connection_of-by_closed x c true e = rw e refl
 connection_of-by_closed x c false e = rw e refl
 
 pub connection_at-connections_of : (x : Past) (c : ℕ) → connection_at c (connections_of x) ≡ (if is_open c x.steps then Some (open_connection x c) else None)
-connection_at-connections_of x c = elim (cases_Bool (nat_lt c (opened x.steps))) [
+connection_at-connections_of x c = elim (cases_Bool (nat_lt c (openings x.steps))) [
   | inl t ↦
-      ap (option_and_then (λ k. k)) (slice_get-table (connection_of x) (opened x.steps) c (ltb-true c (opened x.steps) t))
+      ap (option_and_then (λ k. k)) (slice_get-table (connection_of x) (openings x.steps) c (ltb-true c (openings x.steps) t))
       ∙ connection_of-by_closed x c (is_closed c x.steps) refl ∙ rw t refl
   | inr f ↦
-      ap (option_and_then (λ k. k)) (slice_get-past_range (connection_of x) 0 (opened x.steps) c (ltb-false c (opened x.steps) f)) ∙ rw f refl
+      ap (option_and_then (λ k. k)) (slice_get-past_range (connection_of x) 0 (openings x.steps) c (ltb-false c (openings x.steps) f)) ∙ rw f refl
 ]
 
 pub connection_at-open : (x : Past) (c : ℕ) → is_open c x.steps ≡ true → connection_at c (connections_of x) ≡ Some (open_connection x c)
@@ -62,34 +62,34 @@ connection_at-not_open x c e = connection_at-connections_of x c ∙ rw e refl
 pub slice_get-open : (x : Past) (c : ℕ) → is_open c x.steps ≡ true → slice_get (connections_of x) c ≡ Some (Some (open_connection x c))
 slice_get-open x c e =
     let a = open_parts c x.steps e in
-    slice_get-table (connection_of x) (opened x.steps) c a.0 ∙ ap Some (connection_of-by_closed x c false a.1)
+    slice_get-table (connection_of x) (openings x.steps) c a.0 ∙ ap Some (connection_of-by_closed x c false a.1)
 
 -- ITS QUEUE
 
-pub length-queue_of : (x : Past) (c : ℕ) → length (queue_of x c).commands ≡ left c x
-length-queue_of x c = length-drop (handed c x.steps) (row x c) ∙ ap (λ z. z - handed c x.steps) (length-row x c)
+pub length-queue_of : (x : Past) (c : ℕ) → length (queue_of x c).commands ≡ commands_left c x
+length-queue_of x c = length-drop (handed_count c x.steps) (row x c) ∙ ap (λ z. z - handed_count c x.steps) (length-row x c)
 
 -- as many were popped and are left as were accepted
 pub popped_and_left : (S : Setting) (H : History) (c : ℕ) → IsLegal S H
-    → (queue_of (past S H) c).popped + length (queue_of (past S H) c).commands ≡ accepted c H
+    → (queue_of (past S H) c).popped + length (queue_of (past S H) c).commands ≡ accepted_count c H
 popped_and_left S H c legal = omega (arith, length-queue_of (past S H) c, handed_were_accepted S H c legal)
 
 -- the reply in front is the next outcome
-pub front_reply-queue_of : (x : Past) (c : ℕ) → front_reply (queue_of x c).commands ≡ outcome c (handed c x.steps) x
-front_reply-queue_of x c = front_reply-row x c (handed c x.steps)
+pub front_reply-queue_of : (x : Past) (c : ℕ) → front_reply (queue_of x c).commands ≡ outcome c (handed_count c x.steps) x
+front_reply-queue_of x c = front_reply-row x c (handed_count c x.steps)
 
 -- CAUSES
 
 -- where no outcome is awaited there is none
-no_outcome : (x : Past) (c n : ℕ) → accepted c x.steps ≤ n → outcome c n x ≡ None
+no_outcome : (x : Past) (c n : ℕ) → accepted_count c x.steps ≤ n → outcome c n x ≡ None
 no_outcome x c n l = ap (option_and_then (λ request. outcome_by x c n (plan_for request))) (slice_get_past (requests c x.steps) n (omega (arith, l, length-requests c x.steps)))
 
-pub ready_is : (x : Past) (c : ℕ) → is_some (outcome c (handed c x.steps) x) ≡ is_ready c x
-ready_is x c = elim (cases_Bool (nat_lt 0 (left c x))) [
+pub ready_is : (x : Past) (c : ℕ) → is_some (outcome c (handed_count c x.steps) x) ≡ is_ready c x
+ready_is x c = elim (cases_Bool (nat_lt 0 (commands_left c x))) [
   | inl t ↦ rw t refl
   | inr f ↦
-      let l : left c x ≤ 0 = ltb-false 0 (left c x) f in
-      rw (f, no_outcome x c (handed c x.steps) (omega (arith, l))) refl
+      let l : commands_left c x ≤ 0 = ltb-false 0 (commands_left c x) f in
+      rw (f, no_outcome x c (handed_count c x.steps) (omega (arith, l))) refl
 ]
 
 pub cause_in-opened : (S : Setting) (H : History) → own_cause_in S (memory_of S H) Opened ≡ own_cause S (past S H) Opened
@@ -111,7 +111,7 @@ cause_in-finished S H conn = elim (cases_Bool (is_open conn H)) [
 pub cause_in-handed : (S : Setting) (H : History) (conn : ℕ) → own_cause_in S (memory_of S H) (Handed conn) ≡ own_cause S (past S H) (Handed conn)
 cause_in-handed S H conn = elim (cases_Bool (is_open conn H)) [
   | inl t ↦ rw (connection_at-open (past S H) conn t, t, length-queue_of (past S H) conn, front_reply-queue_of (past S H) conn)
-      (ap (λ b. if not b then Some (refusal.NotReady (left conn (past S H))) else None) (ready_is (past S H) conn))
+      (ap (λ b. if not b then Some (refusal.NotReady (commands_left conn (past S H))) else None) (ready_is (past S H) conn))
   | inr f ↦ rw (connection_at-not_open (past S H) conn f, f) refl
 ]
 
@@ -125,7 +125,7 @@ cause_in-closed S H conn = elim (cases_Bool (is_open conn H)) [
 
 -- the text of the reply that is handed out next
 pub text_in-handed : (S : Setting) (H : History) (conn : ℕ) → is_open conn H ≡ true
-    → text_in (memory_of S H) (Handed conn) ≡ text (unwrap_or (outcome conn (handed conn H) (past S H)) null_bulk)
+    → text_in (memory_of S H) (Handed conn) ≡ text (unwrap_or (outcome conn (handed_count conn H) (past S H)) null_bulk)
 text_in-handed S H conn t =
     rw (connection_at-open (past S H) conn t) (ap (λ z. text (unwrap_or z null_bulk)) (front_reply-queue_of (past S H) conn))
 

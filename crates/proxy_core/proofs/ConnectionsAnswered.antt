@@ -6,7 +6,7 @@ use Rattle.resp_core.specs.Value.{tree_of}
 use Rattle.resp_core.specs.declared.value.Value.{Value}
 use Rattle.upstream_pipe.specs.declared.part.Owner.{Owner}
 use Rattle.proxy_history.specs.Setting.{Setting}
-use Rattle.proxy_history.specs.History.{History, opened, is_closed}
+use Rattle.proxy_history.specs.History.{History, openings, is_closed}
 use Rattle.proxy_history.specs.Part.{Past, Part}
 use Rattle.proxy_history.specs.Past.{past}
 use Rattle.proxy_history.specs.Value.{value_of}
@@ -59,6 +59,6 @@ connections-answered S H pass host e t value answer legal none =
     let x' = past S (record { pass = pass; event = Answered host e value t; answer = answer } ∷ H) in
     let o = oldest S H host e t value legal none in
     come-connections S H (record { pass = pass; event = Answered host e value t; answer = answer }) (o.0 ∷ []) (tree_of value) legal (none_yet S H host e t value legal none)
-    (connections-valued x' ∙ map-range_same _ _ 0 (opened H) (λ c l m. nothing-new (value_of x') (past S H).parts H c))
+    (connections-valued x' ∙ map-range_same _ _ 0 (openings H) (λ c l m. nothing-new (value_of x') (past S H).parts H c))
     (λ q i o'. values_answered S H pass host e t value answer none o.0 o.1 o.2 q i)
     ∙ ap (λ (z : List Owner). answered_parts z (tree_of value) (connections_of (past S H))) (sym (next_owner_is S H host e t value legal none))

@@ -9,16 +9,16 @@ use Rattle.splitter.specs.declared.plans.Join.{Join}
 use Rattle.splitter.specs.declared.plans.PartPlan.{PartPlan}
 use Rattle.splitter.specs.declared.request.Request.{Request}
 use Rattle.proxy_history.specs.Setting.{Setting}
-use Rattle.proxy_history.specs.History.{History, Step, opened, accepted, handed, is_closed, is_finishing, is_handing, is_closing, finishes, requests, request_by, plan_for}
+use Rattle.proxy_history.specs.History.{History, Step, openings, accepted_count, handed_count, is_closed, is_finishing, is_handing, is_closing, finishes, requests, request_by, plan_for}
 use Rattle.proxy_history.specs.Part.{Past}
 use Rattle.proxy_history.specs.Past.{past, after}
 use Rattle.proxy_history.specs.Value.{value_of}
-use Rattle.proxy_history.specs.Arrival.{parts_by, placed_by, placing}
+use Rattle.proxy_history.specs.Arrival.{parts_by, placed_by, parts_placed}
 use Rattle.proxy_history.specs.Legal.{IsLegal}
 use Rattle.proxy_history.specs.declared.answer.Answer.{Answer}
 use Rattle.proxy_history.specs.declared.event.Event.TheVariants.{Arrived}
 use Rattle.proxy_history.proofs.CallerLemmas.{length-requests, length-placing, MayJoin-plan_for as plan_may_join}
-use Rattle.proxy_core.specs.Connections.{awaited_by, awaited_from, connection_of, connections_of, with_connection, accepting, arrived_command}
+use Rattle.proxy_core.specs.Connections.{awaited_by, awaited_from, connection_of, connections_of, with_connection, connection_with_command, arrived_command}
 use Rattle.proxy_core.proofs.CommandRows.{IsQuiet, row, length-row, awaited_from-more, quiet_before, quiet_value, same_values}
 use Rattle.proxy_core.proofs.Counts.{handed_were_accepted}
 use Rattle.proxy_core.proofs.ConnectionsMove.{aside, differs}
@@ -29,14 +29,14 @@ quiet-arrived x conn request = record { sends_none = refl; brings_none = λ h e.
 
 -- the new command
 new_command : (S : Setting) (H : History) (s : Step) (conn : ℕ) (plan : Plan) → IsQuiet (past S H) s.event → parts_by S (past S H) s.event ≡ placed_by S (past S H) conn plan
-    → awaited_by (after S s (past S H)) conn (accepted conn H) plan ≡ arrived_command plan (placed_by S (past S H) conn plan)
+    → awaited_by (after S s (past S H)) conn (accepted_count conn H) plan ≡ arrived_command plan (placed_by S (past S H) conn plan)
 new_command S H s conn (here name value) q e = refl
 new_command S H s conn (leave name value) q e = refl
 new_command S H s conn (parts how list) q e =
     let x = past S H in
     ap (λ z. record { how = how; values = map (value_of (after S s x)) z }) (placed_are_its S H s conn list e)
     ∙ ap (λ z. record { how = how; values = z })
-    (same_values (value_of (after S s x)) (value_of x) (λ p. quiet_value S x s p q) (placing S x conn (accepted conn H) [] list) ∙ placed_values S H conn list)
+    (same_values (value_of (after S s x)) (value_of x) (λ p. quiet_value S x s p q) (parts_placed S x conn (accepted_count conn H) [] list) ∙ placed_values S H conn list)
 
 -- the commands with the new one behind them
 new_row : (S : Setting) (H : History) (s : Step) (conn : ℕ) (request : Request) → s.event ≡ Arrived conn request
@@ -45,7 +45,7 @@ new_row S H s conn request e =
     let x = past S H in
     let one : request_by conn s.event ≡ request ∷ [] = rw (e, eq-eqb conn conn refl) refl in
     let quiet : IsQuiet x s.event = rw e (quiet-arrived x conn request) in
-    let index : 0 + length (requests conn H) ≡ accepted conn H = omega (arith, length-requests conn H) in
+    let index : 0 + length (requests conn H) ≡ accepted_count conn H = omega (arith, length-requests conn H) in
     ap (λ z. awaited_from (after S s x) conn 0 (requests conn H ++ z)) one
     ∙ awaited_from-more (after S s x) conn 0 (requests conn H) request
     ∙ ap (λ z. z ++ awaited_by (after S s x) conn (0 + length (requests conn H)) (plan_for request) ∷ []) (quiet_before S x s conn quiet)
@@ -65,13 +65,13 @@ or_swap false false = refl
 
 arrived_at : (S : Setting) (H : History) (s : Step) (conn : ℕ) (request : Request) → IsLegal S H → s.event ≡ Arrived conn request
     → connection_of (after S s (past S H)) conn
-    ≡ option_map (accepting (arrived_command (plan_for request) (parts_by S (past S H) (Arrived conn request))) (is_last (plan_for request))) (connection_of (past S H) conn)
+    ≡ option_map (connection_with_command (arrived_command (plan_for request) (parts_by S (past S H) (Arrived conn request))) (is_last (plan_for request))) (connection_of (past S H) conn)
 arrived_at S H s conn request legal e =
     let x = past S H in
     let command = arrived_command (plan_for request) (parts_by S x (Arrived conn request)) in
-    let few : handed conn H ≤ length (row x conn) = omega (arith, handed_were_accepted S H conn legal, length-row x conn) in
-    let commands : drop (handed conn H) (row (after S s x) conn) ≡ drop (handed conn H) (row x conn) ++ command ∷ [] =
-    ap (drop (handed conn H)) (new_row S H s conn request e) ∙ drop-front (handed conn H) (row x conn) (command ∷ []) few in
+    let few : handed_count conn H ≤ length (row x conn) = omega (arith, handed_were_accepted S H conn legal, length-row x conn) in
+    let commands : drop (handed_count conn H) (row (after S s x) conn) ≡ drop (handed_count conn H) (row x conn) ++ command ∷ [] =
+    ap (drop (handed_count conn H)) (new_row S H s conn request e) ∙ drop-front (handed_count conn H) (row x conn) (command ∷ []) few in
     let no_handing : is_handing conn s.event ≡ false = rw e refl in
     let no_closing : is_closing conn s.event ≡ false = rw e refl in
     let last : finishes conn s.event ≡ is_last (plan_for request) = rw (e, eq-eqb conn conn refl) refl in
@@ -83,12 +83,12 @@ arrived_at S H s conn request legal e =
 -- the command stands behind the others of its connection
 pub connections-arrived : (S : Setting) (H : History) (pass conn : ℕ) (request : Request) (answer : Answer) → IsLegal S H
     → connections_of (past S (record { pass = pass; event = Arrived conn request; answer = answer } ∷ H))
-    ≡ with_connection (accepting (arrived_command (plan_for request) (parts_by S (past S H) (Arrived conn request))) (is_last (plan_for request))) conn (connections_of (past S H))
+    ≡ with_connection (connection_with_command (arrived_command (plan_for request) (parts_by S (past S H) (Arrived conn request))) (is_last (plan_for request))) conn (connections_of (past S H))
 connections-arrived S H pass conn request answer legal =
     let x = past S H in
     let s : Step = record { pass = pass; event = Arrived conn request; answer = answer } in
-    let change = accepting (arrived_command (plan_for request) (parts_by S x (Arrived conn request))) (is_last (plan_for request)) in
-    sym (changed_at-table (connection_of x) (connection_of (after S s x)) (option_map change) (opened H) conn (λ l. arrived_at S H s conn request legal refl)
+    let change = connection_with_command (arrived_command (plan_for request) (parts_by S x (Arrived conn request))) (is_last (plan_for request)) in
+    sym (changed_at-table (connection_of x) (connection_of (after S s x)) (option_map change) (openings H) conn (λ l. arrived_at S H s conn request legal refl)
     (λ j l q. let d = differs j conn q in
     sym (aside S x s j (quiet-arrived x conn request) (record { no_request = rw d refl; no_handing = refl; no_closing = refl; no_finish = and_left (conn == j) (is_last (plan_for request)) d }))))
 
@@ -97,5 +97,5 @@ pub arrived_may_join : (S : Setting) (x : Past) (conn : ℕ) (request : Request)
     → MayJoin how (length (parts_by S x (Arrived conn request)))
 arrived_may_join S x conn request how list e =
     let as_many : length (parts_by S x (Arrived conn request)) ≡ length list =
-    ap (λ z. length (placed_by S x conn z)) e ∙ length-placing S x conn (accepted conn x.steps) [] list ∙ omega arith in
+    ap (λ z. length (placed_by S x conn z)) e ∙ length-placing S x conn (accepted_count conn x.steps) [] list ∙ omega arith in
     rw as_many (plan_may_join request how list e)

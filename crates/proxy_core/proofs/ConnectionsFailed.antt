@@ -6,10 +6,10 @@ use Rattle.list_words.proofs.CallerLemmas.{map-range_same, filter-passes, Contai
 use Rattle.upstream_pipe.specs.declared.part.Owner.{Owner}
 use Rattle.upstream_pipe.specs.Pipe.{owner_in}
 use Rattle.proxy_history.specs.Setting.{Setting}
-use Rattle.proxy_history.specs.History.{History, opened, is_closed}
+use Rattle.proxy_history.specs.History.{History, openings, is_closed}
 use Rattle.proxy_history.specs.Part.{Past, Part}
 use Rattle.proxy_history.specs.Past.{past}
-use Rattle.proxy_history.specs.Waiting.{waiting, waits}
+use Rattle.proxy_history.specs.Waiting.{waiting_parts, waits}
 use Rattle.proxy_history.specs.Value.{value_of, upstream_failure}
 use Rattle.proxy_history.specs.Legal.{IsLegal}
 use Rattle.proxy_history.specs.declared.answer.Answer.{Answer}
@@ -17,13 +17,13 @@ use Rattle.proxy_history.specs.declared.event.Kind.{Kind}
 use Rattle.proxy_history.specs.declared.event.Event.TheVariants.{Failed}
 use Rattle.proxy_history.proofs.CallerLemmas.{AreApart-sent as none_twice, waits-true as waits_parts, AreInOrder-parts as parts_are_in_order}
 use Rattle.proxy_core.specs.Connections.{connections_of, answered_parts, AreAwaited}
-use Rattle.proxy_core.specs.Pipelines.{pipeline_of, piped, owner_of_part, lost_owners}
+use Rattle.proxy_core.specs.Pipelines.{pipeline_of, pipe_part, owner_of_part, lost_owners}
 use Rattle.proxy_core.proofs.ValuesMove.{in_flight, at_host, at_host_is_unanswered, at_host_arrived, at_host_apart, unanswered_has_none, values_failed}
 use Rattle.proxy_core.proofs.Valued.{connections-valued}
 use Rattle.proxy_core.proofs.Coming.{HaveNone, has_open, open_parts, open_owners, come-awaited, come-connections, nothing-new}
 
 -- the owners of parts that wait
-waiting_owners : (ps : List Part) → map owner_in (map piped ps) ≡ map owner_of_part ps
+waiting_owners : (ps : List Part) → map owner_in (map pipe_part ps) ≡ map owner_of_part ps
 waiting_owners [] = refl
 waiting_owners (p ∷ ps) = ap (λ z. owner_of_part p ∷ z) (waiting_owners ps)
 
@@ -31,18 +31,18 @@ all_open : (H : History) (ps : List Part) → ((p : Part) → Contains ps p → 
 all_open H [] f = refl
 all_open H (p ∷ ps) f = rw (f p (Contains-first p ps)) (ap (λ z. p ∷ z) (all_open H ps (λ q h. f q (Contains-later p ps q h))))
 
-waiting_are_open : (h : ℕ) (x : Past) → open_parts x.steps (waiting h x) ≡ waiting h x
-waiting_are_open h x = all_open x.steps (waiting h x) (λ p i. (waits_parts h x p (filter-passes (waits h x) x.parts p i)).2)
+waiting_are_open : (h : ℕ) (x : Past) → open_parts x.steps (waiting_parts h x) ≡ waiting_parts h x
+waiting_are_open h x = all_open x.steps (waiting_parts h x) (λ p i. (waits_parts h x p (filter-passes (waits h x) x.parts p i)).2)
 
 -- those that a fault loses: the owners of what flew and of what waited, of open connections
 lost_is : (x : Past) (h : ℕ) → lost_owners (pipeline_of x h) ≡ map owner_of_part (open_parts x.steps (at_host h x))
 lost_is x h =
     let flew = open_parts x.steps (in_flight h x) in
-    let still : open_parts x.steps (at_host h x) ≡ flew ++ waiting h x =
-    filter-append (has_open x.steps) (in_flight h x) (waiting h x) ∙ ap (λ z. flew ++ z) (waiting_are_open h x) in
-    ap (λ z. z ++ map owner_in (map piped (waiting h x))) (open_owners x (in_flight h x))
-    ∙ ap (λ z. map owner_of_part flew ++ z) (waiting_owners (waiting h x))
-    ∙ sym (map-append owner_of_part flew (waiting h x))
+    let still : open_parts x.steps (at_host h x) ≡ flew ++ waiting_parts h x =
+    filter-append (has_open x.steps) (in_flight h x) (waiting_parts h x) ∙ ap (λ z. flew ++ z) (waiting_are_open h x) in
+    ap (λ z. z ++ map owner_in (map pipe_part (waiting_parts h x))) (open_owners x (in_flight h x))
+    ∙ ap (λ z. map owner_of_part flew ++ z) (waiting_owners (waiting_parts h x))
+    ∙ sym (map-append owner_of_part flew (waiting_parts h x))
     ∙ ap (map owner_of_part) (sym still)
 
 none_yet : (S : Setting) (H : History) (host : ℕ) → HaveNone S H (at_host host (past S H))
@@ -65,6 +65,6 @@ pub connections-failed : (S : Setting) (H : History) (pass host e t : ℕ) (kind
 connections-failed S H pass host e t kind answer legal =
     let x' = past S (record { pass = pass; event = Failed host e kind t; answer = answer } ∷ H) in
     come-connections S H (record { pass = pass; event = Failed host e kind t; answer = answer }) (at_host host (past S H)) upstream_failure legal (none_yet S H host)
-    (connections-valued x' ∙ map-range_same _ _ 0 (opened H) (λ c l m. nothing-new (value_of x') (past S H).parts H c))
+    (connections-valued x' ∙ map-range_same _ _ 0 (openings H) (λ c l m. nothing-new (value_of x') (past S H).parts H c))
     (λ q i o. values_failed S H pass host e t kind answer q i o)
     ∙ ap (λ (z : List Owner). answered_parts z upstream_failure (connections_of (past S H))) (sym (lost_is (past S H) host))

@@ -6,14 +6,14 @@ use Rattle.std.proofs.lemmas.Bool.{cases_Bool, ne_eqb, eq-eqb}
 use Rattle.std.proofs.lemmas.List.FromFn.{map-range_with_len_more}
 use Rattle.list_words.proofs.CallerLemmas.{map-range_same, changed_at-table}
 use Rattle.proxy_history.specs.Setting.{Setting}
-use Rattle.proxy_history.specs.History.{History, Step, opened, handed, is_closed, is_handing, is_closing, finishes, request_by}
+use Rattle.proxy_history.specs.History.{History, Step, openings, handed_count, is_closed, is_handing, is_closing, finishes, request_by}
 use Rattle.proxy_history.specs.Part.{Past}
 use Rattle.proxy_history.specs.Past.{past, after}
 use Rattle.proxy_history.specs.Legal.{IsLegal}
 use Rattle.proxy_history.specs.declared.answer.Answer.{Answer}
 use Rattle.proxy_history.specs.declared.event.Event.{Event}
 use Rattle.proxy_history.specs.declared.event.Event.TheVariants.{Opened, Finished, Handed, Closed}
-use Rattle.proxy_core.specs.Connections.{connection_of, connections_of, fresh_connection, with_connection, finished, handing, closing}
+use Rattle.proxy_core.specs.Connections.{connection_of, connections_of, fresh_connection, with_connection, finished_connection, connection_without_front, connections_without}
 use Rattle.proxy_core.proofs.CommandRows.{IsQuiet, row, quiet_row}
 use Rattle.proxy_core.proofs.Counts.{IsUnused, unused, no_requests}
 
@@ -62,7 +62,7 @@ pub connections-opened : (S : Setting) (H : History) (pass : ℕ) (answer : Answ
 connections-opened S H pass answer legal =
     let x = past S H in
     let s : Step = record { pass = pass; event = Opened; answer = answer } in
-    let n = opened H in
+    let n = openings H in
     map-range_with_len_more (connection_of (after S s x)) 0 n n (omega arith)
     ∙ rw (
       fresh_at S x s n refl (unused S H n legal (omega arith)),
@@ -71,7 +71,7 @@ connections-opened S H pass answer legal =
 
 -- FINISHED
 
-finished_at : (S : Setting) (x : Past) (s : Step) (conn : ℕ) → s.event ≡ Finished conn → connection_of (after S s x) conn ≡ option_map finished (connection_of x conn)
+finished_at : (S : Setting) (x : Past) (s : Step) (conn : ℕ) → s.event ≡ Finished conn → connection_of (after S s x) conn ≡ option_map finished_connection (connection_of x conn)
 finished_at S x s conn e =
     let r = quiet_row S x s conn (rw e (quiet-finished x conn)) (rw e refl) in
     elim (cases_Bool (is_closed conn x.steps)) [
@@ -80,11 +80,11 @@ finished_at S x s conn e =
     ]
 
 pub connections-finished : (S : Setting) (H : History) (pass conn : ℕ) (answer : Answer)
-    → connections_of (past S (record { pass = pass; event = Finished conn; answer = answer } ∷ H)) ≡ with_connection finished conn (connections_of (past S H))
+    → connections_of (past S (record { pass = pass; event = Finished conn; answer = answer } ∷ H)) ≡ with_connection finished_connection conn (connections_of (past S H))
 connections-finished S H pass conn answer =
     let x = past S H in
     let s : Step = record { pass = pass; event = Finished conn; answer = answer } in
-    sym (changed_at-table (connection_of x) (connection_of (after S s x)) (option_map finished) (opened H) conn (λ l. finished_at S x s conn refl)
+    sym (changed_at-table (connection_of x) (connection_of (after S s x)) (option_map finished_connection) (openings H) conn (λ l. finished_at S x s conn refl)
     (λ j l q. sym (aside S x s j (quiet-finished x conn) (record { no_request = refl; no_handing = refl; no_closing = refl; no_finish = differs j conn q }))))
 
 -- HANDED
@@ -94,20 +94,20 @@ drop-one_more zero xs = refl
 drop-one_more {X} (suc n) [] = drop-nil {A = X} (suc n + 1)
 drop-one_more (suc n) (x ∷ xs) = let e : suc n + 1 ≡ suc (n + 1) = omega arith in ap (λ z. drop z (x ∷ xs)) e ∙ drop-one_more n xs
 
-handed_at : (S : Setting) (x : Past) (s : Step) (conn : ℕ) → s.event ≡ Handed conn → connection_of (after S s x) conn ≡ option_map handing (connection_of x conn)
+handed_at : (S : Setting) (x : Past) (s : Step) (conn : ℕ) → s.event ≡ Handed conn → connection_of (after S s x) conn ≡ option_map connection_without_front (connection_of x conn)
 handed_at S x s conn e =
     let r = quiet_row S x s conn (rw e (quiet-handed x conn)) (rw e refl) in
     elim (cases_Bool (is_closed conn x.steps)) [
       | inl t ↦ rw (e, t) refl
-      | inr f ↦ rw (r, e, f, eq-eqb conn conn refl, drop-one_more (handed conn x.steps) (row x conn)) refl
+      | inr f ↦ rw (r, e, f, eq-eqb conn conn refl, drop-one_more (handed_count conn x.steps) (row x conn)) refl
     ]
 
 pub connections-handed : (S : Setting) (H : History) (pass conn : ℕ) (answer : Answer)
-    → connections_of (past S (record { pass = pass; event = Handed conn; answer = answer } ∷ H)) ≡ with_connection handing conn (connections_of (past S H))
+    → connections_of (past S (record { pass = pass; event = Handed conn; answer = answer } ∷ H)) ≡ with_connection connection_without_front conn (connections_of (past S H))
 connections-handed S H pass conn answer =
     let x = past S H in
     let s : Step = record { pass = pass; event = Handed conn; answer = answer } in
-    sym (changed_at-table (connection_of x) (connection_of (after S s x)) (option_map handing) (opened H) conn (λ l. handed_at S x s conn refl)
+    sym (changed_at-table (connection_of x) (connection_of (after S s x)) (option_map connection_without_front) (openings H) conn (λ l. handed_at S x s conn refl)
     (λ j l q. sym (aside S x s j (quiet-handed x conn) (record { no_request = refl; no_handing = differs j conn q; no_closing = refl; no_finish = refl }))))
 
 -- CLOSED
@@ -116,9 +116,9 @@ closed_at : (S : Setting) (x : Past) (s : Step) (conn : ℕ) → s.event ≡ Clo
 closed_at S x s conn e = rw (e, eq-eqb conn conn refl) refl
 
 pub connections-closed : (S : Setting) (H : History) (pass conn : ℕ) (answer : Answer)
-    → connections_of (past S (record { pass = pass; event = Closed conn; answer = answer } ∷ H)) ≡ closing conn (connections_of (past S H))
+    → connections_of (past S (record { pass = pass; event = Closed conn; answer = answer } ∷ H)) ≡ connections_without conn (connections_of (past S H))
 connections-closed S H pass conn answer =
     let x = past S H in
     let s : Step = record { pass = pass; event = Closed conn; answer = answer } in
-    sym (changed_at-table (connection_of x) (connection_of (after S s x)) (λ k. None) (opened H) conn (λ l. closed_at S x s conn refl)
+    sym (changed_at-table (connection_of x) (connection_of (after S s x)) (λ k. None) (openings H) conn (λ l. closed_at S x s conn refl)
     (λ j l q. sym (aside S x s j (quiet-closed x conn) (record { no_request = refl; no_handing = refl; no_closing = differs j conn q; no_finish = refl }))))

@@ -6,8 +6,8 @@ use Rattle.std.proofs.lemmas.List.{append-nil}
 use Rattle.list_words.proofs.CallerLemmas.{map-same}
 use Rattle.resp_core.specs.Tree.{Tree}
 use Rattle.proxy_history.specs.Setting.{Setting}
-use Rattle.proxy_history.specs.History.{History, Step, opened, epoch}
-use Rattle.proxy_history.specs.Replies.{came}
+use Rattle.proxy_history.specs.History.{History, Step, openings, epoch}
+use Rattle.proxy_history.specs.Replies.{replies_from}
 use Rattle.proxy_history.specs.Part.{Part, Past, is_of, is_same}
 use Rattle.proxy_history.specs.Past.{past, after}
 use Rattle.proxy_history.specs.Waiting.{sent_by, sent_to}
@@ -30,7 +30,7 @@ pub connections-swept : (S : Setting) (H : History) (pass t : ℕ) (answer : Ans
 connections-swept S H pass t answer =
     let x = past S H in
     let s : Step = record { pass = pass; event = Swept t; answer = answer } in
-    map-same (connection_of (after S s x)) (connection_of x) (range_with_len 0 (opened H))
+    map-same (connection_of (after S s x)) (connection_of x) (range_with_len 0 (openings H))
     (λ c. aside S x s c (quiet-swept x t) (record { no_request = refl; no_handing = refl; no_closing = refl; no_finish = refl }))
 
 -- TAKEN
@@ -52,9 +52,9 @@ taken_reply S H pass host answer h p legal =
     let e = p.epoch in
     let sent = sent_to h e x in
     let found : List (Part × Tree) → Option Tree = λ z. option_map (λ r. r.1) (find (λ r. is_same p r.0) z) in
-    ap (λ z. found (zip z (came h e (s ∷ H)))) (sent_to-after S x s h e)
-    ∙ ap (λ z. found (zip (sent ++ filter (is_of h e) (sent_by x s.event)) z)) (append-nil (came h e H))
-    ∙ ap found (zip-more sent (filter (is_of h e) (sent_by x s.event)) (came h e H) (replies_were_asked S H h e legal))
+    ap (λ z. found (zip z (replies_from h e (s ∷ H)))) (sent_to-after S x s h e)
+    ∙ ap (λ z. found (zip (sent ++ filter (is_of h e) (sent_by x s.event)) z)) (append-nil (replies_from h e H))
+    ∙ ap found (zip-more sent (filter (is_of h e) (sent_by x s.event)) (replies_from h e H) (replies_were_asked S H h e legal))
 
 taken_at : (S : Setting) (H : History) (pass host : ℕ) (answer : Answer) (p : Part) (o : Option ℕ) → IsLegal S H
     → value_at (after S (record { pass = pass; event = Taken host; answer = answer }) (past S H)) p o ≡ value_at (past S H) p o
@@ -71,5 +71,5 @@ pub connections-taken : (S : Setting) (H : History) (pass host : ℕ) (answer : 
 connections-taken S H pass host answer legal =
     let x = past S H in
     let s : Step = record { pass = pass; event = Taken host; answer = answer } in
-    map-same (connection_of (after S s x)) (connection_of x) (range_with_len 0 (opened H))
+    map-same (connection_of (after S s x)) (connection_of x) (range_with_len 0 (openings H))
     (λ c. rw (steady_row S x s c (λ p. taken_value S H pass host answer p legal) refl) refl)

@@ -9,7 +9,7 @@ use Rattle.splitter.specs.Plan.{Plan}
 use Rattle.splitter.specs.declared.request.Request.{Request}
 use Rattle.reply_queue.specs.Command.{AwaitedCommand}
 use Rattle.reply_queue.specs.Queue.{IsOpen}
-use Rattle.proxy_history.specs.History.{History, plan_for, opened, handed, requests, is_finishing}
+use Rattle.proxy_history.specs.History.{History, plan_for, openings, handed_count, requests, is_finishing}
 use Rattle.proxy_history.specs.Part.{Part, is_same}
 use Rattle.proxy_history.specs.Laws.{AreApart}
 use Rattle.proxy_history.proofs.CallerLemmas.{is_same-sym_false as is_other_sym}
@@ -43,7 +43,7 @@ module _ (f : Values) (ps : List Part) (H : History) (p : Part) (t : IsThere ps 
 
   is_open_part : IsOpen (valued_queue f ps H p.conn) p.command p.number
   is_open_part =
-      let n = handed p.conn H in
+      let n = handed_count p.conn H in
       let there : slice_get (drop n (valued_from f ps p.conn 0 (requests p.conn H))) (p.command - n) ≡ Some (valued_by f ps p.conn p.command (plan_for t.asked.request)) =
       slice_get_behind n p.command (valued_from f ps p.conn 0 (requests p.conn H)) t.not_handed
       ∙ command-valued f ps p.conn 0 p.command (requests p.conn H) t.asked.request t.asked.is_request
@@ -59,7 +59,7 @@ module _ (f : Values) (ps : List Part) (H : History) (p : Part) (t : IsThere ps 
   pub is_awaited : IsAwaited (owner_of_part p) (valued f ps H)
   is_awaited = record {
     connection = record { queue = valued_queue f ps H p.conn; is_finishing = is_finishing p.conn H };
-    is_open = slice_get-table (valued_connection f ps H) (opened H) p.conn t.is_opened ∙ ap Some open_connection;
+    is_open = slice_get-table (valued_connection f ps H) (openings H) p.conn t.is_opened ∙ ap Some open_connection;
     is_awaited = is_open_part;
   }
 

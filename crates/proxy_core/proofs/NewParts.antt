@@ -8,12 +8,12 @@ use Rattle.list_words.proofs.CallerLemmas.{list_any-filter}
 use Rattle.resp_core.specs.Tree.{Tree}
 use Rattle.splitter.specs.declared.plans.PartPlan.{PartPlan}
 use Rattle.proxy_history.specs.Setting.{Setting}
-use Rattle.proxy_history.specs.History.{History, Step, accepted, epoch}
-use Rattle.proxy_history.specs.Replies.{came}
+use Rattle.proxy_history.specs.History.{History, Step, accepted_count, epoch}
+use Rattle.proxy_history.specs.Replies.{replies_from}
 use Rattle.proxy_history.specs.Part.{Part, Past, is_same, is_of}
 use Rattle.proxy_history.specs.Past.{past, after}
-use Rattle.proxy_history.specs.Waiting.{waiting, waits, first, sent_by, sent_to}
-use Rattle.proxy_history.specs.Arrival.{parts_by, placing, placed_part, with_host, host_for, hostless}
+use Rattle.proxy_history.specs.Waiting.{waiting_parts, waits, first, sent_by, sent_to}
+use Rattle.proxy_history.specs.Arrival.{parts_by, parts_placed, placed_part, with_host, host_for, hostless}
 use Rattle.proxy_history.specs.Value.{reply_to, value_at, value_of, value_or}
 use Rattle.proxy_history.specs.Outcome.{parts_of, is_part_of}
 use Rattle.proxy_history.specs.declared.event.Event.{Event}
@@ -34,7 +34,7 @@ earlier_first H [] a = tt
 earlier_first H (p ∷ ps) a = (a.0, tt)
 
 sent_by_earlier : (x : Past) (event : Event) → AreEarlier x.steps x.parts → AreEarlier x.steps (sent_by x event)
-sent_by_earlier x (Taken host) a = earlier_first x.steps (waiting host x) (earlier_filter x.steps (waits host x) x.parts a)
+sent_by_earlier x (Taken host) a = earlier_first x.steps (waiting_parts host x) (earlier_filter x.steps (waits host x) x.parts a)
 sent_by_earlier x Opened a = tt
 sent_by_earlier x (Arrived conn request) a = tt
 sent_by_earlier x (Finished conn) a = tt
@@ -51,18 +51,18 @@ sent_earlier S (s ∷ H) =
     earlier_both (s ∷ H) x.sent (sent_by x s.event) (earlier_grows s H x.sent (sent_earlier S H))
     (earlier_grows s H (sent_by x s.event) (sent_by_earlier x s.event (parts_are_in_order S H).earlier))
 
-other_command : (H : History) (p q : Part) → q.command < accepted q.conn H → p.command ≡ accepted p.conn H → ((p.conn == q.conn) && (p.command == q.command)) ≡ false
+other_command : (H : History) (p q : Part) → q.command < accepted_count q.conn H → p.command ≡ accepted_count p.conn H → ((p.conn == q.conn) && (p.command == q.command)) ≡ false
 other_command H p q l e = false_from_ne_true _ (λ t.
     let a = and_parts (p.conn == q.conn) (p.command == q.command) t in
-    omega (arith, l, e, eqb-true p.command q.command a.1, ap (λ k. accepted k H) (eqb-true p.conn q.conn a.0)))
+    omega (arith, l, e, eqb-true p.command q.command a.1, ap (λ k. accepted_count k H) (eqb-true p.conn q.conn a.0)))
 
 -- a part of the next command is none of earlier ones
-pub none_earlier : (H : History) (p : Part) (ps : List Part) → p.command ≡ accepted p.conn H → AreEarlier H ps → list_any (is_same p) ps ≡ false
+pub none_earlier : (H : History) (p : Part) (ps : List Part) → p.command ≡ accepted_count p.conn H → AreEarlier H ps → list_any (is_same p) ps ≡ false
 none_earlier H p [] e a = refl
 none_earlier H p (q ∷ ps) e a = or_from _ _ (and_left _ (p.number == q.number) (other_command H p q a.0 e)) (none_earlier H p ps e a.1)
 
 -- a part of the next command was not sent
-pub not_sent : (S : Setting) (H : History) (p : Part) → p.command ≡ accepted p.conn H → list_any (is_same p) (past S H).sent ≡ false
+pub not_sent : (S : Setting) (H : History) (p : Part) → p.command ≡ accepted_count p.conn H → list_any (is_same p) (past S H).sent ≡ false
 not_sent S H p e = none_earlier H p (past S H).sent e (sent_earlier S H)
 
 -- THEIR EPOCHS
@@ -80,7 +80,7 @@ pub part_now : (x : Past) (placed : List Part) (o : Option ℕ) (p : Part) → p
 part_now x placed None p n h e = absurd cc
 part_now x placed (Some k) p n h e = let same : k ≡ h = cc in ap (λ j. epoch j x.steps) same
 
-pub placing_are_now : (S : Setting) (x : Past) (conn command : ℕ) (placed : List Part) (ps : List PartPlan) → AreNow x.steps placed → AreNow x.steps (placing S x conn command placed ps)
+pub placing_are_now : (S : Setting) (x : Past) (conn command : ℕ) (placed : List Part) (ps : List PartPlan) → AreNow x.steps placed → AreNow x.steps (parts_placed S x conn command placed ps)
 placing_are_now S x conn command placed [] a = a
 placing_are_now S x conn command placed (p ∷ ps) a =
     placing_are_now S x conn command (placed ++ placed_part S x conn command placed p ∷ []) ps
@@ -97,7 +97,7 @@ find_none p (q ∷ ps) (t ∷ ts) e =
     rw a.0 (find_none p ps ts a.1)
 
 no_reply : (x : Past) (h : ℕ) (p : Part) → list_any (is_same p) x.sent ≡ false → reply_to p h x ≡ None
-no_reply x h p e = ap (option_map (λ r. r.1)) (find_none p (sent_to h p.epoch x) (came h p.epoch x.steps) (list_any-filter (is_same p) (is_of h p.epoch) x.sent e))
+no_reply x h p e = ap (option_map (λ r. r.1)) (find_none p (sent_to h p.epoch x) (replies_from h p.epoch x.steps) (list_any-filter (is_same p) (is_of h p.epoch) x.sent e))
 
 no_value : (x : Past) (p : Part) (o : Option ℕ) → list_any (is_same p) x.sent ≡ false → ((h : ℕ) → o ≡ Some h → p.epoch ≡ epoch h x.steps) → value_at x p o ≡ None
 no_value x p None e now = refl
@@ -113,25 +113,25 @@ value-local x p e now = ap (value_or p.local) (no_value x p p.host e now) ∙ by
     by_local None = refl
     by_local (Some v) = refl
 
-new_values : (S : Setting) (H : History) (conn : ℕ) (ps : List Part) → AreOf conn (accepted conn H) ps → AreNow H ps → map (value_of (past S H)) ps ≡ map (λ (p : Part). p.local) ps
+new_values : (S : Setting) (H : History) (conn : ℕ) (ps : List Part) → AreOf conn (accepted_count conn H) ps → AreNow H ps → map (value_of (past S H)) ps ≡ map (λ (p : Part). p.local) ps
 new_values S H conn [] a now = refl
 new_values S H conn (p ∷ ps) a now =
-    let next : p.command ≡ accepted p.conn H = a.1 ∙ ap (λ z. accepted z H) (sym a.0) in
+    let next : p.command ≡ accepted_count p.conn H = a.1 ∙ ap (λ z. accepted_count z H) (sym a.0) in
     rw (value-local (past S H) p (not_sent S H p next) now.0, new_values S H conn ps a.2 now.1) refl
 
 -- the values of a command's parts as it arrives
 pub placed_values : (S : Setting) (H : History) (conn : ℕ) (list : List PartPlan)
-    → map (value_of (past S H)) (placing S (past S H) conn (accepted conn H) [] list) ≡ map (λ (p : Part). p.local) (placing S (past S H) conn (accepted conn H) [] list)
+    → map (value_of (past S H)) (parts_placed S (past S H) conn (accepted_count conn H) [] list) ≡ map (λ (p : Part). p.local) (parts_placed S (past S H) conn (accepted_count conn H) [] list)
 placed_values S H conn list =
     let x = past S H in
-    new_values S H conn (placing S x conn (accepted conn H) [] list) (are_placed S x conn list) (placing_are_now S x conn (accepted conn H) [] list tt)
+    new_values S H conn (parts_placed S x conn (accepted_count conn H) [] list) (are_placed S x conn list) (placing_are_now S x conn (accepted_count conn H) [] list tt)
 
 -- the parts of a command that has just arrived are those that were placed
-pub placed_are_its : (S : Setting) (H : History) (s : Step) (conn : ℕ) (list : List PartPlan) → parts_by S (past S H) s.event ≡ placing S (past S H) conn (accepted conn H) [] list
-    → parts_of conn (accepted conn H) (after S s (past S H)) ≡ placing S (past S H) conn (accepted conn H) [] list
+pub placed_are_its : (S : Setting) (H : History) (s : Step) (conn : ℕ) (list : List PartPlan) → parts_by S (past S H) s.event ≡ parts_placed S (past S H) conn (accepted_count conn H) [] list
+    → parts_of conn (accepted_count conn H) (after S s (past S H)) ≡ parts_placed S (past S H) conn (accepted_count conn H) [] list
 placed_are_its S H s conn list e =
     let x = past S H in
-    filter-append (is_part_of conn (accepted conn H)) x.parts (parts_by S x s.event)
-    ∙ ap (λ z. z ++ filter (is_part_of conn (accepted conn H)) (parts_by S x s.event)) (not_yet S H conn (accepted conn H) (omega arith))
-    ∙ ap (filter (is_part_of conn (accepted conn H))) e
-    ∙ all_of conn (accepted conn H) (placing S x conn (accepted conn H) [] list) (are_placed S x conn list)
+    filter-append (is_part_of conn (accepted_count conn H)) x.parts (parts_by S x s.event)
+    ∙ ap (λ z. z ++ filter (is_part_of conn (accepted_count conn H)) (parts_by S x s.event)) (not_yet S H conn (accepted_count conn H) (omega arith))
+    ∙ ap (filter (is_part_of conn (accepted_count conn H))) e
+    ∙ all_of conn (accepted_count conn H) (parts_placed S x conn (accepted_count conn H) [] list) (are_placed S x conn list)

@@ -10,11 +10,11 @@ use Rattle.splitter.specs.declared.plans.Join.{Join}
 use Rattle.splitter.specs.declared.plans.PartPlan.{PartPlan}
 use Rattle.splitter.specs.declared.request.Request.{Request}
 use Rattle.proxy_history.specs.Setting.{Setting}
-use Rattle.proxy_history.specs.History.{History, Step, plan_for, opened, accepted, handed, requests, request_by, is_open, is_opening}
+use Rattle.proxy_history.specs.History.{History, Step, plan_for, openings, accepted_count, handed_count, requests, request_by, is_open, is_opening}
 use Rattle.proxy_history.specs.Part.{Past, Part}
 use Rattle.proxy_history.specs.Past.{past, parts_in}
 use Rattle.proxy_history.specs.Cause.{own_cause, causes}
-use Rattle.proxy_history.specs.Arrival.{placing, placed_part, placed_by, parts_by, host_for, hostless}
+use Rattle.proxy_history.specs.Arrival.{parts_placed, placed_part, placed_by, parts_by, host_for, hostless}
 use Rattle.proxy_history.specs.Value.{value_of}
 use Rattle.proxy_history.specs.Outcome.{parts_of, is_part_of, values_of, with_value, outcome, outcome_by}
 use Rattle.proxy_history.specs.Legal.{IsLegal}
@@ -33,7 +33,7 @@ numbered_with : (n k : ℕ) (ps : List Part) (q : Part) → AreNumbered n ps →
 numbered_with n k [] q a l e = (omega (arith, l, e), tt)
 numbered_with n k (p ∷ ps) q a l e = (a.0, numbered_with (n + 1) k ps q a.1 (omega (arith, l)) e)
 
-placing_numbered : (S : Setting) (x : Past) (conn command : ℕ) (placed : List Part) (ps : List PartPlan) → AreNumbered 0 placed → AreNumbered 0 (placing S x conn command placed ps)
+placing_numbered : (S : Setting) (x : Past) (conn command : ℕ) (placed : List Part) (ps : List PartPlan) → AreNumbered 0 placed → AreNumbered 0 (parts_placed S x conn command placed ps)
 placing_numbered S x conn command placed [] a = a
 placing_numbered S x conn command placed (p ∷ ps) a =
     let q = placed_part S x conn command placed p in
@@ -54,8 +54,8 @@ one_command c i conn command ps o a = elim (cases_Bool ((conn == c) && (command 
 
 placed_numbered : (S : Setting) (x : Past) (c i conn : ℕ) (p : Plan) → AreNumbered 0 (filter (is_part_of c i) (placed_by S x conn p))
 placed_numbered S x c i conn (parts how list) =
-    let command = accepted conn x.steps in
-    one_command c i conn command (placing S x conn command [] list) (placing_are_of S x conn command [] list tt) (placing_numbered S x conn command [] list tt)
+    let command = accepted_count conn x.steps in
+    one_command c i conn command (parts_placed S x conn command [] list) (placing_are_of S x conn command [] list tt) (placing_numbered S x conn command [] list tt)
 placed_numbered S x c i conn (here name value) = tt
 placed_numbered S x c i conn (leave name value) = tt
 
@@ -73,7 +73,7 @@ new_numbered S x c i (Closed conn) = tt
 -- the parts of a command stand in the places of their numbers
 pub parts_are_numbered : (S : Setting) (H : History) (c i : ℕ) → AreNumbered 0 (parts_of c i (past S H))
 parts_are_numbered S [] c i = tt
-parts_are_numbered S (s ∷ H) c i = elim (cases_lt i (accepted c H)) [
+parts_are_numbered S (s ∷ H) c i = elim (cases_lt i (accepted_count c H)) [
   | inl l ↦ subst (λ (z : List Part). AreNumbered 0 z) (sym (parts_stay S (past S H) c i s l)) (parts_are_numbered S H c i)
   | inr l ↦
       let new = filter (is_part_of c i) (parts_by S (past S H) s.event) in
@@ -116,7 +116,7 @@ request_stays : (c i : ℕ) (later before : History) (r : Request) → slice_get
 request_stays c i [] before r e = e
 request_stays c i (s ∷ later) before r e = slice_get-append (requests c (later ++ before)) (request_by c s.event) i r (request_stays c i later before r e)
 
-request_now : (c i : ℕ) (s : Step) (before : History) (r : Request) → s.event ≡ Arrived c r → i ≡ accepted c before → slice_get (requests c (s ∷ before)) i ≡ Some r
+request_now : (c i : ℕ) (s : Step) (before : History) (r : Request) → s.event ≡ Arrived c r → i ≡ accepted_count c before → slice_get (requests c (s ∷ before)) i ≡ Some r
 request_now c i s before r e l =
     let new : request_by c s.event ≡ r ∷ [] = ap (request_by c) e ∙ rw (eq-eqb c c refl) refl in
     ap (λ z. slice_get (requests c before ++ z) i) new ∙ at_end (requests c before) r i (l ∙ sym (length-requests c before))
@@ -135,17 +135,17 @@ part_is_asked S H p h =
 
 -- THE CONNECTION OF A PART
 
-opened_grows : (later before : History) → opened before ≤ opened (later ++ before)
+opened_grows : (later before : History) → openings before ≤ openings (later ++ before)
 opened_grows [] before = omega arith
 opened_grows (s ∷ later) before = omega (arith, opened_grows later before, times_grows is_opening s (later ++ before))
 
-arrival_is_open : (S : Setting) (x : Past) (event : Event) (c : ℕ) (r : Request) → own_cause S x event ≡ None → event ≡ Arrived c r → c < opened x.steps
+arrival_is_open : (S : Setting) (x : Past) (event : Event) (c : ℕ) (r : Request) → own_cause S x event ≡ None → event ≡ Arrived c r → c < openings x.steps
 arrival_is_open S x event c r n e =
     let a = are_false (causes S x (Arrived c r)) (ap (own_cause S x) (sym e) ∙ n) in
-    ltb-true c (opened x.steps) (and_parts (nat_lt c (opened x.steps)) _ (not-false (is_open c x.steps) a.0)).0
+    ltb-true c (openings x.steps) (and_parts (nat_lt c (openings x.steps)) _ (not-false (is_open c x.steps) a.0)).0
 
 -- its connection was opened
-pub part_is_opened : (S : Setting) (H : History) (p : Part) → IsLegal S H → Contains (past S H).parts p → p.conn < opened H
+pub part_is_opened : (S : Setting) (H : History) (p : Part) → IsLegal S H → Contains (past S H).parts p → p.conn < openings H
 part_is_opened S H p legal h =
     let a = parts_have_arrived S H p h in
     let l = beginning S a.later (a.step ∷ a.before) (subst (λ (z : History). IsLegal S z) a.split legal) in
@@ -154,7 +154,7 @@ part_is_opened S H p legal h =
       arrival_is_open S (past S a.before) a.step.event p.conn a.request l.1.has_no_cause a.arrives,
       opened_grows a.later (a.step ∷ a.before),
       times_grows is_opening a.step a.before,
-      ap opened a.split,
+      ap openings a.split,
     )
 
 -- WHO HAS NO VALUE ISN'T HANDED OUT
@@ -179,8 +179,8 @@ no_outcome S H p h e =
     ∙ ap (λ (o : Option (List Tree)). option_map (join_of a.how) o) (missing x (parts_of p.conn p.command x) p (in_own_parts x p h) e)
 
 -- a command of which a part has no value isn't handed out
-pub not_handed : (S : Setting) (H : History) (p : Part) → IsLegal S H → Contains (past S H).parts p → value_of (past S H) p ≡ None → handed p.conn H ≤ p.command
-not_handed S H p legal h e = elim (cases_lt p.command (handed p.conn H)) [
+pub not_handed : (S : Setting) (H : History) (p : Part) → IsLegal S H → Contains (past S H).parts p → value_of (past S H) p ≡ None → handed_count p.conn H ≤ p.command
+not_handed S H p legal h e = elim (cases_lt p.command (handed_count p.conn H)) [
   | inl l ↦
       let come : is_some (outcome p.conn p.command (past S H)) ≡ true = (in_order S H p.conn legal).1.each p.command l in
       let no : false ≡ true = sym (ap is_some (no_outcome S H p h e)) ∙ come in

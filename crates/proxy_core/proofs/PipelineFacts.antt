@@ -8,11 +8,11 @@ use Rattle.list_words.proofs.CallerLemmas.{slice_get-table}
 use Rattle.resp_core.specs.declared.value.Value.{Value}
 use Rattle.splitter.specs.declared.request.Request.{Request}
 use Rattle.proxy_history.specs.Setting.{Setting, hosts}
-use Rattle.proxy_history.specs.History.{History, opened, epoch, is_opening, is_fault}
-use Rattle.proxy_history.specs.Replies.{came}
+use Rattle.proxy_history.specs.History.{History, openings, epoch, is_opening, is_fault}
+use Rattle.proxy_history.specs.Replies.{replies_from}
 use Rattle.proxy_history.specs.Part.{Part, Past, is_of}
 use Rattle.proxy_history.specs.Past.{past}
-use Rattle.proxy_history.specs.Waiting.{waiting, flying, first, sent_by, sent_to}
+use Rattle.proxy_history.specs.Waiting.{waiting_parts, flying_count, first, sent_by, sent_to}
 use Rattle.proxy_history.specs.Cause.{own_cause}
 use Rattle.proxy_history.specs.Answer.{answer_to, text_of_first}
 use Rattle.proxy_history.specs.Payload.{payload_of}
@@ -20,7 +20,7 @@ use Rattle.proxy_history.specs.declared.event.Kind.{Kind}
 use Rattle.proxy_history.specs.declared.event.Event.{Event}
 use Rattle.proxy_history.specs.declared.event.Event.TheVariants.{Opened, Arrived, Finished, Taken, Answered, Failed, Swept, Handed, Closed}
 use Rattle.proxy_history.proofs.CallerLemmas.{times-length}
-use Rattle.proxy_core.specs.Pipelines.{piped, place_of, pipeline_of, pipelines_of, no_pipeline, pipeline_at, text_of_oldest}
+use Rattle.proxy_core.specs.Pipelines.{pipe_part, place_of, pipeline_of, pipelines_of, no_pipeline, pipeline_at, text_of_oldest}
 use Rattle.proxy_core.specs.Kept.{memory_of}
 use Rattle.proxy_core.specs.Machine.{own_cause_in, payload_in}
 
@@ -34,21 +34,21 @@ pipeline_at-pipelines_of S x h l = ap (λ o. unwrap_or o no_pipeline) (slice_get
 
 -- WHAT WAITS AND WHAT FLIES
 
-pub length-pipeline_waiting : (x : Past) (h : ℕ) → length (pipeline_of x h).waiting ≡ length (waiting h x)
-length-pipeline_waiting x h = length-map (waiting h x) piped
+pub length-pipeline_waiting : (x : Past) (h : ℕ) → length (pipeline_of x h).waiting ≡ length (waiting_parts h x)
+length-pipeline_waiting x h = length-map (waiting_parts h x) pipe_part
 
-pub length-pipeline_flying : (x : Past) (h : ℕ) → length (pipeline_of x h).flying ≡ flying h x
+pub length-pipeline_flying : (x : Past) (h : ℕ) → length (pipeline_of x h).flying ≡ flying_count h x
 length-pipeline_flying x h =
     let e = epoch h x.steps in
-    length-map (drop (length (came h e x.steps)) (sent_to h e x)) (place_of x) ∙ length-drop (length (came h e x.steps)) (sent_to h e x)
+    length-map (drop (length (replies_from h e x.steps)) (sent_to h e x)) (place_of x) ∙ length-drop (length (replies_from h e x.steps)) (sent_to h e x)
 
-oldest_text : (ps : List Part) → text_of_oldest (map piped ps) ≡ text_of_first ps
+oldest_text : (ps : List Part) → text_of_oldest (map pipe_part ps) ≡ text_of_first ps
 oldest_text [] = refl
 oldest_text (p ∷ ps) = refl
 
 -- the oldest part that waits is the first
-pub text_of_oldest-pipeline : (x : Past) (h : ℕ) → text_of_oldest (pipeline_of x h).waiting ≡ text_of_first (waiting h x)
-text_of_oldest-pipeline x h = oldest_text (waiting h x)
+pub text_of_oldest-pipeline : (x : Past) (h : ℕ) → text_of_oldest (pipeline_of x h).waiting ≡ text_of_first (waiting_parts h x)
+text_of_oldest-pipeline x h = oldest_text (waiting_parts h x)
 
 -- CAUSES
 
@@ -86,7 +86,7 @@ one_at_most [] = omega arith
 one_at_most (p ∷ ps) = omega arith
 
 one_sent_at_most : (x : Past) (event : Event) → length (sent_by x event) ≤ 1
-one_sent_at_most x (Taken host) = one_at_most (waiting host x)
+one_sent_at_most x (Taken host) = one_at_most (waiting_parts host x)
 one_sent_at_most x Opened = omega arith
 one_sent_at_most x (Arrived conn request) = omega arith
 one_sent_at_most x (Finished conn) = omega arith
@@ -109,7 +109,7 @@ sent_to-at_most S H h e = omega (arith, length_of_filter (is_of h e) (past S H).
 pub epoch-at_most : (h : ℕ) (H : History) → epoch h H ≤ length H
 epoch-at_most h H = times-length (is_fault h) H
 
-pub opened-at_most : (H : History) → opened H ≤ length H
+pub opened-at_most : (H : History) → openings H ≤ length H
 opened-at_most H = times-length is_opening H
 
 -- PAYLOAD

@@ -8,17 +8,17 @@ use Rattle.resp_core.specs.Tree.{Tree}
 use Rattle.splitter.specs.Plan.{Plan, here, leave, parts}
 use Rattle.splitter.specs.declared.request.Request.{Request}
 use Rattle.proxy_history.specs.Setting.{Setting, hosts}
-use Rattle.proxy_history.specs.History.{History, Step, epoch, accepted, is_closed, plan_for}
-use Rattle.proxy_history.specs.Replies.{came}
+use Rattle.proxy_history.specs.History.{History, Step, epoch, accepted_count, is_closed, plan_for}
+use Rattle.proxy_history.specs.Replies.{replies_from}
 use Rattle.proxy_history.specs.Part.{Part, Past, is_of}
 use Rattle.proxy_history.specs.Past.{past, after}
-use Rattle.proxy_history.specs.Waiting.{waiting, waits, sent_to}
+use Rattle.proxy_history.specs.Waiting.{waiting_parts, waits, sent_to}
 use Rattle.proxy_history.specs.Arrival.{parts_by, placed_by}
 use Rattle.proxy_history.specs.Cause.{own_cause}
 use Rattle.proxy_history.specs.declared.answer.Answer.{Answer}
 use Rattle.proxy_history.specs.declared.event.Event.TheVariants.{Arrived}
 use Rattle.proxy_history.proofs.CallerLemmas.{AreOf, AreOf-placing_first as are_placed}
-use Rattle.proxy_core.specs.Pipelines.{PipelineState, piped, place_of, pipeline_of, pipelines_of, with_pipeline, pushed_part, pushed_parts}
+use Rattle.proxy_core.specs.Pipelines.{PipelineState, pipe_part, place_of, pipeline_of, pipelines_of, with_pipeline, pushed_part, pushed_parts}
 use Rattle.proxy_core.proofs.Counts.{arrived_open, open_parts}
 use Rattle.proxy_core.proofs.ConnectionsMove.{differs}
 use Rattle.proxy_core.proofs.NewParts.{AreNow, placing_are_now, not_sent}
@@ -28,7 +28,7 @@ use Rattle.proxy_core.proofs.PipelineStays.{same_pipeline, same_places, waiting_
 
 -- the part waits, if it is one for the host
 abbrev adding : History → ℕ → Part → PipelineState → PipelineState
-adding H h p q = if is_of h (epoch h H) p then record q { waiting = q.waiting ++ piped p ∷ [] } else q
+adding H h p q = if is_of h (epoch h H) p then record q { waiting = q.waiting ++ pipe_part p ∷ [] } else q
 
 abbrev all_added : History → ℕ → List Part → PipelineState → PipelineState
 all_added H h [] q = q
@@ -36,11 +36,11 @@ all_added H h (p ∷ ps) q = all_added H h ps (adding H h p q)
 
 -- those for the host wait behind the others
 added_wait : (H : History) (h : ℕ) (ps : List Part) (q : PipelineState)
-    → all_added H h ps q ≡ record q { waiting = q.waiting ++ map piped (filter (is_of h (epoch h H)) ps) }
+    → all_added H h ps q ≡ record q { waiting = q.waiting ++ map pipe_part (filter (is_of h (epoch h H)) ps) }
 added_wait H h [] q = same_pipeline q (record q { waiting = q.waiting ++ [] }) (sym (append-nil q.waiting)) refl refl refl
 added_wait H h (p ∷ ps) q = elim (cases_Bool (is_of h (epoch h H) p)) [
-  | inl t ↦ rw t (added_wait H h ps (record q { waiting = q.waiting ++ piped p ∷ [] })
-      ∙ ap (λ z. record q { waiting = z }) (append_assoc q.waiting (piped p ∷ []) (map piped (filter (is_of h (epoch h H)) ps))))
+  | inl t ↦ rw t (added_wait H h ps (record q { waiting = q.waiting ++ pipe_part p ∷ [] })
+      ∙ ap (λ z. record q { waiting = z }) (append_assoc q.waiting (pipe_part p ∷ []) (map pipe_part (filter (is_of h (epoch h H)) ps))))
   | inr f ↦ rw f (added_wait H h ps q)
 ]
 
@@ -56,7 +56,7 @@ pushed_one H n f p None None a b now =
 pushed_one H n f p (Some k) None a b now =
     let here : is_of k (epoch k H) p ≡ true = rw (a, b, eq-eqb k k refl, eq-eqb p.epoch (epoch k H) (now k refl)) refl in
     let elsewhere : (j : ℕ) → (j ≡ k → ⊥) → is_of j (epoch j H) p ≡ false = λ j q. rw (a, differs j k q) refl in
-    let waits_more : PipelineState → PipelineState = λ (q : PipelineState). record q { waiting = q.waiting ++ piped p ∷ [] } in
+    let waits_more : PipelineState → PipelineState = λ (q : PipelineState). record q { waiting = q.waiting ++ pipe_part p ∷ [] } in
     let pushed : pushed_part p (map f (range_with_len 0 n)) ≡ with_pipeline waits_more k (map f (range_with_len 0 n)) = rw (b, a) refl in
     pushed ∙ changed_at-table f (λ h. adding H h p (f h)) waits_more n k (λ l. rw here refl) (λ j l q. rw (elsewhere j q) refl)
 
@@ -69,22 +69,22 @@ pushed_all H n (p ∷ ps) f a =
 
 -- NEW PARTS
 
-placed_of_command : (S : Setting) (x : Past) (conn : ℕ) (plan : Plan) → AreOf conn (accepted conn x.steps) (placed_by S x conn plan)
+placed_of_command : (S : Setting) (x : Past) (conn : ℕ) (plan : Plan) → AreOf conn (accepted_count conn x.steps) (placed_by S x conn plan)
 placed_of_command S x conn (parts how list) = are_placed S x conn list
 placed_of_command S x conn (here name value) = tt
 placed_of_command S x conn (leave name value) = tt
 
 placed_now : (S : Setting) (x : Past) (conn : ℕ) (plan : Plan) → AreNow x.steps (placed_by S x conn plan)
-placed_now S x conn (parts how list) = placing_are_now S x conn (accepted conn x.steps) [] list tt
+placed_now S x conn (parts how list) = placing_are_now S x conn (accepted_count conn x.steps) [] list tt
 placed_now S x conn (here name value) = tt
 placed_now S x conn (leave name value) = tt
 
 -- a new part waits for its host, if its connection is open
-new_wait : (S : Setting) (H : History) (conn h : ℕ) (ps : List Part) → is_closed conn H ≡ false → AreOf conn (accepted conn H) ps
+new_wait : (S : Setting) (H : History) (conn h : ℕ) (ps : List Part) → is_closed conn H ≡ false → AreOf conn (accepted_count conn H) ps
     → filter (waits h (past S H)) ps ≡ filter (is_of h (epoch h H)) ps
 new_wait S H conn h [] o a = refl
 new_wait S H conn h (p ∷ ps) o a =
-    let next : p.command ≡ accepted p.conn H = a.1 ∙ ap (λ z. accepted z H) (sym a.0) in
+    let next : p.command ≡ accepted_count p.conn H = a.1 ∙ ap (λ z. accepted_count z H) (sym a.0) in
     let its_open : is_closed p.conn H ≡ false = ap (λ z. is_closed z H) a.0 ∙ o in
     elim (cases_Bool (is_of h (epoch h H) p)) [
       | inl t ↦ rw (t, not_sent S H p next, its_open) (ap (λ z. p ∷ z) (new_wait S H conn h ps o a.2))
@@ -101,15 +101,15 @@ arrived_at S H pass conn request answer h o =
     let e = epoch h H in
     let new = parts_by S x (Arrived conn request) in
     let same_sent : sent_to h e x' ≡ sent_to h e x = rw (append-nil x.sent) refl in
-    let same_came : came h e (s ∷ H) ≡ came h e H = append-nil (came h e H) in
-    let waits_now : waiting h x' ≡ waiting h x ++ filter (is_of h e) new =
-    waiting_with S x s h refl refl (λ c. refl) ∙ ap (λ z. waiting h x ++ z) (new_wait S H conn h new o (placed_of_command S x conn (plan_for request))) in
+    let same_came : replies_from h e (s ∷ H) ≡ replies_from h e H = append-nil (replies_from h e H) in
+    let waits_now : waiting_parts h x' ≡ waiting_parts h x ++ filter (is_of h e) new =
+    waiting_with S x s h refl refl (λ c. refl) ∙ ap (λ z. waiting_parts h x ++ z) (new_wait S H conn h new o (placed_of_command S x conn (plan_for request))) in
     added_wait H h new (pipeline_of x h)
-    ∙ sym (same_pipeline (pipeline_of x' h) (record (pipeline_of x h) { waiting = (pipeline_of x h).waiting ++ map piped (filter (is_of h e) new) })
-    (ap (map piped) waits_now ∙ map-append piped (waiting h x) (filter (is_of h e) new))
+    ∙ sym (same_pipeline (pipeline_of x' h) (record (pipeline_of x h) { waiting = (pipeline_of x h).waiting ++ map pipe_part (filter (is_of h e) new) })
+    (ap (map pipe_part) waits_now ∙ map-append pipe_part (waiting_parts h x) (filter (is_of h e) new))
     (ap (λ z. map (place_of x') (drop (length z) (sent_to h e x'))) same_came
-    ∙ ap (λ z. map (place_of x') (drop (length (came h e H)) z)) same_sent
-    ∙ same_places S x s (λ c. refl) (drop (length (came h e H)) (sent_to h e x)))
+    ∙ ap (λ z. map (place_of x') (drop (length (replies_from h e H)) z)) same_sent
+    ∙ same_places S x s (λ c. refl) (drop (length (replies_from h e H)) (sent_to h e x)))
     refl
     (ap length same_sent))
 

@@ -9,13 +9,13 @@ use Rattle.list_words.proofs.CallerLemmas.{map-same, changed_at-table}
 use Rattle.resp_core.specs.declared.value.Value.{Value}
 use Rattle.resp_core.specs.Value.{tree_of}
 use Rattle.upstream_pipe.specs.declared.part.Owner.{Owner}
-use Rattle.upstream_pipe.specs.Pipe.{is_kept, forgotten}
+use Rattle.upstream_pipe.specs.Pipe.{is_kept, forgotten_owner}
 use Rattle.proxy_history.specs.Setting.{Setting, hosts}
 use Rattle.proxy_history.specs.History.{History, Step, epoch, is_closed, is_fault, is_closing}
-use Rattle.proxy_history.specs.Replies.{came, reply_by}
+use Rattle.proxy_history.specs.Replies.{replies_from, reply_by}
 use Rattle.proxy_history.specs.Part.{Part, Past, is_of}
 use Rattle.proxy_history.specs.Past.{past, after}
-use Rattle.proxy_history.specs.Waiting.{waiting, waits, first, sent_by, sent_to}
+use Rattle.proxy_history.specs.Waiting.{waiting_parts, waits, first, sent_by, sent_to}
 use Rattle.proxy_history.specs.Arrival.{parts_by}
 use Rattle.proxy_history.specs.Cause.{own_cause}
 use Rattle.proxy_history.specs.declared.answer.Answer.{Answer}
@@ -23,7 +23,7 @@ use Rattle.proxy_history.specs.declared.event.Kind.{Kind}
 use Rattle.proxy_history.specs.declared.event.Event.{Event}
 use Rattle.proxy_history.specs.declared.event.Event.TheVariants.{Opened, Arrived, Finished, Taken, Answered, Failed, Swept, Handed, Closed}
 use Rattle.proxy_history.proofs.CallerLemmas.{own_cause-answered as is_current, eq-sym as eqb_sym, is_of-true as is_of_parts, AreOfPast, filter-none_of_next as none_of_next, waiting-closed as after_closed, AreOfPast-cons as of_past_grows, AreOfPast-append as of_past_both, AreOfPast-parts as are_of_past, waiting-failed as fault_empties}
-use Rattle.proxy_core.specs.Pipelines.{owner_of_part, piped, place_of, pipeline_of, pipelines_of, with_pipeline, answered_by, failed, without_connection}
+use Rattle.proxy_core.specs.Pipelines.{owner_of_part, pipe_part, place_of, pipeline_of, pipelines_of, with_pipeline, answered_by, failed_pipeline, without_connection}
 use Rattle.proxy_core.proofs.CommandRows.{IsQuiet, same_values}
 use Rattle.proxy_core.proofs.ConnectionsMove.{quiet-opened, quiet-finished, quiet-handed, differs, drop-one_more}
 use Rattle.proxy_core.proofs.ConnectionsStay.{quiet-swept}
@@ -74,12 +74,12 @@ answered_at S x s host t value q =
     let same_epoch : epoch host (s ∷ x.steps) ≡ e = rw no_fault refl in
     let same_sent : sent_to host e x' ≡ sent_to host e x = rw (q, append-nil x.sent) refl in
     let one : reply_by host e s.event ≡ tree_of value ∷ [] = rw (q, eq-eqb host host refl, eq-eqb e e refl) refl in
-    let one_more : length (came host e (s ∷ x.steps)) ≡ length (came host e x.steps) + 1 =
-    length-append (came host e x.steps) (reply_by host e s.event) ∙ ap (λ z. length (came host e x.steps) + length z) one in
-    let n = length (came host e x.steps) in
+    let one_more : length (replies_from host e (s ∷ x.steps)) ≡ length (replies_from host e x.steps) + 1 =
+    length-append (replies_from host e x.steps) (reply_by host e s.event) ∙ ap (λ z. length (replies_from host e x.steps) + length z) one in
+    let n = length (replies_from host e x.steps) in
     same_pipeline (pipeline_of x' host) (answered_by (pipeline_of x host))
-    (ap (map piped) (waiting_stays S x s host no_fault (rw q refl) closes_none (rw q refl)))
-    (ap (λ z. map (place_of x') (drop (length (came host z (s ∷ x.steps))) (sent_to host z x'))) same_epoch
+    (ap (map pipe_part) (waiting_stays S x s host no_fault (rw q refl) closes_none (rw q refl)))
+    (ap (λ z. map (place_of x') (drop (length (replies_from host z (s ∷ x.steps))) (sent_to host z x'))) same_epoch
     ∙ ap (λ z. map (place_of x') (drop z (sent_to host e x'))) one_more
     ∙ ap (λ z. map (place_of x') (drop (n + 1) z)) same_sent
     ∙ same_places S x s closes_none (drop (n + 1) (sent_to host e x))
@@ -118,7 +118,7 @@ of_past_first H [] a = tt
 of_past_first H (p ∷ ps) a = (a.0, tt)
 
 sent_now : (H : History) (event : Event) (x : Past) → AreOfPast H x.parts → AreOfPast H (sent_by x event)
-sent_now H (Taken host) x a = of_past_first H (waiting host x) (of_past_filter H (waits host x) x.parts a)
+sent_now H (Taken host) x a = of_past_first H (waiting_parts host x) (of_past_filter H (waits host x) x.parts a)
 sent_now H Opened x a = tt
 sent_now H (Arrived conn request) x a = tt
 sent_now H (Finished conn) x a = tt
@@ -141,8 +141,8 @@ pub none_sent_later : (S : Setting) (H : History) (h : ℕ) → sent_to h (epoch
 none_sent_later S H h = none_of_next h (past S H) (past S H).sent (is_of h (epoch h H + 1)) (λ q t.
     let a = is_of_parts h (epoch h H + 1) q t in (a.0, omega (arith, a.1))) (sent_of_past S H)
 
-failed_at : (S : Setting) (H : History) (s : Step) (host : ℕ) → is_fault host s.event ≡ true → sent_by (past S H) s.event ≡ [] → waiting host (past S (s ∷ H)) ≡ []
-    → pipeline_of (past S (s ∷ H)) host ≡ failed (pipeline_of (past S H) host)
+failed_at : (S : Setting) (H : History) (s : Step) (host : ℕ) → is_fault host s.event ≡ true → sent_by (past S H) s.event ≡ [] → waiting_parts host (past S (s ∷ H)) ≡ []
+    → pipeline_of (past S (s ∷ H)) host ≡ failed_pipeline (pipeline_of (past S H) host)
 failed_at S H s host is_fault sends_none none_waits =
     let x = past S H in
     let x' = past S (s ∷ H) in
@@ -150,20 +150,20 @@ failed_at S H s host is_fault sends_none none_waits =
     let next : epoch host (s ∷ H) ≡ e + 1 = rw is_fault refl in
     let same_sent : sent_to host (e + 1) x' ≡ sent_to host (e + 1) x = rw (sends_none, append-nil x.sent) refl in
     let none : sent_to host (epoch host (s ∷ H)) x' ≡ [] = ap (λ z. sent_to host z x') next ∙ same_sent ∙ none_sent_later S H host in
-    same_pipeline (pipeline_of x' host) (failed (pipeline_of x host))
-    (ap (map piped) none_waits)
-    (ap (λ z. map (place_of x') (drop (length (came host (epoch host (s ∷ H)) (s ∷ H))) z)) none
-    ∙ ap (map (place_of x')) (drop-nil {A = Part} (length (came host (epoch host (s ∷ H)) (s ∷ H)))))
+    same_pipeline (pipeline_of x' host) (failed_pipeline (pipeline_of x host))
+    (ap (map pipe_part) none_waits)
+    (ap (λ z. map (place_of x') (drop (length (replies_from host (epoch host (s ∷ H)) (s ∷ H))) z)) none
+    ∙ ap (map (place_of x')) (drop-nil {A = Part} (length (replies_from host (epoch host (s ∷ H)) (s ∷ H)))))
     next
     (ap length none)
 
 -- nothing waits any more, and nothing flies
 pub pipelines-failed : (S : Setting) (H : History) (pass host e t : ℕ) (kind : Kind) (answer : Answer)
-    → pipelines_of S (past S (record { pass = pass; event = Failed host e kind t; answer = answer } ∷ H)) ≡ with_pipeline failed host (pipelines_of S (past S H))
+    → pipelines_of S (past S (record { pass = pass; event = Failed host e kind t; answer = answer } ∷ H)) ≡ with_pipeline failed_pipeline host (pipelines_of S (past S H))
 pipelines-failed S H pass host e t kind answer =
     let x = past S H in
     let s : Step = record { pass = pass; event = Failed host e kind t; answer = answer } in
-    sym (changed_at-table (pipeline_of x) (pipeline_of (after S s x)) failed (hosts S) host
+    sym (changed_at-table (pipeline_of x) (pipeline_of (after S s x)) failed_pipeline (hosts S) host
     (λ l. failed_at S H s host (eq-eqb host host refl) refl (fault_empties S H host pass e t kind answer))
     (λ j l q. let d = differs j host q in sym (pipeline_stays S x s j (record {
       is_no_fault = d;
@@ -181,11 +181,11 @@ eqb_swap a b = elim (cases_Bool (a == b)) [
   | inr f ↦ f ∙ sym (ne_eqb b a (λ e. both_ways (a == b) f (eq-eqb a b (sym e))))
 ]
 
-kept_piped : (c : ℕ) (ps : List Part) → map piped (filter (λ (q : Part). not (c == q.conn)) ps) ≡ filter (is_kept c) (map piped ps)
+kept_piped : (c : ℕ) (ps : List Part) → map pipe_part (filter (λ (q : Part). not (c == q.conn)) ps) ≡ filter (is_kept c) (map pipe_part ps)
 kept_piped c [] = refl
 kept_piped c (p ∷ ps) = elim (cases_Bool (c == p.conn)) [
   | inl t ↦ rw (← eqb_swap c p.conn, t) (kept_piped c ps)
-  | inr f ↦ rw (← eqb_swap c p.conn, f) (ap (λ z. piped p ∷ z) (kept_piped c ps))
+  | inr f ↦ rw (← eqb_swap c p.conn, f) (ap (λ z. pipe_part p ∷ z) (kept_piped c ps))
 ]
 
 place_later : (a b c : Bool) (o : Owner) → a ≡ c → (if (a || b) then None else Some o) ≡ (if b then None else (if c then None else Some o))
@@ -194,11 +194,11 @@ place_later true false c o e = rw (← e) refl
 place_later false true c o e = refl
 place_later false false c o e = rw (← e) refl
 
-forgets : (c : ℕ) (b : Bool) (o : Owner) → forgotten c (if b then None else Some o) ≡ (if b then None else (if o.conn == c then None else Some o))
+forgets : (c : ℕ) (b : Bool) (o : Owner) → forgotten_owner c (if b then None else Some o) ≡ (if b then None else (if o.conn == c then None else Some o))
 forgets c true o = refl
 forgets c false o = refl
 
-place_forgotten : (S : Setting) (x : Past) (s : Step) (conn : ℕ) (p : Part) → s.event ≡ Closed conn → place_of (after S s x) p ≡ forgotten conn (place_of x p)
+place_forgotten : (S : Setting) (x : Past) (s : Step) (conn : ℕ) (p : Part) → s.event ≡ Closed conn → place_of (after S s x) p ≡ forgotten_owner conn (place_of x p)
 place_forgotten S x s conn p e =
     let closes : is_closing p.conn s.event ≡ (p.conn == conn) = ap (is_closing p.conn) e ∙ eqb_swap conn p.conn in
     place_later (is_closing p.conn s.event) (is_closed p.conn x.steps) (p.conn == conn) (owner_of_part p) closes
@@ -211,14 +211,14 @@ closed_at S x pass conn answer h =
     let x' = after S s x in
     let e = epoch h x.steps in
     let same_sent : sent_to h e x' ≡ sent_to h e x = rw (append-nil x.sent) refl in
-    let same_came : came h e (s ∷ x.steps) ≡ came h e x.steps = append-nil (came h e x.steps) in
-    let flown = drop (length (came h e x.steps)) (sent_to h e x) in
+    let same_came : replies_from h e (s ∷ x.steps) ≡ replies_from h e x.steps = append-nil (replies_from h e x.steps) in
+    let flown = drop (length (replies_from h e x.steps)) (sent_to h e x) in
     same_pipeline (pipeline_of x' h) (without_connection conn (pipeline_of x h))
-    (ap (map piped) (after_closed S h pass conn answer x) ∙ kept_piped conn (waiting h x))
+    (ap (map pipe_part) (after_closed S h pass conn answer x) ∙ kept_piped conn (waiting_parts h x))
     (ap (λ z. map (place_of x') (drop (length z) (sent_to h e x'))) same_came
-    ∙ ap (λ z. map (place_of x') (drop (length (came h e x.steps)) z)) same_sent
-    ∙ same_values (place_of x') (λ (p : Part). forgotten conn (place_of x p)) (λ p. place_forgotten S x s conn p refl) flown
-    ∙ sym (map-map (forgotten conn) (place_of x) flown))
+    ∙ ap (λ z. map (place_of x') (drop (length (replies_from h e x.steps)) z)) same_sent
+    ∙ same_values (place_of x') (λ (p : Part). forgotten_owner conn (place_of x p)) (λ p. place_forgotten S x s conn p refl) flown
+    ∙ sym (map-map (forgotten_owner conn) (place_of x) flown))
     refl
     (ap length same_sent)
 

@@ -5,7 +5,7 @@ use Rattle.list_words.specs.Lists.{changed_at}
 use Rattle.resp_core.specs.Tree.{Tree}
 use Rattle.upstream_pipe.specs.declared.part.Owner.{Owner}
 use Rattle.upstream_pipe.specs.declared.part.Part.{Part as PipePart}
-use Rattle.upstream_pipe.specs.Pipe.{owner_in, is_kept, forgotten}
+use Rattle.upstream_pipe.specs.Pipe.{owner_in, is_kept, forgotten_owner}
 use Rattle.reply_queue.specs.Command.{AwaitedCommand}
 use Rattle.reply_queue.specs.Queue.{QueueState, IsOpen, command_at, value_at}
 use Rattle.proxy_history.specs.Value.{upstream_failure}
@@ -61,7 +61,7 @@ all_wait : (c : ℕ) (ps : List PipePart) → AreOfOthers c (map owner_in ps) �
 all_wait c [] a = refl
 all_wait c (p ∷ ps) a = rw (ne_eqb p.owner.conn c a.0) (ap (λ z. p ∷ z) (all_wait c ps a.1))
 
-all_fly : (c : ℕ) (places : List (Option Owner)) → AreOfOthers c (filter_map (λ o. o) places) → map (forgotten c) places ≡ places
+all_fly : (c : ℕ) (places : List (Option Owner)) → AreOfOthers c (filter_map (λ o. o) places) → map (forgotten_owner c) places ≡ places
 all_fly c [] a = refl
 all_fly c (None ∷ places) a = ap (λ z. None ∷ z) (all_fly c places a)
 all_fly c (Some o ∷ places) a = rw (ne_eqb o.conn c a.0) (ap (λ z. Some o ∷ z) (all_fly c places a.1))

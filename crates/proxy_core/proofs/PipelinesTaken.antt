@@ -6,22 +6,22 @@ use Rattle.std.proofs.lemmas.List.{append-nil, length-append, map-append, drop-a
 use Rattle.list_words.proofs.CallerLemmas.{filter-same, filter-both, list_any-filter, changed_at-table}
 use Rattle.proxy_history.specs.Setting.{Setting, hosts}
 use Rattle.proxy_history.specs.History.{History, Step, epoch}
-use Rattle.proxy_history.specs.Replies.{came}
+use Rattle.proxy_history.specs.Replies.{replies_from}
 use Rattle.proxy_history.specs.Part.{Part, Past, is_of, is_same}
 use Rattle.proxy_history.specs.Past.{past, after}
-use Rattle.proxy_history.specs.Waiting.{waiting, waits, first, sent_by, sent_to}
+use Rattle.proxy_history.specs.Waiting.{waiting_parts, waits, first, sent_by, sent_to}
 use Rattle.proxy_history.specs.Cause.{own_cause, causes}
 use Rattle.proxy_history.specs.Legal.{IsLegal}
 use Rattle.proxy_history.specs.Laws.{AreApart}
 use Rattle.proxy_history.specs.declared.answer.Answer.{Answer}
 use Rattle.proxy_history.specs.declared.event.Event.TheVariants.{Taken}
 use Rattle.proxy_history.proofs.CallerLemmas.{sent_to-after, first_true-none as are_false, AreGood, AreGood-filter as filter_is_good, waits-true as waits_parts, is_of-true as is_of_parts, is_host-same as same_host, filter-others as all_stay, waits-taken as taken_waits, waiting-taken as after_taken, AreInOrder-parts as parts_are_in_order, length-came as replies_were_asked}
-use Rattle.proxy_core.specs.Pipelines.{owner_of_part, piped, place_of, pipeline_of, pipelines_of, with_pipeline, flying_of, taken_from}
+use Rattle.proxy_core.specs.Pipelines.{owner_of_part, pipe_part, place_of, pipeline_of, pipelines_of, with_pipeline, flying_of, taken_from}
 use Rattle.proxy_core.proofs.PipelineStays.{same_pipeline, same_places, pipeline_stays}
 
 -- THE FIRST THAT WAITS
 
-pub first_waits : (h : ℕ) (x : Past) (p : Part) (ps : List Part) → waiting h x ≡ p ∷ ps → waits h x p ≡ true
+pub first_waits : (h : ℕ) (x : Past) (p : Part) (ps : List Part) → waiting_parts h x ≡ p ∷ ps → waits h x p ≡ true
 first_waits h x p ps e = let a : AreGood (waits h x) (p ∷ ps) = subst (AreGood (waits h x)) e (filter_is_good (waits h x) x.parts) in a.0
 
 -- it is of no other host
@@ -54,8 +54,8 @@ one_less f g p ps (q ∷ qs) a e n = elim (cases_Bool (g q)) [
       ]
 ]
 
-waits_elsewhere : (S : Setting) (h j pass : ℕ) (answer : Answer) (x : Past) (p : Part) (ps : List Part) → AreApart x.parts → waiting h x ≡ p ∷ ps → (j ≡ h → ⊥)
-    → waiting j (after S (record { pass = pass; event = Taken h; answer = answer }) x) ≡ waiting j x
+waits_elsewhere : (S : Setting) (h j pass : ℕ) (answer : Answer) (x : Past) (p : Part) (ps : List Part) → AreApart x.parts → waiting_parts h x ≡ p ∷ ps → (j ≡ h → ⊥)
+    → waiting_parts j (after S (record { pass = pass; event = Taken h; answer = answer }) x) ≡ waiting_parts j x
 waits_elsewhere S h j pass answer x p ps a e q =
     let no : waits j x p ≡ false = false_from_ne_true _ (λ t.
     q (same_host j h p.host (is_of_parts j (epoch j x.steps) p (waits_parts j x p t).0).0 (is_of_parts h (epoch h x.steps) p (waits_parts h x p (first_waits h x p ps e)).0).0)) in
@@ -63,35 +63,35 @@ waits_elsewhere S h j pass answer x p ps a e q =
 
 -- THE PIPELINE OF THE HOST
 
-taken_at : (S : Setting) (H : History) (pass host : ℕ) (answer : Answer) (p : Part) (ps : List Part) → IsLegal S H → waiting host (past S H) ≡ p ∷ ps
+taken_at : (S : Setting) (H : History) (pass host : ℕ) (answer : Answer) (p : Part) (ps : List Part) → IsLegal S H → waiting_parts host (past S H) ≡ p ∷ ps
     → pipeline_of (after S (record { pass = pass; event = Taken host; answer = answer }) (past S H)) host ≡ taken_from (pipeline_of (past S H) host)
 taken_at S H pass host answer p ps legal q =
     let x = past S H in
     let s : Step = record { pass = pass; event = Taken host; answer = answer } in
     let x' = after S s x in
     let e = epoch host H in
-    let n = length (came host e H) in
+    let n = length (replies_from host e H) in
     let sent = sent_to host e x in
     let it = waits_parts host x p (first_waits host x p ps q) in
     let sends : sent_by x s.event ≡ p ∷ [] = ap first q in
     let of_it : filter (is_of host e) (p ∷ []) ≡ p ∷ [] = rw it.0 refl in
     let more : sent_to host e x' ≡ sent ++ p ∷ [] = sent_to-after S x s host e ∙ ap (λ z. sent ++ filter (is_of host e) z) sends ∙ ap (λ z. sent ++ z) of_it in
-    let same_came : came host e (s ∷ H) ≡ came host e H = append-nil (came host e H) in
+    let same_came : replies_from host e (s ∷ H) ≡ replies_from host e H = append-nil (replies_from host e H) in
     let asked : n ≤ length sent = replies_were_asked S H host e legal in
     let place : place_of x p ≡ Some (owner_of_part p) = rw it.2 refl in
     same_pipeline (pipeline_of x' host) (taken_from (pipeline_of x host))
-    (ap (map piped) (after_taken S host pass answer x p ps (parts_are_in_order S H).apart q) ∙ ap (λ z. drop 1 (map piped z)) (sym q))
+    (ap (map pipe_part) (after_taken S host pass answer x p ps (parts_are_in_order S H).apart q) ∙ ap (λ z. drop 1 (map pipe_part z)) (sym q))
     (ap (λ z. map (place_of x') (drop (length z) (sent_to host e x'))) same_came
     ∙ ap (λ z. map (place_of x') (drop n z)) more
     ∙ same_places S x s (λ c. refl) (drop n (sent ++ p ∷ []))
     ∙ ap (map (place_of x)) (drop-append-le n sent (p ∷ []) asked)
     ∙ map-append (place_of x) (drop n sent) (p ∷ [])
     ∙ ap (λ z. map (place_of x) (drop n sent) ++ z ∷ []) place
-    ∙ ap (λ z. map (place_of x) (drop n sent) ++ flying_of (map piped z)) (sym q))
+    ∙ ap (λ z. map (place_of x) (drop n sent) ++ flying_of (map pipe_part z)) (sym q))
     refl
     (ap length more ∙ length-append sent (p ∷ []))
 
-by_waiting : (S : Setting) (H : History) (pass host : ℕ) (answer : Answer) (ws : List Part) → IsLegal S H → waiting host (past S H) ≡ ws → (length ws ≡ 0 → ⊥)
+by_waiting : (S : Setting) (H : History) (pass host : ℕ) (answer : Answer) (ws : List Part) → IsLegal S H → waiting_parts host (past S H) ≡ ws → (length ws ≡ 0 → ⊥)
     → pipelines_of S (past S (record { pass = pass; event = Taken host; answer = answer } ∷ H)) ≡ with_pipeline taken_from host (pipelines_of S (past S H))
 by_waiting S H pass host answer [] legal q some = absurd (some refl)
 by_waiting S H pass host answer (p ∷ ps) legal q some =
@@ -112,4 +112,4 @@ pub pipelines-taken : (S : Setting) (H : History) (pass host : ℕ) (answer : An
     → pipelines_of S (past S (record { pass = pass; event = Taken host; answer = answer } ∷ H)) ≡ with_pipeline taken_from host (pipelines_of S (past S H))
 pipelines-taken S H pass host answer legal n =
     let a = are_false (causes S (past S H) (Taken host)) n in
-    by_waiting S H pass host answer (waiting host (past S H)) legal refl (eqb-false (length (waiting host (past S H))) 0 a.1.0)
+    by_waiting S H pass host answer (waiting_parts host (past S H)) legal refl (eqb-false (length (waiting_parts host (past S H))) 0 a.1.0)

@@ -8,8 +8,8 @@ use Rattle.splitter.specs.declared.plans.PartPlan.{PartPlan}
 use Rattle.proxy_history.specs.Setting.{Setting, max_waiting}
 use Rattle.proxy_history.specs.History.{epoch}
 use Rattle.proxy_history.specs.Part.{Part, Past, is_of}
-use Rattle.proxy_history.specs.Waiting.{waiting}
-use Rattle.proxy_history.specs.Arrival.{placing, placed_part, with_host, host_for, hostless, before_it, proxy_busy}
+use Rattle.proxy_history.specs.Waiting.{waiting_parts}
+use Rattle.proxy_history.specs.Arrival.{parts_placed, placed_part, with_host, host_for, hostless, before_it, proxy_busy}
 use Rattle.proxy_core.specs.Places.{place_by, placed_as, waits_at, one_at, count_at, next_place, counted_at, AreCounted}
 use Rattle.proxy_core.specs.Pipelines.{PipelineState, pipeline_at}
 use Rattle.proxy_core.specs.declared.place.Place.{Place}
@@ -131,7 +131,7 @@ count_at-parts x h (p ∷ ps) a =
 
 -- What decides the place of a key's part is known: the waiting parts, and the counts of those that were placed.
 pub record Decides (x : Past) (pipelines : List PipelineState) (counts : List ℕ) (front : List Part) (h : ℕ) : Type 0 where
-  pub waiting_are : length (pipeline_at h pipelines).waiting ≡ length (waiting h x)
+  pub waiting_are : length (pipeline_at h pipelines).waiting ≡ length (waiting_parts h x)
   pub counted : get_or counts h 0 ≡ length (filter (is_of h (epoch h x.steps)) front)
 
 busy_or_waits : (b : Bool) (h : ℕ) → place_by (Some h) (if b then None else Some proxy_busy) ≡ (if b then Waits h else Busy)
@@ -155,12 +155,12 @@ pub record AreSoFar (S : Setting) (x : Past) (conn command : ℕ) (list : List P
   pub front : List Part
   pub placed_are : placed ≡ map placed_as front
   pub are_now : AreNow x.steps front
-  pub whole : placing S x conn command front rest ≡ placing S x conn command [] list
+  pub whole : parts_placed S x conn command front rest ≡ parts_placed S x conn command [] list
 
 pub one_more : (S : Setting) (x : Past) (conn command : ℕ) (list : List PartPlan) (placed : List Placed) (p : PartPlan) (rest : List PartPlan)
     (pipelines : List PipelineState) (counts : List ℕ) (host : Option ℕ)
     → host_for S x p.key ≡ host → ((h : ℕ) → host ≡ Some h → h < length pipelines)
-    → ((h : ℕ) → h < length pipelines → length (pipeline_at h pipelines).waiting ≡ length (waiting h x))
+    → ((h : ℕ) → h < length pipelines → length (pipeline_at h pipelines).waiting ≡ length (waiting_parts h x))
     → AreCounted pipelines counts placed → AreSoFar S x conn command list placed (p ∷ rest)
     → AreSoFar S x conn command list (placed ++ (record { number = length placed; place = next_place pipelines counts host; text = p.text }) ∷ []) rest
 one_more S x conn command list placed p rest pipelines counts host e inside known counted a =
@@ -184,10 +184,10 @@ one_more S x conn command list placed p rest pipelines counts host e inside know
 
 -- where no plan is left they are those of all
 pub all_placed : (S : Setting) (x : Past) (conn command : ℕ) (list : List PartPlan) (placed : List Placed) (rest : List PartPlan) → length rest ≡ 0
-    → AreSoFar S x conn command list placed rest → placed ≡ map placed_as (placing S x conn command [] list)
+    → AreSoFar S x conn command list placed rest → placed ≡ map placed_as (parts_placed S x conn command [] list)
 all_placed S x conn command list placed [] n a = a.placed_are ∙ ap (map placed_as) a.whole
 all_placed S x conn command list placed (p ∷ rest) n a = absurd (omega (arith, n))
 
 pub none_so_far : (S : Setting) (x : Past) (conn command : ℕ) (list : List PartPlan) (placed : List Placed) (rest : List PartPlan) → placed ≡ [] → rest ≡ list
     → AreSoFar S x conn command list placed rest
-none_so_far S x conn command list placed rest e f = record { front = []; placed_are = e; are_now = tt; whole = ap (placing S x conn command []) f }
+none_so_far S x conn command list placed rest e f = record { front = []; placed_are = e; are_now = tt; whole = ap (parts_placed S x conn command []) f }

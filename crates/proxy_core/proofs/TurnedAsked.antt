@@ -8,10 +8,10 @@ use Rattle.resp_core.specs.Value.{tree_of}
 use Rattle.resp_core.specs.declared.value.Value.TheVariants.{NullBulk}
 use Rattle.upstream_pipe.specs.declared.part.Owner.{Owner}
 use Rattle.proxy_history.specs.Setting.{Setting, hosts, max_steps, max_payload}
-use Rattle.proxy_history.specs.History.{History, epoch, handed, is_open, is_any_closing}
+use Rattle.proxy_history.specs.History.{History, epoch, handed_count, is_open, is_any_closing}
 use Rattle.proxy_history.specs.Part.{Past}
 use Rattle.proxy_history.specs.Past.{past}
-use Rattle.proxy_history.specs.Waiting.{flying}
+use Rattle.proxy_history.specs.Waiting.{flying_count}
 use Rattle.proxy_history.specs.Value.{upstream_failure}
 use Rattle.proxy_history.specs.Outcome.{outcome}
 use Rattle.proxy_history.specs.Payload.{payload, payload_of}
@@ -76,7 +76,7 @@ asked_epochs m h kept =
 -- WHO IS AWAITED
 
 -- a plain reply of the present epoch has no cause where something flies
-answer_has_none : (S : Setting) (x : Past) (host : ℕ) → host < hosts S → (flying host x == 0) ≡ false → own_cause S x (Answered host (epoch host x.steps) NullBulk 0) ≡ None
+answer_has_none : (S : Setting) (x : Past) (host : ℕ) → host < hosts S → (flying_count host x == 0) ≡ false → own_cause S x (Answered host (epoch host x.steps) NullBulk 0) ≡ None
 answer_has_none S x host l f =
     let a : nat_le (hosts S) host ≡ false = lt-leb (hosts S) host l in
     rw (a, eq-eqb (epoch host x.steps) (epoch host x.steps) refl, f) refl
@@ -98,7 +98,7 @@ answered_here : (S : Setting) (H : History) (h : ℕ) (v : Tree) → IsLegal S H
 answered_here S H h v legal l =
     let x = past S H in
     let places = (pipeline_of x h).flying in
-    elim (cases_Bool (flying h x == 0)) [
+    elim (cases_Bool (flying_count h x == 0)) [
       | inl t ↦ empty_flies places v (connections_of x) (ap (λ z. z == 0) (length-pipeline_flying x h) ∙ t)
       | inr f ↦ any_value places (tree_of NullBulk) v (connections_of x) (answered-awaited S H h (epoch h H) 0 NullBulk legal (answer_has_none S x h l f))
     ]
@@ -129,7 +129,7 @@ reply_here S H c legal =
     elim (cases_Bool (is_open c H)) [
       | inl t ↦ subst (λ (z : Option Connection). IfSome (reply_in z) (λ v. IsTrue (is_plain_tree v))) (sym (connection_at-open x c t))
           (subst (λ (z : Option Tree). IfSome z (λ v. IsTrue (is_plain_tree v))) (sym (front_reply-queue_of x c))
-          (plain_reply (outcome c (handed c H) x) (outcome_is_plain S H legal c (handed c H))))
+          (plain_reply (outcome c (handed_count c H) x) (outcome_is_plain S H legal c (handed_count c H))))
       | inr f ↦ subst (λ (z : Option Connection). IfSome (reply_in z) (λ v. IsTrue (is_plain_tree v))) (sym (connection_at-not_open x c f)) tt
     ]
 

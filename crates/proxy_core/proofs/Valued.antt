@@ -12,7 +12,7 @@ use Rattle.splitter.specs.declared.plans.PartPlan.{PartPlan}
 use Rattle.splitter.specs.declared.request.Request.{Request}
 use Rattle.reply_queue.specs.Command.{AwaitedCommand, with_value}
 use Rattle.reply_queue.specs.Queue.{QueueState, with_part}
-use Rattle.proxy_history.specs.History.{History, plan_for, opened, handed, requests, is_closed, is_finishing}
+use Rattle.proxy_history.specs.History.{History, plan_for, openings, handed_count, requests, is_closed, is_finishing}
 use Rattle.proxy_history.specs.Part.{Part, Past, is_same}
 use Rattle.proxy_history.specs.Value.{value_of}
 use Rattle.proxy_history.specs.Outcome.{is_part_of}
@@ -40,13 +40,13 @@ valued_from f ps c i [] = []
 valued_from f ps c i (r ∷ rs) = valued_by f ps c i (plan_for r) ∷ valued_from f ps c (i + 1) rs
 
 abbrev pub valued_queue : Values → List Part → History → ℕ → QueueState
-valued_queue f ps H c = record { popped = handed c H; commands = drop (handed c H) (valued_from f ps c 0 (requests c H)) }
+valued_queue f ps H c = record { popped = handed_count c H; commands = drop (handed_count c H) (valued_from f ps c 0 (requests c H)) }
 
 abbrev pub valued_connection : Values → List Part → History → ℕ → Option Connection
 valued_connection f ps H c = if is_closed c H then None else Some (record { queue = valued_queue f ps H c; is_finishing = is_finishing c H })
 
 abbrev pub valued : Values → List Part → History → List (Option Connection)
-valued f ps H = map (valued_connection f ps H) (range_with_len 0 (opened H))
+valued f ps H = map (valued_connection f ps H) (range_with_len 0 (openings H))
 
 -- what a history determines is so with the values that it determines
 same_by : (x : Past) (c i : ℕ) (p : Plan) → awaited_by x c i p ≡ valued_by (value_of x) x.parts c i p
@@ -60,11 +60,11 @@ same_from x c i (r ∷ rs) = rw (same_by x c i (plan_for r), same_from x c (i + 
 
 pub connection-valued : (x : Past) (c : ℕ) → connection_of x c ≡ valued_connection (value_of x) x.parts x.steps c
 connection-valued x c =
-    ap (λ (z : List AwaitedCommand). if is_closed c x.steps then None else Some (record { queue = record { popped = handed c x.steps; commands = drop (handed c x.steps) z }; is_finishing = is_finishing c x.steps }))
+    ap (λ (z : List AwaitedCommand). if is_closed c x.steps then None else Some (record { queue = record { popped = handed_count c x.steps; commands = drop (handed_count c x.steps) z }; is_finishing = is_finishing c x.steps }))
     (same_from x c 0 (requests c x.steps))
 
 pub connections-valued : (x : Past) → connections_of x ≡ valued (value_of x) x.parts x.steps
-connections-valued x = map-range_same _ _ 0 (opened x.steps) (λ j l m. connection-valued x j)
+connections-valued x = map-range_same _ _ 0 (openings x.steps) (λ j l m. connection-valued x j)
 
 -- OTHER VALUES ELSEWHERE
 
@@ -101,7 +101,7 @@ module _ (f g : Values) (ps : List Part) (c : ℕ) where
 
 -- connections are the same where the values of the parts of the open ones are
 pub same_valued : (f g : Values) (ps : List Part) (H : History) → ((q : Part) → Contains ps q → is_closed q.conn H ≡ false → f q ≡ g q) → valued f ps H ≡ valued g ps H
-same_valued f g ps H e = map-range_same _ _ 0 (opened H) (λ c l m. same_connection f g ps c H (λ o q h k. e q h (ap (λ z. is_closed z H) k ∙ o)))
+same_valued f g ps H e = map-range_same _ _ 0 (openings H) (λ c l m. same_connection f g ps c H (λ o q h k. e q h (ap (λ z. is_closed z H) k ∙ o)))
 
 -- ONE PART GETS A VALUE
 
@@ -150,9 +150,9 @@ pub record IsThere (ps : List Part) (H : History) (p : Part) : Type 0 where
   pub numbered : AreNumbered 0 (own_parts ps p.conn p.command)
   pub in_place : slice_get (own_parts ps p.conn p.command) p.number ≡ Some p
   pub asked : IsAsked H p
-  pub is_opened : p.conn < opened H
+  pub is_opened : p.conn < openings H
   pub is_open : is_closed p.conn H ≡ false
-  pub not_handed : handed p.conn H ≤ p.command
+  pub not_handed : handed_count p.conn H ≤ p.command
 
 module _ (f : Values) (ps : List Part) (p : Part) (v : Tree) where
   own_command : AreNumbered 0 (own_parts ps p.conn p.command) → (plan : Plan) (how : Join) (list : List PartPlan) → plan ≡ parts how list
@@ -187,7 +187,7 @@ valuing p v k = record k { queue = with_part p.command p.number v k.queue }
 own_connection : (f : Values) (ps : List Part) (H : History) (p : Part) (v : Tree) → IsThere ps H p
     → valued_connection (having p v f) ps H p.conn ≡ option_map (valuing p v) (valued_connection f ps H p.conn)
 own_connection f ps H p v t =
-    let n = handed p.conn H in
+    let n = handed_count p.conn H in
     let rs = requests p.conn H in
     let commands : changed_at (with_value p.number v) (p.command - n) (drop n (valued_from f ps p.conn 0 rs)) ≡ drop n (valued_from (having p v f) ps p.conn 0 rs) =
     changed_at-drop (with_value p.number v) n p.command (valued_from f ps p.conn 0 rs) t.not_handed
@@ -197,6 +197,6 @@ own_connection f ps H p v t =
 -- a part of the connections gets a value
 pub part-valued : (f : Values) (ps : List Part) (H : History) (p : Part) (v : Tree) → IsThere ps H p → answered_part (owner_of_part p) v (valued f ps H) ≡ valued (having p v f) ps H
 part-valued f ps H p v t =
-    changed_at-table (valued_connection f ps H) (valued_connection (having p v f) ps H) (option_map (valuing p v)) (opened H) p.conn
+    changed_at-table (valued_connection f ps H) (valued_connection (having p v f) ps H) (option_map (valuing p v)) (openings H) p.conn
     (λ l. own_connection f ps H p v t)
     (λ c l n. same_connection f (having p v f) ps c H (λ o q h k. sym (having-other p v f q (other_conn p q (λ e. n (sym k ∙ e))))))

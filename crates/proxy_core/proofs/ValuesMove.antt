@@ -14,8 +14,8 @@ use Rattle.proxy_history.specs.Setting.{Setting}
 use Rattle.proxy_history.specs.History.{History, Step, epoch, is_closed}
 use Rattle.proxy_history.specs.Part.{Past, Part, is_same, is_of, is_host}
 use Rattle.proxy_history.specs.Past.{past}
-use Rattle.proxy_history.specs.Replies.{came, reply_by}
-use Rattle.proxy_history.specs.Waiting.{waiting, waits, sent_to, flying}
+use Rattle.proxy_history.specs.Replies.{replies_from, reply_by}
+use Rattle.proxy_history.specs.Waiting.{waiting_parts, waits, sent_to, flying_count}
 use Rattle.proxy_history.specs.Value.{value_of, value_or, value_at, or_lost, reply_to, upstream_failure}
 use Rattle.proxy_history.specs.Cause.{own_cause}
 use Rattle.proxy_history.specs.Laws.{AreApart}
@@ -68,19 +68,19 @@ unanswered_has_none x h p u =
 
 -- those that were sent to the host in its epoch and have no reply
 abbrev pub in_flight : ℕ → Past → List Part
-in_flight h x = drop (length (came h (epoch h x.steps) x.steps)) (sent_to h (epoch h x.steps) x)
+in_flight h x = drop (length (replies_from h (epoch h x.steps) x.steps)) (sent_to h (epoch h x.steps) x)
 
 -- with these all that wait: those that a fault of the host would lose
 abbrev pub at_host : ℕ → Past → List Part
-at_host h x = in_flight h x ++ waiting h x
+at_host h x = in_flight h x ++ waiting_parts h x
 
-not_found : (x : Past) (h e : ℕ) (p : Part) → p.epoch ≡ e → find (λ (r : Part × Tree). is_same p r.0) (zip (sent_to h e x) (came h e x.steps)) ≡ None → reply_to p h x ≡ None
+not_found : (x : Past) (h e : ℕ) (p : Part) → p.epoch ≡ e → find (λ (r : Part × Tree). is_same p r.0) (zip (sent_to h e x) (replies_from h e x.steps)) ≡ None → reply_to p h x ≡ None
 not_found x h e p i n =
-    ap (λ z. option_map (λ (r : Part × Tree). r.1) (find (λ (r : Part × Tree). is_same p r.0) (zip (sent_to h z x) (came h z x.steps)))) i
+    ap (λ z. option_map (λ (r : Part × Tree). r.1) (find (λ (r : Part × Tree). is_same p r.0) (zip (sent_to h z x) (replies_from h z x.steps)))) i
     ∙ ap (option_map (λ (r : Part × Tree). r.1)) n
 
 pub flight_was_sent : (h : ℕ) (x : Past) (p : Part) → Contains (in_flight h x) p → Contains (sent_to h (epoch h x.steps) x) p
-flight_was_sent h x p i = Contains-drop (length (came h (epoch h x.steps) x.steps)) (sent_to h (epoch h x.steps) x) p i
+flight_was_sent h x p i = Contains-drop (length (replies_from h (epoch h x.steps) x.steps)) (sent_to h (epoch h x.steps) x) p i
 
 -- who flies has no reply
 pub flight_is_unanswered : (h : ℕ) (x : Past) (p : Part) → AreApart x.sent → Contains (in_flight h x) p → IsUnanswered x h p
@@ -91,11 +91,11 @@ flight_is_unanswered h x p a i =
       no_local = b.2;
       host_is = b.0;
       epoch_is = b.1;
-      no_reply = not_found x h e p b.1 (behind_unfound (sent_to h e x) (came h e x.steps) p (apart_filter (is_of h e) x.sent a) i);
+      no_reply = not_found x h e p b.1 (behind_unfound (sent_to h e x) (replies_from h e x.steps) p (apart_filter (is_of h e) x.sent a) i);
     }
 
 -- who waits has none
-pub waiting_is_unanswered : (h : ℕ) (x : Past) (p : Part) → Contains (waiting h x) p → IsUnanswered x h p
+pub waiting_is_unanswered : (h : ℕ) (x : Past) (p : Part) → Contains (waiting_parts h x) p → IsUnanswered x h p
 waiting_is_unanswered h x p i =
     let e = epoch h x.steps in
     let w = waits_parts h x p (filter-passes (waits h x) x.parts p i) in
@@ -104,11 +104,11 @@ waiting_is_unanswered h x p i =
       no_local = b.2;
       host_is = b.0;
       epoch_is = b.1;
-      no_reply = not_found x h e p b.1 (find-zip_none (is_same p) (sent_to h e x) (came h e x.steps) (list_any-filter (is_same p) (is_of h e) x.sent w.1));
+      no_reply = not_found x h e p b.1 (find-zip_none (is_same p) (sent_to h e x) (replies_from h e x.steps) (list_any-filter (is_same p) (is_of h e) x.sent w.1));
     }
 
 pub at_host_is_unanswered : (h : ℕ) (x : Past) (p : Part) → AreApart x.sent → Contains (at_host h x) p → IsUnanswered x h p
-at_host_is_unanswered h x p a i = elim (Contains-append_cases (in_flight h x) (waiting h x) p i) [
+at_host_is_unanswered h x p a i = elim (Contains-append_cases (in_flight h x) (waiting_parts h x) p i) [
   | inl flies ↦ flight_is_unanswered h x p a flies
   | inr waits ↦ waiting_is_unanswered h x p waits
 ]
@@ -118,17 +118,17 @@ pub flight_arrived : (S : Setting) (H : History) (h : ℕ) (p : Part) → Contai
 flight_arrived S H h p i = sent_parts_arrived S H p (Contains-filter (is_of h (epoch h H)) (past S H).sent p (flight_was_sent h (past S H) p i))
 
 pub at_host_arrived : (S : Setting) (H : History) (h : ℕ) (p : Part) → Contains (at_host h (past S H)) p → Contains (past S H).parts p
-at_host_arrived S H h p i = elim (Contains-append_cases (in_flight h (past S H)) (waiting h (past S H)) p i) [
+at_host_arrived S H h p i = elim (Contains-append_cases (in_flight h (past S H)) (waiting_parts h (past S H)) p i) [
   | inl flies ↦ flight_arrived S H h p flies
   | inr wait ↦ Contains-filter (waits h (past S H)) (past S H).parts p wait
 ]
 
 pub flight_apart : (h : ℕ) (x : Past) → AreApart x.sent → AreApart (in_flight h x)
-flight_apart h x a = apart_drop (length (came h (epoch h x.steps) x.steps)) (sent_to h (epoch h x.steps) x) (apart_filter (is_of h (epoch h x.steps)) x.sent a)
+flight_apart h x a = apart_drop (length (replies_from h (epoch h x.steps) x.steps)) (sent_to h (epoch h x.steps) x) (apart_filter (is_of h (epoch h x.steps)) x.sent a)
 
 -- and no two of them are the same
 pub at_host_apart : (h : ℕ) (x : Past) → AreApart x.sent → AreApart x.parts → AreApart (at_host h x)
-at_host_apart h x a b = apart_append (in_flight h x) (waiting h x) (flight_apart h x a) (apart_filter (waits h x) x.parts b) (λ p q i j.
+at_host_apart h x a b = apart_append (in_flight h x) (waiting_parts h x) (flight_apart h x a) (apart_filter (waits h x) x.parts b) (λ p q i j.
     let sent : Contains x.sent p = Contains-filter (is_of h (epoch h x.steps)) x.sent p (flight_was_sent h x p i) in
     let w = waits_parts h x q (filter-passes (waits h x) x.parts q j) in
     is_other_sym q p (list_any-false (is_same q) x.sent p w.1 sent))
@@ -166,8 +166,8 @@ oldest_flies S H host e t value none = some_one (in_flight host (past S H)) refl
     some_one : (ps : List Part) → in_flight host (past S H) ≡ ps → (p : Part) × (rest : List Part) × (ps ≡ p ∷ rest)
     some_one [] i =
         let x = past S H in
-        let n : 0 < flying host x = some_fly S x host e t value none in
-        absurd (omega (arith, n, ap length i, length-drop (length (came host (epoch host H) H)) (sent_to host (epoch host H) x)))
+        let n : 0 < flying_count host x = some_fly S x host e t value none in
+        absurd (omega (arith, n, ap length i, length-drop (length (replies_from host (epoch host H) H)) (sent_to host (epoch host H) x)))
     some_one (p ∷ rest) i = (p, rest, refl)
 
 module _ (S : Setting) (H : History) (pass host e t : ℕ) (value : Value) (answer : Answer) (none : own_cause S (past S H) (Answered host e value t) ≡ None) where
@@ -179,23 +179,23 @@ module _ (S : Setting) (H : History) (pass host e t : ℕ) (value : Value) (answ
     reply_after : (q : Part) (h : ℕ) → is_same q p ≡ false → reply_to q h (past S (answered_step ∷ H)) ≡ reply_to q h (past S H)
     reply_after q h n =
         let x = past S H in
-        ap (λ z. looked_up q (filter (is_of h q.epoch) z) (came h q.epoch H ++ reply_by h q.epoch (Answered host e value t))) (append-nil x.sent)
+        ap (λ z. looked_up q (filter (is_of h q.epoch) z) (replies_from h q.epoch H ++ reply_by h q.epoch (Answered host e value t))) (append-nil x.sent)
         ∙ by_pipe (cases_Bool ((host == h) && (e == q.epoch)))
       where
         by_pipe : (((host == h) && (e == q.epoch)) ≡ true) ⊎ (((host == h) && (e == q.epoch)) ≡ false)
-            → looked_up q (sent_to h q.epoch (past S H)) (came h q.epoch H ++ reply_by h q.epoch (Answered host e value t)) ≡ reply_to q h (past S H)
-        by_pipe (inr f) = rw (f, append-nil (came h q.epoch H)) refl
+            → looked_up q (sent_to h q.epoch (past S H)) (replies_from h q.epoch H ++ reply_by h q.epoch (Answered host e value t)) ≡ reply_to q h (past S H)
+        by_pipe (inr f) = rw (f, append-nil (replies_from h q.epoch H)) refl
         by_pipe (inl i) =
             let x = past S H in
             let a = and_parts (host == h) (e == q.epoch) i in
             let host_is : host ≡ h = eqb-true host h a.0 in
             let now : epoch host H ≡ q.epoch = sym (is_current S x host e t value none) ∙ eqb-true e q.epoch a.1 in
-            let there : drop (length (came h q.epoch H)) (sent_to h q.epoch x) ≡ p ∷ rest =
-            subst (λ (z : ℕ). drop (length (came z q.epoch H)) (sent_to z q.epoch x) ≡ p ∷ rest) host_is
-            (subst (λ (z : ℕ). drop (length (came host z H)) (sent_to host z x) ≡ p ∷ rest) now flies) in
+            let there : drop (length (replies_from h q.epoch H)) (sent_to h q.epoch x) ≡ p ∷ rest =
+            subst (λ (z : ℕ). drop (length (replies_from z q.epoch H)) (sent_to z q.epoch x) ≡ p ∷ rest) host_is
+            (subst (λ (z : ℕ). drop (length (replies_from host z H)) (sent_to host z x) ≡ p ∷ rest) now flies) in
             let one : reply_by h q.epoch (Answered host e value t) ≡ tree_of value ∷ [] = rw i refl in
-            ap (λ z. looked_up q (sent_to h q.epoch x) (came h q.epoch H ++ z)) one
-            ∙ one_reply_more q p (tree_of value) (sent_to h q.epoch x) rest (came h q.epoch H) there
+            ap (λ z. looked_up q (sent_to h q.epoch x) (replies_from h q.epoch H ++ z)) one
+            ∙ one_reply_more q p (tree_of value) (sent_to h q.epoch x) rest (replies_from h q.epoch H) there
             ∙ ap (λ (b : Bool). value_or (reply_to q h x) (if b then Some (tree_of value) else None)) n
             ∙ value_or-none (reply_to q h x)
 
@@ -204,13 +204,13 @@ module _ (S : Setting) (H : History) (pass host e t : ℕ) (value : Value) (answ
         let x = past S H in
         let u = flight_is_unanswered host x p (none_twice S H) (subst (λ (z : List Part). Contains z p) (sym flies) (Contains-first p rest)) in
         let now : p.epoch ≡ epoch host H = u.epoch_is in
-        let there : drop (length (came host p.epoch H)) (sent_to host p.epoch x) ≡ p ∷ rest =
-        subst (λ (z : ℕ). drop (length (came host z H)) (sent_to host z x) ≡ p ∷ rest) (sym now) flies in
+        let there : drop (length (replies_from host p.epoch H)) (sent_to host p.epoch x) ≡ p ∷ rest =
+        subst (λ (z : ℕ). drop (length (replies_from host z H)) (sent_to host z x) ≡ p ∷ rest) (sym now) flies in
         let this : ((host == host) && (e == p.epoch)) ≡ true = and_from _ _ (eq-eqb host host refl) (eq-eqb e p.epoch (is_current S x host e t value none ∙ sym now)) in
         let one : reply_by host p.epoch (Answered host e value t) ≡ tree_of value ∷ [] = rw this refl in
-        ap (λ z. looked_up p (filter (is_of host p.epoch) z) (came host p.epoch H ++ reply_by host p.epoch (Answered host e value t))) (append-nil x.sent)
-        ∙ ap (λ z. looked_up p (sent_to host p.epoch x) (came host p.epoch H ++ z)) one
-        ∙ one_reply_more p p (tree_of value) (sent_to host p.epoch x) rest (came host p.epoch H) there
+        ap (λ z. looked_up p (filter (is_of host p.epoch) z) (replies_from host p.epoch H ++ reply_by host p.epoch (Answered host e value t))) (append-nil x.sent)
+        ∙ ap (λ z. looked_up p (sent_to host p.epoch x) (replies_from host p.epoch H ++ z)) one
+        ∙ one_reply_more p p (tree_of value) (sent_to host p.epoch x) rest (replies_from host p.epoch H) there
         ∙ ap (λ (z : Option Tree). value_or z (if is_same p p then Some (tree_of value) else None)) u.no_reply
         ∙ ap (λ (b : Bool). if b then Some (tree_of value) else None) (is_same_self p)
 
@@ -260,33 +260,33 @@ of_past_at H (q ∷ ps) p h a i o = elim (Contains-cases q ps p i) [
 -- an open part of the host's present epoch that has no reply flies or waits
 unanswered_is_at_host : (S : Setting) (H : History) (h : ℕ) (q : Part) → Contains (past S H).parts q → is_closed q.conn H ≡ false → IsUnanswered (past S H) h q
     → list_any (is_same q) (at_host h (past S H)) ≡ true
-unanswered_is_at_host S H h q i o u = list_any-append (is_same q) (in_flight h (past S H)) (waiting h (past S H)) ∙ by_sent (cases_Bool (list_any (is_same q) (past S H).sent))
+unanswered_is_at_host S H h q i o u = list_any-append (is_same q) (in_flight h (past S H)) (waiting_parts h (past S H)) ∙ by_sent (cases_Bool (list_any (is_same q) (past S H).sent))
   where
     ours : is_of h (epoch h H) q ≡ true
     ours = from_pipe h (epoch h H) q u.host_is u.epoch_is u.no_local
 
-    not_there : find (λ (r : Part × Tree). is_same q r.0) (zip (sent_to h (epoch h H) (past S H)) (came h (epoch h H) H)) ≡ None
-    not_there = none_of_found (find (λ (r : Part × Tree). is_same q r.0) (zip (sent_to h (epoch h H) (past S H)) (came h (epoch h H) H)))
-        (subst (λ (z : ℕ). looked_up q (sent_to h z (past S H)) (came h z H) ≡ None) u.epoch_is u.no_reply)
+    not_there : find (λ (r : Part × Tree). is_same q r.0) (zip (sent_to h (epoch h H) (past S H)) (replies_from h (epoch h H) H)) ≡ None
+    not_there = none_of_found (find (λ (r : Part × Tree). is_same q r.0) (zip (sent_to h (epoch h H) (past S H)) (replies_from h (epoch h H) H)))
+        (subst (λ (z : ℕ). looked_up q (sent_to h z (past S H)) (replies_from h z H) ≡ None) u.epoch_is u.no_reply)
       where
         none_of_found : (r : Option (Part × Tree)) → option_map (λ (z : Part × Tree). z.1) r ≡ None → r ≡ None
         none_of_found None e = refl
         none_of_found (Some r) e = absurd (cc e)
 
     by_sent : (list_any (is_same q) (past S H).sent ≡ true) ⊎ (list_any (is_same q) (past S H).sent ≡ false)
-        → (list_any (is_same q) (in_flight h (past S H)) || list_any (is_same q) (waiting h (past S H))) ≡ true
+        → (list_any (is_same q) (in_flight h (past S H)) || list_any (is_same q) (waiting_parts h (past S H))) ≡ true
     by_sent (inl sent) =
         let x = past S H in
         let a = list_any-true (is_same q) x.sent sent in
         let is : q ≡ a.0 = is_same-apart x.parts q a.0 (parts_are_in_order S H).apart i (sent_parts_arrived S H a.0 a.1) a.2 in
         let also : Contains (sent_to h (epoch h H) x) a.0 = Contains-filter_passing (is_of h (epoch h H)) x.sent a.0 a.1 (ap (is_of h (epoch h H)) (sym is) ∙ ours) in
         let among : list_any (is_same q) (sent_to h (epoch h H) x) ≡ true = list_any-member (is_same q) (sent_to h (epoch h H) x) a.0 also a.2 in
-        or_left (list_any (is_same q) (in_flight h x)) (list_any (is_same q) (waiting h x)) (list_any-unfound (is_same q) (sent_to h (epoch h H) x) (came h (epoch h H) H) not_there among)
+        or_left (list_any (is_same q) (in_flight h x)) (list_any (is_same q) (waiting_parts h x)) (list_any-unfound (is_same q) (sent_to h (epoch h H) x) (replies_from h (epoch h H) H) not_there among)
     by_sent (inr never) =
         let x = past S H in
         let w : waits h x q ≡ true = and_from _ _ (and_from _ _ ours (ap not never)) (ap not o) in
-        or_right (list_any (is_same q) (in_flight h x)) (list_any (is_same q) (waiting h x))
-        (list_any-member (is_same q) (waiting h x) q (Contains-filter_passing (waits h x) x.parts q i w) (is_same_self q))
+        or_right (list_any (is_same q) (in_flight h x)) (list_any (is_same q) (waiting_parts h x))
+        (list_any-member (is_same q) (waiting_parts h x) q (Contains-filter_passing (waits h x) x.parts q i w) (is_same_self q))
 
 module _ (S : Setting) (H : History) (pass host e t : ℕ) (kind : Kind) (answer : Answer) where
   abbrev failed_step : Step
@@ -301,7 +301,7 @@ module _ (S : Setting) (H : History) (pass host e t : ℕ) (kind : Kind) (answer
   same_replies : (q : Part) (h : ℕ) → reply_to q h (past S (failed_step ∷ H)) ≡ reply_to q h (past S H)
   same_replies q h =
       let x = past S H in
-      ap (λ z. looked_up q (filter (is_of h q.epoch) z) (came h q.epoch H ++ [])) (append-nil x.sent) ∙ ap (looked_up q (sent_to h q.epoch x)) (append-nil (came h q.epoch H))
+      ap (λ z. looked_up q (filter (is_of h q.epoch) z) (replies_from h q.epoch H ++ [])) (append-nil x.sent) ∙ ap (looked_up q (sent_to h q.epoch x)) (append-nil (replies_from h q.epoch H))
 
   -- who has no reply is lost
   lost_now : (q : Part) → IsUnanswered (past S H) host q → value_of (past S (failed_step ∷ H)) q ≡ Some upstream_failure

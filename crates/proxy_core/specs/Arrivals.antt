@@ -8,9 +8,9 @@ use Rattle.splitter.specs.Join.{MayJoin}
 use Rattle.journal_core.specs.Journal.{IsFull}
 use Rattle.upstream_pipe.specs.declared.part.Part.{Part as PipePart}
 use Rattle.proxy_history.specs.Setting.{Setting, hosts, max_waiting}
-use Rattle.proxy_history.specs.History.{accepted}
+use Rattle.proxy_history.specs.History.{accepted_count}
 use Rattle.proxy_history.specs.Part.{Past}
-use Rattle.proxy_history.specs.Waiting.{waiting}
+use Rattle.proxy_history.specs.Waiting.{waiting_parts}
 use Rattle.proxy_history.specs.Arrival.{placed_by}
 use Rattle.proxy_history.specs.Answer.{accepts, local_of}
 use Rattle.proxy_history.specs.declared.event.Event.{Event}
@@ -18,7 +18,7 @@ use Rattle.proxy_history.specs.declared.answer.Answer.{Answer}
 use Rattle.proxy_history.specs.declared.answer.Answer.TheVariants as answer
 use Rattle.proxy_core.specs.Places.{count_at}
 use Rattle.proxy_core.specs.Pipelines.{PipelineState, PipelineTable, with_waiting, with_pipeline, pushed_parts, pipeline_at}
-use Rattle.proxy_core.specs.Connections.{with_connection, accepting, arrived_command, connection_at}
+use Rattle.proxy_core.specs.Connections.{with_connection, connection_with_command, arrived_command, connection_at}
 use Rattle.proxy_core.specs.Kept.{Memory}
 use Rattle.proxy_core.specs.Machine.{setting_in, memory_in, own_cause_in, payload_in}
 use Rattle.proxy_core.specs.declared.machine.Machine.{Machine}
@@ -31,8 +31,8 @@ use Rattle.proxy_core.specs.declared.place.Accepted.{Accepted}
 -- what is kept tells of a past what decides where the parts of a connection's next command go
 pub record Tells (S : Setting) (m : Memory) (conn : ℕ) (x : Past) : Type 0 where
   pub state_is : m.hosts ≡ state S.rules S.opening x.marks
-  pub waiting_are : (h : ℕ) → h < hosts S → length (pipeline_at h m.pipelines).waiting ≡ length (waiting h x)
-  pub index_is : (k : Connection) → connection_at conn m.connections ≡ Some k → k.queue.popped + length k.queue.commands ≡ accepted conn x.steps
+  pub waiting_are : (h : ℕ) → h < hosts S → length (pipeline_at h m.pipelines).waiting ≡ length (waiting_parts h x)
+  pub index_is : (k : Connection) → connection_at conn m.connections ≡ Some k → k.queue.popped + length k.queue.commands ≡ accepted_count conn x.steps
 
 -- PUSHES
 
@@ -86,13 +86,13 @@ abbrev pub with_arrival : Machine → ℕ → Plan → Past → Memory
 with_arrival m conn plan x =
     let placed = placed_by (setting_in m) x conn plan in
     record (memory_in m) {
-      connections = with_connection (accepting (arrived_command plan placed) (is_last plan)) conn m.connections.numbered;
+      connections = with_connection (connection_with_command (arrived_command plan placed) (is_last plan)) conn m.connections.numbered;
       pipelines = pushed_parts placed (memory_in m).pipelines;
     }
 
 -- The command is accepted, and this is what is answered.
 pub record IsAccepted (old new : Machine) (conn : ℕ) (plan : Plan) (x : Past) (a : Accepted) : Type 0 where
-  pub answer_is : answer_of a ≡ accepts (accepted conn x.steps) (local_of plan) (placed_by (setting_in old) x conn plan)
+  pub answer_is : answer_of a ≡ accepts (accepted_count conn x.steps) (local_of plan) (placed_by (setting_in old) x conn plan)
   pub setting : setting_in new ≡ setting_in old
   pub steps : new.journal.steps ≡ old.journal.steps
   pub memory : memory_in new ≡ with_arrival old conn plan x

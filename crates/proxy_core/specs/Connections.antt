@@ -11,7 +11,7 @@ use Rattle.upstream_pipe.specs.declared.part.Owner.{Owner}
 use Rattle.reply_queue.specs.Command.{AwaitedCommand}
 use Rattle.reply_queue.specs.Queue.{QueueState, IsOpen, front_reply, with_part, without_front}
 use Rattle.proxy_history.specs.Setting.{max_unwritten}
-use Rattle.proxy_history.specs.History.{opened, handed, requests, is_closed, is_finishing, plan_for}
+use Rattle.proxy_history.specs.History.{openings, handed_count, requests, is_closed, is_finishing, plan_for}
 use Rattle.proxy_history.specs.Part.{Part, Past}
 use Rattle.proxy_history.specs.Value.{value_of}
 use Rattle.proxy_history.specs.Outcome.{parts_of}
@@ -33,7 +33,7 @@ awaited_from x c i (r ∷ rs) = awaited_by x c i (plan_for r) ∷ awaited_from x
 -- the commands of a connection that are not handed out
 abbrev pub queue_of : Past → ℕ → QueueState
 queue_of x c =
-    let n = handed c x.steps in record { popped = n; commands = drop n (awaited_from x c 0 (requests c x.steps)) }
+    let n = handed_count c x.steps in record { popped = n; commands = drop n (awaited_from x c 0 (requests c x.steps)) }
 
 -- what is kept of a connection, by its past
 abbrev pub connection_of : Past → ℕ → Option Connection
@@ -41,7 +41,7 @@ connection_of x c = if is_closed c x.steps then None else Some (record { queue =
 
 -- the connections by their numbers, none in the place of one that is closed
 abbrev pub connections_of : Past → List (Option Connection)
-connections_of x = map (connection_of x) (range_with_len 0 (opened x.steps))
+connections_of x = map (connection_of x) (range_with_len 0 (openings x.steps))
 
 -- CHANGES
 
@@ -54,12 +54,12 @@ abbrev pub with_connection : (Connection → Connection) → ℕ → List (Optio
 with_connection change c connections = changed_at (option_map change) c connections
 
 -- a connection that takes nothing more
-abbrev pub finished : Connection → Connection
-finished k = record k { is_finishing = true }
+abbrev pub finished_connection : Connection → Connection
+finished_connection k = record k { is_finishing = true }
 
 -- a command more, behind the others
-abbrev pub accepting : AwaitedCommand → Bool → Connection → Connection
-accepting command is_last k = record {
+abbrev pub connection_with_command : AwaitedCommand → Bool → Connection → Connection
+connection_with_command command is_last k = record {
   queue = record { popped = k.queue.popped; commands = k.queue.commands ++ command ∷ [] };
   is_finishing = k.is_finishing || is_last;
 }
@@ -71,12 +71,12 @@ arrived_command (leave name value) placed = record { how = Same; values = Some v
 arrived_command (parts how list) placed = record { how = how; values = map (λ (p : Part). p.local) placed }
 
 -- a connection whose oldest command is handed out
-abbrev pub handing : Connection → Connection
-handing k = record k { queue = without_front k.queue }
+abbrev pub connection_without_front : Connection → Connection
+connection_without_front k = record k { queue = without_front k.queue }
 
 -- the connections without the one that closes
-abbrev pub closing : ℕ → List (Option Connection) → List (Option Connection)
-closing c connections = changed_at (λ k. None) c connections
+abbrev pub connections_without : ℕ → List (Option Connection) → List (Option Connection)
+connections_without c connections = changed_at (λ k. None) c connections
 
 -- a connection with a value in a part's place
 abbrev pub with_answer : Owner → Tree → Connection → Connection

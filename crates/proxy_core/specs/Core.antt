@@ -49,8 +49,8 @@ pub record IsLeft (old new : Machine) (event : Event) (r : Refused) : Type 0 whe
   pub is_kept : IsKept new
 
 -- what outlier detection knows of the hosts
-abbrev pub detected : Kept → State
-detected k = state k.setting.rules k.setting.opening (past k.setting (Reference.history_in k)).marks
+abbrev pub detector_state : Kept → State
+detector_state k = state k.setting.rules k.setting.opening (past k.setting (Reference.history_in k)).marks
 
 -- One event was taken: its step was added with this answer, which may come next, or it was refused with its cause and the
 -- history stays.

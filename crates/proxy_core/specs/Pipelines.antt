@@ -4,12 +4,12 @@ use Rattle.std.specs.List.{range_with_len}
 use Rattle.list_words.specs.Lists.{changed_at}
 use Rattle.upstream_pipe.specs.declared.part.Owner.{Owner}
 use Rattle.upstream_pipe.specs.declared.part.Part.{Part as PipePart}
-use Rattle.upstream_pipe.specs.Pipe.{owner_in, is_kept, forgotten}
+use Rattle.upstream_pipe.specs.Pipe.{owner_in, is_kept, forgotten_owner}
 use Rattle.proxy_history.specs.Setting.{Setting, hosts}
 use Rattle.proxy_history.specs.History.{epoch, is_closed}
-use Rattle.proxy_history.specs.Replies.{came}
+use Rattle.proxy_history.specs.Replies.{replies_from}
 use Rattle.proxy_history.specs.Part.{Part, Past}
-use Rattle.proxy_history.specs.Waiting.{waiting, sent_to}
+use Rattle.proxy_history.specs.Waiting.{waiting_parts, sent_to}
 use Rattle.proxy_core.specs.declared.pipeline.Pipeline.{Pipeline}
 
 -- What waits, whose replies are to come, the epoch, and how many parts were taken in it.
@@ -30,8 +30,8 @@ abbrev pub owner_of_part : Part → Owner
 owner_of_part p = record { conn = p.conn; command = p.command; part = p.number }
 
 -- a part on its way to a host
-abbrev pub piped : Part → PipePart
-piped p = record { owner = owner_of_part p; text = p.text }
+abbrev pub pipe_part : Part → PipePart
+pipe_part p = record { owner = owner_of_part p; text = p.text }
 
 -- the place of a part that was sent, without an owner where its connection is closed
 abbrev pub place_of : Past → Part → Option Owner
@@ -40,8 +40,8 @@ place_of x p = if is_closed p.conn x.steps then None else Some (owner_of_part p)
 -- what is kept of a host, by its past
 abbrev pub pipeline_of : Past → ℕ → PipelineState
 pipeline_of x h = let e = epoch h x.steps in record {
-  waiting = map piped (waiting h x);
-  flying = map (place_of x) (drop (length (came h e x.steps)) (sent_to h e x));
+  waiting = map pipe_part (waiting_parts h x);
+  flying = map (place_of x) (drop (length (replies_from h e x.steps)) (sent_to h e x));
   epoch = e;
   taken = length (sent_to h e x);
 }
@@ -63,7 +63,7 @@ with_waiting part q = record q { waiting = q.waiting ++ part ∷ [] }
 -- a part that was placed waits for its host, if it has one and got no value at once
 abbrev pub pushed_to : Option ℕ → Part → List PipelineState → List PipelineState
 pushed_to None p pipelines = pipelines
-pushed_to (Some h) p pipelines = with_pipeline (with_waiting (piped p)) h pipelines
+pushed_to (Some h) p pipelines = with_pipeline (with_waiting (pipe_part p)) h pipelines
 
 -- the pipelines with a part that waits
 abbrev pub pushed_part : Part → List PipelineState → List PipelineState
@@ -99,8 +99,8 @@ next_owner (None ∷ places) = []
 next_owner (Some o ∷ places) = o ∷ []
 
 -- all are lost
-abbrev pub failed : PipelineState → PipelineState
-failed p = record { waiting = []; flying = []; epoch = p.epoch + 1; taken = 0 }
+abbrev pub failed_pipeline : PipelineState → PipelineState
+failed_pipeline p = record { waiting = []; flying = []; epoch = p.epoch + 1; taken = 0 }
 
 -- the owners of those that are lost: those that flew, and those that waited
 abbrev pub lost_owners : PipelineState → List Owner
@@ -108,7 +108,7 @@ lost_owners p = filter_map (λ o. o) p.flying ++ map owner_in p.waiting
 
 -- a connection is closed
 abbrev pub without_connection : ℕ → PipelineState → PipelineState
-without_connection c p = record p { waiting = filter (is_kept c) p.waiting; flying = map (forgotten c) p.flying }
+without_connection c p = record p { waiting = filter (is_kept c) p.waiting; flying = map (forgotten_owner c) p.flying }
 
 -- OF ONE
 

@@ -35,17 +35,20 @@ impl Machine {
         ensures done { IfOk result
             (λ d. IsDone self.old self.new (events.Answered host epoch value.now t) d
             (record (memory_in self.old) {
-              connections = answered_parts (next_owner (pipeline_at host (memory_in self.old).pipelines).flying)
+              connections = answered_parts
+                  (next_owner (pipeline_at host (memory_in self.old).pipelines).flying)
                   (tree_of value.now) self.old.connections.numbered;
               pipelines = with_pipeline answered_by host (memory_in self.old).pipelines;
               hosts = self.new.ejector.state;
             })) }
         ensures matched { IfOk result (λ d. (O : State) (marks : List Mark)
             → state self.old.ejector.rules O marks ≡ self.old.ejector.state
-            → d.answer ≡ answers.Matched (trip self.old.ejector.rules O (marks'.Good host t) marks)) }
+            → d.answer ≡ answers.Matched (trip self.old.ejector.rules O
+            (marks'.Good host t) marks)) }
         ensures hosts { OnOk result ((O : State) (marks : List Mark)
             → state self.old.ejector.rules O marks ≡ self.old.ejector.state
-            → self.new.ejector.state ≡ state self.old.ejector.rules O (marks'.Good host t ∷ marks)) }
+            → self.new.ejector.state
+            ≡ state self.old.ejector.rules O (marks'.Good host t ∷ marks)) }
         ensures refused { IfErr result (λ r. IsSame self.old self.new
             × HasCauseIn self.old (events.Answered host epoch value.now t) r) }
     {

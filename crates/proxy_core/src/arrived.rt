@@ -14,7 +14,7 @@ ghost use Rattle.proxy_history.specs.Past.{past};
 ghost use Rattle.proxy_history.specs.Part.{Past};
 ghost use Rattle.proxy_history.specs.Payload.{length_of_request};
 ghost use Rattle.proxy_history.specs.Answer.{answer_to};
-ghost use Rattle.proxy_history.specs.Arrival.{placing};
+ghost use Rattle.proxy_history.specs.Arrival.{parts_placed};
 ghost use Rattle.proxy_history.specs.declared.event.Event.TheVariants as events;
 ghost use Rattle.proxy_core.specs.Connections.{MayAccept, connection_at};
 ghost use Rattle.proxy_core.specs.Places.{AreCounted, counted_at, next_place, placed_as};
@@ -162,7 +162,8 @@ impl Machine {
         requires parts { length list < 2 ^ 32 }
         ensures placed { IfOk result (λ placed. (x : Past) (conn command : ℕ)
             → Tells (setting_in self.now) (memory_in self.now) conn x
-            → placed.items ≡ map placed_as (placing (setting_in self.now) x conn command [] list)) }
+            → placed.items
+            ≡ map placed_as (parts_placed (setting_in self.now) x conn command [] list)) }
         ensures counted { IfOk result
             (λ placed. AreCounted (memory_in self.now).pipelines counts.new placed.items) }
         ensures parts { IfOk result (λ placed. length placed.items ≡ length list) }
@@ -188,7 +189,8 @@ impl Machine {
         requires parts { length list < 2 ^ 32 }
         ensures placed { IfOk result (λ placed. (x : Past) (conn command : ℕ)
             → Tells (setting_in self.now) (memory_in self.now) conn x
-            → placed.items ≡ map placed_as (placing (setting_in self.now) x conn command [] list)) }
+            → placed.items
+            ≡ map placed_as (parts_placed (setting_in self.now) x conn command [] list)) }
         ensures counted { IfOk result
             (λ placed. AreCounted (memory_in self.now).pipelines counts.new placed.items) }
         ensures parts { IfOk result (λ placed. length placed.items ≡ length list) }
@@ -209,7 +211,8 @@ impl Machine {
         ensures placed { result ≡ record {
           number = number;
           place = next_place (memory_in self.now).pipelines counts.old
-              (owner_of self.now.ring.pairs (point_of plan.key self.now.ejector.rules.settings.tags) usable.now);
+              (owner_of self.now.ring.pairs
+              (point_of plan.key self.now.ejector.rules.settings.tags) usable.now);
           text = plan.text;
         } }
         ensures counts { counts.new ≡ counted_at result.place counts.old }

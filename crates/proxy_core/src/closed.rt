@@ -3,7 +3,7 @@ ghost use Rattle.std.specs.Prelude.{ℕ, ◌≡◌, ◌<◌, ◌+◌, ◌^◌, m
 ghost use Rattle.proxy_history.specs.declared.answer.Answer.TheVariants as answers;
 ghost use Rattle.proxy_history.specs.declared.event.Event.TheVariants as events;
 ghost use Rattle.proxy_history.specs.Value.{upstream_failure};
-ghost use Rattle.proxy_core.specs.Connections.{AreAwaited, closing};
+ghost use Rattle.proxy_core.specs.Connections.{AreAwaited, connections_without};
 ghost use Rattle.proxy_core.specs.Pipelines.{lost_owners, without_connection, pipeline_at};
 ghost use Rattle.proxy_core.specs.Machine.{memory_in, IsDone, IsSame, HasCauseIn};
 
@@ -22,7 +22,7 @@ impl Machine {
             self.old.connections.numbered }
         ensures done { IfOk result (λ d. (d.answer ≡ answers.Closed)
             × IsDone self.old self.new (events.Closed conn) d (record (memory_in self.old) {
-              connections = closing conn self.old.connections.numbered;
+              connections = connections_without conn self.old.connections.numbered;
               closed = self.old.connections.closed + 1;
               pipelines = map (without_connection conn) (memory_in self.old).pipelines;
             })) }

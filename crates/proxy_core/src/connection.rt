@@ -43,7 +43,8 @@ pub(crate) fn queue_parts(queue: &mut Queue, how: Join, placed: &[Placed]) -> Re
     ensures index { IfOk result (λ index. index ≡ queue.old.popped + length queue.old.commands) }
     ensures commands { OnOk result (queue.new ≡ record {
       popped = queue.old.popped;
-      commands = queue.old.commands ++ record { how = how; values = map value_of_placed placed.now } ∷ [];
+      commands = queue.old.commands
+          ++ record { how = how; values = map value_of_placed placed.now } ∷ [];
     }) }
     ensures refused { IfErr result (λ r. (r ≡ Refusal.NoMemory) × (queue.new ≡ queue.old)) }
 {
@@ -73,7 +74,8 @@ pub(crate) fn queue_own(queue: &mut Queue, value: Value) -> Result<u64, Refusal>
     ensures index { IfOk result (λ index. index ≡ queue.old.popped + length queue.old.commands) }
     ensures commands { OnOk result (queue.new ≡ record {
       popped = queue.old.popped;
-      commands = queue.old.commands ++ record { how = Same; values = Some (tree_of value) ∷ [] } ∷ [];
+      commands = queue.old.commands
+          ++ record { how = Same; values = Some (tree_of value) ∷ [] } ∷ [];
     }) }
     ensures refused { IfErr result (λ r. (r ≡ Refusal.NoMemory) × (queue.new ≡ queue.old)) }
 {

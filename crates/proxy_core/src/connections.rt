@@ -7,7 +7,7 @@ ghost use Rattle.splitter.specs.declared.plans.Join.TheVariants.{Same};
 ghost use Rattle.list_words.specs.Lists.{list_of};
 ghost use Rattle.proxy_history.specs.Value.{upstream_failure};
 ghost use Rattle.proxy_core.specs.Places.{value_of_placed};
-ghost use Rattle.proxy_core.specs.Connections.{accepting, AreAwaited, IsAwaited, IsAwaitedIn, MayAccept, answered_part, answered_parts, closing, connection_at, finished, fresh_connection, handing, left_in, next_index, reply_in, with_answer, with_connection};
+ghost use Rattle.proxy_core.specs.Connections.{connection_with_command, AreAwaited, IsAwaited, IsAwaitedIn, MayAccept, answered_part, answered_parts, connections_without, connection_at, finished_connection, fresh_connection, connection_without_front, left_in, next_index, reply_in, with_answer, with_connection};
 
 use crate::connection::{Connection, queue_own, queue_parts};
 use crate::local::upstream_failure;
@@ -95,7 +95,7 @@ impl Connections {
     /// The connection takes no further command.
     pub(crate) fn finish(&mut self, conn: u64)
         ensures { self.new ≡ record self.old {
-          numbered = with_connection finished conn
+          numbered = with_connection finished_connection conn
               self.old.numbered;
         } }
     {
@@ -109,7 +109,7 @@ impl Connections {
     pub(crate) fn close(&mut self, conn: u64)
         requires { self.old.closed + 1 < 2 ^ 64 }
         ensures { self.new ≡ record {
-          numbered = closing conn self.old.numbered;
+          numbered = connections_without conn self.old.numbered;
           closed = self.old.closed + 1;
         } }
     {
@@ -124,7 +124,7 @@ impl Connections {
     pub(crate) fn hand(&mut self, conn: u64)
         requires { IsSome (reply_in (connection_at conn self.old.numbered)) }
         ensures { self.new ≡ record self.old {
-          numbered = with_connection handing conn
+          numbered = with_connection connection_without_front conn
               self.old.numbered;
         } }
     {
@@ -164,7 +164,8 @@ impl Connections {
             (λ o. o) lost.now.flying.items ++ lost.now.waiting.items) upstream_failure
             self.old.numbered }
         ensures { self.new ≡ record self.old {
-          numbered = answered_parts (filter_map (λ o. o) lost.now.flying.items ++ lost.now.waiting.items)
+          numbered = answered_parts
+              (filter_map (λ o. o) lost.now.flying.items ++ lost.now.waiting.items)
               upstream_failure self.old.numbered;
         } }
     {
@@ -188,7 +189,8 @@ impl Connections {
     fn fail_places(&mut self, places: &[Option<Owner>])
         requires { AreAwaited (filter_map (λ o. o) places.now) upstream_failure self.old.numbered }
         ensures { self.new ≡ record self.old {
-          numbered = answered_parts (filter_map (λ o. o) places.now) upstream_failure self.old.numbered;
+          numbered = answered_parts (filter_map (λ o. o) places.now) upstream_failure
+              self.old.numbered;
         } }
     {
         for place in places {
@@ -206,7 +208,9 @@ impl Connections {
             (λ index. index ≡ next_index (connection_at conn self.old.numbered)) }
         ensures accepted { OnOk result (self.new ≡ record self.old {
           numbered = with_connection
-              (accepting (record { how = how; values = map value_of_placed placed.now }) false) conn self.old.numbered;
+              (connection_with_command
+              (record { how = how; values = map value_of_placed placed.now }) false)
+              conn self.old.numbered;
         }) }
         ensures refused { IfErr result (λ r. (r ≡ Refusal.NoMemory) × (self.new ≡ self.old)) }
     {
@@ -226,7 +230,9 @@ impl Connections {
             (λ index. index ≡ next_index (connection_at conn self.old.numbered)) }
         ensures accepted { OnOk result (self.new ≡ record self.old {
           numbered = with_connection
-              (accepting (record { how = Same; values = Some (tree_of value) ∷ [] }) is_last) conn self.old.numbered;
+              (connection_with_command
+              (record { how = Same; values = Some (tree_of value) ∷ [] }) is_last)
+              conn self.old.numbered;
         }) }
         ensures refused { IfErr result (λ r. (r ≡ Refusal.NoMemory) × (self.new ≡ self.old)) }
     {
@@ -236,7 +242,7 @@ impl Connections {
 
 // The connection, if it is open, takes no further command.
 fn finish_one(connection: &mut Option<Connection>)
-    ensures { connection.new ≡ option_map finished connection.old }
+    ensures { connection.new ≡ option_map finished_connection connection.old }
 {
     if let Some(connection) = connection {
         connection.is_finishing = true;
@@ -253,7 +259,7 @@ fn close_one(connection: &mut Option<Connection>)
 // The reply to the oldest command of the connection, if it is open, is handed out.
 fn hand_one(connection: &mut Option<Connection>)
     requires { IsSome (reply_in connection.old) }
-    ensures { connection.new ≡ option_map handing connection.old }
+    ensures { connection.new ≡ option_map connection_without_front connection.old }
 {
     if let Some(connection) = connection {
         connection.queue.drop_front();
@@ -281,7 +287,8 @@ fn accept_one(
     requires parts { length placed.now < 2 ^ 32 }
     ensures index { IfOk result (λ index. index ≡ next_index connection.old) }
     ensures accepted { OnOk result (connection.new
-        ≡ option_map (accepting (record { how = how; values = map value_of_placed placed.now }) false) connection.old) }
+        ≡ option_map (connection_with_command
+        (record { how = how; values = map value_of_placed placed.now }) false) connection.old) }
     ensures refused { IfErr result (λ r. (r ≡ Refusal.NoMemory)
         × (connection.new ≡ connection.old)) }
 {
@@ -300,7 +307,8 @@ fn accept_own_one(
     requires open { MayAccept connection.old }
     ensures index { IfOk result (λ index. index ≡ next_index connection.old) }
     ensures accepted { OnOk result (connection.new
-        ≡ option_map (accepting (record { how = Same; values = Some (tree_of value) ∷ [] }) is_last) connection.old) }
+        ≡ option_map (connection_with_command
+        (record { how = Same; values = Some (tree_of value) ∷ [] }) is_last) connection.old) }
     ensures refused { IfErr result (λ r. (r ≡ Refusal.NoMemory)
         × (connection.new ≡ connection.old)) }
 {

@@ -13,7 +13,7 @@ ghost use Rattle.proxy_history.specs.declared.event.Kind.TheVariants.{Late};
 ghost use Rattle.upstream_pipe.specs.Pipe.{owner_in};
 ghost use Rattle.journal_core.specs.Journal.{IsFull};
 ghost use Rattle.proxy_core.specs.Connections.{AreAwaited, answered_parts};
-ghost use Rattle.proxy_core.specs.Pipelines.{PipelineState, failed, lost_owners, with_pipeline, pipeline_at};
+ghost use Rattle.proxy_core.specs.Pipelines.{PipelineState, failed_pipeline, lost_owners, with_pipeline, pipeline_at};
 ghost use Rattle.proxy_core.specs.Machine.{setting_in, memory_in, own_cause_in, fault_mark, IsDone, IsSame, HasCauseIn};
 
 use crate::answered::counted;
@@ -39,14 +39,16 @@ impl Machine {
         ensures done { IfOk result
             (λ d. IsDone self.old self.new (events.Failed host epoch kind t) d
             (record (memory_in self.old) {
-              connections = answered_parts (lost_owners (pipeline_at host (memory_in self.old).pipelines))
+              connections = answered_parts
+                  (lost_owners (pipeline_at host (memory_in self.old).pipelines))
                   upstream_failure self.old.connections.numbered;
-              pipelines = with_pipeline failed host (memory_in self.old).pipelines;
+              pipelines = with_pipeline failed_pipeline host (memory_in self.old).pipelines;
               hosts = self.new.ejector.state;
             })) }
         ensures lost { IfOk result (λ d. (O : State) (marks : List Mark)
             → state self.old.ejector.rules O marks ≡ self.old.ejector.state
-            → d.answer ≡ answers.Lost (length (pipeline_at host (memory_in self.old).pipelines).waiting
+            → d.answer ≡ answers.Lost
+            (length (pipeline_at host (memory_in self.old).pipelines).waiting
             + length (pipeline_at host (memory_in self.old).pipelines).flying)
             (trip_by self.old.ejector.rules O
             (fault_mark (pipeline_at host (memory_in self.old).pipelines) host kind t) marks)) }
@@ -84,7 +86,9 @@ impl Machine {
         ensures setting { setting_in self.new ≡ setting_in self.old }
         ensures steps { self.new.journal.steps ≡ self.old.journal.steps }
         ensures memory { OnOk result (memory_in self.new
-            ≡ record (memory_in self.old) { pipelines = with_pipeline failed host (memory_in self.old).pipelines }) }
+            ≡ record (memory_in self.old) {
+              pipelines = with_pipeline failed_pipeline host (memory_in self.old).pipelines;
+            }) }
         ensures err { OnErr result (memory_in self.new ≡ memory_in self.old) }
         ensures refused { IfErr result
             (λ r. HasCauseIn self.old (events.Failed host epoch Late 0) r) }

@@ -2,7 +2,7 @@
 ghost use Rattle.std.specs.Prelude.{◌≡◌, IfOk, IfErr};
 ghost use Rattle.proxy_history.specs.declared.answer.Answer.TheVariants as answers;
 ghost use Rattle.proxy_history.specs.declared.event.Event.TheVariants as events;
-ghost use Rattle.proxy_core.specs.Connections.{with_connection, finished};
+ghost use Rattle.proxy_core.specs.Connections.{with_connection, finished_connection};
 ghost use Rattle.proxy_core.specs.Machine.{memory_in, IsDone, IsSame, HasCauseIn};
 
 use crate::machine::{Done, Machine, make_room};
@@ -13,7 +13,7 @@ impl Machine {
     pub(crate) fn finish(&mut self, conn: u64) -> Result<Done, Refusal>
         ensures done { IfOk result (λ d. (d.answer ≡ answers.Finishing)
             × IsDone self.old self.new (events.Finished conn) d (record (memory_in self.old) {
-              connections = with_connection finished conn self.old.connections.numbered;
+              connections = with_connection finished_connection conn self.old.connections.numbered;
             })) }
         ensures refused { IfErr result (λ r. IsSame self.old self.new
             × HasCauseIn self.old (events.Finished conn) r) }

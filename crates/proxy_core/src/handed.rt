@@ -7,7 +7,7 @@ ghost use Rattle.resp_core.specs.Value.{tree_of};
 ghost use Rattle.reply_queue.specs.Queue.{front_reply};
 ghost use Rattle.proxy_history.specs.declared.answer.Answer.TheVariants as answers;
 ghost use Rattle.proxy_history.specs.declared.event.Event.TheVariants as events;
-ghost use Rattle.proxy_core.specs.Connections.{handing, with_connection, connection_at, reply_in};
+ghost use Rattle.proxy_core.specs.Connections.{connection_without_front, with_connection, connection_at, reply_in};
 ghost use Rattle.proxy_core.specs.Machine.{memory_in, text_in, IsDone, IsSame, IsReady, HasCauseIn};
 
 use crate::machine::{Done, Machine, make_room};
@@ -25,7 +25,8 @@ impl Machine {
         ensures done { IfOk result
             (λ d. (d.answer ≡ answers.Bytes (text_in (memory_in self.old) (events.Handed conn)))
             × IsDone self.old self.new (events.Handed conn) d (record (memory_in self.old) {
-              connections = with_connection handing conn self.old.connections.numbered;
+              connections = with_connection connection_without_front conn
+                  self.old.connections.numbered;
             })) }
         ensures refused { IfErr result (λ r. IsSame self.old self.new
             × HasCauseIn self.old (events.Handed conn) r) }

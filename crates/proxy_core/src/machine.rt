@@ -10,7 +10,7 @@ ghost use Rattle.proxy_history.specs.Legal.{IsLegal, IsCause};
 ghost use Rattle.proxy_history.specs.Payload.{payload};
 ghost use Rattle.proxy_history.specs.Proxy.{history_in, rules_of, setting_from, setting_of, IsStep};
 ghost use Rattle.proxy_core.specs.Machine.{IsKept};
-ghost use Rattle.proxy_core.specs.Core.{IsMade, IsLeft, IsSettled, IsTurn, IsRun, detected};
+ghost use Rattle.proxy_core.specs.Core.{IsMade, IsLeft, IsSettled, IsTurn, IsRun, detector_state};
 ghost use Rattle.journal_core.specs.Journal.{IsFull};
 
 use crate::connections::Connections;
@@ -87,7 +87,7 @@ impl Core {
         ensures made { IfOk result (λ c. (c.setting ≡ setting_from ring from.detection)
             × (c.steps ≡ [])) }
         ensures rules { IfOk result (λ c. c.setting.rules ≡ rules_of ring settings) }
-        ensures state { IfOk result (λ c. detected c ≡ from.detection.state) }
+        ensures state { IfOk result (λ c. detector_state c ≡ from.detection.state) }
         ensures refused { MatchOption
             (first_difference (rules_of ring settings) from.detection.rules)
             (IfErr result (λ e. e ≡ Refusal.NoMemory))
@@ -131,7 +131,7 @@ impl Core {
     /// hosts and the settings, and how long the journal is. It takes no memory.
     pub fn hand_over(&self) -> Handover
         ensures rules { result.detection.rules ≡ self.now.setting.rules }
-        ensures state { result.detection.state ≡ detected self.now }
+        ensures state { result.detection.state ≡ detector_state self.now }
         ensures steps { result.steps ≡ length self.now.steps }
         ensures bytes { result.bytes ≡ payload (history_in self.now) }
     {
@@ -228,14 +228,14 @@ impl Core {
     /// Whether the host is put aside.
     pub fn is_out(&self, host: usize) -> bool
         requires { host < hosts self.now.setting }
-        ensures { result ≡ is_out (detected self.now) host }
+        ensures { result ≡ is_out (detector_state self.now) host }
     {
         self.machine.ejector.is_out(host)
     }
 
     /// Whether so few hosts are available that all are used.
     pub fn in_panic(&self) -> bool
-        ensures { result ≡ is_panic self.now.setting.rules (detected self.now) }
+        ensures { result ≡ is_panic self.now.setting.rules (detector_state self.now) }
     {
         self.machine.ejector.in_panic()
     }

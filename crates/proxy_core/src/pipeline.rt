@@ -3,7 +3,7 @@ ghost use Rattle.std.specs.Prelude.{◌≡◌, ◌≢◌, ◌+◌, ◌-◌, ◌<
 ghost use Rattle.upstream_pipe.specs.Pipe.{owner_in};
 ghost use Rattle.list_words.specs.Lists.{list_of};
 ghost use Rattle.proxy_history.specs.Setting.{max_waiting};
-ghost use Rattle.proxy_core.specs.Pipelines.{answered_by, failed, next_owner, no_pipeline, state_of, taken_from, text_of_oldest, with_waiting, without_connection};
+ghost use Rattle.proxy_core.specs.Pipelines.{answered_by, failed_pipeline, next_owner, no_pipeline, state_of, taken_from, text_of_oldest, with_waiting, without_connection};
 
 use bytes::Bytes;
 use proxy_history::Refusal;
@@ -60,7 +60,7 @@ impl Pipeline {
         ensures flying { IfOk result (λ lost. lost.flying.items ≡ self.old.pipe.flying) }
         ensures waiting { IfOk result
             (λ lost. lost.waiting.items ≡ map owner_in self.old.pipe.waiting) }
-        ensures failed { OnOk result (state_of self.new ≡ failed (state_of self.old)) }
+        ensures failed { OnOk result (state_of self.new ≡ failed_pipeline (state_of self.old)) }
         ensures err { OnErr result (state_of self.new ≡ state_of self.old) }
     {
         let lost = self.pipe.fault(epoch)?;

@@ -5,7 +5,7 @@ ghost use Rattle.upstream_pipe.specs.Pipe.{owner_in};
 ghost use Rattle.list_words.specs.Lists.{list_of};
 ghost use Rattle.proxy_core.specs.Places.{one_at};
 ghost use Rattle.proxy_core.specs.Arrivals.{HaveRoom, MayWait, pushed_all, pushed_at, piped_as};
-ghost use Rattle.proxy_core.specs.Pipelines.{HasRooms, answered_by, failed, next_owner, no_pipeline, taken_from, with_pipeline, without_connection, pipeline_at, text_of_oldest};
+ghost use Rattle.proxy_core.specs.Pipelines.{HasRooms, answered_by, failed_pipeline, next_owner, no_pipeline, taken_from, with_pipeline, without_connection, pipeline_at, text_of_oldest};
 
 use crate::pipeline::Pipeline;
 use crate::place::{Place, Placed};
@@ -177,7 +177,8 @@ impl Pipelines {
             (λ lost. lost.flying.items ≡ (pipeline_at host self.old.states).flying) }
         ensures waiting { IfOk result
             (λ lost. lost.waiting.items ≡ map owner_in (pipeline_at host self.old.states).waiting) }
-        ensures failed { OnOk result (self.new.states ≡ with_pipeline failed host self.old.states) }
+        ensures failed { OnOk result (self.new.states
+            ≡ with_pipeline failed_pipeline host self.old.states) }
         ensures err { OnErr result (self.new.states ≡ self.old.states) }
     {
         self.by_host[host].fail(epoch)

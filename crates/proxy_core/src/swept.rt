@@ -3,7 +3,7 @@ ghost use Rattle.std.specs.Prelude.{◌≡◌, ◌∷◌, List, IfOk, IfErr, OnO
 ghost use Rattle.ejector.specs.declared.mark.Mark.{Mark};
 ghost use Rattle.ejector.specs.declared.mark.Mark.TheVariants as marks';
 ghost use Rattle.ejector.specs.State.{State};
-ghost use Rattle.ejector.specs.Ejection.{state, swept};
+ghost use Rattle.ejector.specs.Ejection.{state, sweep_answer};
 ghost use Rattle.proxy_history.specs.Answer.{counts_of};
 ghost use Rattle.proxy_history.specs.declared.event.Event.TheVariants as events;
 ghost use Rattle.proxy_core.specs.Machine.{memory_in, IsDone, IsSame, HasCauseIn};
@@ -19,7 +19,7 @@ impl Machine {
             (record (memory_in self.old) { hosts = self.new.ejector.state })) }
         ensures swept { IfOk result (λ d. (O : State) (marks : List Mark)
             → state self.old.ejector.rules O marks ≡ self.old.ejector.state
-            → d.answer ≡ counts_of (swept self.old.ejector.rules O (marks'.Sweep t) marks)) }
+            → d.answer ≡ counts_of (sweep_answer self.old.ejector.rules O (marks'.Sweep t) marks)) }
         ensures hosts { OnOk result ((O : State) (marks : List Mark)
             → state self.old.ejector.rules O marks ≡ self.old.ejector.state
             → self.new.ejector.state ≡ state self.old.ejector.rules O (marks'.Sweep t ∷ marks)) }
@@ -43,7 +43,7 @@ fn swept(ejector: &mut Ejector, t: u64) -> Swept
         → ejector.new.state ≡ state ejector.old.rules O (marks'.Sweep t ∷ marks) }
     ensures swept { (O : State) (marks : List Mark)
         → state ejector.old.rules O marks ≡ ejector.old.state
-        → result ≡ swept ejector.old.rules O (marks'.Sweep t) marks }
+        → result ≡ sweep_answer ejector.old.rules O (marks'.Sweep t) marks }
     ensures rules { ejector.new.rules ≡ ejector.old.rules }
 {
     match ejector.sweep(t) {

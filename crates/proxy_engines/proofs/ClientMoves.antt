@@ -11,7 +11,7 @@ use Rattle.splitter.specs.Plan.{is_last}
 use Rattle.splitter.proofs.CallerLemmas.{none_finishes-one}
 use Rattle.splitter.specs.declared.request.Request.{Request as Request'}
 use Rattle.proxy_history.specs.Setting.{max_steps}
-use Rattle.proxy_history.specs.History.{History, Step, accepted, handed, requests, is_arrival, is_handing}
+use Rattle.proxy_history.specs.History.{History, Step, accepted_count, handed_count, requests, is_arrival, is_handing}
 use Rattle.proxy_history.specs.Output.{transcript}
 use Rattle.proxy_history.specs.Own.{connection_steps, is_connection_step}
 use Rattle.proxy_history.specs.OwnLaws.{SameOfConnection}
@@ -20,7 +20,7 @@ use Rattle.proxy_history.specs.declared.answer.Answer.{Answer}
 use Rattle.proxy_history.proofs.CallerLemmas as history
 use Rattle.proxy_engines.specs.Ends.{Sending, Sends, Receiving, Holds, HasGivenAll}
 use Rattle.proxy_engines.specs.Turned.{step_by}
-use Rattle.proxy_engines.specs.Client.{Client, Carries, Goes, IsAllRead, IsAtStage, IsDone, IsFinished, IsLive, IsOver, NoneFinishes, asked, waiting}
+use Rattle.proxy_engines.specs.Client.{Client, Carries, Goes, IsAllRead, IsAtStage, IsDone, IsFinished, IsLive, IsOver, NoneFinishes, asked_requests, waiting_requests}
 use Rattle.proxy_engines.specs.Moves.{has_moved, AsTold}
 use Rattle.proxy_engines.proofs.MoveLemmas.{has_moved-append}
 use Rattle.proxy_engines.specs.declared.client.Stage.{Stage}
@@ -128,8 +128,8 @@ goes_told a b c x y z (Some n) p q = goes_some a b c x y z p.0 n p.1 q
 -- STAGES
 
 stage_at : (s : Stage) (e : Client) (H : History) (b : List ℕ) (given : List Request) → e.stage ≡ s
-    → IsAtStage e.stage (IsDone e H) (asked e.conn H) e.is_drained e.inbox e.next b given → IsAtStage s (IsDone e H) (asked e.conn H) e.is_drained e.inbox e.next b given
-stage_at s e H b given is at = subst (λ (z : Stage). IsAtStage z (IsDone e H) (asked e.conn H) e.is_drained e.inbox e.next b given) is at
+    → IsAtStage e.stage (IsDone e H) (asked_requests e.conn H) e.is_drained e.inbox e.next b given → IsAtStage s (IsDone e H) (asked_requests e.conn H) e.is_drained e.inbox e.next b given
+stage_at s e H b given is at = subst (λ (z : Stage). IsAtStage z (IsDone e H) (asked_requests e.conn H) e.is_drained e.inbox e.next b given) is at
 
 -- a live stage doesn't look at whether all is done
 live_stage : (s : Stage) (D E : Type 0) (asks : List Request) (d : Bool) (i : Receiving) (next : Option Request') (b : List ℕ) (given : List Request) → IsLive s
@@ -159,7 +159,7 @@ module _ (e : Client) (pass : ℕ) (H : History) (t : List ℕ) where
         given_are = rw same k.given_are;
         accepted_is = k.accepted_is;
         handed_is = rw mine (omega (arith, k.handed_is, few, history.times-length (is_handing e.conn) H));
-        stage_is = rw same (live_stage e.stage (IsDone e H) _ (asked e.conn H) e.is_drained e.inbox e.next b k.given live k.stage_is);
+        stage_is = rw same (live_stage e.stage (IsDone e H) _ (asked_requests e.conn H) e.is_drained e.inbox e.next b k.given live k.stage_is);
       }
 
   pub handed_goes : length (step_by pass (Event.Handed e.conn) (Answer.Bytes t) ∷ H) ≤ max_steps → e.outbox.pending ≡ [] → IsLive e.stage → Goes e after_hand H (step_by pass (Event.Handed e.conn) (Answer.Bytes t) ∷ H) true
@@ -172,12 +172,12 @@ pub record IsQuiet (c : ℕ) (s : Step) (H : History) : Type 0 where
   pub mine : is_connection_step c s.event s.answer ≡ true
   pub same_transcript : transcript c (s ∷ H) ≡ transcript c H
   pub same_requests : requests c (s ∷ H) ≡ requests c H
-  pub same_accepted : accepted c (s ∷ H) ≡ accepted c H
-  pub same_handed : handed c (s ∷ H) ≡ handed c H
+  pub same_accepted : accepted_count c (s ∷ H) ≡ accepted_count c H
+  pub same_handed : handed_count c (s ∷ H) ≡ handed_count c H
 
 quiet_goes : (e : Client) (stage : Stage) (s : Step) (H : History) → IsQuiet e.conn s H
-    → ((b : List ℕ) (given : List Request) → IsAtStage e.stage (IsDone e H) (asked e.conn H) e.is_drained e.inbox e.next b given
-    → IsAtStage stage (IsDone (record e { stage = stage }) (s ∷ H)) (asked e.conn H) e.is_drained e.inbox e.next b given)
+    → ((b : List ℕ) (given : List Request) → IsAtStage e.stage (IsDone e H) (asked_requests e.conn H) e.is_drained e.inbox e.next b given
+    → IsAtStage stage (IsDone (record e { stage = stage }) (s ∷ H)) (asked_requests e.conn H) e.is_drained e.inbox e.next b given)
     → Goes e (record e { stage = stage }) H (s ∷ H) true
 quiet_goes e stage s H q f = turn_goes e (record e { stage = stage }) H s q.mine refl refl refl refl refl (λ taken b k. record {
   given = k.given;
@@ -260,19 +260,19 @@ wrote_goes e o gave H moved live sends told = record {
     given_are = k.given_are;
     accepted_is = k.accepted_is;
     handed_is = k.handed_is;
-    stage_is = live_stage e.stage (IsDone e H) _ (asked e.conn H) e.is_drained e.inbox e.next b k.given live k.stage_is;
+    stage_is = live_stage e.stage (IsDone e H) _ (asked_requests e.conn H) e.is_drained e.inbox e.next b k.given live k.stage_is;
   });
 }
 
 -- A REQUEST IS ACCEPTED
 
 module _ (e : Client) (r : Request') (pass : ℕ) (H : History) (a : Answer) (open_is : e.stage ≡ Stage.Open) (next : e.next ≡ Some r) (few : length (step_by pass (Event.Arrived e.conn r) a ∷ H) ≤ max_steps) where
-  more_asked : asked e.conn (step_by pass (Event.Arrived e.conn r) a ∷ H) ≡ asked e.conn H ++ request_of r ∷ []
+  more_asked : asked_requests e.conn (step_by pass (Event.Arrived e.conn r) a ∷ H) ≡ asked_requests e.conn H ++ request_of r ∷ []
   more_asked = rw (eq-eqb e.conn e.conn refl) (map-append request_of (requests e.conn H) (r ∷ []))
 
   arrived_as : (stage : Stage)
-      → ((b : List ℕ) (given : List Request) → NoneFinishes (asked e.conn H)
-      → IsAtStage stage (IsDone (record e { next = None; accepted = min (e.accepted + 1) (2 ^ 64 - 1); stage = stage }) (step_by pass (Event.Arrived e.conn r) a ∷ H)) (asked e.conn (step_by pass (Event.Arrived e.conn r) a ∷ H)) e.is_drained e.inbox None b given)
+      → ((b : List ℕ) (given : List Request) → NoneFinishes (asked_requests e.conn H)
+      → IsAtStage stage (IsDone (record e { next = None; accepted = min (e.accepted + 1) (2 ^ 64 - 1); stage = stage }) (step_by pass (Event.Arrived e.conn r) a ∷ H)) (asked_requests e.conn (step_by pass (Event.Arrived e.conn r) a ∷ H)) e.is_drained e.inbox None b given)
       → Goes e (record e { next = None; accepted = min (e.accepted + 1) (2 ^ 64 - 1); stage = stage }) H (step_by pass (Event.Arrived e.conn r) a ∷ H) true
   arrived_as stage f =
       let mine : (e.conn == e.conn) ≡ true = eq-eqb e.conn e.conn refl in
@@ -282,7 +282,7 @@ module _ (e : Client) (r : Request') (pass : ℕ) (H : History) (a : Answer) (op
         out_is = k.out_is ∙ sym (append-nil (transcript e.conn H));
         holds = k.holds;
         most_is = k.most_is;
-        given_are = rw next at k.given_are ∙ sym more_asked ∙ sym (append-nil (asked e.conn (step_by pass (Event.Arrived e.conn r) a ∷ H)));
+        given_are = rw next at k.given_are ∙ sym more_asked ∙ sym (append-nil (asked_requests e.conn (step_by pass (Event.Arrived e.conn r) a ∷ H)));
         accepted_is = rw mine (omega (arith, k.accepted_is, few, history.times-length (is_arrival e.conn) H));
         handed_is = k.handed_is;
         stage_is = f b k.given (stage_at Stage.Open e H b k.given open_is k.stage_is);
@@ -291,25 +291,25 @@ module _ (e : Client) (r : Request') (pass : ℕ) (H : History) (a : Answer) (op
   pub arrived_on : finishes (request_of r) ≡ false → Goes e (record e { next = None; accepted = min (e.accepted + 1) (2 ^ 64 - 1) }) H (step_by pass (Event.Arrived e.conn r) a ∷ H) true
   arrived_on goes_on =
       subst (λ (z : Stage). Goes e (record e { next = None; accepted = min (e.accepted + 1) (2 ^ 64 - 1); stage = z }) H (step_by pass (Event.Arrived e.conn r) a ∷ H) true) (sym open_is)
-      (arrived_as Stage.Open (λ b given none. subst (λ (z : List Request). NoneFinishes z) (sym more_asked) (none_finishes-one (asked e.conn H) (request_of r) none goes_on)))
+      (arrived_as Stage.Open (λ b given none. subst (λ (z : List Request). NoneFinishes z) (sym more_asked) (none_finishes-one (asked_requests e.conn H) (request_of r) none goes_on)))
 
   pub arrived_last : finishes (request_of r) ≡ true → Goes e (record e { next = None; accepted = min (e.accepted + 1) (2 ^ 64 - 1); stage = Stage.Finishing }) H (step_by pass (Event.Arrived e.conn r) a ∷ H) true
-  arrived_last is_last = arrived_as Stage.Finishing (λ b given none. inr (record { front = asked e.conn H; last = request_of r; are = more_asked; goes_on = none; finishes = is_last }))
+  arrived_last is_last = arrived_as Stage.Finishing (λ b given none. inr (record { front = asked_requests e.conn H; last = request_of r; are = more_asked; goes_on = none; finishes = is_last }))
 
 -- WHAT COMES IN
 
 -- a request has come whole, or none has
 pub fetched_goes : (e : Client) (i : Receiving) (next : Option Request') (H : History) → e.stage ≡ Stage.Open → e.next ≡ None → i.left ≡ e.inbox.left → i.counts ≡ e.inbox.counts → i.values.most ≡ e.inbox.values.most
-    → ((b : List ℕ) (rs : List Request) → Holds e.inbox b rs → Holds i b (rs ++ waiting next)) → Goes e (record e { inbox = i; next = next }) H H false
+    → ((b : List ℕ) (rs : List Request) → Holds e.inbox b rs → Holds i b (rs ++ waiting_requests next)) → Goes e (record e { inbox = i; next = next }) H H false
 fetched_goes e i next H open_is none left counts most f = still_goes e (record e { inbox = i; next = next }) H refl refl left counts refl (λ taken b k. record {
-  given = k.given ++ waiting next;
+  given = k.given ++ waiting_requests next;
   out_is = k.out_is;
   holds = f b k.given k.holds;
   most_is = most ∙ k.most_is;
-  given_are = ap (λ z. z ++ waiting next) (rw (none, append-nil (asked e.conn H)) at k.given_are);
+  given_are = ap (λ z. z ++ waiting_requests next) (rw (none, append-nil (asked_requests e.conn H)) at k.given_are);
   accepted_is = k.accepted_is;
   handed_is = k.handed_is;
-  stage_is = subst (λ (z : Stage). IsAtStage z (IsDone (record e { inbox = i; next = next }) H) (asked e.conn H) e.is_drained i next b (k.given ++ waiting next)) (sym open_is) (stage_at Stage.Open e H b k.given open_is k.stage_is);
+  stage_is = subst (λ (z : Stage). IsAtStage z (IsDone (record e { inbox = i; next = next }) H) (asked_requests e.conn H) e.is_drained i next b (k.given ++ waiting_requests next)) (sym open_is) (stage_at Stage.Open e H b k.given open_is k.stage_is);
 })
 
 -- the reader of values went on, and gave none
@@ -323,11 +323,11 @@ kept_goes e i H open_is left counts most f = still_goes e (record e { inbox = i 
   given_are = k.given_are;
   accepted_is = k.accepted_is;
   handed_is = k.handed_is;
-  stage_is = subst (λ (z : Stage). IsAtStage z (IsDone (record e { inbox = i }) H) (asked e.conn H) e.is_drained i e.next b k.given) (sym open_is) (stage_at Stage.Open e H b k.given open_is k.stage_is);
+  stage_is = subst (λ (z : Stage). IsAtStage z (IsDone (record e { inbox = i }) H) (asked_requests e.conn H) e.is_drained i e.next b k.given) (sym open_is) (stage_at Stage.Open e H b k.given open_is k.stage_is);
 })
 
 pub fetched_holds : (i j : Receiving) (next : Option Request') → IfSome next (λ r. (b : List ℕ) (rs : List Request) → Holds i b rs → Holds j b (rs ++ request_of r ∷ []))
-    → IfNone next ((b : List ℕ) (rs : List Request) → Holds i b rs → Holds j b rs) → (b : List ℕ) (rs : List Request) → Holds i b rs → Holds j b (rs ++ waiting next)
+    → IfNone next ((b : List ℕ) (rs : List Request) → Holds i b rs → Holds j b rs) → (b : List ℕ) (rs : List Request) → Holds i b rs → Holds j b (rs ++ waiting_requests next)
 fetched_holds i j None s n b rs h = rw (append-nil rs) (n b rs h)
 fetched_holds i j (Some r) s n b rs h = s b rs h
 
@@ -364,7 +364,7 @@ read_goes e i H moved told open_is reads whole empty input same = record {
     given_are = k.given_are;
     accepted_is = k.accepted_is;
     handed_is = k.handed_is;
-    stage_is = subst (λ (z : Stage). IsAtStage z (IsDone (record e { inbox = i }) H) (asked e.conn H) e.is_drained i e.next (b ++ i.fresh) k.given) (sym open_is) (stage_at Stage.Open e H b k.given open_is k.stage_is);
+    stage_is = subst (λ (z : Stage). IsAtStage z (IsDone (record e { inbox = i }) H) (asked_requests e.conn H) e.is_drained i e.next (b ++ i.fresh) k.given) (sym open_is) (stage_at Stage.Open e H b k.given open_is k.stage_is);
   });
 }
 
@@ -410,7 +410,7 @@ drained_carries e H taken b k = record {
   given_are = k.given_are;
   accepted_is = k.accepted_is;
   handed_is = k.handed_is;
-  stage_is = stage_drained e.stage (IsDone e H) (IsDone (record e { is_drained = true }) H) (asked e.conn H) e.is_drained e.inbox e.next b k.given
+  stage_is = stage_drained e.stage (IsDone e H) (IsDone (record e { is_drained = true }) H) (asked_requests e.conn H) e.is_drained e.inbox e.next b k.given
       (λ d. record { all_written = d.all_written; all_handed = d.all_handed; closed = d.closed }) k.stage_is;
 }
 
@@ -420,7 +420,7 @@ module _ (e : Client) (H later : History) (others : connection_steps e.conn late
   same_of_conn : SameOfConnection e.conn H (later ++ H)
   same_of_conn = history.SameOfConnection-append e.conn later H others
 
-  stage_beside : (s : Stage) (b : List ℕ) (given : List Request) → IsAtStage s (IsDone e H) (asked e.conn H) e.is_drained e.inbox e.next b given → IsAtStage s (IsDone e (later ++ H)) (asked e.conn H) e.is_drained e.inbox e.next b given
+  stage_beside : (s : Stage) (b : List ℕ) (given : List Request) → IsAtStage s (IsDone e H) (asked_requests e.conn H) e.is_drained e.inbox e.next b given → IsAtStage s (IsDone e (later ++ H)) (asked_requests e.conn H) e.is_drained e.inbox e.next b given
   stage_beside Stage.Open b given at = at
   stage_beside Stage.AtEnd b given at = at
   stage_beside Stage.Finishing b given at = at
@@ -431,13 +431,13 @@ module _ (e : Client) (H later : History) (others : connection_steps e.conn late
   pub carries_beside : (taken b : List ℕ) → Carries e H taken b → Carries e (later ++ H) taken b
   carries_beside taken b k =
       let same = same_of_conn in
-      let asks : asked e.conn (later ++ H) ≡ asked e.conn H = ap (map request_of) same.same_requests in
+      let asks : asked_requests e.conn (later ++ H) ≡ asked_requests e.conn H = ap (map request_of) same.same_requests in
       record {
         given = k.given;
         out_is = k.out_is ∙ sym same.same_transcript;
         holds = k.holds;
         most_is = k.most_is;
-        given_are = k.given_are ∙ ap (λ z. z ++ waiting e.next) (sym asks);
+        given_are = k.given_are ∙ ap (λ z. z ++ waiting_requests e.next) (sym asks);
         accepted_is = k.accepted_is ∙ sym same.same_accepted;
         handed_is = k.handed_is ∙ sym same.same_handed;
         stage_is = subst (λ (z : List Request). IsAtStage e.stage (IsDone e (later ++ H)) z e.is_drained e.inbox e.next b k.given) (sym asks) (stage_beside e.stage b k.given k.stage_is);
@@ -457,7 +457,7 @@ opened_carries conn pass i o H none empty most holds =
       holds = holds;
       most_is = most;
       given_are = rw no_request refl;
-      accepted_is = ap (accepted conn) (sym none) ∙ same.same_accepted;
-      handed_is = ap (handed conn) (sym none) ∙ same.same_handed;
+      accepted_is = ap (accepted_count conn) (sym none) ∙ same.same_accepted;
+      handed_is = ap (handed_count conn) (sym none) ∙ same.same_handed;
       stage_is = rw no_request refl;
     }

@@ -2,7 +2,7 @@
 use Rattle.std.proofs.Common.{◌≡◌, ◌⊎◌, ◌∙◌, ◌≤◌, ◌-◌, ℕ, Bool, true, false, List, [], ◌∷◌, Option, Some, None, inl, inr, refl, sym, ap}
 use Rattle.std.specs.Prelude.{◌↔◌}
 use Rattle.proxy_history.specs.declared.event.Kind.{Kind}
-use Rattle.proxy_engines.specs.Host.{LineState, LinkState, anew}
+use Rattle.proxy_engines.specs.Host.{LineState, LinkState, next_link}
 use Rattle.proxy_engines.specs.Faults.{IsCauseOf, IsLate, IfFault, is_fault, either}
 use Rattle.ticket_gate.specs.Journal.{StartsWith}
 use Rattle.proxy_history.specs.Seen.{SeenStep}
@@ -63,7 +63,7 @@ pub not_late : (l : LineState) (m : ℕ) (b : Bool) → b ≡ false → (b ≡ t
 not_late l m b calm exact late = let e : true ≡ false = sym (exact.1 late) ∙ calm in absurd cc
 
 -- no part waits for a reply after a fault
-pub not_late-anew : (l l' : LineState) (m : ℕ) → l' ≡ anew l → ¬ IsLate l' m
+pub not_late-anew : (l l' : LineState) (m : ℕ) → l' ≡ next_link l → ¬ IsLate l' m
 not_late-anew l l' m is = not_late-none l' m (ap (λ (z : LineState). z.moments) is)
 
 -- a move that came to no fault came to no late reply

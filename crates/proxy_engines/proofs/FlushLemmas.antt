@@ -5,7 +5,7 @@ use Rattle.splitter.specs.Request.{Request}
 use Rattle.splitter.specs.declared.request.Request.{Request as Request'}
 use Rattle.proxy_history.specs.History.{History}
 use Rattle.proxy_engines.specs.Ends.{Receiving, Sending}
-use Rattle.proxy_engines.specs.Client.{Client, Goes, IsAtStage, IsDone, asked}
+use Rattle.proxy_engines.specs.Client.{Client, Goes, IsAtStage, IsDone, asked_requests}
 use Rattle.proxy_engines.specs.declared.client.Stage.{Stage}
 use Rattle.proxy_engines.proofs.ClientMoves.{Consumes-none}
 
@@ -49,6 +49,6 @@ module _ (e : Client) (o : Sending) (H : History) (same : o.pending ≡ e.outbox
       given_are = k.given_are;
       accepted_is = k.accepted_is;
       handed_is = k.handed_is;
-      stage_is = stage_with e.stage (IsDone e H) (IsDone (record e { outbox = o }) H) (asked e.conn H) e.is_drained e.inbox e.next b k.given done_still k.stage_is;
+      stage_is = stage_with e.stage (IsDone e H) (IsDone (record e { outbox = o }) H) (asked_requests e.conn H) e.is_drained e.inbox e.next b k.given done_still k.stage_is;
     });
   }

@@ -16,16 +16,16 @@ use Rattle.ticket_gate.specs.Journal.{StartsWith}
 use Rattle.splitter.specs.Request.{Request, read, broken}
 use Rattle.proxy_history.specs.Setting.{max_steps}
 use Rattle.proxy_history.specs.History.{History, Step, times, is_fault, epoch}
-use Rattle.proxy_history.specs.Replies.{came}
+use Rattle.proxy_history.specs.Replies.{replies_from}
 use Rattle.proxy_history.specs.Output.{upstream, sent_text}
 use Rattle.proxy_history.specs.Own.{is_of_host, host_steps}
 use Rattle.proxy_history.specs.declared.event.Event.{Event}
 use Rattle.proxy_history.specs.declared.event.Kind.{Kind}
 use Rattle.proxy_history.specs.declared.answer.Answer.{Answer}
 use Rattle.proxy_history.proofs.CallerLemmas as history
-use Rattle.proxy_engines.specs.Ends.{Receiving, Holds, HasGivenAll, refused}
+use Rattle.proxy_engines.specs.Ends.{Receiving, Holds, HasGivenAll, refusal_requests}
 use Rattle.proxy_engines.specs.Turned.{step_by}
-use Rattle.proxy_engines.specs.Host.{LineState, LinkState, IsOnLink, CarriesHost, GoesOn, FailsHost, ReadsOn, WritesOn, moments_by, moments_after, waiting, anew}
+use Rattle.proxy_engines.specs.Host.{LineState, LinkState, IsOnLink, CarriesHost, GoesOn, FailsHost, ReadsOn, WritesOn, moments_by, moments_after, waiting_requests, next_link}
 use Rattle.proxy_engines.specs.Moves.{has_moved, AsTold}
 use Rattle.proxy_engines.specs.Faults.{either, told_by_outcome}
 use Rattle.proxy_engines.specs.declared.link.Outcome.{Outcome}
@@ -77,7 +77,7 @@ rests_on l k k' H m reads writes f = record {
   moments = refl;
   reads = reads;
   writes = writes;
-  carries = λ taken b c. rw (append-nil taken, append-nil b) (record { out_is = c.out_is; link_is = f (came l.host l.epoch H) taken b c.link_is; epoch_is = c.epoch_is; none_sent = c.none_sent; none_came = c.none_came });
+  carries = λ taken b c. rw (append-nil taken, append-nil b) (record { out_is = c.out_is; link_is = f (replies_from l.host l.epoch H) taken b c.link_is; epoch_is = c.epoch_is; none_sent = c.none_sent; none_came = c.none_came });
 }
 
 -- nothing at all
@@ -177,10 +177,10 @@ module _ (l : LineState) (pass : ℕ) (H : History) (e p m : ℕ) (t : List ℕ)
     writes = writes_none k;
     carries = λ taken b c. rw (append-nil taken, append-nil b) (record {
       out_is = ap (λ z. taken ++ z) is ∙ ap (λ z. z ++ sent_text l.host l.epoch (Event.Taken l.host) (Answer.Sent e p t)) (sym (append-nil taken) ∙ rw nothing at c.out_is);
-      link_is = rw (append-nil (came l.host l.epoch H)) c.link_is;
+      link_is = rw (append-nil (replies_from l.host l.epoch H)) c.link_is;
       epoch_is = c.epoch_is;
       none_sent = λ s d below. rw (c.none_sent not_astray d below) (later s d below);
-      none_came = λ d below. append-nil (came l.host d H) ∙ c.none_came d below;
+      none_came = λ d below. append-nil (replies_from l.host d H) ∙ c.none_came d below;
     });
   }
 
@@ -196,7 +196,7 @@ module _ (l : LineState) (pass : ℕ) (H : History) (e p m : ℕ) (t : List ℕ)
 
 pub fault_records : (l : LineState) (k : Option LinkState) (pass : ℕ) (H : History) (kind : Kind) (m : ℕ) (a : Answer) → l.is_astray ≡ false
     → length (step_by pass (Event.Failed l.host l.epoch kind m) a ∷ H) ≤ max_steps
-    → FailsHost l (anew l) k H (step_by pass (Event.Failed l.host l.epoch kind m) a ∷ H) kind m
+    → FailsHost l (next_link l) k H (step_by pass (Event.Failed l.host l.epoch kind m) a ∷ H) kind m
 fault_records l k pass H kind m a not_astray few = record {
   pass = pass;
   answer = a;
@@ -208,13 +208,13 @@ fault_records l k pass H kind m a not_astray few = record {
         out_is = subst (λ (z : ℕ). [] ≡ upstream l.host z (step_by pass (Event.Failed l.host l.epoch kind m) a ∷ H)) (sym next)
             (sym (append-nil (upstream l.host (l.epoch + 1) H) ∙ c.none_sent not_astray (l.epoch + 1) (omega arith)));
         link_is = (
-          subst (λ (z : ℕ). came l.host z (step_by pass (Event.Failed l.host l.epoch kind m) a ∷ H) ≡ []) (sym next) (append-nil (came l.host (l.epoch + 1) H) ∙ c.none_came (l.epoch + 1) (omega arith)),
+          subst (λ (z : ℕ). replies_from l.host z (step_by pass (Event.Failed l.host l.epoch kind m) a ∷ H) ≡ []) (sym next) (append-nil (replies_from l.host (l.epoch + 1) H) ∙ c.none_came (l.epoch + 1) (omega arith)),
           refl,
           refl,
         );
         epoch_is = rw (next, eq-eqb l.host l.host refl) (ap (λ z. z + 1) c.epoch_is);
         none_sent = λ s d below. append-nil (upstream l.host d H) ∙ c.none_sent not_astray d (omega (arith, below, next));
-        none_came = λ d below. append-nil (came l.host d H) ∙ c.none_came d (omega (arith, below, next));
+        none_came = λ d below. append-nil (replies_from l.host d H) ∙ c.none_came d (omega (arith, below, next));
       };
 }
 
@@ -226,34 +226,34 @@ first_is (y ∷ ys) x l e = (ys, ap (λ z. z ∷ ys) (sym e))
 
 -- what was read goes on to the reader of values
 pub sought_on : (l : LineState) (k : LinkState) (i : Receiving) (next : Option Value) (H : History) (m : ℕ) → k.next ≡ None → k.inbox.values.refusal ≡ None → i.left ≡ k.inbox.left → i.values.most ≡ k.inbox.values.most
-    → ((b : List ℕ) (rs : List Request) → Holds k.inbox b rs → Holds i b (rs ++ (waiting next ++ refused i.values.refusal))) → GoesOn l l (Some k) (Some (record k { inbox = i; next = next })) H H m false
+    → ((b : List ℕ) (rs : List Request) → Holds k.inbox b rs → Holds i b (rs ++ (waiting_requests next ++ refusal_requests i.values.refusal))) → GoesOn l l (Some k) (Some (record k { inbox = i; next = next })) H H m false
 sought_on l k i next H m none whole left most f = rests_on l (Some k) (Some (record k { inbox = i; next = next })) H m (rw left (Consumes-none k.inbox.left)) (Appends-none k.held) (λ came taken b h. record {
-  given = h.given ++ (waiting next ++ refused i.values.refusal);
+  given = h.given ++ (waiting_requests next ++ refusal_requests i.values.refusal);
   holds = f b h.given h.holds;
   most_is = most ∙ h.most_is;
-  given_are = ap (λ z. z ++ (waiting next ++ refused i.values.refusal)) (h.given_are ∙ rw (none, whole) (append-nil (map read came)));
+  given_are = ap (λ z. z ++ (waiting_requests next ++ refusal_requests i.values.refusal)) (h.given_are ∙ rw (none, whole) (append-nil (map read replies_from)));
 })
 
 -- and no value came by it
 pub sought_none : (l : LineState) (k : LinkState) (i : Receiving) (H : History) (m : ℕ) → k.next ≡ None → k.inbox.values.refusal ≡ None → i.left ≡ k.inbox.left → i.values.most ≡ k.inbox.values.most
-    → ((b : List ℕ) (rs : List Request) → Holds k.inbox b rs → Holds i b (rs ++ refused i.values.refusal)) → GoesOn l l (Some k) (Some (record k { inbox = i })) H H m false
+    → ((b : List ℕ) (rs : List Request) → Holds k.inbox b rs → Holds i b (rs ++ refusal_requests i.values.refusal)) → GoesOn l l (Some k) (Some (record k { inbox = i })) H H m false
 sought_none l k i H m none whole left most f = rests_on l (Some k) (Some (record k { inbox = i })) H m (rw left (Consumes-none k.inbox.left)) (Appends-none k.held) (λ came taken b h. record {
-  given = h.given ++ refused i.values.refusal;
+  given = h.given ++ refusal_requests i.values.refusal;
   holds = f b h.given h.holds;
   most_is = most ∙ h.most_is;
-  given_are = rw none (ap (λ z. z ++ refused i.values.refusal) (h.given_are ∙ rw (none, whole) (append-nil (map read came))));
+  given_are = rw none (ap (λ z. z ++ refusal_requests i.values.refusal) (h.given_are ∙ rw (none, whole) (append-nil (map read replies_from))));
 })
 
 pub none_is : (o : Option Value) → is_some o ≡ false → o ≡ None
 none_is None e = refl
 none_is (Some v) e = absurd cc
 
-pub refused_is : (o : Option RespError) → o ≢ None → refused o ≡ broken ∷ []
+pub refused_is : (o : Option RespError) → o ≢ None → refusal_requests o ≡ broken ∷ []
 refused_is None e = absurd (e refl)
 refused_is (Some r) e = refl
 
-pub with_refusal : (i : Receiving) (b : List ℕ) (rs x : List Request) (r : Option RespError) → i.values.refusal ≡ r → Holds i b (rs ++ (x ++ refused r)) → Holds i b (rs ++ (x ++ refused i.values.refusal))
-with_refusal i b rs x r e h = subst (λ (z : Option RespError). Holds i b (rs ++ (x ++ refused z))) (sym e) h
+pub with_refusal : (i : Receiving) (b : List ℕ) (rs x : List Request) (r : Option RespError) → i.values.refusal ≡ r → Holds i b (rs ++ (x ++ refusal_requests r)) → Holds i b (rs ++ (x ++ refusal_requests i.values.refusal))
+with_refusal i b rs x r e h = subst (λ (z : Option RespError). Holds i b (rs ++ (x ++ refusal_requests z))) (sym e) h
 
 -- a value has its turn
 pub answered_on : (l : LineState) (k : LinkState) (v : Value) (pass : ℕ) (H : History) (a : Answer) (m : ℕ) → k.next ≡ Some v
@@ -278,18 +278,18 @@ answered_on l k v pass H a m next = record {
       given = c.link_is.given;
       holds = c.link_is.holds;
       most_is = c.link_is.most_is;
-      given_are = c.link_is.given_are ∙ rw next (more_came (came l.host l.epoch H) (came l.host l.epoch (step_by pass (Event.Answered l.host l.epoch v m) a ∷ H)) (refused k.inbox.values.refusal) one_came);
+      given_are = c.link_is.given_are ∙ rw next (more_came (replies_from l.host l.epoch H) (replies_from l.host l.epoch (step_by pass (Event.Answered l.host l.epoch v m) a ∷ H)) (refusal_requests k.inbox.values.refusal) one_came);
     };
     epoch_is = c.epoch_is;
     none_sent = λ s d below. append-nil (upstream l.host d H) ∙ c.none_sent s d below;
-    none_came = λ d below. rw (mine, ne_eqb l.epoch d (λ q. omega (arith, q, below))) (append-nil (came l.host d H) ∙ c.none_came d below);
+    none_came = λ d below. rw (mine, ne_eqb l.epoch d (λ q. omega (arith, q, below))) (append-nil (replies_from l.host d H) ∙ c.none_came d below);
   });
 }
   where
     mine : (l.host == l.host) ≡ true
     mine = eq-eqb l.host l.host refl
 
-    one_came : came l.host l.epoch (step_by pass (Event.Answered l.host l.epoch v m) a ∷ H) ≡ came l.host l.epoch H ++ tree_of v ∷ []
+    one_came : replies_from l.host l.epoch (step_by pass (Event.Answered l.host l.epoch v m) a ∷ H) ≡ replies_from l.host l.epoch H ++ tree_of v ∷ []
     one_came = rw (mine, eq-eqb l.epoch l.epoch refl) refl
 
     more_came : (before after : List Tree) (rest : List Request) → after ≡ before ++ tree_of v ∷ [] → map read before ++ (read (tree_of v) ∷ rest) ≡ map read after ++ rest
@@ -343,7 +343,7 @@ heard_on l k i H m moved told all input same = record {
       given = c.link_is.given;
       holds = read_holds k.inbox i b c.link_is.given all.none_refused all.none_fresh same c.link_is.holds;
       most_is = ap (λ (z : ReaderState). z.most) same ∙ c.link_is.most_is;
-      given_are = c.link_is.given_are ∙ ap (λ (z : ReaderState). map read (came l.host l.epoch H) ++ (waiting k.next ++ refused z.refusal)) (sym same);
+      given_are = c.link_is.given_are ∙ ap (λ (z : ReaderState). map read (replies_from l.host l.epoch H) ++ (waiting_requests k.next ++ refusal_requests z.refusal)) (sym same);
     };
     epoch_is = c.epoch_is;
     none_sent = c.none_sent;
@@ -365,7 +365,7 @@ pub fresh_carries : (host reply_ms : ℕ) (H : History) → host_steps host H �
 fresh_carries host reply_ms H none =
     let same = history.SameOfHost-host_steps host H in
     let nothing_sent : (e : ℕ) → upstream host e H ≡ [] = λ e. sym (same.same_upstream e) ∙ ap (upstream host e) none in
-    let nothing_came : (e : ℕ) → came host e H ≡ [] = λ e. sym (same.same_replies e) ∙ ap (came host e) none in
+    let nothing_came : (e : ℕ) → replies_from host e H ≡ [] = λ e. sym (same.same_replies e) ∙ ap (replies_from host e) none in
     record {
       out_is = sym (nothing_sent 0);
       link_is = (nothing_came 0, refl, refl);

@@ -7,7 +7,7 @@ use Rattle.resp_core.specs.declared.reader.TheConstants.{CLIENT_MEMBERS}
 use Rattle.splitter.specs.Request.{Request, request_of}
 use Rattle.splitter.specs.Requests.{finishes}
 use Rattle.splitter.specs.declared.request.Request.{Request as Request'}
-use Rattle.proxy_history.specs.History.{History, accepted, handed, requests, is_closed}
+use Rattle.proxy_history.specs.History.{History, accepted_count, handed_count, requests, is_closed}
 use Rattle.proxy_history.specs.Seen.{SeenStep}
 use Rattle.proxy_history.specs.declared.event.Event.{Event}
 use Rattle.proxy_history.specs.declared.refusal.Refusal.{Refusal}
@@ -45,13 +45,13 @@ IsLive Stage.Finishing = ⊤
 IsLive stage = ⊥
 
 -- what waits, as a list
-abbrev pub waiting : Option Request' → List Request
-waiting None = []
-waiting (Some r) = request_of r ∷ []
+abbrev pub waiting_requests : Option Request' → List Request
+waiting_requests None = []
+waiting_requests (Some r) = request_of r ∷ []
 
 -- what the connection has asked and was accepted
-abbrev pub asked : ℕ → History → List Request
-asked c H = map request_of (requests c H)
+abbrev pub asked_requests : ℕ → History → List Request
+asked_requests c H = map request_of (requests c H)
 
 -- no request of these finishes the connection
 abbrev pub NoneFinishes : List Request → Type 0
@@ -101,10 +101,10 @@ pub record Carries (e : Client) (H : History) (taken b : List ℕ) : Type 0 wher
   pub out_is : taken ++ e.outbox.pending ≡ transcript e.conn H
   pub holds : Holds e.inbox b given
   pub most_is : e.inbox.values.most ≡ CLIENT_MEMBERS
-  pub given_are : given ≡ asked e.conn H ++ waiting e.next
-  pub accepted_is : e.accepted ≡ accepted e.conn H
-  pub handed_is : e.handed ≡ handed e.conn H
-  pub stage_is : IsAtStage e.stage (IsDone e H) (asked e.conn H) e.is_drained e.inbox e.next b given
+  pub given_are : given ≡ asked_requests e.conn H ++ waiting_requests e.next
+  pub accepted_is : e.accepted ≡ accepted_count e.conn H
+  pub handed_is : e.handed ≡ handed_count e.conn H
+  pub stage_is : IsAtStage e.stage (IsDone e H) (asked_requests e.conn H) e.is_drained e.inbox e.next b given
 
 -- Nothing can be handed out: all that was accepted has been, or the next reply hasn't come.
 abbrev pub HandsNothing : (Refusal → Event → List SeenStep → Type 0) → Client → List SeenStep → List SeenStep → Type 0

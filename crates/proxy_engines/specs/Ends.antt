@@ -28,9 +28,9 @@ pub record Receiving : Type 0 where
   pub values : ReaderState
 
 -- a refusal of the reader of values is a request too
-abbrev pub refused : Option RespError → List Request
-refused None = []
-refused (Some e) = broken ∷ []
+abbrev pub refusal_requests : Option RespError → List Request
+refusal_requests None = []
+refusal_requests (Some e) = broken ∷ []
 
 -- The end was given the bytes b, and has given these requests.
 pub record Holds (i : Receiving) (b : List ℕ) (rs : List Request) : Type 0 where
@@ -38,7 +38,7 @@ pub record Holds (i : Receiving) (b : List ℕ) (rs : List Request) : Type 0 whe
   pub given : List Tree
   pub bytes : b ≡ fed ++ i.fresh
   pub stands : Stands i.values fed given
-  pub requests : rs ≡ map read given ++ refused i.values.refusal
+  pub requests : rs ≡ map read given ++ refusal_requests i.values.refusal
   pub after : IfSome i.values.refusal (λ _. i.fresh ≡ [])
 
 -- these are the requests of bytes whose arrays may have so many members: their values in order, and then a broken one where

@@ -7,7 +7,7 @@ use Rattle.resp_core.specs.declared.value.Value.{Value}
 use Rattle.resp_core.specs.declared.reader.TheConstants.{HOST_MEMBERS}
 use Rattle.splitter.specs.Request.{Request, read}
 use Rattle.proxy_history.specs.History.{History, times, is_fault, epoch}
-use Rattle.proxy_history.specs.Replies.{came}
+use Rattle.proxy_history.specs.Replies.{replies_from}
 use Rattle.proxy_history.specs.Output.{upstream}
 use Rattle.proxy_history.specs.Own.{host_steps}
 use Rattle.proxy_history.specs.declared.event.Event.{Event}
@@ -15,7 +15,7 @@ use Rattle.proxy_history.specs.declared.event.Kind.{Kind}
 use Rattle.proxy_history.specs.declared.answer.Answer.{Answer}
 use Rattle.proxy_engines.specs.Device.{Counts}
 use Rattle.proxy_engines.specs.Moves.{has_moved}
-use Rattle.proxy_engines.specs.Ends.{Receiving, Holds, refused}
+use Rattle.proxy_engines.specs.Ends.{Receiving, Holds, refusal_requests}
 use Rattle.proxy_engines.specs.Turned.{step_by}
 
 -- The engine without its link: its host, after how many milliseconds a reply is late, the epoch, the text that is pending, and
@@ -37,16 +37,16 @@ pub record LinkState : Type 0 where
   pub next : Option Value
 
 -- what waits for its turn, as a list
-abbrev pub waiting : Option Value → List Request
-waiting None = []
-waiting (Some v) = read (tree_of v) ∷ []
+abbrev pub waiting_requests : Option Value → List Request
+waiting_requests None = []
+waiting_requests (Some v) = read (tree_of v) ∷ []
 
 -- The link was given the bytes b: their values are those that came, the one that waits for its turn, and a refused byte.
 pub record HoldsLink (k : LinkState) (came : List Tree) (b : List ℕ) : Type 0 where
   pub given : List Request
   pub holds : Holds k.inbox b given
   pub most_is : k.inbox.values.most ≡ HOST_MEMBERS
-  pub given_are : given ≡ map read came ++ (waiting k.next ++ refused k.inbox.values.refusal)
+  pub given_are : given ≡ map read came ++ (waiting_requests k.next ++ refusal_requests k.inbox.values.refusal)
 
 -- what a link took, what it was given, and the values that came; without a link nothing
 abbrev pub IsOnLink : Option LinkState → List Tree → List ℕ → List ℕ → Type 0
@@ -58,10 +58,10 @@ IsOnLink (Some k) came taken b = HoldsLink k came b
 -- of what the bytes hold. Nothing was sent or came in a later epoch.
 pub record CarriesHost (l : LineState) (k : Option LinkState) (H : History) (taken b : List ℕ) : Type 0 where
   pub out_is : taken ++ l.pending ≡ upstream l.host l.epoch H
-  pub link_is : IsOnLink k (came l.host l.epoch H) taken b
+  pub link_is : IsOnLink k (replies_from l.host l.epoch H) taken b
   pub epoch_is : l.epoch ≡ epoch l.host H
   pub none_sent : l.is_astray ≡ false → (e : ℕ) → l.epoch < e → upstream l.host e H ≡ []
-  pub none_came : (e : ℕ) → l.epoch < e → came l.host e H ≡ []
+  pub none_came : (e : ℕ) → l.epoch < e → replies_from l.host e H ≡ []
 
 -- the moments of the parts without reply, after a step at this moment, and after several, the newest first
 abbrev pub moments_by : ℕ → Event → List ℕ → List ℕ
@@ -105,13 +105,13 @@ pub record GoesOn (l l' : LineState) (k k' : Option LinkState) (H H' : History) 
   pub carries : (taken b : List ℕ) → CarriesHost l k H taken b → CarriesHost l' k' H' (taken ++ gave) (b ++ got)
 
 -- the engine after a fault: what was pending is dropped
-abbrev pub anew : LineState → LineState
-anew l = record l { epoch = min (l.epoch + 1) (2 ^ 64 - 1); pending = []; moments = [] }
+abbrev pub next_link : LineState → LineState
+next_link l = record l { epoch = min (l.epoch + 1) (2 ^ 64 - 1); pending = []; moments = [] }
 
 -- One fault was recorded. The link is given up, and the next one begins with nothing.
 pub record FailsHost (l l' : LineState) (k : Option LinkState) (H H' : History) (kind : Kind) (moment : ℕ) : Type 0 where
   pub pass : ℕ
   pub answer : Answer
   pub adds : H' ≡ step_by pass (Event.Failed l.host l.epoch kind moment) answer ∷ H
-  pub line : l' ≡ anew l
+  pub line : l' ≡ next_link l
   pub carries : (taken b : List ℕ) → CarriesHost l k H taken b → CarriesHost l' None H' [] []

@@ -2,23 +2,23 @@
 use Rattle.std.specs.Prelude.{◌≡◌, ◌≢◌, ℕ, false, List, [], ◌++◌, Option}
 use Rattle.splitter.specs.Request.{Request}
 use Rattle.splitter.specs.Requests.{AreRequests, up_to_last}
-use Rattle.proxy_history.specs.History.{History, accepted, handed}
+use Rattle.proxy_history.specs.History.{History, accepted_count, handed_count}
 use Rattle.proxy_history.specs.Output.{transcript}
 use Rattle.proxy_history.specs.Own.{connection_steps, host_steps}
-use Rattle.proxy_engines.specs.Client.{Client, Carries, asked}
+use Rattle.proxy_engines.specs.Client.{Client, Carries, asked_requests}
 use Rattle.proxy_engines.specs.Host.{LineState, LinkState, CarriesHost}
 use Rattle.proxy_engines.specs.declared.client.Stage.{Stage}
 
 -- The requests accepted are the first of those that the bytes read ask.
 abbrev pub AcceptedAreFirst : Type 0
 AcceptedAreFirst = (e : Client) (H : History) (taken b : List ℕ) → Carries e H taken b
-    → (rs : List Request) → AreRequests b rs → (more : List Request) × (rs ≡ asked e.conn H ++ more)
+    → (rs : List Request) → AreRequests b rs → (more : List Request) × (rs ≡ asked_requests e.conn H ++ more)
 
 -- A client that ended has accepted the requests of all bytes up to and with the first that finishes; all were handed out,
 -- and the writer took all that was handed out.
 pub record IsWholly (e : Client) (H : History) (taken : List ℕ) (rs : List Request) : Type 0 where
-  pub accepted_are : asked e.conn H ≡ up_to_last rs
-  pub all_handed : handed e.conn H ≡ accepted e.conn H
+  pub accepted_are : asked_requests e.conn H ≡ up_to_last rs
+  pub all_handed : handed_count e.conn H ≡ accepted_count e.conn H
   pub taken_is : taken ≡ transcript e.conn H
 
 -- a client that ended has answered all that it was asked

@@ -84,7 +84,16 @@ impl<R: ReadTally, W: WriteTally> Model for ClientEngine<R, W> {
 
     ghost coded = { Prim.hlevel (codes, tree_code, request.the_row.coded) };
 
-    ghost view = { λ e. record { conn = e.conn; inbox = e.inbox; outbox = e.outbox; next = e.next; accepted = e.accepted; handed = e.handed; stage = e.stage; is_drained = e.is_drained } };
+    ghost view = { λ e. record {
+      conn = e.conn;
+      inbox = e.inbox;
+      outbox = e.outbox;
+      next = e.next;
+      accepted = e.accepted;
+      handed = e.handed;
+      stage = e.stage;
+      is_drained = e.is_drained;
+    } };
 
     ghost invariant = { λ e. IsWhole e.stage e.next e.inbox.values.refusal };
 }

@@ -64,7 +64,12 @@ impl<R: ReadTally> Model for Inbox<R> {
 
     ghost coded = { Prim.hlevel (codes, tree_code) };
 
-    ghost view = { λ i. record { left = R.remaining i.input; counts = R.counts i.input; fresh = take i.fresh i.buffer.items; values = i.values } };
+    ghost view = { λ i. record {
+      left = R.remaining i.input;
+      counts = R.counts i.input;
+      fresh = take i.fresh i.buffer.items;
+      values = i.values;
+    } };
 
     ghost invariant = { λ i. (LEAST_READ_SIZE ≤ length i.buffer.items)
         × (length i.buffer.items ≤ READ_SIZE) × (i.fresh ≤ length i.buffer.items) };

@@ -41,7 +41,14 @@ impl Model for Line {
 
     ghost Value = { LineState };
 
-    ghost view = { λ l. record { host = l.host; reply_ms = l.reply_ms; epoch = l.epoch; pending = l.pending; moments = l.moments.items; is_astray = l.is_astray } };
+    ghost view = { λ l. record {
+      host = l.host;
+      reply_ms = l.reply_ms;
+      epoch = l.epoch;
+      pending = l.pending;
+      moments = l.moments.items;
+      is_astray = l.is_astray;
+    } };
 }
 
 impl Line {

@@ -86,7 +86,12 @@ impl<R: ReadTally, W: WriteTally> Model for Link<R, W> {
 
     ghost coded = { Prim.hlevel (codes, tree_code, value.the_row.coded) };
 
-    ghost view = { λ k. record { inbox = k.inbox; held = W.contents k.writer; counts = W.counts k.writer; next = k.next } };
+    ghost view = { λ k. record {
+      inbox = k.inbox;
+      held = W.contents k.writer;
+      counts = W.counts k.writer;
+      next = k.next;
+    } };
 }
 
 #[tactic(auto, using(crate::proofs::HostMoves::goes_on, crate::proofs::HostMoves::starts_then, crate::proofs::FaultLemmas::no_fault, crate::proofs::FaultLemmas::fault_later))]

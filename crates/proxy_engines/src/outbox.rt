@@ -22,7 +22,11 @@ impl<W: WriteTally> Model for Outbox<W> {
 
     ghost Value = { Sending };
 
-    ghost view = { λ o. record { held = W.contents o.writer; counts = W.counts o.writer; pending = o.pending } };
+    ghost view = { λ o. record {
+      held = W.contents o.writer;
+      counts = W.counts o.writer;
+      pending = o.pending;
+    } };
 }
 
 impl<W: WriteTally> Outbox<W> {

@@ -3,7 +3,7 @@ use Rattle.std.proofs.Common.{◌≡◌, ℕ, true, false, not, ◌==◌, nat_lt
 use Rattle.std.proofs.lemmas.Bool.{and_parts, eqb-true, not-true, not-false, both_ways, or_right, or_from, false_from_ne_true}
 use Rattle.std.proofs.lemmas.List.{append-nil}
 use Rattle.proxy_history.specs.Setting.{Setting}
-use Rattle.proxy_history.specs.History.{History, has, opened, is_closed, is_open, is_closing}
+use Rattle.proxy_history.specs.History.{History, has, openings, is_closed, is_open, is_closing}
 use Rattle.proxy_history.specs.Part.{Past}
 use Rattle.proxy_history.specs.Past.{past}
 use Rattle.proxy_history.specs.Cause.{own_cause, causes}
@@ -22,7 +22,7 @@ still_closed c (s ∷ later) before e = or_right (is_closing c s.event) _ (still
 -- an event that is accepted is not of a closed connection
 not_open : (x : Past) (c conn : ℕ) → is_closed c x.steps ≡ true → not (is_open conn x.steps) ≡ false → (conn == c) ≡ false
 not_open x c conn k n = false_from_ne_true (conn == c) (λ t.
-    let b = and_parts (nat_lt conn (opened x.steps)) (not (is_closed conn x.steps)) (not-false (is_open conn x.steps) n) in
+    let b = and_parts (nat_lt conn (openings x.steps)) (not (is_closed conn x.steps)) (not-false (is_open conn x.steps) n) in
     both_ways (is_closed conn x.steps) (not-true _ b.1) (rw (eqb-true conn c t) k))
 
 not_of : (S : Setting) (x : Past) (c : ℕ) (event : Event) → is_closed c x.steps ≡ true → own_cause S x event ≡ None → is_of_connection c event ≡ false

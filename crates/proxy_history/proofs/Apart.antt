@@ -7,11 +7,11 @@ use Rattle.std.proofs.lemmas.List.Folds.{list_any-append}
 use Rattle.proxy_history.specs.Setting.{Setting}
 use Rattle.splitter.specs.Plan.{Plan, here, leave, parts}
 use Rattle.splitter.specs.declared.plans.PartPlan.{PartPlan}
-use Rattle.proxy_history.specs.History.{plan_for, History, epoch, accepted, is_arrival, Step}
+use Rattle.proxy_history.specs.History.{plan_for, History, epoch, accepted_count, is_arrival, Step}
 use Rattle.proxy_history.specs.Part.{Past, Part, is_host, is_same}
 use Rattle.proxy_history.specs.Past.{past, after}
-use Rattle.proxy_history.specs.Waiting.{waiting, waits}
-use Rattle.proxy_history.specs.Arrival.{parts_by, placed_by, placing, placed_part, with_host, host_for, hostless}
+use Rattle.proxy_history.specs.Waiting.{waiting_parts, waits}
+use Rattle.proxy_history.specs.Arrival.{parts_by, placed_by, parts_placed, placed_part, with_host, host_for, hostless}
 use Rattle.proxy_history.specs.Laws.{AreApart}
 use Rattle.proxy_history.specs.declared.answer.Answer.{Answer}
 use Rattle.proxy_history.specs.declared.event.Kind.{Kind}
@@ -42,7 +42,7 @@ pub host_keeps_number : (x : Past) (placed : List Part) (o : Option ℕ) (p : Pa
 host_keeps_number x placed None p = refl
 host_keeps_number x placed (Some h) p = refl
 
-placing_apart : (S : Setting) (x : Past) (conn command : ℕ) (placed : List Part) (ps : List PartPlan) → AreApart placed → AreBelow (length placed) placed → AreApart (placing S x conn command placed ps)
+placing_apart : (S : Setting) (x : Past) (conn command : ℕ) (placed : List Part) (ps : List PartPlan) → AreApart placed → AreBelow (length placed) placed → AreApart (parts_placed S x conn command placed ps)
 placing_apart S x conn command placed [] a b = a
 placing_apart S x conn command placed (p ∷ ps) a b =
     let q = placed_part S x conn command placed p in
@@ -56,7 +56,7 @@ placing_apart S x conn command placed (p ∷ ps) a b =
 
 abbrev pub AreEarlier : History → List Part → Type 0
 AreEarlier H [] = Unit {0}
-AreEarlier H (p ∷ ps) = (p.command < accepted p.conn H) × AreEarlier H ps
+AreEarlier H (p ∷ ps) = (p.command < accepted_count p.conn H) × AreEarlier H ps
 
 pub earlier_grows : (s : Step) (H : History) (ps : List Part) → AreEarlier H ps → AreEarlier (s ∷ H) ps
 earlier_grows s H [] a = tt
@@ -66,11 +66,11 @@ pub earlier_both : (H : History) (ps qs : List Part) → AreEarlier H ps → Are
 earlier_both H [] qs a b = b
 earlier_both H (p ∷ ps) qs a b = (a.0, earlier_both H ps qs a.1 b)
 
-new_are_earlier : (H : History) (conn : ℕ) (ps : List Part) → AreOf conn (accepted conn H) ps → (s : Step) → is_arrival conn s.event ≡ true → AreEarlier (s ∷ H) ps
+new_are_earlier : (H : History) (conn : ℕ) (ps : List Part) → AreOf conn (accepted_count conn H) ps → (s : Step) → is_arrival conn s.event ≡ true → AreEarlier (s ∷ H) ps
 new_are_earlier H conn [] a s e = tt
 new_are_earlier H conn (p ∷ ps) a s e =
-    let now : accepted conn (s ∷ H) ≡ accepted conn H + 1 = rw (e) refl in
-    (omega (arith, now, a.1, ap (λ k. accepted k (s ∷ H)) a.0), new_are_earlier H conn ps a.2 s e)
+    let now : accepted_count conn (s ∷ H) ≡ accepted_count conn H + 1 = rw (e) refl in
+    (omega (arith, now, a.1, ap (λ k. accepted_count k (s ∷ H)) a.0), new_are_earlier H conn ps a.2 s e)
 
 none_same_of : (p : Part) (conn command : ℕ) (qs : List Part) → ((p.conn == conn) && (p.command == command)) ≡ false → AreOf conn command qs → list_any (is_same p) qs ≡ false
 none_same_of p conn command [] e a = refl
@@ -78,15 +78,15 @@ none_same_of p conn command (q ∷ qs) e a =
     let f : ((p.conn == q.conn) && (p.command == q.command)) ≡ false = rw (a.0, a.1) e in
     or_from _ _ (and_left _ (p.number == q.number) f) (none_same_of p conn command qs e a.2)
 
-not_new : (H : History) (conn : ℕ) (p : Part) → p.command < accepted p.conn H → ((p.conn == conn) && (p.command == accepted conn H)) ≡ false
+not_new : (H : History) (conn : ℕ) (p : Part) → p.command < accepted_count p.conn H → ((p.conn == conn) && (p.command == accepted_count conn H)) ≡ false
 not_new H conn p l = false_from_ne_true _ (λ t.
-    let a = and_parts (p.conn == conn) (p.command == accepted conn H) t in
-    omega (arith, l, eqb-true p.command (accepted conn H) a.1, ap (λ k. accepted k H) (eqb-true p.conn conn a.0)))
+    let a = and_parts (p.conn == conn) (p.command == accepted_count conn H) t in
+    omega (arith, l, eqb-true p.command (accepted_count conn H) a.1, ap (λ k. accepted_count k H) (eqb-true p.conn conn a.0)))
 
-apart_both : (H : History) (conn : ℕ) (ps qs : List Part) → AreApart ps → AreEarlier H ps → AreApart qs → AreOf conn (accepted conn H) qs → AreApart (ps ++ qs)
+apart_both : (H : History) (conn : ℕ) (ps qs : List Part) → AreApart ps → AreEarlier H ps → AreApart qs → AreOf conn (accepted_count conn H) qs → AreApart (ps ++ qs)
 apart_both H conn [] qs a e b o = b
 apart_both H conn (p ∷ ps) qs a e b o = (
-  list_any-append (is_same p) ps qs ∙ or_from _ _ a.0 (none_same_of p conn (accepted conn H) qs (not_new H conn p e.0) o),
+  list_any-append (is_same p) ps qs ∙ or_from _ _ a.0 (none_same_of p conn (accepted_count conn H) qs (not_new H conn p e.0) o),
   apart_both H conn ps qs a.1 e.1 b o,
 )
 
@@ -96,9 +96,9 @@ pub record AreInOrder (H : History) (ps : List Part) : Type 0 where
 
 placed_in_order : (S : Setting) (x : Past) (conn : ℕ) (s : Step) (p : Plan) → is_arrival conn s.event ≡ true → AreInOrder x.steps x.parts → AreInOrder (s ∷ x.steps) (x.parts ++ placed_by S x conn p)
 placed_in_order S x conn s (parts how list) e a =
-    let new = placing_are_of S x conn (accepted conn x.steps) [] list tt in
+    let new = placing_are_of S x conn (accepted_count conn x.steps) [] list tt in
     record {
-      apart = apart_both x.steps conn x.parts _ a.apart a.earlier (placing_apart S x conn (accepted conn x.steps) [] list tt tt) new;
+      apart = apart_both x.steps conn x.parts _ a.apart a.earlier (placing_apart S x conn (accepted_count conn x.steps) [] list tt tt) new;
       earlier = earlier_both (s ∷ x.steps) x.parts _ (earlier_grows s x.steps x.parts a.earlier) (new_are_earlier x.steps conn _ new s e);
     }
 placed_in_order S x conn s (here name value) e a = rw (append-nil x.parts) (record { apart = a.apart; earlier = earlier_grows s x.steps x.parts a.earlier })
@@ -125,7 +125,7 @@ parts_are_in_order S (s ∷ before) = in_order_after S (past S before) s.pass s.
 
 -- after a fault nothing waits
 pub after_failed : (S : Setting) (h pass e t : ℕ) (kind : Kind) (answer : Answer) (x : Past) → AreOfPast x.steps x.parts
-    → waiting h (after S (record { pass = pass; event = Failed h e kind t; answer = answer }) x) ≡ []
+    → waiting_parts h (after S (record { pass = pass; event = Failed h e kind t; answer = answer }) x) ≡ []
 after_failed S h pass e t kind answer x a =
     rw (append-nil x.parts) (none_of_next h x x.parts _ waits_next a)
   where

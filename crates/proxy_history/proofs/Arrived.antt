@@ -10,11 +10,11 @@ use Rattle.splitter.specs.declared.plans.Join.{Join}
 use Rattle.splitter.specs.declared.plans.PartPlan.{PartPlan}
 use Rattle.splitter.specs.declared.request.Request.{Request}
 use Rattle.proxy_history.specs.Setting.{Setting, max_waiting}
-use Rattle.proxy_history.specs.History.{History, Step, plan_for, accepted}
+use Rattle.proxy_history.specs.History.{History, Step, plan_for, accepted_count}
 use Rattle.proxy_history.specs.Part.{Past, Part}
 use Rattle.proxy_history.specs.Past.{past}
-use Rattle.proxy_history.specs.Waiting.{waits, waiting, first, sent_by}
-use Rattle.proxy_history.specs.Arrival.{no_upstream_host, proxy_busy, before_it, parts_by, placed_by, placing, placed_part, with_host, host_for, hostless}
+use Rattle.proxy_history.specs.Waiting.{waits, waiting_parts, first, sent_by}
+use Rattle.proxy_history.specs.Arrival.{no_upstream_host, proxy_busy, before_it, parts_by, placed_by, parts_placed, placed_part, with_host, host_for, hostless}
 use Rattle.proxy_history.specs.Laws.{IsPlaced, HasArrived}
 use Rattle.proxy_history.specs.declared.event.Event.{Event}
 use Rattle.proxy_history.specs.declared.event.Event.TheVariants.{Opened, Arrived, Finished, Taken, Answered, Failed, Swept, Handed, Closed}
@@ -32,10 +32,10 @@ record IsPlacedBy (S : Setting) (x : Past) (conn command : ℕ) (placed : List P
   length_is : length front ≡ length placed + place
   is : p ≡ placed_part S x conn command front plan
   rest : List Part
-  split : placing S x conn command placed plans ≡ front ++ p ∷ rest
+  split : parts_placed S x conn command placed plans ≡ front ++ p ∷ rest
 
 -- what was placed stays in front
-placing_grows : (S : Setting) (x : Past) (conn command : ℕ) (placed : List Part) (plans : List PartPlan) → (more : List Part) × (placing S x conn command placed plans ≡ placed ++ more)
+placing_grows : (S : Setting) (x : Past) (conn command : ℕ) (placed : List Part) (plans : List PartPlan) → (more : List Part) × (parts_placed S x conn command placed plans ≡ placed ++ more)
 placing_grows S x conn command placed [] = ([], sym (append-nil placed))
 placing_grows S x conn command placed (q ∷ plans) =
     let p = placed_part S x conn command placed q in
@@ -43,7 +43,7 @@ placing_grows S x conn command placed (q ∷ plans) =
     (p ∷ a.0, a.1 ∙ append_assoc placed (p ∷ []) a.0)
 
 placed_is_by : (S : Setting) (x : Past) (conn command : ℕ) (placed : List Part) (plans : List PartPlan) (p : Part)
-    → Contains (placing S x conn command placed plans) p → Contains placed p ⊎ IsPlacedBy S x conn command placed plans p
+    → Contains (parts_placed S x conn command placed plans) p → Contains placed p ⊎ IsPlacedBy S x conn command placed plans p
 placed_is_by S x conn command placed [] p h = inl h
 placed_is_by S x conn command placed (q ∷ plans) p h =
     elim (placed_is_by S x conn command (placed ++ placed_part S x conn command placed q ∷ []) plans p h) [
@@ -103,10 +103,10 @@ pub record IsNew (S : Setting) (x : Past) (event : Event) (p : Part) : Type 0 wh
   how : Join
   list : List PartPlan
   is_split : plan_for request ≡ parts how list
-  by : IsPlacedBy S x conn (accepted conn x.steps) [] list p
+  by : IsPlacedBy S x conn (accepted_count conn x.steps) [] list p
 
 new_by_plan : (S : Setting) (x : Past) (conn : ℕ) (request : Request) (p : Part) (plan : Plan) → plan_for request ≡ plan → Contains (placed_by S x conn plan) p → IsNew S x (Arrived conn request) p
-new_by_plan S x conn request p (parts how list) e h = elim (placed_is_by S x conn (accepted conn x.steps) [] list p h) [
+new_by_plan S x conn request p (parts how list) e h = elim (placed_is_by S x conn (accepted_count conn x.steps) [] list p h) [
   | inl earlier ↦ absurd (Contains-nil p earlier)
   | inr by ↦ record { conn = conn; request = request; arrives = refl; how = how; list = list; is_split = e; by = by }
 ]
@@ -125,7 +125,7 @@ new_is S x (Handed conn) p h = absurd (Contains-nil p h)
 new_is S x (Closed conn) p h = absurd (Contains-nil p h)
 
 -- the parts of an arrival, by the plan
-parts_are : (S : Setting) (x : Past) (event : Event) (p : Part) (a : IsNew S x event p) → parts_by S x event ≡ placing S x a.conn (accepted a.conn x.steps) [] a.list
+parts_are : (S : Setting) (x : Past) (event : Event) (p : Part) (a : IsNew S x event p) → parts_by S x event ≡ parts_placed S x a.conn (accepted_count a.conn x.steps) [] a.list
 parts_are S x event p a = ap (parts_by S x) a.arrives ∙ ap (placed_by S x a.conn) a.is_split
 
 -- of a part that was placed so, what its plan says
@@ -134,7 +134,7 @@ arrived_now S H s p a =
     let x = past S H in
     let b = a.by in
     let o = host_for S x b.plan.key in
-    let bare = hostless a.conn (accepted a.conn H) (length b.front) b.plan in
+    let bare = hostless a.conn (accepted_count a.conn H) (length b.front) b.plan in
     let conn_is : p.conn ≡ a.conn = ap (λ (q : Part). q.conn) b.is ∙ host_keeps_conn x b.front o bare in
     let number : p.number ≡ length b.front = ap (λ (q : Part). q.number) b.is ∙ host_keeps_number x b.front o bare in
     record {
@@ -144,7 +144,7 @@ arrived_now S H s p a =
       split = refl;
       request = a.request;
       arrives = a.arrives ∙ ap (λ c. Arrived c a.request) (sym conn_is);
-      command_is = ap (λ (q : Part). q.command) b.is ∙ host_keeps_command x b.front o bare ∙ ap (λ c. accepted c H) (sym conn_is);
+      command_is = ap (λ (q : Part). q.command) b.is ∙ host_keeps_command x b.front o bare ∙ ap (λ c. accepted_count c H) (sym conn_is);
       how = a.how;
       list = a.list;
       is_split = a.is_split;
@@ -206,7 +206,7 @@ in_first [] p h = h
 in_first (q ∷ ps) p h = Contains-append_left (q ∷ []) ps p h
 
 sent_now : (x : Past) (event : Event) (p : Part) → Contains (sent_by x event) p → Contains x.parts p
-sent_now x (Taken host) p h = Contains-filter (waits host x) x.parts p (in_first (waiting host x) p h)
+sent_now x (Taken host) p h = Contains-filter (waits host x) x.parts p (in_first (waiting_parts host x) p h)
 sent_now x Opened p h = absurd (Contains-nil p h)
 sent_now x (Arrived conn request) p h = absurd (Contains-nil p h)
 sent_now x (Finished conn) p h = absurd (Contains-nil p h)

@@ -4,10 +4,10 @@ use Rattle.std.proofs.lemmas.Bool.{cases_Bool, ltb-false}
 use Rattle.splitter.specs.declared.request.Request.{Request}
 use Rattle.resp_core.specs.Tree.{Tree}
 use Rattle.proxy_history.specs.Setting.{Setting}
-use Rattle.proxy_history.specs.History.{handed, is_open, is_finishing}
+use Rattle.proxy_history.specs.History.{handed_count, is_open, is_finishing}
 use Rattle.proxy_history.specs.Part.{Past}
 use Rattle.proxy_history.specs.Outcome.{outcome}
-use Rattle.proxy_history.specs.Cause.{left, is_ready, own_cause}
+use Rattle.proxy_history.specs.Cause.{commands_left, is_ready, own_cause}
 use Rattle.proxy_history.specs.CauseLaws.{HasNothingReady}
 use Rattle.proxy_history.specs.declared.refusal.Refusal.TheVariants as refusal
 use Rattle.proxy_history.specs.declared.event.Event.TheVariants.{Arrived, Handed}
@@ -17,18 +17,18 @@ is_none_of None e = refl
 is_none_of (Some v) e = absurd cc
 
 -- why nothing is ready
-not_ready : (x : Past) (c : ℕ) → is_ready c x ≡ false → (left c x ≡ 0) ⊎ (outcome c (handed c x.steps) x ≡ None)
-not_ready x c e = elim (cases_Bool (nat_lt 0 (left c x))) [
-  | inl t ↦ inr (is_none_of (outcome c (handed c x.steps) x) (rw t at e))
-  | inr f ↦ inl (omega (arith, ltb-false 0 (left c x) f))
+not_ready : (x : Past) (c : ℕ) → is_ready c x ≡ false → (commands_left c x ≡ 0) ⊎ (outcome c (handed_count c x.steps) x ≡ None)
+not_ready x c e = elim (cases_Bool (nat_lt 0 (commands_left c x))) [
+  | inl t ↦ inr (is_none_of (outcome c (handed_count c x.steps) x) (rw t at e))
+  | inr f ↦ inl (omega (arith, ltb-false 0 (commands_left c x) f))
 ]
 
 nothing_ready : (x : Past) (c unwritten : ℕ) → HasNothingReady x c unwritten → is_ready c x ≡ false
 nothing_ready x c unwritten a = elim a.none_ready [
   | inl none ↦
-      let zero_left : left c x ≡ 0 = sym a.unwritten_are ∙ none in
+      let zero_left : commands_left c x ≡ 0 = sym a.unwritten_are ∙ none in
       rw zero_left refl
-  | inr none ↦ and_false (nat_lt 0 (left c x)) (is_some (outcome c (handed c x.steps) x)) (ap is_some none)
+  | inr none ↦ and_false (nat_lt 0 (commands_left c x)) (is_some (outcome c (handed_count c x.steps) x)) (ap is_some none)
 ]
   where
     and_false : (a b : Bool) → b ≡ false → (a && b) ≡ false
@@ -46,7 +46,7 @@ pub not_ready_means : (S : Setting) (x : Past) (c unwritten : ℕ)
     → (own_cause S x (Handed c) ≡ Some (refusal.NotReady unwritten)) ↔ HasNothingReady x c unwritten
 not_ready_means S x c unwritten = (
   λ e.
-      let a = refused_by (is_open c x.steps) (is_ready c x) unwritten (left c x) e in
+      let a = refused_by (is_open c x.steps) (is_ready c x) unwritten (commands_left c x) e in
       record {
         opened = a.0;
         unwritten_are = a.2;

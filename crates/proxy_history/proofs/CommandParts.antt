@@ -15,11 +15,11 @@ use Rattle.splitter.specs.declared.request.Request.{Request}
 use Rattle.splitter.specs.declared.request.Request.TheVariants as requests'
 use Rattle.splitter.proofs.CallerLemmas.{parts_are_commands}
 use Rattle.proxy_history.specs.Setting.{Setting}
-use Rattle.proxy_history.specs.History.{History, Step, plan_for, accepted, requests, request_by, is_arrival}
+use Rattle.proxy_history.specs.History.{History, Step, plan_for, accepted_count, requests, request_by, is_arrival}
 use Rattle.proxy_history.specs.Part.{Past, Part}
 use Rattle.proxy_history.specs.Past.{past, parts_in}
 use Rattle.proxy_history.specs.Value.{value_of}
-use Rattle.proxy_history.specs.Arrival.{placing, placed_part, placed_by, parts_by, host_for, hostless}
+use Rattle.proxy_history.specs.Arrival.{parts_placed, placed_part, placed_by, parts_by, host_for, hostless}
 use Rattle.proxy_history.specs.Outcome.{parts_of, is_part_of, values_of, with_value}
 use Rattle.proxy_history.specs.CommandLaws.{parts_in_plan, HasItsParts}
 use Rattle.proxy_history.specs.declared.event.Event.{Event}
@@ -30,7 +30,7 @@ use Rattle.proxy_history.proofs.Arrived.{text_is}
 
 -- AS MANY AS THE PLAN HAS
 
-pub length-placing : (S : Setting) (x : Past) (conn command : ℕ) (placed : List Part) (ps : List PartPlan) → length (placing S x conn command placed ps) ≡ length placed + length ps
+pub length-placing : (S : Setting) (x : Past) (conn command : ℕ) (placed : List Part) (ps : List PartPlan) → length (parts_placed S x conn command placed ps) ≡ length placed + length ps
 length-placing S x conn command placed [] = omega arith
 length-placing S x conn command placed (p ∷ ps) =
     omega (arith, length-placing S x conn command (placed ++ placed_part S x conn command placed p ∷ []) ps, length-append placed (placed_part S x conn command placed p ∷ []))
@@ -42,17 +42,17 @@ all_of conn command (p ∷ ps) a =
     let g : (p.command == command) ≡ true = eq-eqb p.command command a.1 in
     rw (f, g) (ap (λ z. p ∷ z) (all_of conn command ps a.2))
 
-pub are_placed : (S : Setting) (x : Past) (conn : ℕ) (list : List PartPlan) → AreOf conn (accepted conn x.steps) (placing S x conn (accepted conn x.steps) [] list)
-are_placed S x conn list = placing_are_of S x conn (accepted conn x.steps) [] list tt
+pub are_placed : (S : Setting) (x : Past) (conn : ℕ) (list : List PartPlan) → AreOf conn (accepted_count conn x.steps) (parts_placed S x conn (accepted_count conn x.steps) [] list)
+are_placed S x conn list = placing_are_of S x conn (accepted_count conn x.steps) [] list tt
 
 -- A COMMAND THAT HASN'T ARRIVED HAS NO PARTS
 
-one_arrival : (c : ℕ) (request : Request) (s : Step) (before : History) → s.event ≡ Arrived c request → accepted c (s ∷ before) ≡ accepted c before + 1
+one_arrival : (c : ℕ) (request : Request) (s : Step) (before : History) → s.event ≡ Arrived c request → accepted_count c (s ∷ before) ≡ accepted_count c before + 1
 one_arrival c request s before e = rw (e, eq-eqb c c refl) refl
 
-not_yet_placed : (S : Setting) (x : Past) (c i conn : ℕ) (p : Plan) → (conn ≡ c → accepted c x.steps ≡ i → ⊥) → filter (is_part_of c i) (placed_by S x conn p) ≡ []
+not_yet_placed : (S : Setting) (x : Past) (c i conn : ℕ) (p : Plan) → (conn ≡ c → accepted_count c x.steps ≡ i → ⊥) → filter (is_part_of c i) (placed_by S x conn p) ≡ []
 not_yet_placed S x c i conn (parts how list) f =
-    none_of c i conn (accepted conn x.steps) _ (is_other (conn == c) (accepted conn x.steps == i) (λ a b. let e = eqb-true conn c a in f e (sym (ap (λ z. accepted z x.steps) e) ∙ eqb-true _ i b))) (are_placed S x conn list)
+    none_of c i conn (accepted_count conn x.steps) _ (is_other (conn == c) (accepted_count conn x.steps == i) (λ a b. let e = eqb-true conn c a in f e (sym (ap (λ z. accepted_count z x.steps) e) ∙ eqb-true _ i b))) (are_placed S x conn list)
   where
     is_other : (a b : Bool) → (a ≡ true → b ≡ true → ⊥) → (a && b) ≡ false
     is_other true true g = absurd (g refl refl)
@@ -61,7 +61,7 @@ not_yet_placed S x c i conn (parts how list) f =
 not_yet_placed S x c i conn (here name value) f = refl
 not_yet_placed S x c i conn (leave name value) f = refl
 
-not_yet_by : (S : Setting) (x : Past) (c i : ℕ) (event : Event) → (is_arrival c event ≡ true → accepted c x.steps ≡ i → ⊥) → filter (is_part_of c i) (parts_by S x event) ≡ []
+not_yet_by : (S : Setting) (x : Past) (c i : ℕ) (event : Event) → (is_arrival c event ≡ true → accepted_count c x.steps ≡ i → ⊥) → filter (is_part_of c i) (parts_by S x event) ≡ []
 not_yet_by S x c i (Arrived conn request) f = not_yet_placed S x c i conn (plan_for request) (λ e. f (eq-eqb conn c e))
 not_yet_by S x c i Opened f = refl
 not_yet_by S x c i (Finished conn) f = refl
@@ -80,31 +80,31 @@ fewer : (b : Bool) (n i : ℕ) → (if b then n + 1 else n) ≤ i → n ≤ i
 fewer true n i l = omega arith
 fewer false n i l = l
 
-pub not_yet : (S : Setting) (H : History) (c i : ℕ) → accepted c H ≤ i → parts_of c i (past S H) ≡ []
+pub not_yet : (S : Setting) (H : History) (c i : ℕ) → accepted_count c H ≤ i → parts_of c i (past S H) ≡ []
 not_yet S [] c i l = refl
 not_yet S (s ∷ H) c i l =
     filter-append (is_part_of c i) (parts_in S H) (parts_by S (past S H) s.event)
-    ∙ rw (not_yet S H c i (fewer (is_arrival c s.event) (accepted c H) i l), not_yet_by S (past S H) c i s.event (counted_once (is_arrival c s.event) (accepted c H) i l)) refl
+    ∙ rw (not_yet S H c i (fewer (is_arrival c s.event) (accepted_count c H) i l), not_yet_by S (past S H) c i s.event (counted_once (is_arrival c s.event) (accepted_count c H) i l)) refl
 
 -- A COMMAND HAS THE PARTS OF ITS PLAN
 
 own_parts : (S : Setting) (x : Past) (c : ℕ) (plan : Plan)
-    → filter (is_part_of c (accepted c x.steps)) (placed_by S x c plan) ≡ placing S x c (accepted c x.steps) [] (parts_in_plan plan)
-own_parts S x c (parts how list) = all_of c (accepted c x.steps) _ (are_placed S x c list)
+    → filter (is_part_of c (accepted_count c x.steps)) (placed_by S x c plan) ≡ parts_placed S x c (accepted_count c x.steps) [] (parts_in_plan plan)
+own_parts S x c (parts how list) = all_of c (accepted_count c x.steps) _ (are_placed S x c list)
 own_parts S x c (here name value) = refl
 own_parts S x c (leave name value) = refl
 
 -- the one request that an arrival brings is that of the next command
 parts_of_arrival : (S : Setting) (x : Past) (c conn : ℕ) (asked request : Request) (k : ℕ) → conn ≡ c → slice_get (asked ∷ []) k ≡ Some request
-    → filter (is_part_of c (accepted c x.steps + k)) (placed_by S x conn (plan_for asked)) ≡ placing S x c (accepted c x.steps + k) [] (parts_in_plan (plan_for request))
+    → filter (is_part_of c (accepted_count c x.steps + k)) (placed_by S x conn (plan_for asked)) ≡ parts_placed S x c (accepted_count c x.steps + k) [] (parts_in_plan (plan_for request))
 parts_of_arrival S x c conn asked request zero e f =
     let same : asked ≡ request = cc in
-    let none : accepted c x.steps + 0 ≡ accepted c x.steps = omega arith in
-    rw (none, e) (own_parts S x c (plan_for asked) ∙ ap (λ (r : Request). placing S x c (accepted c x.steps) [] (parts_in_plan (plan_for r))) same)
+    let none : accepted_count c x.steps + 0 ≡ accepted_count c x.steps = omega arith in
+    rw (none, e) (own_parts S x c (plan_for asked) ∙ ap (λ (r : Request). parts_placed S x c (accepted_count c x.steps) [] (parts_in_plan (plan_for r))) same)
 parts_of_arrival S x c conn asked request (suc k) e f = absurd (cc f)
 
 new_parts : (S : Setting) (x : Past) (c : ℕ) (event : Event) (request : Request) (k : ℕ) → slice_get (request_by c event) k ≡ Some request
-    → filter (is_part_of c (accepted c x.steps + k)) (parts_by S x event) ≡ placing S x c (accepted c x.steps + k) [] (parts_in_plan (plan_for request))
+    → filter (is_part_of c (accepted_count c x.steps + k)) (parts_by S x event) ≡ parts_placed S x c (accepted_count c x.steps + k) [] (parts_in_plan (plan_for request))
 new_parts S x c (Arrived conn asked) request k e = elim (cases_Bool (conn == c)) [
   | inl t ↦ parts_of_arrival S x c conn asked request k (eqb-true conn c t) (rw t at e)
   | inr t ↦ let g = rw t at e in absurd (cc g)
@@ -131,21 +131,21 @@ slice_get-right (x ∷ xs) ys k =
 
 -- the parts of a command are those that were placed at its arrival
 parts_were_placed : (S : Setting) (H : History) (c i : ℕ) (request : Request) → slice_get (requests c H) i ≡ Some request
-    → (x : Past) × (parts_of c i (past S H) ≡ placing S x c i [] (parts_in_plan (plan_for request)))
+    → (x : Past) × (parts_of c i (past S H) ≡ parts_placed S x c i [] (parts_in_plan (plan_for request)))
 parts_were_placed S [] c i request e = absurd (cc e)
-parts_were_placed S (s ∷ H) c i request e = elim (cases_Bool (nat_lt i (accepted c H))) [
+parts_were_placed S (s ∷ H) c i request e = elim (cases_Bool (nat_lt i (accepted_count c H))) [
   | inl t ↦
-      let l : i < accepted c H = ltb-true i (accepted c H) t in
+      let l : i < accepted_count c H = ltb-true i (accepted_count c H) t in
       let a = parts_were_placed S H c i request (sym (slice_get-left (requests c H) (request_by c s.event) i (omega (arith, l, length-requests c H))) ∙ e) in
       (a.0, parts_stay S (past S H) c i s l ∙ a.1)
   | inr t ↦
-      let l : accepted c H ≤ i = ltb-false i (accepted c H) t in
-      let k : ℕ = i - accepted c H in
-      let at : accepted c H + k ≡ i = omega (arith, l) in
+      let l : accepted_count c H ≤ i = ltb-false i (accepted_count c H) t in
+      let k : ℕ = i - accepted_count c H in
+      let at : accepted_count c H + k ≡ i = omega (arith, l) in
       let place : length (requests c H) + k ≡ i = omega (arith, l, length-requests c H) in
       let brought : slice_get (request_by c s.event) k ≡ Some request = sym (slice_get-right (requests c H) (request_by c s.event) k) ∙ ap (λ z. slice_get (requests c H ++ request_by c s.event) z) place ∙ e in
-      let now : filter (is_part_of c i) (parts_by S (past S H) s.event) ≡ placing S (past S H) c i [] (parts_in_plan (plan_for request)) =
-      subst (λ (z : ℕ). filter (is_part_of c z) (parts_by S (past S H) s.event) ≡ placing S (past S H) c z [] (parts_in_plan (plan_for request))) at (new_parts S (past S H) c s.event request k brought) in
+      let now : filter (is_part_of c i) (parts_by S (past S H) s.event) ≡ parts_placed S (past S H) c i [] (parts_in_plan (plan_for request)) =
+      subst (λ (z : ℕ). filter (is_part_of c z) (parts_by S (past S H) s.event) ≡ parts_placed S (past S H) c z [] (parts_in_plan (plan_for request))) at (new_parts S (past S H) c s.event request k brought) in
       (past S H, filter-append (is_part_of c i) (parts_in S H) (parts_by S (past S H) s.event) ∙ rw (not_yet S H c i l) now)
 ]
 
@@ -161,7 +161,7 @@ placed_text : (S : Setting) (x : Past) (conn command : ℕ) (placed : List Part)
 placed_text S x conn command placed q = text_is x placed (host_for S x q.key) (hostless conn command (length placed) q)
 
 texts_of_placing : (S : Setting) (x : Past) (conn command : ℕ) (placed : List Part) (ps : List PartPlan)
-    → map (λ (p : Part). p.text) (placing S x conn command placed ps) ≡ map (λ (p : Part). p.text) placed ++ map (λ (q : PartPlan). q.text) ps
+    → map (λ (p : Part). p.text) (parts_placed S x conn command placed ps) ≡ map (λ (p : Part). p.text) placed ++ map (λ (q : PartPlan). q.text) ps
 texts_of_placing S x conn command placed [] = sym (append-nil _)
 texts_of_placing S x conn command placed (q ∷ ps) =
     let p = placed_part S x conn command placed q in
@@ -179,7 +179,7 @@ numbered_with : (n : ℕ) (ps : List Part) (q : Part) → AreNumbered n ps → q
 numbered_with n [] q a e = (omega (arith, e), tt)
 numbered_with n (p ∷ ps) q a e = (a.0, numbered_with (n + 1) ps q a.1 (omega (arith, e)))
 
-pub placing_is_numbered : (S : Setting) (x : Past) (conn command : ℕ) (placed : List Part) (ps : List PartPlan) → AreNumbered 0 placed → AreNumbered 0 (placing S x conn command placed ps)
+pub placing_is_numbered : (S : Setting) (x : Past) (conn command : ℕ) (placed : List Part) (ps : List PartPlan) → AreNumbered 0 placed → AreNumbered 0 (parts_placed S x conn command placed ps)
 placing_is_numbered S x conn command placed [] a = a
 placing_is_numbered S x conn command placed (q ∷ ps) a =
     let number = host_keeps_number x placed (host_for S x q.key) (hostless conn command (length placed) q) in
@@ -200,7 +200,7 @@ commands_have_their_parts S H c i request e =
     let plans = parts_in_plan (plan_for request) in
     record {
       texts = ap (map (λ (p : Part). p.text)) a.1 ∙ texts_of_placing S a.0 c i [] plans;
-      numbers = λ k p g. omega (arith, numbered_at 0 (placing S a.0 c i [] plans) k p (placing_is_numbered S a.0 c i [] plans tt) (sym (ap (λ z. slice_get z k) a.1) ∙ g));
+      numbers = λ k p g. omega (arith, numbered_at 0 (parts_placed S a.0 c i [] plans) k p (placing_is_numbered S a.0 c i [] plans tt) (sym (ap (λ z. slice_get z k) a.1) ∙ g));
     }
 
 -- WHAT A JOIN IS ASKED

@@ -7,10 +7,10 @@ use Rattle.splitter.specs.Plan.{Plan, here, leave, parts}
 use Rattle.splitter.specs.declared.plans.PartPlan.{PartPlan}
 use Rattle.splitter.specs.declared.plans.Local.{Local}
 use Rattle.proxy_history.specs.Setting.{Setting, point_for}
-use Rattle.proxy_history.specs.History.{accepted, plan_for}
+use Rattle.proxy_history.specs.History.{accepted_count, plan_for}
 use Rattle.proxy_history.specs.Part.{Past, Part}
 use Rattle.proxy_history.specs.Waiting.{sent_by}
-use Rattle.proxy_history.specs.Arrival.{usable, host_for, hostless, with_host, placed_part, placing, placed_by, parts_by}
+use Rattle.proxy_history.specs.Arrival.{usable_flags, host_for, hostless, with_host, placed_part, parts_placed, placed_by, parts_by}
 use Rattle.proxy_history.specs.Cause.{own_cause}
 use Rattle.proxy_history.specs.Answer.{answer_to, accepts, local_of}
 use Rattle.proxy_history.specs.EjectionLaws.{without_host, without_trips, without_hosts, IsLeftAlone}
@@ -49,25 +49,25 @@ module _ (S : Setting) (x : Past) (marks : List Mark) where
   same_with placed None p = refl
   same_with placed (Some h) p = refl
 
-  same_place : (conn command : ℕ) (placed : List Part) (q : PartPlan) → usable S y ≡ usable S x
+  same_place : (conn command : ℕ) (placed : List Part) (q : PartPlan) → usable_flags S y ≡ usable_flags S x
       → placed_part S y conn command placed q ≡ placed_part S x conn command placed q
   same_place conn command placed q e =
       same_with placed (host_for S y q.key) (hostless conn command (length placed) q)
       ∙ ap (λ u. with_host x placed (owner_of S.ring.pairs (point_for S q.key) u) (hostless conn command (length placed) q)) e
 
-  same_placing : (conn command : ℕ) (placed : List Part) (ps : List PartPlan) → usable S y ≡ usable S x
-      → placing S y conn command placed ps ≡ placing S x conn command placed ps
+  same_placing : (conn command : ℕ) (placed : List Part) (ps : List PartPlan) → usable_flags S y ≡ usable_flags S x
+      → parts_placed S y conn command placed ps ≡ parts_placed S x conn command placed ps
   same_placing conn command placed [] e = refl
   same_placing conn command placed (q ∷ ps) e =
-      ap (λ p. placing S y conn command (placed ++ p ∷ []) ps) (same_place conn command placed q e)
+      ap (λ p. parts_placed S y conn command (placed ++ p ∷ []) ps) (same_place conn command placed q e)
       ∙ same_placing conn command (placed ++ placed_part S x conn command placed q ∷ []) ps e
 
-  same_placed : (conn : ℕ) (p : Plan) → usable S y ≡ usable S x → placed_by S y conn p ≡ placed_by S x conn p
-  same_placed conn (parts how list) e = same_placing conn (accepted conn x.steps) [] list e
+  same_placed : (conn : ℕ) (p : Plan) → usable_flags S y ≡ usable_flags S x → placed_by S y conn p ≡ placed_by S x conn p
+  same_placed conn (parts how list) e = same_placing conn (accepted_count conn x.steps) [] list e
   same_placed conn (here name value) e = refl
   same_placed conn (leave name value) e = refl
 
-  same_parts : (event : Event) → usable S y ≡ usable S x → parts_by S y event ≡ parts_by S x event
+  same_parts : (event : Event) → usable_flags S y ≡ usable_flags S x → parts_by S y event ≡ parts_by S x event
   same_parts (Arrived conn request) e = same_placed conn (plan_for request) e
   same_parts Opened e = refl
   same_parts (Finished conn) e = refl
@@ -95,8 +95,8 @@ module _ (S : Setting) (x : Past) (marks : List Mark) where
 
   bare_placing : (conn command : ℕ) (ps qs : List Part) (plans : List PartPlan)
       → map without_host ps ≡ map without_host qs
-      → map without_host (placing S y conn command ps plans)
-      ≡ map without_host (placing S x conn command qs plans)
+      → map without_host (parts_placed S y conn command ps plans)
+      ≡ map without_host (parts_placed S x conn command qs plans)
   bare_placing conn command ps qs [] e = e
   bare_placing conn command ps qs (q ∷ plans) e =
       let p = placed_part S y conn command ps q in
@@ -106,7 +106,7 @@ module _ (S : Setting) (x : Past) (marks : List Mark) where
 
   bare_placed : (conn : ℕ) (p : Plan)
       → map without_host (placed_by S y conn p) ≡ map without_host (placed_by S x conn p)
-  bare_placed conn (parts how list) = bare_placing conn (accepted conn x.steps) [] [] list refl
+  bare_placed conn (parts how list) = bare_placing conn (accepted_count conn x.steps) [] [] list refl
   bare_placed conn (here name value) = refl
   bare_placed conn (leave name value) = refl
 
@@ -134,7 +134,7 @@ module _ (S : Setting) (x : Past) (marks : List Mark) where
       → without_hosts (without_trips (answer_to S y event))
       ≡ without_hosts (without_trips (answer_to S x event))
   same_answer (Arrived conn request) =
-      same_accepted (accepted conn x.steps) (local_of (plan_for request)) (parts_by S y (Arrived conn request)) (parts_by S x (Arrived conn request)) (same_but_hosts (Arrived conn request))
+      same_accepted (accepted_count conn x.steps) (local_of (plan_for request)) (parts_by S y (Arrived conn request)) (parts_by S x (Arrived conn request)) (same_but_hosts (Arrived conn request))
   same_answer Opened = refl
   same_answer (Finished conn) = refl
   same_answer (Taken host) = refl
@@ -144,9 +144,9 @@ module _ (S : Setting) (x : Past) (marks : List Mark) where
   same_answer (Handed conn) = refl
   same_answer (Closed conn) = refl
 
-  same_arrival : (event : Event) → usable S y ≡ usable S x
+  same_arrival : (event : Event) → usable_flags S y ≡ usable_flags S x
       → without_trips (answer_to S y event) ≡ without_trips (answer_to S x event)
-  same_arrival (Arrived conn request) e = ap (accepts (accepted conn x.steps) (local_of (plan_for request))) (same_parts (Arrived conn request) e)
+  same_arrival (Arrived conn request) e = ap (accepts (accepted_count conn x.steps) (local_of (plan_for request))) (same_parts (Arrived conn request) e)
   same_arrival Opened e = refl
   same_arrival (Finished conn) e = refl
   same_arrival (Taken host) e = refl

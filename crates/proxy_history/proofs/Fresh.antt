@@ -6,10 +6,10 @@ use Rattle.std.proofs.lemmas.List.Elements.{filter-append}
 use Rattle.proxy_history.specs.Setting.{Setting}
 use Rattle.splitter.specs.Plan.{Plan, here, leave, parts}
 use Rattle.splitter.specs.declared.plans.PartPlan.{PartPlan}
-use Rattle.proxy_history.specs.History.{plan_for, History, accepted, requests, request_by, is_arrival, Step}
+use Rattle.proxy_history.specs.History.{plan_for, History, accepted_count, requests, request_by, is_arrival, Step}
 use Rattle.proxy_history.specs.Part.{Past, Part}
 use Rattle.proxy_history.specs.Past.{after}
-use Rattle.proxy_history.specs.Arrival.{placing, placed_part, placed_by, parts_by, with_host, host_for, hostless}
+use Rattle.proxy_history.specs.Arrival.{parts_placed, placed_part, placed_by, parts_by, with_host, host_for, hostless}
 use Rattle.proxy_history.specs.Outcome.{parts_of, is_part_of}
 use Rattle.proxy_history.specs.declared.event.Event.{Event}
 use Rattle.proxy_history.specs.declared.event.Event.TheVariants.{Opened, Arrived, Finished, Taken, Answered, Failed, Swept, Handed, Closed}
@@ -33,10 +33,10 @@ one_request c n (Handed conn) = none_more n
 one_request c n (Closed conn) = none_more n
 
 -- as many requests as arrivals
-pub length-requests : (c : ℕ) (H : History) → length (requests c H) ≡ accepted c H
+pub length-requests : (c : ℕ) (H : History) → length (requests c H) ≡ accepted_count c H
 length-requests c [] = refl
 length-requests c (s ∷ before) =
-    length-append (requests c before) (request_by c s.event) ∙ rw (length-requests c before) (one_request c (accepted c before) s.event)
+    length-append (requests c before) (request_by c s.event) ∙ rw (length-requests c before) (one_request c (accepted_count c before) s.event)
 
 abbrev pub AreOf : ℕ → ℕ → List Part → Type 0
 AreOf conn command [] = Unit {0}
@@ -54,7 +54,7 @@ pub host_keeps_command : (x : Past) (placed : List Part) (o : Option ℕ) (p : P
 host_keeps_command x placed None p = refl
 host_keeps_command x placed (Some h) p = refl
 
-pub placing_are_of : (S : Setting) (x : Past) (conn command : ℕ) (placed : List Part) (ps : List PartPlan) → AreOf conn command placed → AreOf conn command (placing S x conn command placed ps)
+pub placing_are_of : (S : Setting) (x : Past) (conn command : ℕ) (placed : List Part) (ps : List PartPlan) → AreOf conn command placed → AreOf conn command (parts_placed S x conn command placed ps)
 placing_are_of S x conn command placed [] a = a
 placing_are_of S x conn command placed (p ∷ ps) a =
     placing_are_of S x conn command (placed ++ placed_part S x conn command placed p ∷ []) ps
@@ -69,19 +69,19 @@ none_of c i conn command (p ∷ ps) e a =
     let f : is_part_of c i p ≡ false = rw (a.0, a.1) e in
     rw (f) (none_of c i conn command ps e a.2)
 
-is_other : (x : Past) (c i conn : ℕ) → i < accepted c x.steps → ((conn == c) && (accepted conn x.steps == i)) ≡ false
+is_other : (x : Past) (c i conn : ℕ) → i < accepted_count c x.steps → ((conn == c) && (accepted_count conn x.steps == i)) ≡ false
 is_other x c i conn l = elim (cases_Bool (conn == c)) [
-  | inl t ↦ and_right _ _ (ne_eqb (accepted conn x.steps) i (λ e. omega (arith, ap (λ k. accepted k x.steps) (eqb-true conn c t), e, l)))
+  | inl t ↦ and_right _ _ (ne_eqb (accepted_count conn x.steps) i (λ e. omega (arith, ap (λ k. accepted_count k x.steps) (eqb-true conn c t), e, l)))
   | inr f ↦ and_left _ _ f
 ]
 
-placed_other : (S : Setting) (x : Past) (c i conn : ℕ) (p : Plan) → i < accepted c x.steps → filter (is_part_of c i) (placed_by S x conn p) ≡ []
+placed_other : (S : Setting) (x : Past) (c i conn : ℕ) (p : Plan) → i < accepted_count c x.steps → filter (is_part_of c i) (placed_by S x conn p) ≡ []
 placed_other S x c i conn (parts how list) l =
-    none_of c i conn (accepted conn x.steps) _ (is_other x c i conn l) (placing_are_of S x conn (accepted conn x.steps) [] list tt)
+    none_of c i conn (accepted_count conn x.steps) _ (is_other x c i conn l) (placing_are_of S x conn (accepted_count conn x.steps) [] list tt)
 placed_other S x c i conn (here name value) l = refl
 placed_other S x c i conn (leave name value) l = refl
 
-others_by : (S : Setting) (x : Past) (c i : ℕ) (event : Event) → i < accepted c x.steps → filter (is_part_of c i) (parts_by S x event) ≡ []
+others_by : (S : Setting) (x : Past) (c i : ℕ) (event : Event) → i < accepted_count c x.steps → filter (is_part_of c i) (parts_by S x event) ≡ []
 others_by S x c i (Arrived conn request) l = placed_other S x c i conn (plan_for request) l
 others_by S x c i Opened l = refl
 others_by S x c i (Finished conn) l = refl
@@ -93,6 +93,6 @@ others_by S x c i (Handed conn) l = refl
 others_by S x c i (Closed conn) l = refl
 
 -- the parts of a command that arrived stay the same
-pub parts_stay : (S : Setting) (x : Past) (c i : ℕ) (s : Step) → i < accepted c x.steps → parts_of c i (after S s x) ≡ parts_of c i x
+pub parts_stay : (S : Setting) (x : Past) (c i : ℕ) (s : Step) → i < accepted_count c x.steps → parts_of c i (after S s x) ≡ parts_of c i x
 parts_stay S x c i s l =
     filter-append (is_part_of c i) x.parts (parts_by S x s.event) ∙ rw (others_by S x c i s.event l) (append-nil (parts_of c i x))

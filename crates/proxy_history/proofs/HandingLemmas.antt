@@ -5,7 +5,7 @@ use Rattle.std.specs.Option.{unwrap_or}
 use Rattle.resp_core.specs.Tree.{Tree, null_bulk}
 use Rattle.resp_core.specs.Text.{text}
 use Rattle.proxy_history.specs.Setting.{Setting}
-use Rattle.proxy_history.specs.History.{History, Step, handed, is_handing}
+use Rattle.proxy_history.specs.History.{History, Step, handed_count, is_handing}
 use Rattle.proxy_history.specs.Past.{past}
 use Rattle.proxy_history.specs.Outcome.{outcome}
 use Rattle.proxy_history.specs.Cause.{own_cause}
@@ -22,14 +22,14 @@ use Rattle.proxy_history.proofs.Stays.{outcome_stays, stays}
 
 by_outcome : (S : Setting) (later before : History) (s : Step) (c : ℕ) (o : Option Tree)
     → IsLegal S (later ++ s ∷ before) → MayFollow S (past S before) s → s.event ≡ Handed c
-    → outcome c (handed c before) (past S before) ≡ o → is_some o ≡ true → HandsOut S later before s c
+    → outcome c (handed_count c before) (past S before) ≡ o → is_some o ≡ true → HandsOut S later before s c
 by_outcome S later before s c None legal m e q i = absurd cc
 by_outcome S later before s c (Some v) legal m e q i =
-    let next = outcome_stays S (past S before) s c (handed c before) v m.has_no_cause q in
+    let next = outcome_stays S (past S before) s c (handed_count c before) v m.has_no_cause q in
     record {
       reply = v;
       had_come = q;
-      stays = stays S later (s ∷ before) c (handed c before) v legal next;
+      stays = stays S later (s ∷ before) c (handed_count c before) v legal next;
       goes_out = m.is_answered ∙ ap (answer_to S (past S before)) e
           ∙ ap (λ o. answer.Bytes (text (unwrap_or o null_bulk))) q;
     }
@@ -39,7 +39,7 @@ pub handed_is_its_outcome : (S : Setting) (later before : History) (s : Step) (c
 handed_is_its_outcome S later before s c legal e =
     let m = (beginning S later (s ∷ before) legal).1 in
     let n : own_cause S (past S before) (Handed c) ≡ None = rw e at m.has_no_cause in
-    by_outcome S later before s c (outcome c (handed c before) (past S before)) legal m e refl (has_outcome S (past S before) c n)
+    by_outcome S later before s c (outcome c (handed_count c before) (past S before)) legal m e refl (has_outcome S (past S before) c n)
 
 -- ONCE
 
@@ -55,14 +55,14 @@ is_handed c (Swept t) e = absurd cc
 is_handed c (Closed conn) e = absurd cc
 
 one_more : (c : ℕ) (s : Step) (before : History) → s.event ≡ Handed c
-    → handed c (s ∷ before) ≡ handed c before + 1
+    → handed_count c (s ∷ before) ≡ handed_count c before + 1
 one_more c s before e =
     let t : is_handing c s.event ≡ true = ap (is_handing c) e ∙ eq-eqb c c refl in
     rw t refl
 
 -- more are handed out after such a step than before it
 fewer_before : (c : ℕ) (later : History) (s : Step) (before : History) → s.event ≡ Handed c
-    → handed c before < handed c (later ++ s ∷ before)
+    → handed_count c before < handed_count c (later ++ s ∷ before)
 fewer_before c [] s before e = omega (arith, one_more c s before e)
 fewer_before c (t ∷ later) s before e = omega (arith, fewer_before c later s before e, times_grows (is_handing c) t (later ++ s ∷ before))
 
@@ -76,9 +76,9 @@ later_still c i s H x = record {
   number_is = x.number_is;
 }
 
-handing_of : (H : History) (c i : ℕ) → i < handed c H → Handing H c i
+handing_of : (H : History) (c i : ℕ) → i < handed_count c H → Handing H c i
 handing_of [] c i l = absurd (omega (arith, l))
-handing_of (s ∷ H) c i l = elim (cases_lt i (handed c H)) [
+handing_of (s ∷ H) c i l = elim (cases_lt i (handed_count c H)) [
   | inl earlier ↦ later_still c i s H (handing_of H c i earlier)
   | inr late ↦ elim (cases_Bool (is_handing c s.event)) [
     | inl t ↦
@@ -91,24 +91,24 @@ handing_of (s ∷ H) c i l = elim (cases_lt i (handed c H)) [
           hands_out = e;
           number_is = omega (arith, l, late, one_more c s H e);
         }
-    | inr f ↦ let same : handed c (s ∷ H) ≡ handed c H = rw f refl in absurd (omega (arith, l, late, same))
+    | inr f ↦ let same : handed_count c (s ∷ H) ≡ handed_count c H = rw f refl in absurd (omega (arith, l, late, same))
   ]
 ]
 
-is_below : (H : History) (c i : ℕ) → Handing H c i → i < handed c H
-is_below H c i x = omega (arith, fewer_before c x.later x.step x.before x.hands_out, x.number_is, ap (handed c) x.split)
+is_below : (H : History) (c i : ℕ) → Handing H c i → i < handed_count c H
+is_below H c i x = omega (arith, fewer_before c x.later x.step x.before x.hands_out, x.number_is, ap (handed_count c) x.split)
 
 -- two such steps with as many before them stand in one place
 one_place : (c : ℕ) (l : History) (s : Step) (b l' : History) (s' : Step) (b' : History)
     → l ++ s ∷ b ≡ l' ++ s' ∷ b'
-    → s.event ≡ Handed c → s'.event ≡ Handed c → handed c b ≡ handed c b' → (s ≡ s') × (b ≡ b')
+    → s.event ≡ Handed c → s'.event ≡ Handed c → handed_count c b ≡ handed_count c b' → (s ≡ s') × (b ≡ b')
 one_place c [] s b [] s' b' e h h' n = (cc, cc)
 one_place c [] s b (t ∷ l') s' b' e h h' n =
     let rest : b ≡ l' ++ s' ∷ b' = cc in
-    absurd (omega (arith, fewer_before c l' s' b' h', ap (handed c) rest, n))
+    absurd (omega (arith, fewer_before c l' s' b' h', ap (handed_count c) rest, n))
 one_place c (t ∷ l) s b [] s' b' e h h' n =
     let rest : l ++ s ∷ b ≡ b' = cc in
-    absurd (omega (arith, fewer_before c l s b h, ap (handed c) rest, n))
+    absurd (omega (arith, fewer_before c l s b h, ap (handed_count c) rest, n))
 one_place c (t ∷ l) s b (t' ∷ l') s' b' e h h' n =
     let rest : l ++ s ∷ b ≡ l' ++ s' ∷ b' = cc in
     one_place c l s b l' s' b' rest h h' n

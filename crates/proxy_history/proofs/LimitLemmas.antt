@@ -8,12 +8,12 @@ use Rattle.std.proofs.lemmas.List.Folds.{list_any-append}
 use Rattle.splitter.specs.Plan.{Plan, here, leave, parts}
 use Rattle.splitter.specs.declared.plans.PartPlan.{PartPlan}
 use Rattle.proxy_history.specs.Setting.{Setting, max_connections, max_unwritten, max_waiting, max_steps, max_payload}
-use Rattle.proxy_history.specs.History.{History, Step, times, opened, accepted, handed, epoch, is_opening, is_arrival, is_handing, is_closing, is_any_closing, is_fault, is_closed, is_open, plan_for}
+use Rattle.proxy_history.specs.History.{History, Step, times, openings, accepted_count, handed_count, epoch, is_opening, is_arrival, is_handing, is_closing, is_any_closing, is_fault, is_closed, is_open, plan_for}
 use Rattle.proxy_history.specs.Part.{Past, Part, is_of, is_host, is_same}
 use Rattle.proxy_history.specs.Past.{past}
-use Rattle.proxy_history.specs.Waiting.{waiting, waits, sent_by}
-use Rattle.proxy_history.specs.Arrival.{proxy_busy, before_it, parts_by, placed_by, placing, placed_part, with_host, host_for, hostless}
-use Rattle.proxy_history.specs.Cause.{own_cause, causes, left, is_ready}
+use Rattle.proxy_history.specs.Waiting.{waiting_parts, waits, sent_by}
+use Rattle.proxy_history.specs.Arrival.{proxy_busy, before_it, parts_by, placed_by, parts_placed, placed_part, with_host, host_for, hostless}
+use Rattle.proxy_history.specs.Cause.{own_cause, causes, commands_left, is_ready}
 use Rattle.proxy_history.specs.Payload.{payload, payload_of}
 use Rattle.proxy_history.specs.Legal.{IsLegal}
 use Rattle.proxy_history.specs.LimitLaws.{IsWithinLimits}
@@ -83,20 +83,20 @@ suc_is n = omega arith
 
 -- an open connection has a number below those opened, and isn't closed
 open_parts : (x : Past) (c : ℕ) → not (is_open c x.steps) ≡ false
-    → (c < opened x.steps) × (is_closed c x.steps ≡ false)
+    → (c < openings x.steps) × (is_closed c x.steps ≡ false)
 open_parts x c n =
     let b =
-    and_parts (nat_lt c (opened x.steps)) (not (is_closed c x.steps)) (not-false (is_open c x.steps) n) in
-    (ltb-true c (opened x.steps) b.0, not-true (is_closed c x.steps) b.1)
+    and_parts (nat_lt c (openings x.steps)) (not (is_closed c x.steps)) (not-false (is_open c x.steps) n) in
+    (ltb-true c (openings x.steps) b.0, not-true (is_closed c x.steps) b.1)
 
 closings_by : (S : Setting) (x : Past) (event : Event) → own_cause S x event ≡ None
-    → times is_any_closing x.steps ≤ closed_below x.steps (opened x.steps)
+    → times is_any_closing x.steps ≤ closed_below x.steps (openings x.steps)
     → (if is_any_closing event then times is_any_closing x.steps + 1 else times is_any_closing x.steps)
-    ≤ count_below (λ c. is_closing c event || is_closed c x.steps) (if is_opening event then opened x.steps + 1 else opened x.steps)
+    ≤ count_below (λ c. is_closing c event || is_closed c x.steps) (if is_opening event then openings x.steps + 1 else openings x.steps)
 closings_by S x (Closed conn) n l =
     let a = open_parts x conn (are_false (causes S x (Closed conn)) n).0 in
-    omega (arith, l, one_more_below (λ c. is_closed c x.steps) conn (opened x.steps) a.0 a.1)
-closings_by S x Opened n l = omega (arith, l, grows (λ c. is_closed c x.steps) (opened x.steps), ap (closed_below x.steps) (suc_is (opened x.steps)))
+    omega (arith, l, one_more_below (λ c. is_closed c x.steps) conn (openings x.steps) a.0 a.1)
+closings_by S x Opened n l = omega (arith, l, grows (λ c. is_closed c x.steps) (openings x.steps), ap (closed_below x.steps) (suc_is (openings x.steps)))
 closings_by S x (Arrived conn request) n l = l
 closings_by S x (Finished conn) n l = l
 closings_by S x (Taken host) n l = l
@@ -106,14 +106,14 @@ closings_by S x (Swept t) n l = l
 closings_by S x (Handed conn) n l = l
 
 closings_are_closed : (S : Setting) (H : History) → IsLegal S H
-    → times is_any_closing H ≤ closed_below H (opened H)
+    → times is_any_closing H ≤ closed_below H (openings H)
 closings_are_closed S [] legal = omega arith
 closings_are_closed S (s ∷ before) legal = closings_by S (past S before) s.event legal.1.has_no_cause (closings_are_closed S before legal.0)
 
 open_by : (S : Setting) (x : Past) (event : Event) → own_cause S x event ≡ None
-    → opened x.steps ≤ times is_any_closing x.steps + max_connections
-    → (if is_opening event then opened x.steps + 1 else opened x.steps) ≤ (if is_any_closing event then times is_any_closing x.steps + 1 else times is_any_closing x.steps) + max_connections
-open_by S x Opened n l = omega (arith, leb-false max_connections (opened x.steps - times is_any_closing x.steps) (are_false (causes S x Opened) n).0)
+    → openings x.steps ≤ times is_any_closing x.steps + max_connections
+    → (if is_opening event then openings x.steps + 1 else openings x.steps) ≤ (if is_any_closing event then times is_any_closing x.steps + 1 else times is_any_closing x.steps) + max_connections
+open_by S x Opened n l = omega (arith, leb-false max_connections (openings x.steps - times is_any_closing x.steps) (are_false (causes S x Opened) n).0)
 open_by S x (Closed conn) n l = omega (arith, l)
 open_by S x (Arrived conn request) n l = l
 open_by S x (Finished conn) n l = l
@@ -123,7 +123,7 @@ open_by S x (Failed host e kind t) n l = l
 open_by S x (Swept t) n l = l
 open_by S x (Handed conn) n l = l
 
-few_open : (S : Setting) (H : History) → IsLegal S H → opened H ≤ times is_any_closing H + max_connections
+few_open : (S : Setting) (H : History) → IsLegal S H → openings H ≤ times is_any_closing H + max_connections
 few_open S [] legal = omega arith
 few_open S (s ∷ before) legal = open_by S (past S before) s.event legal.1.has_no_cause (few_open S before legal.0)
 
@@ -133,13 +133,13 @@ abbrev AreLeft : ℕ → ℕ → Type 0
 AreLeft arrived out = (out ≤ arrived) × (arrived ≤ out + max_unwritten)
 
 left_by : (S : Setting) (x : Past) (c : ℕ) (event : Event) → own_cause S x event ≡ None
-    → AreLeft (accepted c x.steps) (handed c x.steps)
-    → AreLeft (if is_arrival c event then accepted c x.steps + 1 else accepted c x.steps) (if is_handing c event then handed c x.steps + 1 else handed c x.steps)
+    → AreLeft (accepted_count c x.steps) (handed_count c x.steps)
+    → AreLeft (if is_arrival c event then accepted_count c x.steps + 1 else accepted_count c x.steps) (if is_handing c event then handed_count c x.steps + 1 else handed_count c x.steps)
 left_by S x c (Arrived conn request) n a = elim (cases_Bool (conn == c)) [
   | inl t ↦
-      let free : left conn x < max_unwritten =
-      leb-false max_unwritten (left conn x) (are_false (causes S x (Arrived conn request)) n).1.1.0 in
-      let here : accepted c x.steps - handed c x.steps < max_unwritten = rw (eqb-true conn c t) at free in
+      let free : commands_left conn x < max_unwritten =
+      leb-false max_unwritten (commands_left conn x) (are_false (causes S x (Arrived conn request)) n).1.1.0 in
+      let here : accepted_count c x.steps - handed_count c x.steps < max_unwritten = rw (eqb-true conn c t) at free in
       rw t (omega (arith, a.0), omega (arith, a.0, here))
   | inr f ↦ rw f a
 ]
@@ -147,8 +147,8 @@ left_by S x c (Handed conn) n a = elim (cases_Bool (conn == c)) [
   | inl t ↦
       let ready : is_ready conn x ≡ true =
       not-false (is_ready conn x) (are_false (causes S x (Handed conn)) n).1.0 in
-      let some : 0 < left conn x = ltb-true 0 (left conn x) (and_parts (nat_lt 0 (left conn x)) _ ready).0 in
-      let here : 0 < accepted c x.steps - handed c x.steps = rw (eqb-true conn c t) at some in
+      let some : 0 < commands_left conn x = ltb-true 0 (commands_left conn x) (and_parts (nat_lt 0 (commands_left conn x)) _ ready).0 in
+      let here : 0 < accepted_count c x.steps - handed_count c x.steps = rw (eqb-true conn c t) at some in
       rw t (omega (arith, here), omega (arith, a.1))
   | inr f ↦ rw f a
 ]
@@ -160,7 +160,7 @@ left_by S x c (Failed host e kind t) n a = a
 left_by S x c (Swept t) n a = a
 left_by S x c (Closed conn) n a = a
 
-few_left : (S : Setting) (H : History) (c : ℕ) → IsLegal S H → AreLeft (accepted c H) (handed c H)
+few_left : (S : Setting) (H : History) (c : ℕ) → IsLegal S H → AreLeft (accepted_count c H) (handed_count c H)
 few_left S [] c legal = (omega arith, omega arith)
 few_left S (s ∷ before) c legal = left_by S (past S before) c s.event legal.1.has_no_cause (few_left S before c legal.0)
 
@@ -192,7 +192,7 @@ is_of_present : (S : Setting) (before : History) (s : Step) (h : ℕ) → is_fau
 is_of_present S before s h f p w = (waits_parts h (past S before) p (waited S before s h f p w)).0
 
 waiting_grows : (S : Setting) (before : History) (s : Step) (h : ℕ) → is_fault h s.event ≡ false
-    → length (waiting h (past S (s ∷ before))) ≤ length (waiting h (past S before)) + length (filter (is_of h (epoch h before)) (parts_by S (past S before) s.event))
+    → length (waiting_parts h (past S (s ∷ before))) ≤ length (waiting_parts h (past S before)) + length (filter (is_of h (epoch h before)) (parts_by S (past S before) s.event))
 waiting_grows S before s h f =
     let x = past S before in
     let y = past S (s ∷ before) in
@@ -229,7 +229,7 @@ one_placed h x placed (Some k) p n l = elim (cases_Bool (is_of h (epoch h x.step
     has_none false e = absurd cc
 
 placing_fits : (S : Setting) (h : ℕ) (x : Past) (conn command : ℕ) (placed : List Part) (ps : List PartPlan)
-    → before_it h x placed ≤ max_waiting → before_it h x (placing S x conn command placed ps) ≤ max_waiting
+    → before_it h x placed ≤ max_waiting → before_it h x (parts_placed S x conn command placed ps) ≤ max_waiting
 placing_fits S h x conn command placed [] l = l
 placing_fits S h x conn command placed (q ∷ ps) l =
     let p = placed_part S x conn command placed q in
@@ -242,13 +242,13 @@ placing_fits S h x conn command placed (q ∷ ps) l =
       length-append (filter f placed) (filter f (p ∷ [])),
     ))
 
-placed_fit : (S : Setting) (h : ℕ) (x : Past) (conn : ℕ) (p : Plan) → length (waiting h x) ≤ max_waiting
+placed_fit : (S : Setting) (h : ℕ) (x : Past) (conn : ℕ) (p : Plan) → length (waiting_parts h x) ≤ max_waiting
     → before_it h x (placed_by S x conn p) ≤ max_waiting
-placed_fit S h x conn (parts how list) l = placing_fits S h x conn (accepted conn x.steps) [] list (omega (arith, l))
+placed_fit S h x conn (parts how list) l = placing_fits S h x conn (accepted_count conn x.steps) [] list (omega (arith, l))
 placed_fit S h x conn (here name value) l = omega (arith, l)
 placed_fit S h x conn (leave name value) l = omega (arith, l)
 
-parts_fit : (S : Setting) (h : ℕ) (x : Past) (event : Event) → length (waiting h x) ≤ max_waiting
+parts_fit : (S : Setting) (h : ℕ) (x : Past) (event : Event) → length (waiting_parts h x) ≤ max_waiting
     → before_it h x (parts_by S x event) ≤ max_waiting
 parts_fit S h x (Arrived conn request) l = placed_fit S h x conn (plan_for request) l
 parts_fit S h x Opened l = omega (arith, l)
@@ -262,7 +262,7 @@ parts_fit S h x (Closed conn) l = omega (arith, l)
 
 -- after a fault nothing of its host waits
 none_after : (S : Setting) (before : History) (s : Step) (h : ℕ) → is_fault h s.event ≡ true
-    → waiting h (past S (s ∷ before)) ≡ []
+    → waiting_parts h (past S (s ∷ before)) ≡ []
 none_after S before s h t =
     let x = past S before in
     let y = past S (s ∷ before) in
@@ -271,7 +271,7 @@ none_after S before s h t =
     (λ q w. let a = is_of_parts h (epoch h (s ∷ before)) q (waits_parts h y q w).0 in (a.0, omega (arith, a.1, next)))
     (of_past_both before x.parts (parts_by S x s.event) (are_of_past S before) (new_of_past S x s.event))
 
-few_are_waiting : (S : Setting) (H : History) (h : ℕ) → length (waiting h (past S H)) ≤ max_waiting
+few_are_waiting : (S : Setting) (H : History) (h : ℕ) → length (waiting_parts h (past S H)) ≤ max_waiting
 few_are_waiting S [] h = omega arith
 few_are_waiting S (s ∷ before) h = elim (cases_Bool (is_fault h s.event)) [
   | inl t ↦ omega (arith, ap length (none_after S before s h t))
@@ -292,7 +292,7 @@ fits S (s ∷ before) legal =
 
 pub limits_hold : (S : Setting) (H : History) → IsLegal S H → IsWithinLimits S H
 limits_hold S H legal = record {
-  were_opened = omega (arith, closings_are_closed S H legal, no_more_than (λ c. is_closed c H) (opened H));
+  were_opened = omega (arith, closings_are_closed S H legal, no_more_than (λ c. is_closed c H) (openings H));
   few_are_open = few_open S H legal;
   were_accepted = λ c. (few_left S H c legal).0;
   few_are_unwritten = λ c. (few_left S H c legal).1;

@@ -4,11 +4,11 @@ use Rattle.std.proofs.lemmas.Bool.{eqb-true}
 use Rattle.proxy_history.specs.Setting.{Setting}
 use Rattle.splitter.specs.Plan.{Plan, here, leave, parts}
 use Rattle.splitter.specs.declared.plans.PartPlan.{PartPlan}
-use Rattle.proxy_history.specs.History.{plan_for, History, epoch, accepted, is_fault, Step}
+use Rattle.proxy_history.specs.History.{plan_for, History, epoch, accepted_count, is_fault, Step}
 use Rattle.proxy_history.specs.Part.{Past, Part, is_host}
 use Rattle.proxy_history.specs.Past.{past}
-use Rattle.proxy_history.specs.Waiting.{waiting}
-use Rattle.proxy_history.specs.Arrival.{parts_by, placed_by, placing, placed_part, with_host, host_for, hostless}
+use Rattle.proxy_history.specs.Waiting.{waiting_parts}
+use Rattle.proxy_history.specs.Arrival.{parts_by, placed_by, parts_placed, placed_part, with_host, host_for, hostless}
 use Rattle.proxy_history.specs.declared.answer.Answer.{Answer}
 use Rattle.proxy_history.specs.declared.event.Kind.{Kind}
 use Rattle.proxy_history.specs.declared.event.Event.{Event}
@@ -29,7 +29,7 @@ part_of_past : (x : Past) (placed : List Part) (o : Option ℕ) (p : Part) → p
 part_of_past x placed None p n h e = let f : is_host h None ≡ true = rw (n) at e in absurd cc
 part_of_past x placed (Some k) p n h e = omega (arith, ap (λ j. epoch j x.steps) (eqb-true k h e))
 
-placing_of_past : (S : Setting) (x : Past) (conn command : ℕ) (placed : List Part) (ps : List PartPlan) → AreOfPast x.steps placed → AreOfPast x.steps (placing S x conn command placed ps)
+placing_of_past : (S : Setting) (x : Past) (conn command : ℕ) (placed : List Part) (ps : List PartPlan) → AreOfPast x.steps placed → AreOfPast x.steps (parts_placed S x conn command placed ps)
 placing_of_past S x conn command placed [] a = a
 placing_of_past S x conn command placed (p ∷ ps) a =
     placing_of_past S x conn command (placed ++ placed_part S x conn command placed p ∷ []) ps
@@ -37,7 +37,7 @@ placing_of_past S x conn command placed (p ∷ ps) a =
     (part_of_past x placed (host_for S x p.key) (hostless conn command (length placed) p) refl, tt))
 
 placed_of_past : (S : Setting) (x : Past) (conn : ℕ) (p : Plan) → AreOfPast x.steps (placed_by S x conn p)
-placed_of_past S x conn (parts how list) = placing_of_past S x conn (accepted conn x.steps) [] list tt
+placed_of_past S x conn (parts how list) = placing_of_past S x conn (accepted_count conn x.steps) [] list tt
 placed_of_past S x conn (here name value) = tt
 placed_of_past S x conn (leave name value) = tt
 
@@ -61,5 +61,5 @@ are_of_past S (s ∷ before) =
 
 -- after a fault nothing of its host waits
 pub fault_empties : (S : Setting) (H : History) (h pass e t : ℕ) (kind : Kind) (answer : Answer)
-    → waiting h (past S (record { pass = pass; event = Failed h e kind t; answer = answer } ∷ H)) ≡ []
+    → waiting_parts h (past S (record { pass = pass; event = Failed h e kind t; answer = answer } ∷ H)) ≡ []
 fault_empties S H h pass e t kind answer = after_failed S h pass e t kind answer (past S H) (are_of_past S H)

@@ -6,11 +6,11 @@ use Rattle.std.proofs.lemmas.List.{append-nil}
 use Rattle.resp_core.specs.Tree.{Tree, null_bulk}
 use Rattle.resp_core.specs.Text.{text}
 use Rattle.proxy_history.specs.Setting.{Setting}
-use Rattle.proxy_history.specs.History.{History, handed, is_handing, Step}
+use Rattle.proxy_history.specs.History.{History, handed_count, is_handing, Step}
 use Rattle.proxy_history.specs.Part.{Past}
 use Rattle.proxy_history.specs.Past.{past, after}
 use Rattle.proxy_history.specs.Outcome.{outcome}
-use Rattle.proxy_history.specs.Cause.{own_cause, causes, is_ready, left}
+use Rattle.proxy_history.specs.Cause.{own_cause, causes, is_ready, commands_left}
 use Rattle.proxy_history.specs.Legal.{IsLegal}
 use Rattle.proxy_history.specs.Answer.{answer_to}
 use Rattle.proxy_history.specs.Output.{handed_text, transcript}
@@ -43,31 +43,31 @@ one_more x c n h e = record { each = λ i l. elim (cases_lt i n) [ inl b ↦ h.e
     is_n i l b = omega (arith, l, b)
 
 -- who is handed something has an outcome
-pub has_outcome : (S : Setting) (x : Past) (c : ℕ) → own_cause S x (Handed c) ≡ None → is_some (outcome c (handed c x.steps) x) ≡ true
+pub has_outcome : (S : Setting) (x : Past) (c : ℕ) → own_cause S x (Handed c) ≡ None → is_some (outcome c (handed_count c x.steps) x) ≡ true
 has_outcome S x c n =
     let a = are_false (causes S x (Handed c)) n in
-    (and_parts (nat_lt 0 (left c x)) (is_some (outcome c (handed c x.steps) x)) (not-false (is_ready c x) a.1.0)).1
+    (and_parts (nat_lt 0 (commands_left c x)) (is_some (outcome c (handed_count c x.steps) x)) (not-false (is_ready c x) a.1.0)).1
 
 abbrev InOrder : Setting → Past → Step → ℕ → List ℕ → Type 0
-InOrder S x s c t = (t ++ handed_text c s.event s.answer ≡ first_outcomes (after S s x) c (handed c (s ∷ x.steps))) × HaveCome (after S s x) c (handed c (s ∷ x.steps))
+InOrder S x s c t = (t ++ handed_text c s.event s.answer ≡ first_outcomes (after S s x) c (handed_count c (s ∷ x.steps))) × HaveCome (after S s x) c (handed_count c (s ∷ x.steps))
 
 suc_is : (n : ℕ) → n + 1 ≡ suc n
 suc_is n = omega arith
 
 -- the next outcome is handed out
-handed_now : (S : Setting) (x : Past) (s : Step) (c : ℕ) → own_cause S x s.event ≡ None → own_cause S x (Handed c) ≡ None → HaveCome x c (handed c x.steps)
-    → (first_outcomes x c (handed c x.steps) ++ text (unwrap_or (outcome c (handed c x.steps) x) null_bulk) ≡ first_outcomes (after S s x) c (handed c x.steps + 1)) × HaveCome (after S s x) c (handed c x.steps + 1)
+handed_now : (S : Setting) (x : Past) (s : Step) (c : ℕ) → own_cause S x s.event ≡ None → own_cause S x (Handed c) ≡ None → HaveCome x c (handed_count c x.steps)
+    → (first_outcomes x c (handed_count c x.steps) ++ text (unwrap_or (outcome c (handed_count c x.steps) x) null_bulk) ≡ first_outcomes (after S s x) c (handed_count c x.steps + 1)) × HaveCome (after S s x) c (handed_count c x.steps + 1)
 handed_now S x s c n m h =
-    let more = one_more x c (handed c x.steps) h (has_outcome S x c m) in
-    (sym (first_stay S x s c (handed c x.steps + 1) n more ∙ rw (suc_is (handed c x.steps)) refl), have_come_stays S x s c (handed c x.steps + 1) n more)
+    let more = one_more x c (handed_count c x.steps) h (has_outcome S x c m) in
+    (sym (first_stay S x s c (handed_count c x.steps + 1) n more ∙ rw (suc_is (handed_count c x.steps)) refl), have_come_stays S x s c (handed_count c x.steps + 1) n more)
 
-nothing_now : (S : Setting) (x : Past) (s : Step) (c : ℕ) → own_cause S x s.event ≡ None → HaveCome x c (handed c x.steps)
-    → (first_outcomes x c (handed c x.steps) ++ [] ≡ first_outcomes (after S s x) c (handed c x.steps)) × HaveCome (after S s x) c (handed c x.steps)
-nothing_now S x s c n h = (append-nil _ ∙ sym (first_stay S x s c (handed c x.steps) n h), have_come_stays S x s c (handed c x.steps) n h)
+nothing_now : (S : Setting) (x : Past) (s : Step) (c : ℕ) → own_cause S x s.event ≡ None → HaveCome x c (handed_count c x.steps)
+    → (first_outcomes x c (handed_count c x.steps) ++ [] ≡ first_outcomes (after S s x) c (handed_count c x.steps)) × HaveCome (after S s x) c (handed_count c x.steps)
+nothing_now S x s c n h = (append-nil _ ∙ sym (first_stay S x s c (handed_count c x.steps) n h), have_come_stays S x s c (handed_count c x.steps) n h)
 
-by_event : (S : Setting) (x : Past) (s : Step) (c : ℕ) (event : Event) → own_cause S x s.event ≡ None → own_cause S x event ≡ None → HaveCome x c (handed c x.steps)
-    → (first_outcomes x c (handed c x.steps) ++ handed_text c event (answer_to S x event) ≡ first_outcomes (after S s x) c (if is_handing c event then handed c x.steps + 1 else handed c x.steps))
-    × HaveCome (after S s x) c (if is_handing c event then handed c x.steps + 1 else handed c x.steps)
+by_event : (S : Setting) (x : Past) (s : Step) (c : ℕ) (event : Event) → own_cause S x s.event ≡ None → own_cause S x event ≡ None → HaveCome x c (handed_count c x.steps)
+    → (first_outcomes x c (handed_count c x.steps) ++ handed_text c event (answer_to S x event) ≡ first_outcomes (after S s x) c (if is_handing c event then handed_count c x.steps + 1 else handed_count c x.steps))
+    × HaveCome (after S s x) c (if is_handing c event then handed_count c x.steps + 1 else handed_count c x.steps)
 by_event S x s c (Handed conn) n m h = elim (cases_Bool (conn == c)) [
   | inl t ↦ rw (t, eqb-true conn c t) (handed_now S x s c n (rw (eqb-true conn c t) at m) h)
   | inr f ↦ rw (f) (nothing_now S x s c n h)
@@ -81,7 +81,7 @@ by_event S x s c (Failed host e kind t) n m h = nothing_now S x s c n h
 by_event S x s c (Swept t) n m h = nothing_now S x s c n h
 by_event S x s c (Closed conn) n m h = nothing_now S x s c n h
 
-pub in_order : (S : Setting) (H : History) (c : ℕ) → IsLegal S H → (transcript c H ≡ first_outcomes (past S H) c (handed c H)) × HaveCome (past S H) c (handed c H)
+pub in_order : (S : Setting) (H : History) (c : ℕ) → IsLegal S H → (transcript c H ≡ first_outcomes (past S H) c (handed_count c H)) × HaveCome (past S H) c (handed_count c H)
 in_order S [] c p = (refl, record { each = λ i l. absurd (omega (arith, l)) })
 in_order S (s ∷ before) c p =
     let a = in_order S before c p.0 in

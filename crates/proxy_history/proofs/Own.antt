@@ -6,7 +6,7 @@ use Rattle.std.proofs.lemmas.Bool.{cases_Bool, ltb-true, lt-ltb, or_left, or_rig
 use Rattle.resp_core.specs.Tree.{Tree}
 use Rattle.proxy_history.specs.Setting.{Setting}
 use Rattle.proxy_history.specs.History.{History, epoch}
-use Rattle.proxy_history.specs.Replies.{came}
+use Rattle.proxy_history.specs.Replies.{replies_from}
 use Rattle.proxy_history.specs.Part.{Past, Part, is_of, is_same}
 use Rattle.proxy_history.specs.Past.{past}
 use Rattle.proxy_history.specs.Waiting.{sent_to}
@@ -38,7 +38,7 @@ found_at t (x ∷ xs) (y ∷ ys) r e = elim (cases_Bool (t (x, y))) [
 has_reply : (x : Past) (h : ℕ) (p : Part) (v : Tree) (o : Option (Part × Tree)) → find (λ r. is_same p r.0) (replies h p.epoch x) ≡ o → option_map (λ r. r.1) o ≡ Some v → IsReply x h p v
 has_reply x h p v None q e = absurd cc
 has_reply x h p v (Some r) q e =
-    let a = found_at (λ r. is_same p r.0) (sent_to h p.epoch x) (came h p.epoch x.steps) r q in
+    let a = found_at (λ r. is_same p r.0) (sent_to h p.epoch x) (replies_from h p.epoch x.steps) r q in
     record { place = a.place; sent = r.0; is_sent = a.left; is_same = a.passes; came = a.right ∙ e }
 
 -- where no pair is found none stands in one place of both lists
@@ -58,7 +58,7 @@ none_at t (x ∷ xs) (y ∷ ys) (suc place) a b e l r p = elim (cases_Bool (t (x
 ]
 
 no_reply_at : (x : Past) (h : ℕ) (p : Part) (o : Option (Part × Tree)) → find (λ r. is_same p r.0) (replies h p.epoch x) ≡ o → option_map (λ r. r.1) o ≡ None → (v : Tree) → IsReply x h p v → ⊥
-no_reply_at x h p None q e v a = none_at (λ r. is_same p r.0) (sent_to h p.epoch x) (came h p.epoch x.steps) a.place a.sent v q a.is_sent a.came a.is_same
+no_reply_at x h p None q e v a = none_at (λ r. is_same p r.0) (sent_to h p.epoch x) (replies_from h p.epoch x.steps) a.place a.sent v q a.is_sent a.came a.is_same
 no_reply_at x h p (Some r) q e v a = absurd cc
 
 by_reply : (x : Past) (h : ℕ) (p : Part) (v : Tree) (b : Bool) (o : Option Tree) → reply_to p h x ≡ o → or_lost b o ≡ Some v
@@ -94,7 +94,7 @@ reply_at_place p q v (x ∷ xs) (y ∷ ys) (suc place) a l i r = elim (cases_Boo
 
 reply_is_value : (S : Setting) (H : History) (p : Part) (h : ℕ) (v : Tree) → IsReply (past S H) h p v → reply_to p h (past S H) ≡ Some v
 reply_is_value S H p h v a =
-    reply_at_place p a.sent v (sent_to h p.epoch (past S H)) (came h p.epoch H) a.place
+    reply_at_place p a.sent v (sent_to h p.epoch (past S H)) (replies_from h p.epoch H) a.place
     (apart_filter (is_of h p.epoch) (past S H).sent (none_twice S H)) a.is_sent a.is_same a.came
 
 no_reply_to : (S : Setting) (H : History) (p : Part) (h : ℕ) (o : Option Tree) → ((v : Tree) → IsReply (past S H) h p v → ⊥) → reply_to p h (past S H) ≡ o → o ≡ None

@@ -4,7 +4,7 @@ use Rattle.std.proofs.lemmas.Bool.{or_parts, and_left}
 use Rattle.std.proofs.lemmas.List.{append-nil}
 use Rattle.splitter.specs.Plan.{is_last}
 use Rattle.proxy_history.specs.History.{History, Step, plan_for, times, has, is_arrival, is_handing, is_closing, is_fault, finishes, epoch, request_by, requests}
-use Rattle.proxy_history.specs.Replies.{reply_by, came}
+use Rattle.proxy_history.specs.Replies.{reply_by, replies_from}
 use Rattle.proxy_history.specs.Output.{handed_text, transcript, sent_text, upstream}
 use Rattle.proxy_history.specs.Own.{is_of_connection, is_opening_of, is_connection_step, connection_steps, is_of_host, host_steps}
 use Rattle.proxy_history.specs.OwnLaws.{SameOfConnection, SameOfHost}
@@ -137,7 +137,7 @@ module _ (h : ℕ) where
         λ e. sym (upstream-yield_of h e later) ∙ sym (told_of_host.same_upstream e)
         ∙ ap (upstream h e) none in
         let replies : (e : ℕ) → yield_of (λ (s : Step). reply_by h e s.event) later ≡ [] = λ e. sym (came-yield_of h e later)
-        ∙ sym (told_of_host.same_replies e) ∙ ap (came h e) none in
+        ∙ sym (told_of_host.same_replies e) ∙ ap (replies_from h e) none in
         record {
           same_epoch = omega (arith, times-append (is_fault h) later before, told_of_host.same_epoch, ap (epoch h) none);
           same_upstream = λ e. upstream-yield_of h e (later ++ before)

@@ -19,7 +19,7 @@ use Rattle.splitter.specs.Laws.{has_plain_value}
 use Rattle.splitter.proofs.CallerLemmas.{plan_texts_are_plain, joins_of_plain_values_are_plain}
 use Rattle.proxy_history.specs.Setting.{Setting}
 use Rattle.proxy_history.specs.History.{History, plan_for, requests, epoch}
-use Rattle.proxy_history.specs.Replies.{came, reply_by}
+use Rattle.proxy_history.specs.Replies.{replies_from, reply_by}
 use Rattle.proxy_history.specs.Part.{Part, Past, is_same}
 use Rattle.proxy_history.specs.Past.{past}
 use Rattle.proxy_history.specs.Waiting.{sent_to}
@@ -60,10 +60,10 @@ plain_reply_by S x (Swept t) h e n = refl
 plain_reply_by S x (Handed conn) h e n = refl
 plain_reply_by S x (Closed conn) h e n = refl
 
-pub replies_are_plain : (S : Setting) (H : History) (h e : ℕ) → IsLegal S H → list_all is_plain_tree (came h e H) ≡ true
+pub replies_are_plain : (S : Setting) (H : History) (h e : ℕ) → IsLegal S H → list_all is_plain_tree (replies_from h e H) ≡ true
 replies_are_plain S [] h e legal = refl
 replies_are_plain S (s ∷ before) h e legal =
-    list_all-append is_plain_tree (came h e before) (reply_by h e s.event)
+    list_all-append is_plain_tree (replies_from h e before) (reply_by h e s.event)
     ∙ rw (replies_are_plain S before h e legal.0, plain_reply_by S (past S before) s.event h e legal.1.has_no_cause) refl
 
 found_is_plain : (t : Part × Tree → Bool) (xs : List Part) (ys : List Tree) → list_all is_plain_tree ys ≡ true → IsPlainIfAny (option_map (λ r. r.1) (find t (zip xs ys)))
@@ -84,7 +84,7 @@ module _ (S : Setting) (H : History) (legal : IsLegal S H) where
   at_host : (p : Part) (o : Option ℕ) → IsPlainIfAny (value_at (past S H) p o)
   at_host p None = tt
   at_host p (Some h) = lost_is_plain (nat_lt p.epoch (epoch h H)) (reply_to p h (past S H))
-      (found_is_plain (λ r. is_same p r.0) (sent_to h p.epoch (past S H)) (came h p.epoch H) (replies_are_plain S H h p.epoch legal))
+      (found_is_plain (λ r. is_same p r.0) (sent_to h p.epoch (past S H)) (replies_from h p.epoch H) (replies_are_plain S H h p.epoch legal))
 
   at_once : (x : Past) (placed : List Part) (host : Option ℕ) (e : ℕ) (local : Option Tree) → IsPlaced x placed host e local → IsPlainIfAny local
   at_once x placed None e local g = subst IsPlainIfAny (sym g) refl

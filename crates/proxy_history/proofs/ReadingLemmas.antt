@@ -3,7 +3,7 @@ use Rattle.std.proofs.Common.{◌≡◌, ℕ, ◌+◌, Bool, false, ◌||◌, Li
 use Rattle.std.proofs.lemmas.Bool.{cases_Bool}
 use Rattle.std.proofs.lemmas.List.{append-nil, append_assoc}
 use Rattle.proxy_history.specs.History.{History, Step, times, has, request_by, requests}
-use Rattle.proxy_history.specs.Replies.{reply_by, came}
+use Rattle.proxy_history.specs.Replies.{reply_by, replies_from}
 use Rattle.proxy_history.specs.Output.{handed_text, transcript, sent_text, upstream}
 use Rattle.proxy_history.specs.declared.event.Event.{Event}
 
@@ -32,7 +32,7 @@ pub upstream-yield_of : (h e : ℕ) (H : History) → upstream h e H ≡ yield_o
 upstream-yield_of h e [] = refl
 upstream-yield_of h e (s ∷ before) = ap (λ z. z ++ sent_text_of h e s) (upstream-yield_of h e before)
 
-pub came-yield_of : (h e : ℕ) (H : History) → came h e H ≡ yield_of (λ (s : Step). reply_by h e s.event) H
+pub came-yield_of : (h e : ℕ) (H : History) → replies_from h e H ≡ yield_of (λ (s : Step). reply_by h e s.event) H
 came-yield_of h e [] = refl
 came-yield_of h e (s ∷ before) = ap (λ z. z ++ reply_by h e s.event) (came-yield_of h e before)
 

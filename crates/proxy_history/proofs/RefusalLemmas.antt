@@ -4,13 +4,13 @@ use Rattle.std.proofs.lemmas.Bool.{not-false, ltb-false, leb-true, leb-false, eq
 use Rattle.resp_core.specs.Tree.{is_plain_tree}
 use Rattle.resp_core.specs.Value.{tree_of}
 use Rattle.proxy_history.specs.Setting.{Setting, hosts, max_connections, max_unwritten, max_steps, max_payload}
-use Rattle.proxy_history.specs.History.{History, times, opened, accepted, handed, epoch, is_any_closing, is_closed, is_open}
+use Rattle.proxy_history.specs.History.{History, times, openings, accepted_count, handed_count, epoch, is_any_closing, is_closed, is_open}
 use Rattle.proxy_history.specs.Part.{Part}
 use Rattle.proxy_history.specs.Past.{past}
-use Rattle.proxy_history.specs.Waiting.{waiting, flying}
+use Rattle.proxy_history.specs.Waiting.{waiting_parts, flying_count}
 use Rattle.proxy_history.specs.Answer.{answer_to}
 use Rattle.proxy_history.specs.Payload.{payload, payload_of, has_room}
-use Rattle.proxy_history.specs.Cause.{first_true, causes, own_cause, left}
+use Rattle.proxy_history.specs.Cause.{first_true, causes, own_cause, commands_left}
 use Rattle.proxy_history.specs.Legal.{IsCause}
 use Rattle.proxy_history.specs.RefusalLaws.{IsNotOpen, IsStale, Means}
 use Rattle.proxy_history.specs.declared.event.Event.{Event}
@@ -50,8 +50,8 @@ either_false true b e = inr e
 either_false false b e = inl refl
 
 not_open : (c : ℕ) (H : History) → not (is_open c H) ≡ true → IsNotOpen c H
-not_open c H e = elim (both_or (nat_lt c (opened H)) (is_closed c H) e) [
-  | inl past_all ↦ inl (ltb-false c (opened H) past_all)
+not_open c H e = elim (both_or (nat_lt c (openings H)) (is_closed c H) e) [
+  | inl past_all ↦ inl (ltb-false c (openings H) past_all)
   | inr closed ↦ inr closed
 ]
 
@@ -85,8 +85,8 @@ is_full S H event e =
 own_means : (S : Setting) (H : History) (event : Event) (r : Refusal) → own_cause S (past S H) event ≡ Some r → Means S H event r
 own_means S H Opened r e = elim (is_first (causes S (past S H) Opened) r e) [
   | inl many ↦
-      let are : times is_any_closing H + max_connections ≤ opened H =
-      omega (arith, leb-true max_connections (opened H - times is_any_closing H) many.0) in
+      let are : times is_any_closing H + max_connections ≤ openings H =
+      omega (arith, leb-true max_connections (openings H - times is_any_closing H) many.0) in
       subst (Means S H Opened) many.1 are
   | inr end ↦ absurd end.1
 ]
@@ -96,8 +96,8 @@ own_means S H (Arrived c request) r e = elim (is_first (causes S (past S H) (Arr
     | inl over ↦ subst (Means S H (Arrived c request)) over.1 (record { opened = still_open c H there.0; finished = over.0 })
     | inr goes_on ↦ elim goes_on.1 [
       | inl many ↦
-          let are : handed c H + max_unwritten ≤ accepted c H =
-          omega (arith, leb-true max_unwritten (left c (past S H)) many.0) in
+          let are : handed_count c H + max_unwritten ≤ accepted_count c H =
+          omega (arith, leb-true max_unwritten (commands_left c (past S H)) many.0) in
           subst (Means S H (Arrived c request)) many.1 are
       | inr end ↦ absurd end.1
     ]
@@ -113,7 +113,7 @@ own_means S H (Finished c) r e = elim (is_first (causes S (past S H) (Finished c
 own_means S H (Taken h) r e = elim (is_first (causes S (past S H) (Taken h)) r e) [
   | inl no_host ↦ subst (Means S H (Taken h)) no_host.1 (leb-true (hosts S) h no_host.0)
   | inr rest ↦ elim rest.1 [
-    | inl none ↦ subst (Means S H (Taken h)) none.1 (none_wait (waiting h (past S H)) none.0)
+    | inl none ↦ subst (Means S H (Taken h)) none.1 (none_wait (waiting_parts h (past S H)) none.0)
     | inr end ↦ absurd end.1
   ]
 ]
@@ -126,7 +126,7 @@ own_means S H (Answered h e' value t) r e = elim (is_first (causes S (past S H) 
       | inr current ↦ elim current.1 [
         | inl none ↦
             subst (Means S H (Answered h e' value t)) none.1
-            (eqb-true e' (epoch h H) (not-false (e' == epoch h H) current.0), eqb-true (flying h (past S H)) 0 none.0)
+            (eqb-true e' (epoch h H) (not-false (e' == epoch h H) current.0), eqb-true (flying_count h (past S H)) 0 none.0)
         | inr end ↦ absurd end.1
       ]
     ]
@@ -143,7 +143,7 @@ own_means S H (Swept t) r e = absurd cc
 own_means S H (Handed c) r e = elim (is_first (causes S (past S H) (Handed c)) r e) [
   | inl closed ↦ subst (Means S H (Handed c)) closed.1 (not_open c H closed.0)
   | inr there ↦ elim there.1 [
-    | inl none ↦ subst (Means S H (Handed c)) none.1 ((not_ready_means S (past S H) c (left c (past S H))).0 (e ∙ ap Some (sym none.1)))
+    | inl none ↦ subst (Means S H (Handed c)) none.1 ((not_ready_means S (past S H) c (commands_left c (past S H))).0 (e ∙ ap Some (sym none.1)))
     | inr end ↦ absurd end.1
   ]
 ]

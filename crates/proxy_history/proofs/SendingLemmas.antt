@@ -9,7 +9,7 @@ use Rattle.proxy_history.specs.Setting.{Setting}
 use Rattle.proxy_history.specs.History.{History, Step, epoch}
 use Rattle.proxy_history.specs.Part.{Past, Part, is_of}
 use Rattle.proxy_history.specs.Past.{past}
-use Rattle.proxy_history.specs.Waiting.{waiting, waits, first, sent_by, sent_to}
+use Rattle.proxy_history.specs.Waiting.{waiting_parts, waits, first, sent_by, sent_to}
 use Rattle.proxy_history.specs.Cause.{own_cause, causes}
 use Rattle.proxy_history.specs.Legal.{IsLegal, MayFollow}
 use Rattle.proxy_history.specs.Answer.{answer_to, text_of_first}
@@ -49,12 +49,12 @@ sent_to_next S before s h e = filter-append (is_of h e) (past S before).sent (se
 -- EACH TAKEN STEP
 
 taken_sends : (S : Setting) (before : History) (s : Step) (h : ℕ) (ps : List Part)
-    → MayFollow S (past S before) s → s.event ≡ Taken h → waiting h (past S before) ≡ ps
+    → MayFollow S (past S before) s → s.event ≡ Taken h → waiting_parts h (past S before) ≡ ps
     → (length ps == 0) ≡ false → Sends S before s h
 taken_sends S before s h [] m e w n = absurd cc
 taken_sends S before s h (p ∷ ps) m e w n =
     let x = past S before in
-    let front : first (waiting h x) ≡ p ∷ [] = rw w refl in
+    let front : first (waiting_parts h x) ≡ p ∷ [] = rw w refl in
     record {
       part = p;
       rest = ps;
@@ -62,7 +62,7 @@ taken_sends S before s h (p ∷ ps) m e w n =
       is_sent = ap (λ z. x.sent ++ sent_by x z) e ∙ ap (λ z. x.sent ++ z) front;
       is_last = sent_to_next S before s h (epoch h before)
           ∙ ap (λ z. sent_to h (epoch h before) x ++ filter (is_of h (epoch h before)) (sent_by x z)) e
-          ∙ ap (λ z. sent_to h (epoch h before) x ++ z) (of_present h x (waiting h x) (filter_is_good (waits h x) x.parts) ∙ front);
+          ∙ ap (λ z. sent_to h (epoch h before) x ++ z) (of_present h x (waiting_parts h x) (filter_is_good (waits h x) x.parts) ∙ front);
       goes_out = m.is_answered ∙ ap (answer_to S x) e
           ∙ ap (λ z. answer.Sent (epoch h before) (length (sent_to h (epoch h before) x)) (text_of_first z)) w;
     }
@@ -72,14 +72,14 @@ pub each_taken_sends : (S : Setting) (before : History) (s : Step) (h : ℕ) →
 each_taken_sends S before s h legal e =
     let n : own_cause S (past S before) (Taken h) ≡ None = rw e at legal.1.has_no_cause in
     let a = are_false (causes S (past S before) (Taken h)) n in
-    taken_sends S before s h (waiting h (past S before)) legal.1 e refl a.1.0
+    taken_sends S before s h (waiting_parts h (past S before)) legal.1 e refl a.1.0
 
 -- NOTHING ELSE
 
 none_by : (x : Past) (event : Event) (h e : ℕ) → (event ≡ Taken h → epoch h x.steps ≡ e → ⊥)
     → filter (is_of h e) (sent_by x event) ≡ []
 none_by x (Taken host) h e f =
-    of_no_other h host e x (waiting host x) (filter_is_good (waits host x) x.parts)
+    of_no_other h host e x (waiting_parts host x) (filter_is_good (waits host x) x.parts)
     (λ same now. f (ap (λ k. Taken k) same) (ap (λ k. epoch k x.steps) (sym same) ∙ now))
 none_by x Opened h e f = refl
 none_by x (Arrived conn request) h e f = refl
@@ -124,19 +124,19 @@ text_by : (S : Setting) (x : Past) (event : Event) (h e : ℕ)
     → sent_text h e event (answer_to S x event) ≡ texts (filter (is_of h e) (sent_by x event))
 text_by S x (Taken host) h e = elim (cases_Bool (host == h)) [
   | inl t ↦ elim (cases_Bool (epoch host x.steps == e)) [
-    | inl u ↦ rw (t, u) (text_of_one (waiting host x) ∙ ap texts (sym (here t u)))
+    | inl u ↦ rw (t, u) (text_of_one (waiting_parts host x) ∙ ap texts (sym (here t u)))
     | inr v ↦ rw (t, v) (sym (ap texts (other (λ same now. eqb-false (epoch host x.steps) e v now))))
   ]
   | inr f ↦ rw f (sym (ap texts (other (λ same now. eqb-false host h f same))))
 ]
   where
     here : (host == h) ≡ true → (epoch host x.steps == e) ≡ true
-        → filter (is_of h e) (first (waiting host x)) ≡ first (waiting host x)
+        → filter (is_of h e) (first (waiting_parts host x)) ≡ first (waiting_parts host x)
     here t u =
-        rw (sym (eqb-true host h t), sym (eqb-true (epoch host x.steps) e u)) (of_present host x (waiting host x) (filter_is_good (waits host x) x.parts))
+        rw (sym (eqb-true host h t), sym (eqb-true (epoch host x.steps) e u)) (of_present host x (waiting_parts host x) (filter_is_good (waits host x) x.parts))
 
-    other : (host ≡ h → epoch host x.steps ≡ e → ⊥) → filter (is_of h e) (first (waiting host x)) ≡ []
-    other f = of_no_other h host e x (waiting host x) (filter_is_good (waits host x) x.parts) f
+    other : (host ≡ h → epoch host x.steps ≡ e → ⊥) → filter (is_of h e) (first (waiting_parts host x)) ≡ []
+    other f = of_no_other h host e x (waiting_parts host x) (filter_is_good (waits host x) x.parts) f
 text_by S x Opened h e = refl
 text_by S x (Arrived conn request) h e = refl
 text_by S x (Finished conn) h e = refl

@@ -8,7 +8,7 @@ use Rattle.proxy_history.specs.Setting.{Setting}
 use Rattle.proxy_history.specs.History.{History}
 use Rattle.proxy_history.specs.Part.{Past, Part, is_same}
 use Rattle.proxy_history.specs.Past.{past}
-use Rattle.proxy_history.specs.Waiting.{waiting, waits, first, sent_by}
+use Rattle.proxy_history.specs.Waiting.{waiting_parts, waits, first, sent_by}
 use Rattle.proxy_history.specs.Laws.{AreApart}
 use Rattle.proxy_history.proofs.Good.{AreGood, filter_is_good, waits_parts}
 use Rattle.proxy_history.specs.declared.event.Event.{Event}
@@ -44,7 +44,7 @@ apart_with_first h x [] a g = rw (append-nil x.sent) a
 apart_with_first h x (p ∷ ps) a g = apart_with x.sent p a (waits_parts h x p g.0).1
 
 apart_after : (x : Past) (event : Event) → AreApart x.sent → AreApart (x.sent ++ sent_by x event)
-apart_after x (Taken host) a = apart_with_first host x (waiting host x) a (filter_is_good (waits host x) x.parts)
+apart_after x (Taken host) a = apart_with_first host x (waiting_parts host x) a (filter_is_good (waits host x) x.parts)
 apart_after x Opened a = rw (append-nil x.sent) a
 apart_after x (Arrived conn request) a = rw (append-nil x.sent) a
 apart_after x (Finished conn) a = rw (append-nil x.sent) a

@@ -7,7 +7,7 @@ use Rattle.list_words.proofs.CallerLemmas.{slice_get-append}
 use Rattle.resp_core.specs.Tree.{Tree}
 use Rattle.proxy_history.specs.Setting.{Setting}
 use Rattle.splitter.specs.Plan.{Plan, here, leave, parts}
-use Rattle.proxy_history.specs.History.{plan_for, History, accepted, requests, request_by, Step}
+use Rattle.proxy_history.specs.History.{plan_for, History, accepted_count, requests, request_by, Step}
 use Rattle.splitter.specs.Join.{join_of}
 use Rattle.proxy_history.specs.Part.{Past, Part}
 use Rattle.proxy_history.specs.Past.{past, after}
@@ -30,7 +30,7 @@ values_stay S x s n [] vs e = e
 values_stay S x s n (p ∷ ps) vs e =
     with_value_stays (value_of x p) (value_of (after S s x) p) (values_of x ps) (values_of (after S s x) ps) vs (value_stays S x s n p) (values_stay S x s n ps) e
 
-outcome_by_stays : (S : Setting) (x : Past) (s : Step) (c i : ℕ) (v : Tree) → own_cause S x s.event ≡ None → i < accepted c x.steps
+outcome_by_stays : (S : Setting) (x : Past) (s : Step) (c i : ℕ) (v : Tree) → own_cause S x s.event ≡ None → i < accepted_count c x.steps
     → (p : Plan) → outcome_by x c i p ≡ Some v → outcome_by (after S s x) c i p ≡ Some v
 outcome_by_stays S x s c i v n l (here name value) e = e
 outcome_by_stays S x s c i v n l (leave name value) e = e
@@ -42,7 +42,7 @@ by_request : (S : Setting) (x : Past) (s : Step) (c i : ℕ) (v : Tree) → own_
     → option_and_then (λ request. outcome_by x c i (plan_for request)) o ≡ Some v → outcome c i (after S s x) ≡ Some v
 by_request S x s c i v n None q e = absurd cc
 by_request S x s c i v n (Some request) q e =
-    let l : i < accepted c x.steps = omega (arith, slice_get_within (requests c x.steps) i request q, length-requests c x.steps) in
+    let l : i < accepted_count c x.steps = omega (arith, slice_get_within (requests c x.steps) i request q, length-requests c x.steps) in
     rw (slice_get-append (requests c x.steps) (request_by c s.event) i request q) (outcome_by_stays S x s c i v n l (plan_for request) e)
 
 -- one more step

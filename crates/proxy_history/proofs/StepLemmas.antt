@@ -9,7 +9,7 @@ use Rattle.splitter.specs.Request.{Request, read, broken, request_of}
 use Rattle.splitter.specs.Plan.{takes, plan_by, plan_by_row, plan_of, is_last}
 use Rattle.splitter.specs.Split.{Words}
 use Rattle.proxy_history.specs.Setting.{Setting}
-use Rattle.proxy_history.specs.History.{History, Step, opened, epoch, is_opening, is_closed, is_open}
+use Rattle.proxy_history.specs.History.{History, Step, openings, epoch, is_opening, is_closed, is_open}
 use Rattle.proxy_history.specs.Part.{Past}
 use Rattle.proxy_history.specs.Past.{past}
 use Rattle.proxy_history.specs.Cause.{own_cause, causes}
@@ -83,26 +83,26 @@ epochs_are_present S before s legal =
 -- OPENINGS
 
 -- an open connection is one of those opened
-of_opened : (c conn : ℕ) (H : History) → not (is_open conn H) ≡ false → opened H ≤ c → (conn == c) ≡ false
+of_opened : (c conn : ℕ) (H : History) → not (is_open conn H) ≡ false → openings H ≤ c → (conn == c) ≡ false
 of_opened c conn H e most =
     let below =
-    ltb-true conn (opened H) (and_parts (nat_lt conn (opened H)) (not (is_closed conn H)) (not-false (is_open conn H) e)).0 in
+    ltb-true conn (openings H) (and_parts (nat_lt conn (openings H)) (not (is_closed conn H)) (not-false (is_open conn H) e)).0 in
     ne_eqb conn c (λ same. omega (arith, same, below, most))
 
 -- a step is of no connection that is opened later
-of_none_later : (S : Setting) (H : History) (c : ℕ) (s : Step) → MayFollow S (past S H) s → opened (s ∷ H) ≤ c
+of_none_later : (S : Setting) (H : History) (c : ℕ) (s : Step) → MayFollow S (past S H) s → openings (s ∷ H) ≤ c
     → is_connection_step c s.event s.answer ≡ false
 of_none_later S H c s may most = subst (λ (z : Answer). is_connection_step c s.event z ≡ false) (sym may.is_answered) (by_event s.event refl)
   where
-    before : opened H ≤ c
+    before : openings H ≤ c
     before = omega (arith, most, times_grows is_opening s H)
 
-    one_more : s.event ≡ Opened → opened (s ∷ H) ≡ opened H + 1
+    one_more : s.event ≡ Opened → openings (s ∷ H) ≡ openings H + 1
     one_more is = rw is refl
 
     by_event : (event : Event) → s.event ≡ event
         → is_connection_step c event (answer_to S (past S H) event) ≡ false
-    by_event Opened is = or_from _ _ (ne_eqb (opened H) c (λ same. omega (arith, same, most, one_more is))) refl
+    by_event Opened is = or_from _ _ (ne_eqb (openings H) c (λ same. omega (arith, same, most, one_more is))) refl
     by_event (Arrived conn request) is = of_opened c conn H (are_false (causes S (past S H) (Arrived conn request)) (rw is at may.has_no_cause)).0 before
     by_event (Finished conn) is = of_opened c conn H (are_false (causes S (past S H) (Finished conn)) (rw is at may.has_no_cause)).0 before
     by_event (Handed conn) is = of_opened c conn H (are_false (causes S (past S H) (Handed conn)) (rw is at may.has_no_cause)).0 before
@@ -112,7 +112,7 @@ of_none_later S H c s may most = subst (λ (z : Answer). is_connection_step c s.
     by_event (Failed host epoch kind t) is = refl
     by_event (Swept t) is = refl
 
-pub unopened_have_no_steps : (S : Setting) (H : History) (c : ℕ) → IsLegal S H → opened H ≤ c
+pub unopened_have_no_steps : (S : Setting) (H : History) (c : ℕ) → IsLegal S H → openings H ≤ c
     → connection_steps c H ≡ []
 unopened_have_no_steps S [] c legal most = refl
 unopened_have_no_steps S (s ∷ before) c legal most =
@@ -122,7 +122,7 @@ pub openings_come_first : (S : Setting) (before : History) (s : Step) (c : ℕ) 
     → s.event ≡ Opened → s.answer ≡ answer.Opened c
     → connection_steps c before ≡ []
 openings_come_first S before s c legal e a =
-    let is : answer.Opened c ≡ answer.Opened (opened before) =
+    let is : answer.Opened c ≡ answer.Opened (openings before) =
     sym a ∙ legal.1.is_answered ∙ ap (answer_to S (past S before)) e in
-    let number : c ≡ opened before = cc in
+    let number : c ≡ openings before = cc in
     unopened_have_no_steps S before c legal.0 (omega (arith, number))

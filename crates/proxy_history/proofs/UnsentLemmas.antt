@@ -8,7 +8,7 @@ use Rattle.proxy_history.specs.Setting.{Setting}
 use Rattle.proxy_history.specs.History.{History, Step, epoch, is_fault}
 use Rattle.proxy_history.specs.Part.{Part, is_of, is_host, is_same}
 use Rattle.proxy_history.specs.Past.{past, parts_in}
-use Rattle.proxy_history.specs.Waiting.{waiting, waits}
+use Rattle.proxy_history.specs.Waiting.{waiting_parts, waits}
 use Rattle.proxy_history.specs.Arrival.{parts_by}
 use Rattle.proxy_history.specs.Laws.{AreApart, IsPlaced, HasArrived}
 use Rattle.proxy_history.specs.SendingLaws.{IsUnsent}
@@ -68,12 +68,12 @@ has_no_value : {X : Type 0} (o : Option X) → is_none o ≡ true → o ≡ None
 has_no_value None e = refl
 has_no_value (Some v) e = absurd cc
 
-is_waiting : (S : Setting) (H : History) (h : ℕ) (p : Part) → Contains (waiting h (past S H)) p
+is_waiting : (S : Setting) (H : History) (h : ℕ) (p : Part) → Contains (waiting_parts h (past S H)) p
     → IsUnsent S H h p
 is_waiting S H h p c =
     let x = past S H in
     let a = parts_have_arrived S H p (Contains-filter (waits h x) x.parts p c) in
-    let w = waits_parts h x p (is_good (waits h x) (waiting h x) p (filter_is_good (waits h x) x.parts) c) in
+    let w = waits_parts h x p (is_good (waits h x) (waiting_parts h x) p (filter_is_good (waits h x) x.parts) c) in
     let o = and_parts (is_host h p.host && (p.epoch == epoch h H)) (is_none p.local) w.0 in
     let b = and_parts (is_host h p.host) (p.epoch == epoch h H) o.0 in
     let host : p.host ≡ Some h = is_some_host h p.host b.0 in
@@ -105,7 +105,7 @@ arrived_is_part S H p a =
     subst (λ z. Contains (past S z).parts p) (sym a.split) (is_part S a.later a.step a.before p placed)
 
 in_waiting : (S : Setting) (H : History) (h : ℕ) (p : Part) → IsUnsent S H h p
-    → Contains (waiting h (past S H)) p
+    → Contains (waiting_parts h (past S H)) p
 in_waiting S H h p w =
     let x = past S H in
     let a = w.arrival in
@@ -123,5 +123,5 @@ in_waiting S H h p w =
     Contains-filter_passing (waits h x) x.parts p part (rw (of_host, unsent, w.not_closed) refl)
 
 pub unsent_parts_wait : (S : Setting) (H : History) (h : ℕ) (p : Part)
-    → Contains (waiting h (past S H)) p ↔ IsUnsent S H h p
+    → Contains (waiting_parts h (past S H)) p ↔ IsUnsent S H h p
 unsent_parts_wait S H h p = (is_waiting S H h p, in_waiting S H h p)

@@ -8,10 +8,10 @@ use Rattle.std.proofs.lemmas.List.Elements.{filter-append}
 use Rattle.resp_core.specs.Tree.{Tree}
 use Rattle.proxy_history.specs.Setting.{Setting}
 use Rattle.proxy_history.specs.History.{epoch, is_fault, Step}
-use Rattle.proxy_history.specs.Replies.{came, reply_by}
+use Rattle.proxy_history.specs.Replies.{replies_from, reply_by}
 use Rattle.proxy_history.specs.Part.{Past, Part, is_of, is_host, is_same}
 use Rattle.proxy_history.specs.Past.{after}
-use Rattle.proxy_history.specs.Waiting.{waiting, waits, first, sent_by, sent_to}
+use Rattle.proxy_history.specs.Waiting.{waiting_parts, waits, first, sent_by, sent_to}
 use Rattle.proxy_history.specs.Value.{replies, reply_to, or_lost, value_at, value_or, value_of}
 use Rattle.proxy_history.specs.Cause.{own_cause}
 use Rattle.proxy_history.specs.declared.event.Event.{Event}
@@ -37,7 +37,7 @@ reply_stays : (S : Setting) (x : Past) (s : Step) (h : ℕ) (p : Part) (v : Tree
 reply_stays S x s h p v e =
     rw (sent_to_after S x s h p.epoch)
     (option_map_stays (λ r. r.1) (find (λ r. is_same p r.0) (replies h p.epoch x)) _ v
-    (find_zip_stays (λ r. is_same p r.0) (sent_to h p.epoch x) (filter (is_of h p.epoch) (sent_by x s.event)) (came h p.epoch x.steps) (reply_by h p.epoch s.event))
+    (find_zip_stays (λ r. is_same p r.0) (sent_to h p.epoch x) (filter (is_of h p.epoch) (sent_by x s.event)) (replies_from h p.epoch x.steps) (reply_by h p.epoch s.event))
     e)
 
 -- NOTHING COMES TO AN EARLIER EPOCH
@@ -84,7 +84,7 @@ none_first x h e host [] l g = refl
 none_first x h e host (q ∷ ps) l g = rw (of_one x h e host q l g.0) refl
 
 none_sent : (x : Past) (event : Event) (h e : ℕ) → e < epoch h x.steps → filter (is_of h e) (sent_by x event) ≡ []
-none_sent x (Taken host) h e l = none_first x h e host (waiting host x) l (filter_is_good (waits host x) x.parts)
+none_sent x (Taken host) h e l = none_first x h e host (waiting_parts host x) l (filter_is_good (waits host x) x.parts)
 none_sent x Opened h e l = refl
 none_sent x (Arrived conn request) h e l = refl
 none_sent x (Finished conn) h e l = refl

@@ -9,7 +9,7 @@ use Rattle.proxy_history.specs.Setting.{Setting}
 use Rattle.proxy_history.specs.History.{History, epoch, is_closed}
 use Rattle.proxy_history.specs.Part.{Past, Part, is_of, is_host, is_same}
 use Rattle.proxy_history.specs.Past.{after}
-use Rattle.proxy_history.specs.Waiting.{waiting, waits}
+use Rattle.proxy_history.specs.Waiting.{waiting_parts, waits}
 use Rattle.proxy_history.specs.Laws.{AreApart}
 use Rattle.proxy_history.specs.declared.answer.Answer.{Answer}
 use Rattle.proxy_history.specs.declared.event.Event.TheVariants.{Taken, Closed}
@@ -52,15 +52,15 @@ without_first : (p : Part) (ps : List Part) → AreApart (p ∷ ps) → filter (
 without_first p ps a = rw (is_same_self p) (all_stay p ps a.0)
 
 -- the one that is taken leaves, and the others wait on
-pub taken : (h : ℕ) (x : Past) (p : Part) (ps : List Part) → AreApart x.parts → waiting h x ≡ p ∷ ps → waiting h (record x { sent = x.sent ++ p ∷ [] }) ≡ ps
+pub taken : (h : ℕ) (x : Past) (p : Part) (ps : List Part) → AreApart x.parts → waiting_parts h x ≡ p ∷ ps → waiting_parts h (record x { sent = x.sent ++ p ∷ [] }) ≡ ps
 taken h x p ps a e =
     let apart : AreApart (p ∷ ps) = rw e at (apart_filter (waits h x) x.parts a) in
     filter-same _ (λ q. waits h x q && not (is_same q p)) (taken_waits h x p) x.parts
     ∙ filter-both (waits h x) (λ q. not (is_same q p)) x.parts
     ∙ ap (filter (λ q. not (is_same q p))) e ∙ without_first p ps apart
 
-pub after_taken : (S : Setting) (h pass : ℕ) (answer : Answer) (x : Past) (p : Part) (ps : List Part) → AreApart x.parts → waiting h x ≡ p ∷ ps
-    → waiting h (after S (record { pass = pass; event = Taken h; answer = answer }) x) ≡ ps
+pub after_taken : (S : Setting) (h pass : ℕ) (answer : Answer) (x : Past) (p : Part) (ps : List Part) → AreApart x.parts → waiting_parts h x ≡ p ∷ ps
+    → waiting_parts h (after S (record { pass = pass; event = Taken h; answer = answer }) x) ≡ ps
 after_taken S h pass answer x p ps a e = rw (append-nil x.parts, e) (taken h x p ps a e)
 
 -- EVENTS THAT END
@@ -75,7 +75,7 @@ bools3 false b c d = refl
 
 -- those of a closed connection leave
 pub after_closed : (S : Setting) (h pass c : ℕ) (answer : Answer) (x : Past)
-    → waiting h (after S (record { pass = pass; event = Closed c; answer = answer }) x) ≡ filter (λ q. not (c == q.conn)) (waiting h x)
+    → waiting_parts h (after S (record { pass = pass; event = Closed c; answer = answer }) x) ≡ filter (λ q. not (c == q.conn)) (waiting_parts h x)
 after_closed S h pass c answer x =
     rw (append-nil x.parts, append-nil x.sent)
     (filter-same _ (λ q. waits h x q && not (c == q.conn))

@@ -6,10 +6,10 @@ use Rattle.std.proofs.lemmas.List.Elements.{Contains-append_left, Contains-appen
 use Rattle.list_words.proofs.CallerLemmas.{Contains-nil, Contains-filter}
 use Rattle.splitter.specs.Plan.{Plan, here, leave, parts}
 use Rattle.proxy_history.specs.Setting.{Setting}
-use Rattle.proxy_history.specs.History.{History, Step, accepted, plan_for}
+use Rattle.proxy_history.specs.History.{History, Step, accepted_count, plan_for}
 use Rattle.proxy_history.specs.Part.{Part, Past}
 use Rattle.proxy_history.specs.Past.{past, parts_in}
-use Rattle.proxy_history.specs.Waiting.{waiting, waits}
+use Rattle.proxy_history.specs.Waiting.{waiting_parts, waits}
 use Rattle.proxy_history.specs.Arrival.{parts_by, placed_by}
 use Rattle.proxy_history.specs.SendingLaws.{ComesFirst}
 use Rattle.proxy_history.specs.declared.event.Event.{Event}
@@ -86,7 +86,7 @@ new_in_turn S H s n (p ∷ ps) new a = (
 )
 
 numbered_by_plan : (S : Setting) (x : Past) (conn : ℕ) (plan : Plan) → AreNumbered 0 (placed_by S x conn plan)
-numbered_by_plan S x conn (parts how list) = placing_is_numbered S x conn (accepted conn x.steps) [] list tt
+numbered_by_plan S x conn (parts how list) = placing_is_numbered S x conn (accepted_count conn x.steps) [] list tt
 numbered_by_plan S x conn (here name value) = tt
 numbered_by_plan S x conn (leave name value) = tt
 
@@ -123,6 +123,6 @@ at_split S H [] middle rest p q a = a.0 q (Contains-append_right middle (q ∷ r
 at_split S H (r ∷ front) middle rest p q a = at_split S H front middle rest p q a.1
 
 pub waiting_is_in_order : (S : Setting) (H : History) (h : ℕ) (front middle rest : List Part) (p q : Part)
-    → waiting h (past S H) ≡ front ++ p ∷ (middle ++ q ∷ rest) → ComesFirst S H p q
+    → waiting_parts h (past S H) ≡ front ++ p ∷ (middle ++ q ∷ rest) → ComesFirst S H p q
 waiting_is_in_order S H h front middle rest p q e =
     at_split S H front middle rest p q (subst (AreInTurn S H) e (in_turn-filter S H (waits h (past S H)) (parts_in S H) (all_in_turn S H)))

@@ -12,11 +12,11 @@ use Rattle.ejector.specs.declared.settings.Rules.{Rules}
 use Rattle.ejector.specs.State.{State}
 use Rattle.ejector.specs.declared.answer.Trip.TheVariants as trips
 use Rattle.ejector.specs.declared.answer.Swept.{Swept as SweptHosts}
-use Rattle.ejector.specs.Ejection.{trip, swept}
+use Rattle.ejector.specs.Ejection.{trip, sweep_answer}
 use Rattle.proxy_history.specs.Setting.{Setting}
-use Rattle.proxy_history.specs.History.{opened, accepted, handed, epoch, plan_for}
+use Rattle.proxy_history.specs.History.{openings, accepted_count, handed_count, epoch, plan_for}
 use Rattle.proxy_history.specs.Part.{Part, Past}
-use Rattle.proxy_history.specs.Waiting.{waiting, flying, sent_to}
+use Rattle.proxy_history.specs.Waiting.{waiting_parts, flying_count, sent_to}
 use Rattle.proxy_history.specs.Arrival.{parts_by}
 use Rattle.proxy_history.specs.Marks.{mark_by}
 use Rattle.proxy_history.specs.Outcome.{outcome}
@@ -63,15 +63,15 @@ counts_of n = answer.Swept n.returned n.ejected n.kept
 
 -- the answer to an event that has no cause of refusal
 abbrev pub answer_to : Setting → Past → Event → Answer
-answer_to S past Opened = answer.Opened (opened past.steps)
+answer_to S past Opened = answer.Opened (openings past.steps)
 answer_to S past (Arrived conn request) =
-    accepts (accepted conn past.steps) (local_of (plan_for request)) (parts_by S past (Arrived conn request))
+    accepts (accepted_count conn past.steps) (local_of (plan_for request)) (parts_by S past (Arrived conn request))
 answer_to S past (Finished conn) = answer.Finishing
 answer_to S past (Taken host) =
-    let e = epoch host past.steps in answer.Sent e (length (sent_to host e past)) (text_of_first (waiting host past))
+    let e = epoch host past.steps in answer.Sent e (length (sent_to host e past)) (text_of_first (waiting_parts host past))
 answer_to S past (Answered host e value t) = answer.Matched (trip_of S past (mark_by past (Answered host e value t)))
 answer_to S past (Failed host e kind t) =
-    answer.Lost (length (waiting host past) + flying host past) (trip_of S past (mark_by past (Failed host e kind t)))
-answer_to S past (Swept t) = counts_of (swept S.rules S.opening (Sweep t) past.marks)
-answer_to S past (Handed conn) = answer.Bytes (text (unwrap_or (outcome conn (handed conn past.steps) past) null_bulk))
+    answer.Lost (length (waiting_parts host past) + flying_count host past) (trip_of S past (mark_by past (Failed host e kind t)))
+answer_to S past (Swept t) = counts_of (sweep_answer S.rules S.opening (Sweep t) past.marks)
+answer_to S past (Handed conn) = answer.Bytes (text (unwrap_or (outcome conn (handed_count conn past.steps) past) null_bulk))
 answer_to S past (Closed conn) = answer.Closed

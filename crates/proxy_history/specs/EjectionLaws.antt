@@ -5,7 +5,7 @@ use Rattle.ejector.specs.declared.answer.Trip.TheVariants as trips
 use Rattle.proxy_history.specs.Setting.{Setting}
 use Rattle.proxy_history.specs.Part.{Part, Past}
 use Rattle.proxy_history.specs.Waiting.{sent_by}
-use Rattle.proxy_history.specs.Arrival.{usable, parts_by}
+use Rattle.proxy_history.specs.Arrival.{usable_flags, parts_by}
 use Rattle.proxy_history.specs.Outcome.{outcome}
 use Rattle.proxy_history.specs.Cause.{own_cause}
 use Rattle.proxy_history.specs.Answer.{answer_to}
@@ -41,8 +41,8 @@ pub record IsLeftAlone (S : Setting) (x y : Past) (event : Event) : Type 0 where
       ≡ map without_host (parts_by S x event)
   pub same_answer : without_hosts (without_trips (answer_to S y event))
       ≡ without_hosts (without_trips (answer_to S x event))
-  pub same_parts : usable S y ≡ usable S x → parts_by S y event ≡ parts_by S x event
-  pub same_arrival : usable S y ≡ usable S x
+  pub same_parts : usable_flags S y ≡ usable_flags S x → parts_by S y event ≡ parts_by S x event
+  pub same_arrival : usable_flags S y ≡ usable_flags S x
       → without_trips (answer_to S y event) ≡ without_trips (answer_to S x event)
 
 -- Ejections choose hosts and do nothing else: whatever outlier detection was told, these are left alone.

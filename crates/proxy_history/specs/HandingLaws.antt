@@ -3,7 +3,7 @@ use Rattle.std.specs.Prelude.{◌≡◌, ◌↔◌, ◌<◌, ℕ, true, false, �
 use Rattle.resp_core.specs.Tree.{Tree}
 use Rattle.resp_core.specs.Text.{text}
 use Rattle.proxy_history.specs.Setting.{Setting}
-use Rattle.proxy_history.specs.History.{History, Step, handed, has, is_closed}
+use Rattle.proxy_history.specs.History.{History, Step, handed_count, has, is_closed}
 use Rattle.proxy_history.specs.Past.{past}
 use Rattle.proxy_history.specs.Outcome.{outcome}
 use Rattle.proxy_history.specs.Legal.{IsLegal}
@@ -23,8 +23,8 @@ ClosedGetsNothing = (S : Setting) (later before : History) (c : ℕ)
 -- step, it is the one that stands in the whole history, and its text goes out.
 pub record HandsOut (S : Setting) (later before : History) (s : Step) (c : ℕ) : Type 0 where
   pub reply : Tree
-  pub had_come : outcome c (handed c before) (past S before) ≡ Some reply
-  pub stays : outcome c (handed c before) (past S (later ++ s ∷ before)) ≡ Some reply
+  pub had_come : outcome c (handed_count c before) (past S before) ≡ Some reply
+  pub stays : outcome c (handed_count c before) (past S (later ++ s ∷ before)) ≡ Some reply
   pub goes_out : s.answer ≡ answer.Bytes (text reply)
 
 -- each Handed step hands out the outcome of the command that has as many handed out before it
@@ -39,11 +39,11 @@ pub record Handing (H : History) (c i : ℕ) : Type 0 where
   pub before : History
   pub split : H ≡ later ++ step ∷ before
   pub hands_out : step.event ≡ Handed c
-  pub number_is : handed c before ≡ i
+  pub number_is : handed_count c before ≡ i
 
 -- There is such a step exactly for the commands before the next one to be handed out, and it is the only one.
 pub record IsHandedOnce (H : History) (c i : ℕ) : Type 0 where
-  pub at_one : (i < handed c H) ↔ Handing H c i
+  pub at_one : (i < handed_count c H) ↔ Handing H c i
   pub same_step : (x y : Handing H c i) → x.step ≡ y.step
   pub same_place : (x y : Handing H c i) → x.before ≡ y.before
 

@@ -67,16 +67,16 @@ finishes c (Arrived conn request) = (conn == c) && is_last (plan_for request)
 finishes c _ = false
 
 -- how many connections were opened
-abbrev pub opened : History → ℕ
-opened H = times is_opening H
+abbrev pub openings : History → ℕ
+openings H = times is_opening H
 
 -- how many commands of a connection arrived, and how many replies were handed out
-abbrev pub accepted : ℕ → History → ℕ
-accepted c H = times (is_arrival c) H
+abbrev pub accepted_count : ℕ → History → ℕ
+accepted_count c H = times (is_arrival c) H
 
 -- how many replies were handed out to the connection
-abbrev pub handed : ℕ → History → ℕ
-handed c H = times (is_handing c) H
+abbrev pub handed_count : ℕ → History → ℕ
+handed_count c H = times (is_handing c) H
 
 -- the epoch of a host: how many faults it has had
 abbrev pub epoch : ℕ → History → ℕ
@@ -88,7 +88,7 @@ is_closed c H = has (is_closing c) H
 
 -- whether the connection was opened and not closed
 abbrev pub is_open : ℕ → History → Bool
-is_open c H = nat_lt c (opened H) && not (is_closed c H)
+is_open c H = nat_lt c (openings H) && not (is_closed c H)
 
 -- whether the connection takes nothing more
 abbrev pub is_finishing : ℕ → History → Bool

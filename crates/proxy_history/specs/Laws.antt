@@ -15,11 +15,11 @@ use Rattle.splitter.specs.declared.plans.Join.{Join}
 use Rattle.splitter.specs.declared.plans.PartPlan.{PartPlan}
 use Rattle.splitter.specs.declared.request.Request.{Request}
 use Rattle.proxy_history.specs.Setting.{Setting, point_for, max_waiting}
-use Rattle.proxy_history.specs.History.{History, Step, plan_for, accepted, handed, epoch, has, is_fault}
-use Rattle.proxy_history.specs.Replies.{came}
+use Rattle.proxy_history.specs.History.{History, Step, plan_for, accepted_count, handed_count, epoch, has, is_fault}
+use Rattle.proxy_history.specs.Replies.{replies_from}
 use Rattle.proxy_history.specs.Part.{Part, Past, is_same}
 use Rattle.proxy_history.specs.Waiting.{sent_to}
-use Rattle.proxy_history.specs.Arrival.{usable, host_for, before_it, parts_by, no_upstream_host, proxy_busy}
+use Rattle.proxy_history.specs.Arrival.{usable_flags, host_for, before_it, parts_by, no_upstream_host, proxy_busy}
 use Rattle.proxy_history.specs.Past.{past}
 use Rattle.proxy_history.specs.Value.{value_of, upstream_failure}
 use Rattle.proxy_history.specs.Outcome.{outcome}
@@ -61,8 +61,8 @@ pub record HaveCome (past : Past) (c n : ℕ) : Type 0 where
 -- what was handed out is the outcomes in the order of the commands, none missing
 abbrev pub RepliesAreInOrder : Type 0
 RepliesAreInOrder = (S : Setting) (H : History) (c : ℕ) → IsLegal S H
-    → (transcript c H ≡ first_outcomes (past S H) c (handed c H))
-    × HaveCome (past S H) c (handed c H)
+    → (transcript c H ≡ first_outcomes (past S H) c (handed_count c H))
+    × HaveCome (past S H) c (handed_count c H)
 
 -- no more hosts are out than the limit allows, at each beginning, where the opening state allows no more
 abbrev pub FewAreOut : Type 0
@@ -72,8 +72,8 @@ FewAreOut = (S : Setting) (H : History) → IsOpening S.rules S.opening
 -- a key whose owner among all hosts is usable goes to that owner, whatever else is out
 abbrev pub OwnersStay : Type 0
 OwnersStay = (S : Setting) (x : Past) (key : List ℕ) (h : ℕ)
-    → owner_of S.ring.pairs (point_for S key) (all_usable (usable S x)) ≡ Some h
-    → is_usable (usable S x) h ≡ true → host_for S x key ≡ Some h
+    → owner_of S.ring.pairs (point_for S key) (all_usable (usable_flags S x)) ≡ Some h
+    → is_usable (usable_flags S x) h ≡ true → host_for S x key ≡ Some h
 
 -- each part that was sent is a part that arrived
 abbrev pub SentPartsArrived : Type 0
@@ -83,7 +83,7 @@ SentPartsArrived = (S : Setting) (H : History) (p : Part)
 -- of each host and epoch no more replies came than parts were sent
 abbrev pub RepliesWereAsked : Type 0
 RepliesWereAsked = (S : Setting) (H : History) (h e : ℕ) → IsLegal S H
-    → length (came h e H) ≤ length (sent_to h e (past S H))
+    → length (replies_from h e H) ≤ length (sent_to h e (past S H))
 
 -- a fault of this host in this epoch
 abbrev pub is_fault_in : ℕ → ℕ → Event → Bool
@@ -117,7 +117,7 @@ pub record HasArrived (S : Setting) (H : History) (p : Part) : Type 0 where
   pub split : H ≡ later ++ step ∷ before
   pub request : Request
   pub arrives : step.event ≡ Arrived p.conn request
-  pub command_is : p.command ≡ accepted p.conn before
+  pub command_is : p.command ≡ accepted_count p.conn before
   pub how : Join
   pub list : List PartPlan
   pub is_split : plan_for request ≡ parts how list
@@ -143,7 +143,7 @@ pub record IsReply (past : Past) (h : ℕ) (p : Part) (v : Tree) : Type 0 where
   pub sent : Part
   pub is_sent : slice_get (sent_to h p.epoch past) place ≡ Some sent
   pub is_same : is_same p sent ≡ true
-  pub came : slice_get (came h p.epoch past.steps) place ≡ Some v
+  pub came : slice_get (replies_from h p.epoch past.steps) place ≡ Some v
 
 -- The part is lost: no reply came in its place before the fault of its host in its epoch, which stands in the history.
 pub record IsLost (S : Setting) (H : History) (h : ℕ) (p : Part) : Type 0 where

@@ -1,7 +1,7 @@
 -- What own steps tell: of a connection and of a host all that concerns it.
 use Rattle.std.specs.Prelude.{◌≡◌, ℕ, [], ◌++◌}
-use Rattle.proxy_history.specs.History.{History, accepted, handed, epoch, requests, is_closed, is_finishing}
-use Rattle.proxy_history.specs.Replies.{came}
+use Rattle.proxy_history.specs.History.{History, accepted_count, handed_count, epoch, requests, is_closed, is_finishing}
+use Rattle.proxy_history.specs.Replies.{replies_from}
 use Rattle.proxy_history.specs.Output.{transcript, upstream}
 use Rattle.proxy_history.specs.Own.{connection_steps, host_steps}
 
@@ -9,8 +9,8 @@ use Rattle.proxy_history.specs.Own.{connection_steps, host_steps}
 pub record SameOfConnection (c : ℕ) (H K : History) : Type 0 where
   pub same_transcript : transcript c K ≡ transcript c H
   pub same_requests : requests c K ≡ requests c H
-  pub same_accepted : accepted c K ≡ accepted c H
-  pub same_handed : handed c K ≡ handed c H
+  pub same_accepted : accepted_count c K ≡ accepted_count c H
+  pub same_handed : handed_count c K ≡ handed_count c H
   pub same_finishing : is_finishing c K ≡ is_finishing c H
   pub same_closed : is_closed c K ≡ is_closed c H
 
@@ -18,7 +18,7 @@ pub record SameOfConnection (c : ℕ) (H K : History) : Type 0 where
 pub record SameOfHost (h : ℕ) (H K : History) : Type 0 where
   pub same_epoch : epoch h K ≡ epoch h H
   pub same_upstream : (e : ℕ) → upstream h e K ≡ upstream h e H
-  pub same_replies : (e : ℕ) → came h e K ≡ came h e H
+  pub same_replies : (e : ℕ) → replies_from h e K ≡ replies_from h e H
 
 -- the steps of a connection alone tell all of it
 abbrev pub ConnectionStepsTellAll : Type 0

@@ -12,6 +12,6 @@ reply_by h e (Answered host ep value t) = if (host == h) && (ep == e) then tree_
 reply_by h e _ = []
 
 -- the replies that came from a host in an epoch, the oldest first
-abbrev pub came : ℕ → ℕ → History → List Tree
-came h e [] = []
-came h e (s ∷ before) = came h e before ++ reply_by h e s.event
+abbrev pub replies_from : ℕ → ℕ → History → List Tree
+replies_from h e [] = []
+replies_from h e (s ∷ before) = replies_from h e before ++ reply_by h e s.event

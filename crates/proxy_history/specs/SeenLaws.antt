@@ -3,7 +3,7 @@ use Rattle.std.specs.Prelude.{◌≡◌, ◌==◌, ◌↔◌, ℕ, Bool, List, [
 use Rattle.std.specs.List.{flat_map, list_any}
 use Rattle.proxy_history.specs.Setting.{Setting}
 use Rattle.proxy_history.specs.History.{History, times, has, request_by, requests}
-use Rattle.proxy_history.specs.Replies.{reply_by, came}
+use Rattle.proxy_history.specs.Replies.{reply_by, replies_from}
 use Rattle.proxy_history.specs.Past.{past}
 use Rattle.proxy_history.specs.Legal.{IsLegal, MayFollow}
 use Rattle.proxy_history.specs.Output.{handed_text, transcript, sent_text, upstream}
@@ -44,7 +44,7 @@ pub record IsReadInOrder (seen : List SeenStep) : Type 0 where
       ≡ flat_map (λ (s : SeenStep). request_by c s.1) seen
   pub upstream_is : (h e : ℕ) → upstream h e (history_of_seen seen)
       ≡ flat_map (λ (s : SeenStep). sent_text h e s.1 s.2) seen
-  pub replies_are : (h e : ℕ) → came h e (history_of_seen seen)
+  pub replies_are : (h e : ℕ) → replies_from h e (history_of_seen seen)
       ≡ flat_map (λ (s : SeenStep). reply_by h e s.1) seen
   pub times_are : (is : Event → Bool) → times is (history_of_seen seen)
       ≡ count_by (λ (s : SeenStep). is s.1) seen

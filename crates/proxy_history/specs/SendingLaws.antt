@@ -5,7 +5,7 @@ use Rattle.proxy_history.specs.Setting.{Setting}
 use Rattle.proxy_history.specs.History.{History, Step, epoch, has, is_fault, is_closed}
 use Rattle.proxy_history.specs.Part.{Part}
 use Rattle.proxy_history.specs.Past.{past}
-use Rattle.proxy_history.specs.Waiting.{waiting, sent_to}
+use Rattle.proxy_history.specs.Waiting.{waiting_parts, sent_to}
 use Rattle.proxy_history.specs.Legal.{IsLegal}
 use Rattle.proxy_history.specs.Output.{upstream}
 use Rattle.proxy_history.specs.Laws.{HasArrived}
@@ -25,7 +25,7 @@ pub record IsUnsent (S : Setting) (H : History) (h : ℕ) (p : Part) : Type 0 wh
 -- these are the parts that wait
 abbrev pub UnsentPartsWait : Type 0
 UnsentPartsWait = (S : Setting) (H : History) (h : ℕ) (p : Part)
-    → Contains (waiting h (past S H)) p ↔ IsUnsent S H h p
+    → Contains (waiting_parts h (past S H)) p ↔ IsUnsent S H h p
 
 -- The first part arrived before the second, or with it and under a lower number.
 pub record ComesFirst (S : Setting) (H : History) (p q : Part) : Type 0 where
@@ -37,7 +37,7 @@ pub record ComesFirst (S : Setting) (H : History) (p q : Part) : Type 0 where
 -- of two parts that wait the one in front came first
 abbrev pub WaitingIsInOrder : Type 0
 WaitingIsInOrder = (S : Setting) (H : History) (h : ℕ) (front middle rest : List Part)
-    (p q : Part) → waiting h (past S H) ≡ front ++ p ∷ (middle ++ q ∷ rest)
+    (p q : Part) → waiting_parts h (past S H) ≡ front ++ p ∷ (middle ++ q ∷ rest)
     → ComesFirst S H p q
 
 -- The step sends a part to the host: the first that waits. It stands behind those sent to the host in its present epoch,
@@ -45,7 +45,7 @@ WaitingIsInOrder = (S : Setting) (H : History) (h : ℕ) (front middle rest : Li
 pub record Sends (S : Setting) (before : History) (s : Step) (h : ℕ) : Type 0 where
   pub part : Part
   pub rest : List Part
-  pub is_first : waiting h (past S before) ≡ part ∷ rest
+  pub is_first : waiting_parts h (past S before) ≡ part ∷ rest
   pub is_sent : (past S (s ∷ before)).sent ≡ (past S before).sent ++ part ∷ []
   pub is_last : sent_to h (epoch h before) (past S (s ∷ before))
       ≡ sent_to h (epoch h before) (past S before) ++ part ∷ []

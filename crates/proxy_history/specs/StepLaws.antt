@@ -4,7 +4,7 @@ use Rattle.splitter.specs.Plan.{is_last}
 use Rattle.splitter.specs.declared.plans.Local.{Local}
 use Rattle.splitter.specs.declared.plans.Local.TheVariants as locals
 use Rattle.proxy_history.specs.Setting.{Setting}
-use Rattle.proxy_history.specs.History.{History, Step, plan_for, opened, epoch}
+use Rattle.proxy_history.specs.History.{History, Step, plan_for, openings, epoch}
 use Rattle.proxy_history.specs.Legal.{IsLegal}
 use Rattle.proxy_history.specs.Own.{connection_steps}
 use Rattle.proxy_history.specs.declared.event.Event.{Event}
@@ -58,4 +58,4 @@ OpeningsComeFirst = (S : Setting) (before : History) (s : Step) (c : ℕ)
 -- a connection that wasn't opened has no steps
 abbrev pub UnopenedHaveNoSteps : Type 0
 UnopenedHaveNoSteps = (S : Setting) (H : History) (c : ℕ)
-    → IsLegal S H → opened H ≤ c → connection_steps c H ≡ []
+    → IsLegal S H → openings H ≤ c → connection_steps c H ≡ []

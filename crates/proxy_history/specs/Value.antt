@@ -2,7 +2,7 @@
 use Rattle.std.specs.Prelude.{ℕ, Bool, nat_lt, if◌then◌else◌, Option, Some, None, List, zip, find, option_map, codes}
 use Rattle.resp_core.specs.Tree.{Tree, fault}
 use Rattle.proxy_history.specs.History.{epoch}
-use Rattle.proxy_history.specs.Replies.{came}
+use Rattle.proxy_history.specs.Replies.{replies_from}
 use Rattle.proxy_history.specs.Part.{Part, Past, is_same}
 use Rattle.proxy_history.specs.Waiting.{sent_to}
 
@@ -12,7 +12,7 @@ upstream_failure = fault (codes "upstream failure")
 
 -- the replies of a host in an epoch, each with the part that was sent in its place
 abbrev pub replies : ℕ → ℕ → Past → List (Part × Tree)
-replies h e past = zip (sent_to h e past) (came h e past.steps)
+replies h e past = zip (sent_to h e past) (replies_from h e past.steps)
 
 -- the reply of the host in a part's place
 abbrev pub reply_to : Part → ℕ → Past → Option Tree

@@ -2,7 +2,7 @@
 use Rattle.std.specs.Prelude.{ℕ, Bool, ◌-◌, ◌&&◌, not, List, [], ◌∷◌, length, filter}
 use Rattle.std.specs.List.{list_any}
 use Rattle.proxy_history.specs.History.{epoch, is_closed}
-use Rattle.proxy_history.specs.Replies.{came}
+use Rattle.proxy_history.specs.Replies.{replies_from}
 use Rattle.proxy_history.specs.Part.{Part, Past, is_same, is_of}
 use Rattle.proxy_history.specs.declared.event.Event.{Event}
 use Rattle.proxy_history.specs.declared.event.Event.TheVariants.{Taken}
@@ -12,16 +12,16 @@ abbrev pub waits : ℕ → Past → Part → Bool
 waits h past p = is_of h (epoch h past.steps) p && not (list_any (is_same p) past.sent) && not (is_closed p.conn past.steps)
 
 -- the parts that wait for a host, the oldest first
-abbrev pub waiting : ℕ → Past → List Part
-waiting h past = filter (waits h past) past.parts
+abbrev pub waiting_parts : ℕ → Past → List Part
+waiting_parts h past = filter (waits h past) past.parts
 
 -- the parts sent to a host in an epoch, in order
 abbrev pub sent_to : ℕ → ℕ → Past → List Part
 sent_to h e past = filter (is_of h e) past.sent
 
 -- how many of them have no reply in the present epoch
-abbrev pub flying : ℕ → Past → ℕ
-flying h past = let e = epoch h past.steps in length (sent_to h e past) - length (came h e past.steps)
+abbrev pub flying_count : ℕ → Past → ℕ
+flying_count h past = let e = epoch h past.steps in length (sent_to h e past) - length (replies_from h e past.steps)
 
 -- the first of some parts
 abbrev pub first : List Part → List Part
@@ -30,5 +30,5 @@ first (p ∷ _) = p ∷ []
 
 -- who is sent by an event: the first that waits
 abbrev pub sent_by : Past → Event → List Part
-sent_by past (Taken host) = first (waiting host past)
+sent_by past (Taken host) = first (waiting_parts host past)
 sent_by past _ = []

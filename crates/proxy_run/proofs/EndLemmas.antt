@@ -13,7 +13,7 @@ use Rattle.splitter.specs.Requests.{AreRequests, end_of, up_to_last}
 use Rattle.splitter.proofs.CallerLemmas as splits
 use Rattle.proxy_history.specs.History.{History}
 use Rattle.proxy_engines.specs.Ends.{Receiving}
-use Rattle.proxy_engines.specs.Client.{Client, Carries, IsAtStage, IsDone, IsFinished, IsOver, asked, waiting}
+use Rattle.proxy_engines.specs.Client.{Client, Carries, IsAtStage, IsDone, IsFinished, IsOver, asked_requests, waiting_requests}
 use Rattle.proxy_engines.specs.declared.client.Stage.{Stage}
 use Rattle.proxy_engines.proofs.CallerLemmas as engines
 
@@ -22,7 +22,7 @@ true_not_false same = absurd cc
 
 -- What is accepted of bytes is the first of what they ask, whatever comes behind them.
 module _ (e : Client) (H : History) (taken b more : List ℕ) (k : Carries e H taken b) (rs : List Request) (are : AreRequests (b ++ more) rs) where
-  where_none : e.inbox.values.refusal ≡ None → (others : List Request) × (rs ≡ asked e.conn H ++ others)
+  where_none : e.inbox.values.refusal ≡ None → (others : List Request) × (rs ≡ asked_requests e.conn H ++ others)
   where_none none =
       let h = k.holds in
       let split : Splits CLIENT_MEMBERS h.fed h.given h.stands.rest = rw k.most_is at h.stands.splits in
@@ -30,17 +30,17 @@ module _ (e : Client) (H : History) (taken b more : List ℕ) (k : Carries e H t
       let whole : resp.Holds CLIENT_MEMBERS (h.fed ++ (e.inbox.fresh ++ more)) are.0 are.1 = subst (λ (z : List ℕ). resp.Holds CLIENT_MEMBERS z are.0 are.1) bytes are.2 in
       let others = resp_core.values_stay CLIENT_MEMBERS h.fed (e.inbox.fresh ++ more) h.stands.rest h.given are.0 are.1 split whole in
       let rest = map read others.0 ++ end_of are.1 in
-      let given : map read h.given ≡ asked e.conn H ++ waiting e.next = sym (append-nil (map read h.given)) ∙ sym (rw none at h.requests) ∙ k.given_are in (
-        waiting e.next ++ rest,
+      let given : map read h.given ≡ asked_requests e.conn H ++ waiting_requests e.next = sym (append-nil (map read h.given)) ∙ sym (rw none at h.requests) ∙ k.given_are in (
+        waiting_requests e.next ++ rest,
         are.3
             ∙ ap (λ z. map read z ++ end_of are.1) others.1
             ∙ ap (λ z. z ++ end_of are.1) (map-append read h.given others.0)
             ∙ append_assoc (map read h.given) (map read others.0) (end_of are.1)
             ∙ ap (λ z. z ++ rest) given
-            ∙ append_assoc (asked e.conn H) (waiting e.next) rest,
+            ∙ append_assoc (asked_requests e.conn H) (waiting_requests e.next) rest,
       )
 
-  where_some : (x : RespError) → e.inbox.values.refusal ≡ Some x → (others : List Request) × (rs ≡ asked e.conn H ++ others)
+  where_some : (x : RespError) → e.inbox.values.refusal ≡ Some x → (others : List Request) × (rs ≡ asked_requests e.conn H ++ others)
   where_some x some =
       let h = k.holds in
       let fresh : e.inbox.fresh ≡ [] = rw some at h.after in
@@ -48,12 +48,12 @@ module _ (e : Client) (H : History) (taken b more : List ℕ) (k : Carries e H t
       let told : HasRefusal CLIENT_MEMBERS b h.given (offset_of x) (number_of x) = rw bytes (rw k.most_is at (rw some at h.stands.told)) in
       let stays = resp_core.refusal_stays CLIENT_MEMBERS b more h.given (offset_of x) (number_of x) told in
       let all : AreRequests (b ++ more) k.given = (h.given, true, (offset_of x, number_of x, stays), rw some at h.requests) in
-      (waiting e.next, splits.one_asking (b ++ more) rs k.given are all ∙ k.given_are)
+      (waiting_requests e.next, splits.one_asking (b ++ more) rs k.given are all ∙ k.given_are)
 
-  accepted_first : (others : List Request) × (rs ≡ asked e.conn H ++ others)
+  accepted_first : (others : List Request) × (rs ≡ asked_requests e.conn H ++ others)
   accepted_first = by e.inbox.values.refusal refl
     where
-      by : (o : Option RespError) → e.inbox.values.refusal ≡ o → (others : List Request) × (rs ≡ asked e.conn H ++ others)
+      by : (o : Option RespError) → e.inbox.values.refusal ≡ o → (others : List Request) × (rs ≡ asked_requests e.conn H ++ others)
       by None is = where_none is
       by (Some x) is = where_some x is
 
@@ -64,13 +64,13 @@ at_end_of d i reads (inr end) = end
 
 -- A client that ended with no drain, the bytes that it read, and the whole input.
 module _ (e : Client) (H : History) (taken b input : List ℕ) (k : Carries e H taken b) (is : e.stage ≡ Stage.Closed false) (reads : e.is_drained ≡ false) where
-  pub at_end : IsFinished (asked e.conn H) e.is_drained e.inbox e.next b k.given × IsDone e H
-  at_end = subst (λ (z : Stage). IsAtStage z (IsDone e H) (asked e.conn H) e.is_drained e.inbox e.next b k.given) is k.stage_is
+  pub at_end : IsFinished (asked_requests e.conn H) e.is_drained e.inbox e.next b k.given × IsDone e H
+  at_end = subst (λ (z : Stage). IsAtStage z (IsDone e H) (asked_requests e.conn H) e.is_drained e.inbox e.next b k.given) is k.stage_is
 
-  with_rest : (more : List ℕ) → e.inbox.left ≡ Some more → input ≡ b ++ more → (rs : List Request) → AreRequests input rs → asked e.conn H ≡ up_to_last rs
+  with_rest : (more : List ℕ) → e.inbox.left ≡ Some more → input ≡ b ++ more → (rs : List Request) → AreRequests input rs → asked_requests e.conn H ≡ up_to_last rs
   with_rest more left split rs are = by at_end.0
     where
-      by : IsFinished (asked e.conn H) e.is_drained e.inbox e.next b k.given → asked e.conn H ≡ up_to_last rs
+      by : IsFinished (asked_requests e.conn H) e.is_drained e.inbox e.next b k.given → asked_requests e.conn H ≡ up_to_last rs
       by (inl stays) =
           let none : more ≡ [] = rw left at (at_end_of e.is_drained e.inbox reads stays.1.end) in
           let same : input ≡ b = split ∙ rw none (append-nil b) in
@@ -79,9 +79,9 @@ module _ (e : Client) (H : History) (taken b input : List ℕ) (k : Carries e H 
           let others = accepted_first e H taken b more k rs (subst (λ (z : List ℕ). AreRequests z rs) split are) in
           sym (ap up_to_last (others.1 ∙ ap (λ z. z ++ others.0) last.are) ∙ splits.up_to_last-first last.front last.last others.0 last.goes_on last.finishes ∙ sym last.are)
 
-  pub asked-ended : Consumes (Some input) e.inbox.left b → (rs : List Request) → AreRequests input rs → asked e.conn H ≡ up_to_last rs
+  pub asked-ended : Consumes (Some input) e.inbox.left b → (rs : List Request) → AreRequests input rs → asked_requests e.conn H ≡ up_to_last rs
   asked-ended reads = by e.inbox.left refl
     where
-      by : (o : Option (List ℕ)) → e.inbox.left ≡ o → (rs : List Request) → AreRequests input rs → asked e.conn H ≡ up_to_last rs
+      by : (o : Option (List ℕ)) → e.inbox.left ≡ o → (rs : List Request) → AreRequests input rs → asked_requests e.conn H ≡ up_to_last rs
       by None left rs are = absurd (rw left at reads)
       by (Some more) left rs are = with_rest more left (rw left at reads) rs are

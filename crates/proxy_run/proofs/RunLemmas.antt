@@ -17,7 +17,7 @@ use Rattle.proxy_history.specs.Own.{connection_steps, is_connection_step}
 use Rattle.proxy_history.specs.declared.answer.Answer.{Answer}
 use Rattle.proxy_history.specs.declared.event.Event.{Event}
 use Rattle.proxy_history.proofs.CallerLemmas as history
-use Rattle.proxy_engines.specs.Client.{Client, Carries, asked}
+use Rattle.proxy_engines.specs.Client.{Client, Carries, asked_requests}
 use Rattle.proxy_core.specs.Recorded.{Made, IsLegalJournal, journal_of, made_with, setting_by}
 use Rattle.ticket_gate.specs.Journal.{steps_of}
 use Rattle.ticket_gate.specs.Turns.{AloneFacts}
@@ -67,8 +67,8 @@ module _ (S : Setting) (old new : Client) (pass : ℕ) (before H : History) (ope
       let came = splits.each_stream_asks goes.got in
       let done = engines.ended_is_whole new H goes.gave goes.got carries ended came.0 came.1 in
       let all = asked-ended new H goes.gave goes.got b carries ended (goes.drained ∙ reads) (rw left at goes.reads) rs.0 rs.1 in
-      let accepted : asked 0 H ≡ up_to_last rs.0 = rw new_is_first at all in
-      let many : length (asked 0 H) ≡ length (requests 0 H) = length-map (requests 0 H) request_of in
+      let accepted : asked_requests 0 H ≡ up_to_last rs.0 = rw new_is_first at all in
+      let many : length (asked_requests 0 H) ≡ length (requests 0 H) = length-map (requests 0 H) request_of in
       record {
         setting = S;
         history = H;

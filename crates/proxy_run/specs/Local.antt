@@ -4,11 +4,11 @@ use Rattle.std.specs.Io.KnownBytes.{Appends}
 use Rattle.splitter.specs.Request.{Request}
 use Rattle.splitter.specs.Requests.{AreRequests, up_to_last}
 use Rattle.proxy_history.specs.Setting.{Setting}
-use Rattle.proxy_history.specs.History.{History, handed, is_closed}
+use Rattle.proxy_history.specs.History.{History, handed_count, is_closed}
 use Rattle.proxy_history.specs.Legal.{IsLegal}
 use Rattle.proxy_history.specs.Output.{transcript}
 use Rattle.proxy_history.specs.Own.{connection_steps}
-use Rattle.proxy_engines.specs.Client.{asked}
+use Rattle.proxy_engines.specs.Client.{asked_requests}
 use Rattle.proxy_run.specs.Stubs.{IsOfStubs}
 
 -- A legal history of a proxy for the hosts in memory, in which no connection but the first has a step: it was asked the
@@ -21,8 +21,8 @@ pub record RunsWhole (b : List ℕ) (held holds : Option (List ℕ)) : Type 0 wh
   pub of_stubs : IsOfStubs setting
   pub is_legal : IsLegal setting history
   pub are : AreRequests b requests
-  pub accepted_are : asked 0 history ≡ up_to_last requests
-  pub all_handed : handed 0 history ≡ length (up_to_last requests)
+  pub accepted_are : asked_requests 0 history ≡ up_to_last requests
+  pub all_handed : handed_count 0 history ≡ length (up_to_last requests)
   pub closed : is_closed 0 history ≡ true
   pub alone : (c : ℕ) → c ≢ 0 → connection_steps c history ≡ []
   pub written : Appends held holds (transcript 0 history)

@@ -32,7 +32,10 @@ impl<W: Write> Model for Gatherer<W> {
 
     ghost Value = { Outgoing };
 
-    ghost view = { λ g. record { held = W.contents g.writer; gathered = drop g.written g.bytes.items } };
+    ghost view = { λ g. record {
+      held = W.contents g.writer;
+      gathered = drop g.written g.bytes.items;
+    } };
 
     ghost invariant = { λ g. g.written ≤ length g.bytes.items };
 }

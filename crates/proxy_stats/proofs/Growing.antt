@@ -13,26 +13,26 @@ use Rattle.proxy_history.specs.declared.answer.Answer.TheVariants as answers
 use Rattle.proxy_stats.specs.declared.tally.Counts.{Counts}
 use Rattle.proxy_stats.specs.declared.tally.HostCounts.{HostCounts}
 use Rattle.proxy_stats.specs.Amounts.{arrivals, handings, takings, replies, failures, lost_parts, ejected_hosts, kept_hosts, hostless_parts, busy_parts, own_answers, of_host, arrivals_in, handings_in, takings_in, replies_in, failures_in, local_in, is_local, is_event_of}
-use Rattle.proxy_stats.specs.Sums.{capped, grown, AreHostCountsBy, AreCounts, AreCapped, AreGrown, AreHostsGrown}
+use Rattle.proxy_stats.specs.Sums.{capped_sum, grown_sum, AreHostCountsBy, AreCounts, AreCapped, AreGrown, AreHostsGrown}
 use Rattle.proxy_stats.proofs.Small.{IsSmall}
 
 -- ---- one step more
 
-capped_grown : (total x more y : ℕ) → x ≡ capped total → y ≡ grown x more → y ≡ capped (total + more)
+capped_grown : (total x more y : ℕ) → x ≡ capped_sum total → y ≡ grown_sum x more → y ≡ capped_sum (total + more)
 capped_grown total x more y is new = grind (arith, nat_tests)
 
-capped_added : (total x more y : ℕ) → x ≡ capped total → y ≡ capped (x + more) → y ≡ capped (total + more)
+capped_added : (total x more y : ℕ) → x ≡ capped_sum total → y ≡ capped_sum (x + more) → y ≡ capped_sum (total + more)
 capped_added total x more y is new = grind (arith, nat_tests)
 
-one_more : (f : Step → ℕ) (steps : List Step) (i : ℕ) (step : Step) (x y : ℕ) → i < length steps → get_or steps i step ≡ step → x ≡ capped (sum_by f (take i steps)) → y ≡ grown x (f step) → y ≡ capped (sum_by f (take (i + 1) steps))
+one_more : (f : Step → ℕ) (steps : List Step) (i : ℕ) (step : Step) (x y : ℕ) → i < length steps → get_or steps i step ≡ step → x ≡ capped_sum (sum_by f (take i steps)) → y ≡ grown_sum x (f step) → y ≡ capped_sum (sum_by f (take (i + 1) steps))
 one_more f steps i step x y within at is new =
-    capped_grown (sum_by f (take i steps)) x (f step) y is new ∙ ap capped (sym (sum_by_more f steps i step within ∙ ap (λ s. sum_by f (take i steps) + f s) at))
+    capped_grown (sum_by f (take i steps)) x (f step) y is new ∙ ap capped_sum (sym (sum_by_more f steps i step within ∙ ap (λ s. sum_by f (take i steps) + f s) at))
 
-one_added : (f : Step → ℕ) (steps : List Step) (i : ℕ) (step : Step) (x y : ℕ) → i < length steps → get_or steps i step ≡ step → x ≡ capped (sum_by f (take i steps)) → y ≡ capped (x + f step) → y ≡ capped (sum_by f (take (i + 1) steps))
+one_added : (f : Step → ℕ) (steps : List Step) (i : ℕ) (step : Step) (x y : ℕ) → i < length steps → get_or steps i step ≡ step → x ≡ capped_sum (sum_by f (take i steps)) → y ≡ capped_sum (x + f step) → y ≡ capped_sum (sum_by f (take (i + 1) steps))
 one_added f steps i step x y within at is new =
-    capped_added (sum_by f (take i steps)) x (f step) y is new ∙ ap capped (sym (sum_by_more f steps i step within ∙ ap (λ s. sum_by f (take i steps) + f s) at))
+    capped_added (sum_by f (take i steps)) x (f step) y is new ∙ ap capped_sum (sym (sum_by_more f steps i step within ∙ ap (λ s. sum_by f (take i steps) + f s) at))
 
-host_more : (steps : List Step) (i : ℕ) (step : Step) (h : ℕ) (c d : HostCounts) → i < length steps → get_or steps i step ≡ step → AreHostCountsBy capped (take i steps) h c → AreHostsGrown c h step d → AreHostCountsBy capped (take (i + 1) steps) h d
+host_more : (steps : List Step) (i : ℕ) (step : Step) (h : ℕ) (c d : HostCounts) → i < length steps → get_or steps i step ≡ step → AreHostCountsBy capped_sum (take i steps) h c → AreHostsGrown c h step d → AreHostCountsBy capped_sum (take (i + 1) steps) h d
 host_more steps i step h c d within at is new = record {
   sent = one_more (of_host h takings) steps i step c.sent d.sent within at is.sent new.sent;
   answered = one_more (of_host h replies) steps i step c.answered d.answered within at is.answered new.answered;
@@ -61,7 +61,7 @@ counts_more steps i step c d within at is new = record {
 abbrev Few : (Step → ℕ) → List Step → Type 0
 Few f steps = All (λ s. f s ≤ 4294967296) steps
 
-uncapped : (f : Step → ℕ) (steps : List Step) (x : ℕ) → length steps ≤ 262144 → Few f steps → x ≡ capped (sum_by f steps) → x ≡ sum_by f steps
+uncapped : (f : Step → ℕ) (steps : List Step) (x : ℕ) → length steps ≤ 262144 → Few f steps → x ≡ capped_sum (sum_by f steps) → x ≡ sum_by f steps
 uncapped f steps x few each is =
     let most = sum_by-le f 4294967296 steps each in
     grind (arith, nat_tests)

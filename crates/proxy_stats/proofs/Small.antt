@@ -7,7 +7,7 @@ use Rattle.std.proofs.lemmas.List.Sums.{count_by-le-length}
 use Rattle.splitter.specs.Plan.{Plan, here, leave, parts}
 use Rattle.splitter.specs.declared.request.Request.{Request}
 use Rattle.proxy_history.specs.Setting.{Setting}
-use Rattle.proxy_history.specs.History.{History, Step, plan_for, epoch, accepted}
+use Rattle.proxy_history.specs.History.{History, Step, plan_for, epoch, accepted_count}
 use Rattle.proxy_history.specs.Part.{Part, Past}
 use Rattle.proxy_history.specs.Past.{past}
 use Rattle.proxy_history.specs.Waiting.{waits}
@@ -36,7 +36,7 @@ few_kept p (x ∷ xs) = let r = few_kept p xs in grind (arith, r)
 few_placed : (S : Setting) (x : Past) (conn : ℕ) (request : Request) (plan : Plan) → plan_for request ≡ plan → length (placed_by S x conn plan) ≤ length_of_request request
 few_placed S x conn request (here name value) e = omega arith
 few_placed S x conn request (leave name value) e = omega arith
-few_placed S x conn request (parts how list) e = omega (arith, length-placing S x conn (accepted conn x.steps) [] list, few_parts request how list e)
+few_placed S x conn request (parts how list) e = omega (arith, length-placing S x conn (accepted_count conn x.steps) [] list, few_parts request how list e)
 
 few_new : (S : Setting) (x : Past) (event : Event) (a : Answer) → length (parts_by S x event) ≤ payload_of event a
 few_new S x Opened a = omega arith

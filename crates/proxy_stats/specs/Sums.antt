@@ -31,57 +31,57 @@ abbrev pub AreCounts : List Step → Counts → Type 0
 AreCounts = AreCountsBy (λ n. n)
 
 -- the number, or the greatest `u64` where it is more
-abbrev pub capped : ℕ → ℕ
-capped n = min n (2 ^ 64 - 1)
+abbrev pub capped_sum : ℕ → ℕ
+capped_sum n = min n (2 ^ 64 - 1)
 
 -- the counts of two together
 pub record AreHostsJoined (a b c : HostCounts) : Type 0 where
-  pub sent : c.sent ≡ capped (a.sent + b.sent)
-  pub answered : c.answered ≡ capped (a.answered + b.answered)
-  pub faults : c.faults ≡ capped (a.faults + b.faults)
-  pub lost : c.lost ≡ capped (a.lost + b.lost)
+  pub sent : c.sent ≡ capped_sum (a.sent + b.sent)
+  pub answered : c.answered ≡ capped_sum (a.answered + b.answered)
+  pub faults : c.faults ≡ capped_sum (a.faults + b.faults)
+  pub lost : c.lost ≡ capped_sum (a.lost + b.lost)
 
 -- each number is the sum of two, as far as it goes
 pub record AreJoined (a b c : Counts) : Type 0 where
-  pub accepted : c.accepted ≡ capped (a.accepted + b.accepted)
-  pub handed : c.handed ≡ capped (a.handed + b.handed)
-  pub sent : c.sent ≡ capped (a.sent + b.sent)
-  pub answered : c.answered ≡ capped (a.answered + b.answered)
-  pub lost : c.lost ≡ capped (a.lost + b.lost)
-  pub ejections : c.ejections ≡ capped (a.ejections + b.ejections)
-  pub kept : c.kept ≡ capped (a.kept + b.kept)
-  pub no_host : c.no_host ≡ capped (a.no_host + b.no_host)
-  pub busy : c.busy ≡ capped (a.busy + b.busy)
-  pub local : (i : ℕ) → i < 7 → slice_index c.local i ≡ capped (slice_index a.local i + slice_index b.local i)
+  pub accepted : c.accepted ≡ capped_sum (a.accepted + b.accepted)
+  pub handed : c.handed ≡ capped_sum (a.handed + b.handed)
+  pub sent : c.sent ≡ capped_sum (a.sent + b.sent)
+  pub answered : c.answered ≡ capped_sum (a.answered + b.answered)
+  pub lost : c.lost ≡ capped_sum (a.lost + b.lost)
+  pub ejections : c.ejections ≡ capped_sum (a.ejections + b.ejections)
+  pub kept : c.kept ≡ capped_sum (a.kept + b.kept)
+  pub no_host : c.no_host ≡ capped_sum (a.no_host + b.no_host)
+  pub busy : c.busy ≡ capped_sum (a.busy + b.busy)
+  pub local : (i : ℕ) → i < 7 → slice_index c.local i ≡ capped_sum (slice_index a.local i + slice_index b.local i)
   pub hosts : (h : ℕ) (d : HostCounts) → h < 64 → AreHostsJoined (slice_index_or a.hosts h d) (slice_index_or b.hosts h d) (slice_index_or c.hosts h d)
 
 -- ---- one step more
 
 -- each count is the sum over the steps, or the greatest `u64`
 abbrev pub AreCapped : List Step → Counts → Type 0
-AreCapped = AreCountsBy capped
+AreCapped = AreCountsBy capped_sum
 
 -- a count that stands in a list goes up by so much, as far as it can
-abbrev pub grown : ℕ → ℕ → ℕ
-grown n more = if more == 0 then n else capped (n + more)
+abbrev pub grown_sum : ℕ → ℕ → ℕ
+grown_sum n more = if more == 0 then n else capped_sum (n + more)
 
 -- a host's numbers with those of one step
 pub record AreHostsGrown (old : HostCounts) (h : ℕ) (step : Step) (new : HostCounts) : Type 0 where
-  pub sent : new.sent ≡ grown old.sent (of_host h takings step)
-  pub answered : new.answered ≡ grown old.answered (of_host h replies step)
-  pub faults : new.faults ≡ grown old.faults (of_host h failures step)
-  pub lost : new.lost ≡ grown old.lost (of_host h lost_parts step)
+  pub sent : new.sent ≡ grown_sum old.sent (of_host h takings step)
+  pub answered : new.answered ≡ grown_sum old.answered (of_host h replies step)
+  pub faults : new.faults ≡ grown_sum old.faults (of_host h failures step)
+  pub lost : new.lost ≡ grown_sum old.lost (of_host h lost_parts step)
 
 -- the counts with one step more
 pub record AreGrown (old : Counts) (step : Step) (new : Counts) : Type 0 where
-  pub accepted : new.accepted ≡ capped (old.accepted + arrivals step)
-  pub handed : new.handed ≡ capped (old.handed + handings step)
-  pub sent : new.sent ≡ capped (old.sent + takings step)
-  pub answered : new.answered ≡ capped (old.answered + replies step)
-  pub lost : new.lost ≡ capped (old.lost + lost_parts step)
-  pub ejections : new.ejections ≡ capped (old.ejections + ejected_hosts step)
-  pub kept : new.kept ≡ capped (old.kept + kept_hosts step)
-  pub no_host : new.no_host ≡ capped (old.no_host + hostless_parts step)
-  pub busy : new.busy ≡ capped (old.busy + busy_parts step)
-  pub local : (place : ℕ) → place < 7 → slice_index new.local place ≡ grown (slice_index old.local place) (own_answers place step)
+  pub accepted : new.accepted ≡ capped_sum (old.accepted + arrivals step)
+  pub handed : new.handed ≡ capped_sum (old.handed + handings step)
+  pub sent : new.sent ≡ capped_sum (old.sent + takings step)
+  pub answered : new.answered ≡ capped_sum (old.answered + replies step)
+  pub lost : new.lost ≡ capped_sum (old.lost + lost_parts step)
+  pub ejections : new.ejections ≡ capped_sum (old.ejections + ejected_hosts step)
+  pub kept : new.kept ≡ capped_sum (old.kept + kept_hosts step)
+  pub no_host : new.no_host ≡ capped_sum (old.no_host + hostless_parts step)
+  pub busy : new.busy ≡ capped_sum (old.busy + busy_parts step)
+  pub local : (place : ℕ) → place < 7 → slice_index new.local place ≡ grown_sum (slice_index old.local place) (own_answers place step)
   pub hosts : (h : ℕ) (d : HostCounts) → h < 64 → AreHostsGrown (slice_index_or old.hosts h d) h step (slice_index_or new.hosts h d)

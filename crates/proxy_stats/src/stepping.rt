@@ -1,7 +1,7 @@
 //! What one step adds to the counts.
 ghost use Rattle.std.specs.Prelude.{◌≡◌, ◌<◌, ◌^◌, ℕ, if◌then◌else◌, slice_index, slice_index_or};
 ghost use Rattle.proxy_stats.specs.Amounts.{arrivals, handings, takings, replies, failures, lost_parts, ejected_hosts, kept_hosts, hostless_parts, busy_parts, own_answers, of_host, local_place};
-ghost use Rattle.proxy_stats.specs.Sums.{grown, AreGrown, AreHostsGrown};
+ghost use Rattle.proxy_stats.specs.Sums.{grown_sum, AreGrown, AreHostsGrown};
 ghost use Rattle.proxy_stats.specs.declared.tally.HostCounts.{HostCounts};
 
 use crate::tally::{Counts, HostCounts, LOCAL_KINDS};
@@ -108,7 +108,7 @@ fn busy(step: &Step<Event, Answer>) -> u64
 
 fn add_local(local: &mut [u64; LOCAL_KINDS], step: &Step<Event, Answer>)
     ensures { (place : ℕ) → place < 7 → slice_index local.new place
-        ≡ grown (slice_index local.old place) (own_answers place step.now) }
+        ≡ grown_sum (slice_index local.old place) (own_answers place step.now) }
 {
     if let Answer::Accepted {
         local: Some(answer),
@@ -154,10 +154,10 @@ fn add_to_host(hosts: &mut [HostCounts; MAX_HOSTS], step: &Step<Event, Answer>)
 impl HostCounts {
     // With a step of this host.
     fn and(&self, step: &Step<Event, Answer>) -> HostCounts
-        ensures sent { result.sent ≡ grown self.now.sent (takings step.now) }
-        ensures answered { result.answered ≡ grown self.now.answered (replies step.now) }
-        ensures faults { result.faults ≡ grown self.now.faults (failures step.now) }
-        ensures lost { result.lost ≡ grown self.now.lost (lost_parts step.now) }
+        ensures sent { result.sent ≡ grown_sum self.now.sent (takings step.now) }
+        ensures answered { result.answered ≡ grown_sum self.now.answered (replies step.now) }
+        ensures faults { result.faults ≡ grown_sum self.now.faults (failures step.now) }
+        ensures lost { result.lost ≡ grown_sum self.now.lost (lost_parts step.now) }
     {
         HostCounts {
             sent: self.sent.saturating_add(u64::from(is_taking(step))),

@@ -1,6 +1,6 @@
 //! The counts.
 ghost use Rattle.std.specs.Prelude.{◌≡◌, ◌<◌, ◌+◌, ℕ, slice_index, slice_index_or};
-ghost use Rattle.proxy_stats.specs.Sums.{capped, AreJoined, AreHostsJoined};
+ghost use Rattle.proxy_stats.specs.Sums.{capped_sum, AreJoined, AreHostsJoined};
 ghost use Rattle.proxy_stats.specs.declared.tally.HostCounts.{HostCounts};
 
 use ketama::MAX_HOSTS;
@@ -107,7 +107,7 @@ impl Counts {
 
 fn joined_numbers(one: &[u64; LOCAL_KINDS], other: &[u64; LOCAL_KINDS]) -> [u64; LOCAL_KINDS]
     ensures { (i : ℕ) → i < 7
-        → slice_index result i ≡ capped (slice_index one.now i + slice_index other.now i) }
+        → slice_index result i ≡ capped_sum (slice_index one.now i + slice_index other.now i) }
 {
     let mut joined = [0; LOCAL_KINDS];
     for i in 0..LOCAL_KINDS {

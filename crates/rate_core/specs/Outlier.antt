@@ -3,8 +3,8 @@ use Rattle.std.specs.Prelude.{ℕ, Bool, false, ◌+◌, ◌-◌, ◌*◌, ◌&&
 use Rattle.std.specs.List.{filter_map}
 
 -- the rates that are there
-abbrev pub known : List (Option ℕ) → List ℕ
-known rates = filter_map (λ r. r) rates
+abbrev pub known_rates : List (Option ℕ) → List ℕ
+known_rates rates = filter_map (λ r. r) rates
 
 -- a number times itself
 abbrev pub square : ℕ → ℕ
@@ -30,4 +30,4 @@ is_rate_far_below all factor (Some rate) = is_far_below all factor rate
 
 -- whether a host is an outlier
 abbrev pub is_outlier : List (Option ℕ) → ℕ → ℕ → Bool
-is_outlier rates host factor = is_rate_far_below (known rates) factor (get_or rates host None)
+is_outlier rates host factor = is_rate_far_below (known_rates rates) factor (get_or rates host None)

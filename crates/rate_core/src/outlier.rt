@@ -1,7 +1,7 @@
 //! Which rate is an outlier.
 ghost use Rattle.std.specs.Prelude.{◌≡◌, ◌<◌, ◌≤◌, length, sum, sum_by, All};
 ghost use Rattle.std.specs.Option.{ForSome};
-ghost use Rattle.rate_core.specs.Outlier.{is_outlier, known, square};
+ghost use Rattle.rate_core.specs.Outlier.{is_outlier, known_rates, square};
 
 /// The most hosts whose rates are compared, and so the most that a ring or an ejector has.
 pub const MAX_HOSTS: usize = 64;
@@ -18,9 +18,9 @@ struct Totals {
 fn totals_of(rates: &[Option<u32>]) -> Totals
     requires few { length rates.now ≤ MAX_HOSTS }
     requires within { All (λ rate. ForSome rate (λ r. r ≤ 1000000)) rates.now }
-    ensures count { result.count ≡ length (known rates.now) }
-    ensures sum_is { result.sum ≡ sum (known rates.now) }
-    ensures squares { result.squares ≡ sum_by square (known rates.now) }
+    ensures count { result.count ≡ length (known_rates rates.now) }
+    ensures sum_is { result.sum ≡ sum (known_rates rates.now) }
+    ensures squares { result.squares ≡ sum_by square (known_rates rates.now) }
     ensures few { result.count ≤ MAX_HOSTS }
     ensures sum_within { result.sum ≤ 64000000 }
     ensures squares_within { result.squares ≤ 64000000000000 }

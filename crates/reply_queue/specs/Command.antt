@@ -21,8 +21,8 @@ command_code =
     (λ p. record { how = p.0; values = p.1 }) (λ _. refl)
 
 -- a command of so many parts, of which none has a value yet
-abbrev pub awaited : Join → ℕ → AwaitedCommand
-awaited how parts = record { how = how; values = replicate parts None }
+abbrev pub awaiting_command : Join → ℕ → AwaitedCommand
+awaiting_command how parts = record { how = how; values = replicate parts None }
 
 -- the command once a part has this value
 abbrev pub with_value : ℕ → Tree → AwaitedCommand → AwaitedCommand

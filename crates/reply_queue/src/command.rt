@@ -3,7 +3,7 @@ ghost use Rattle.std.specs.Prelude.{◌≡◌, ◌↔◌, Some, None, slice_get,
 ghost use Rattle.std.specs.Option.{option_copied, option_map};
 ghost use Rattle.resp_core.specs.Value.{tree_of};
 ghost use Rattle.splitter.specs.Join.{MayJoin};
-ghost use Rattle.reply_queue.specs.Command.{awaited, with_value, reply_to, same_reply_to};
+ghost use Rattle.reply_queue.specs.Command.{awaiting_command, with_value, reply_to, same_reply_to};
 
 use crate::joined::Joined;
 use resp_core::Value;
@@ -45,7 +45,7 @@ impl Command {
     /// A command of so many parts, none of which has a value yet. There has to be a part at least, and just one for `Same`.
     pub(crate) fn new(alloc: Global, how: Join, parts: usize) -> Result<Command, AllocError>
         requires { MayJoin how parts }
-        ensures { IfOk result (λ command. command ≡ awaited how parts) }
+        ensures { IfOk result (λ command. command ≡ awaiting_command how parts) }
     {
         let parts = match how {
             Join::Same => Parts::Same(None),

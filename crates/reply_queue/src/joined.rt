@@ -3,7 +3,7 @@ ghost use Rattle.std.specs.Prelude.{◌≡◌, ◌<◌, ◌↔◌, Some, None, l
 ghost use Rattle.std.specs.Option.{option_copied, option_map};
 ghost use Rattle.resp_core.specs.Value.{tree_of};
 ghost use Rattle.splitter.specs.Join.{MayJoin};
-ghost use Rattle.reply_queue.specs.Command.{awaited, with_value, reply_to};
+ghost use Rattle.reply_queue.specs.Command.{awaiting_command, with_value, reply_to};
 
 use resp_core::Value;
 use splitter::{Join, SplitError, join};
@@ -42,7 +42,7 @@ impl Joined {
     /// So many parts, none of which has a value yet. There has to be a part at least, and just one for `Same`.
     pub(crate) fn new(alloc: Global, how: Join, parts: usize) -> Result<Joined, AllocError>
         requires { MayJoin how parts }
-        ensures { IfOk result (λ joined. joined ≡ awaited how parts) }
+        ensures { IfOk result (λ joined. joined ≡ awaiting_command how parts) }
     {
         let values = nulls(alloc, parts)?;
         let come = vec![in alloc; false; parts]?;

@@ -3,7 +3,7 @@ ghost use Rattle.std.specs.Prelude.{◌≡◌, ◌+◌, ◌-◌, ◌^◌, ◌<�
 ghost use Rattle.std.specs.Option.{option_copied, option_map};
 ghost use Rattle.resp_core.specs.Value.{tree_of};
 ghost use Rattle.splitter.specs.Join.{MayJoin};
-ghost use Rattle.reply_queue.specs.Command.{awaited};
+ghost use Rattle.reply_queue.specs.Command.{awaiting_command};
 ghost use Rattle.reply_queue.specs.Queue.{IsOpen, with_part, front_reply, same_front_reply, without_front};
 
 use crate::command::Command;
@@ -40,7 +40,8 @@ impl Model for Queue {
 
     ghost view = { λ q. record { popped = q.popped; commands = q.commands.items } };
 
-    ghost invariant = { λ q. (deque_len q.commands ≤ MAX_COMMANDS) × (q.popped + deque_len q.commands < 2 ^ 64) };
+    ghost invariant = { λ q. (deque_len q.commands ≤ MAX_COMMANDS)
+        × (q.popped + deque_len q.commands < 2 ^ 64) };
 }
 
 impl Queue {
@@ -67,12 +68,13 @@ impl Queue {
         requires parts { parts < 2 ^ 32 }
         ensures index { IfOk result (λ index. index ≡ self.old.popped + length self.old.commands) }
         ensures commands { OnOk result
-            (self.new.commands ≡ self.old.commands ++ awaited how parts ∷ []) }
+            (self.new.commands ≡ self.old.commands ++ awaiting_command how parts ∷ []) }
         ensures popped { self.new.popped ≡ self.old.popped }
         ensures crowded { IsErrOf result QueueRefusal.Crowded
             ↔ (MAX_COMMANDS ≤ length self.old.commands) }
         ensures spent { IsErrOf result QueueRefusal.Spent
-            ↔ ((length self.old.commands < MAX_COMMANDS) × (self.old.popped + length self.old.commands ≡ 2 ^ 64 - 1)) }
+            ↔ ((length self.old.commands < MAX_COMMANDS)
+            × (self.old.popped + length self.old.commands ≡ 2 ^ 64 - 1)) }
         ensures accepted { OnOk result ((length self.old.commands < MAX_COMMANDS)
             × (self.old.popped + length self.old.commands < 2 ^ 64 - 1)) }
         ensures err { OnErr result (self.new ≡ self.old) }

@@ -11,7 +11,7 @@ use Rattle.resp_core.specs.declared.progress.Progress.{Progress}
 use Rattle.resp_core.specs.Offset.{refusal_number}
 use Rattle.resp_core.specs.Reading.{Outcome, found, unfinished, refused, value_at, payload_at, bytes_at}
 use Rattle.resp_core.specs.Front.{IsFirstValue, IsUnfinished, IsFault}
-use Rattle.resp_core.specs.Progress.{Reads, Finds, IsFresh, IsGood, payload_due, seen_of, held_of, shown}
+use Rattle.resp_core.specs.Progress.{Reads, Finds, IsFresh, IsGood, payload_due, seen_of, held_of, shown_progress}
 use Rattle.resp_core.proofs.Firsts.{first_unfinished, first_unfinished_long, first_too_long, first_told}
 use Rattle.resp_core.proofs.Whole.{value-reads}
 use Rattle.resp_core.proofs.Going.{payload_unfinished}
@@ -57,13 +57,13 @@ byte_refused most held r w place e h told =
     (subst (λ (z : ℕ). ((r ≡ TooDeep) × (z ≡ max_text) × (w ≡ TooLong)) ⊎ ((z ≡ max_text → r ≢ TooDeep) × (w ≡ r))) (sym l) told))
 
 -- how much room there is changes nothing
-pub reads_shown : (most : ℕ) (held : List ℕ) (p : Progress) → Reads most held p → Reads most held (shown p)
+pub reads_shown : (most : ℕ) (held : List ℕ) (p : Progress) → Reads most held p → Reads most held (shown_progress p)
 reads_shown most held p r = record { taken = r.taken; split = r.split; came = r.came; same = r.same }
 
-pub shown_reads : (most : ℕ) (held : List ℕ) (p : Progress) → Reads most held (shown p) → Reads most held p
+pub shown_reads : (most : ℕ) (held : List ℕ) (p : Progress) → Reads most held (shown_progress p) → Reads most held p
 shown_reads most held p r = record { taken = r.taken; split = r.split; came = r.came; same = r.same }
 
-pub same_shown : (most : ℕ) (held : List ℕ) (p q : Progress) → shown q ≡ shown p → Reads most held p → Reads most held q
+pub same_shown : (most : ℕ) (held : List ℕ) (p q : Progress) → shown_progress q ≡ shown_progress p → Reads most held p → Reads most held q
 same_shown most held p q e r = shown_reads most held q (subst (λ (z : Progress). Reads most held z) (sym e) (reads_shown most held p r))
 
 -- nothing is read of the bytes behind a value that was given

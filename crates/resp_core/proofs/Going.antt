@@ -18,7 +18,7 @@ use Rattle.resp_core.specs.Reading.{payload_at, members_at, Outcome, found, unfi
 use Rattle.resp_core.specs.Going.{head_at, next_at, GoesOn}
 use Rattle.resp_core.specs.declared.begun.Begun.{Begun}
 use Rattle.resp_core.specs.Text.{line_end}
-use Rattle.resp_core.specs.Begun.{nested, in_list}
+use Rattle.resp_core.specs.Begun.{nested_outcome, in_list}
 use Rattle.resp_core.specs.Progress.{Reads, resume, due_at, seen_of}
 use Rattle.resp_core.proofs.Nested.{nested_refused, nested_unfinished, nested_push, list_opens}
 use Rattle.resp_core.proofs.Whole.{IsPayload, InPayload, payload-reads}
@@ -62,17 +62,17 @@ pub reads_refused : (most : ℕ) (held : List ℕ) (p : Progress) (v place : ℕ
 reads_refused most held p v place w few e h r =
     let s = seen_is most held p v few e r in
     let d : drop (p.came + place) (seen_of held) ≡ drop place (take v p.pending.items) = ap (drop (p.came + place)) s ∙ ap (λ z. drop (z + place) (r.taken ++ take v p.pending.items)) (sym r.came) ∙ drop-append-add r.taken (take v p.pending.items) place in
-    ap (value_at most max_depth) s ∙ r.same (take v p.pending.items) ∙ ap (nested most max_depth p.opens.items) h ∙ nested_refused most max_depth p.opens.items w _ ∙ ap (refused w) (sym d)
+    ap (value_at most max_depth) s ∙ r.same (take v p.pending.items) ∙ ap (nested_outcome most max_depth p.opens.items) h ∙ nested_refused most max_depth p.opens.items w _ ∙ ap (refused w) (sym d)
 
 -- it is less than a value
 pub reads_unfinished : (most : ℕ) (held : List ℕ) (p : Progress) (v : ℕ) → p.came ≤ max_text + 1 → v ≡ min (length p.pending.items) (max_text + 1 - p.came) → due_at most (max_depth - length p.opens.items) p.done p.next (take v p.pending.items) ≡ unfinished → Reads most held p → value_at most max_depth (seen_of held) ≡ unfinished
 reads_unfinished most held p v few e h r =
-    ap (value_at most max_depth) (seen_is most held p v few e r) ∙ r.same (take v p.pending.items) ∙ ap (nested most max_depth p.opens.items) h ∙ nested_unfinished most max_depth p.opens.items
+    ap (value_at most max_depth) (seen_is most held p v few e r) ∙ r.same (take v p.pending.items) ∙ ap (nested_outcome most max_depth p.opens.items) h ∙ nested_unfinished most max_depth p.opens.items
 
 -- a head goes on
 pub head_goes_on : (most : ℕ) (p q : Progress) (h : Head) (next : Next) (v k : ℕ) → p.done ≡ None → p.next ≡ nexts.Head h → q.opens.items ≡ p.opens.items → q.done ≡ None → q.next ≡ next → k ≤ v → GoesOn most (max_depth - length p.opens.items) h (take k (take v p.pending.items)) next → (y : List ℕ) → resume most p (take k p.pending.items ++ y) ≡ resume most q y
 head_goes_on most p q h next v k none is opens none' is' few g y =
-    rw (none, is, opens, none', is') (ap (nested most max_depth p.opens.items) (ap (λ z. head_at most (max_depth - length p.opens.items) h (z ++ y)) (sym (take_of_take k v p.pending.items few)) ∙ g y))
+    rw (none, is, opens, none', is') (ap (nested_outcome most max_depth p.opens.items) (ap (λ z. head_at most (max_depth - length p.opens.items) h (z ++ y)) (sym (take_of_take k v p.pending.items few)) ∙ g y))
 
 -- what a reader of a part finds, it finds whatever follows
 pub found_on : {A : Type 0} (G : List ℕ → A → Type 0) (N : List ℕ → ℕ → Refusal → Type 0) (read : List ℕ → Outcome A) → IsReader G N read → (b rest : List ℕ) (a : A) → read b ≡ found a rest → (x : List ℕ) × (b ≡ x ++ rest) × G x a × ((y : List ℕ) → read (x ++ y) ≡ found a y)
@@ -102,15 +102,15 @@ refused_end G N read law b rest w e =
     (omega (arith, ap length q.split, length-append q.before rest), sym (ap (λ z. drop z b) l ∙ ap (drop (length q.before + 0)) q.split ∙ drop-append-add q.before rest 0))
 
 -- a list opens within those that are open
-pub opens_more : (most n : ℕ) (opens more : List Begun) (begun : Begun) (y : List ℕ) → more ≡ opens ++ begun ∷ [] → begun.due + 1 ≡ n → begun.members ≡ [] → nested most max_depth opens (members_at (value_at most (max_depth - length opens - 1)) (Some n) y) ≡ nested most max_depth more (value_at most (max_depth - length more) y)
+pub opens_more : (most n : ℕ) (opens more : List Begun) (begun : Begun) (y : List ℕ) → more ≡ opens ++ begun ∷ [] → begun.due + 1 ≡ n → begun.members ≡ [] → nested_outcome most max_depth opens (members_at (value_at most (max_depth - length opens - 1)) (Some n) y) ≡ nested_outcome most max_depth more (value_at most (max_depth - length more) y)
 opens_more most n opens more begun y e f g =
     let left : max_depth - length opens - 1 ≡ max_depth - length more = omega (arith, ap length e, length-append opens (begun ∷ [])) in
     let m : n ≡ suc begun.due = omega (arith, f) in
-    ap (λ z. nested most max_depth opens (members_at (value_at most (max_depth - length opens - 1)) (Some z) y)) m
-    ∙ ap (nested most max_depth opens) (list_opens most (max_depth - length opens - 1) begun.due begun y refl g)
-    ∙ ap (λ z. nested most max_depth opens (in_list most (max_depth - length opens - 1) begun (value_at most z y))) left
+    ap (λ z. nested_outcome most max_depth opens (members_at (value_at most (max_depth - length opens - 1)) (Some z) y)) m
+    ∙ ap (nested_outcome most max_depth opens) (list_opens most (max_depth - length opens - 1) begun.due begun y refl g)
+    ∙ ap (λ z. nested_outcome most max_depth opens (in_list most (max_depth - length opens - 1) begun (value_at most z y))) left
     ∙ sym (nested_push most max_depth opens begun (value_at most (max_depth - length more) y))
-    ∙ ap (λ z. nested most max_depth z (value_at most (max_depth - length more) y)) (sym e)
+    ∙ ap (λ z. nested_outcome most max_depth z (value_at most (max_depth - length more) y)) (sym e)
 
 -- nothing was taken
 pub reads_along : (most : ℕ) (held : List ℕ) (p q : Progress) → q.pending.items ≡ p.pending.items → q.came ≡ p.came → ((y : List ℕ) → resume most p y ≡ resume most q y) → Reads most held p → Reads most held q
@@ -146,7 +146,7 @@ cuts_at n v b items rest s b_is few e =
 
 pub bulk_along : (most n k : ℕ) (p q : Progress) (b rest s : List ℕ) (w : Value) → p.done ≡ None → p.next ≡ nexts.Found (founds.Payload n) → q.opens.items ≡ p.opens.items → q.done ≡ Some w → tree_of w ≡ bulk s → payload_at (Some n) b ≡ found (bulk s) rest → take k p.pending.items ≡ s ++ line_end → (y : List ℕ) → resume most p (take k p.pending.items ++ y) ≡ resume most q y
 bulk_along most n k p q b rest s w none is opens done t e all y =
-    rw (none, is, opens, done, t, all) (ap (nested most max_depth p.opens.items) ((payload_cut n b rest s e).same y))
+    rw (none, is, opens, done, t, all) (ap (nested_outcome most max_depth p.opens.items) ((payload_cut n b rest s e).same y))
 
 -- a payload that is refused
 pub payload_refused : (most n v : ℕ) (held : List ℕ) (p : Progress) (b rest : List ℕ) (w : Refusal) → p.done ≡ None → p.next ≡ nexts.Found (founds.Payload n) → b ≡ take v p.pending.items → p.came ≤ max_text + 1 → v ≡ min (length p.pending.items) (max_text + 1 - p.came) → payload_at (Some n) b ≡ refused w rest → Reads most held p → value_at most max_depth (seen_of held) ≡ refused w (drop (p.came + (v - length rest)) (seen_of held))
@@ -170,4 +170,4 @@ payload_unfinished most n v held p b none is b_is few v_is e r =
 pub reads_found : (most : ℕ) (held : List ℕ) (p q : Progress) (v : Value) → p.done ≡ None → q.pending ≡ p.pending → q.opens ≡ p.opens → q.came ≡ p.came → q.done ≡ Some v → ((left : ℕ) (y : List ℕ) → next_at most left p.next y ≡ found (tree_of v) y) → Reads most held p → Reads most held q
 reads_found most held p q v none pending opens came done same r =
     reads_along most held p q (ap (λ z. z.items) pending) came
-    (λ y. rw (none, opens, done) (ap (nested most max_depth p.opens.items) (same (max_depth - length p.opens.items) y))) r
+    (λ y. rw (none, opens, done) (ap (nested_outcome most max_depth p.opens.items) (same (max_depth - length p.opens.items) y))) r

@@ -5,8 +5,8 @@ use Rattle.resp_core.specs.Front.{IsUnfinished, IsFault}
 use Rattle.resp_core.specs.Tree.{Tree}
 use Rattle.resp_core.specs.Grammar.{max_text}
 use Rattle.resp_core.specs.Stream.{Splits, told_offset, HasRefusal, HasNoRefusal}
-use Rattle.resp_core.specs.Standing.{ReaderState, IsReached, Stands, Unmoved, Leaves, unread}
-use Rattle.resp_core.specs.Progress.{Reads, Gave, held_of, shown}
+use Rattle.resp_core.specs.Standing.{ReaderState, IsReached, Stands, Unmoved, Leaves, unread_bytes}
+use Rattle.resp_core.specs.Progress.{Reads, Gave, held_of, shown_progress}
 use Rattle.resp_core.specs.Offset.{offset_of, number_of}
 use Rattle.resp_core.specs.declared.error.RespError.{RespError}
 use Rattle.resp_core.specs.declared.progress.Progress.{Progress}
@@ -45,7 +45,7 @@ module _ (r s : ReaderState) (most : s.most ≡ r.most) where
         told = rw none' tt;
       }
 
-  pub falls : (t : Tree) (len : ℕ) → r.refusal ≡ None → s.refusal ≡ None → ((held : List ℕ) → Reads r.most held r.progress → Gave r.most held t len s.progress) → IsReached r.most r.progress → unread s < unread r
+  pub falls : (t : Tree) (len : ℕ) → r.refusal ≡ None → s.refusal ≡ None → ((held : List ℕ) → Reads r.most held r.progress → Gave r.most held t len s.progress) → IsReached r.most r.progress → unread_bytes s < unread_bytes r
   falls t len none none' on g =
       let gave = on g.held g.reads in
       let some = first_value_some r.most g.held t len gave.first in
@@ -102,15 +102,15 @@ pub leaves : (r : ReaderState) (b : List ℕ) (ts : List Tree) (n : ℕ) → n �
 leaves r b ts n e g none = record { rest = g.rest; splits = g.splits; length_is = e ∙ held_is r.most g.rest r.progress (if_none none g.reads) }
 
 -- how far it has come, without the room behind its bytes
-pub shown_gave : (most len : ℕ) (t : Tree) (p q : Progress) → ((held : List ℕ) → Reads most held p → Gave most held t len q) → (held : List ℕ) → Reads most held (shown p) → Gave most held t len (shown q)
+pub shown_gave : (most len : ℕ) (t : Tree) (p q : Progress) → ((held : List ℕ) → Reads most held p → Gave most held t len q) → (held : List ℕ) → Reads most held (shown_progress p) → Gave most held t len (shown_progress q)
 shown_gave most len t p q on held r =
     let g = on held (shown_reads most held p r) in
     record { first = g.first; reads = reads_shown most (drop len held) q g.reads }
 
-pub shown_on : (most : ℕ) (p q : Progress) (f : List ℕ → List ℕ) → ((held : List ℕ) → Reads most held p → Reads most (f held) q) → (held : List ℕ) → Reads most held (shown p) → Reads most (f held) (shown q)
+pub shown_on : (most : ℕ) (p q : Progress) (f : List ℕ → List ℕ) → ((held : List ℕ) → Reads most held p → Reads most (f held) q) → (held : List ℕ) → Reads most held (shown_progress p) → Reads most (f held) (shown_progress q)
 shown_on most p q f on held r = reads_shown most (f held) q (on held (shown_reads most held p r))
 
-pub shown_reached : (most : ℕ) (p : Progress) → IsReached most p → IsReached most (shown p)
+pub shown_reached : (most : ℕ) (p : Progress) → IsReached most p → IsReached most (shown_progress p)
 shown_reached most p g = record { held = g.held; reads = reads_shown most g.held p g.reads }
 
 pub given_reached : (most len : ℕ) (t : Tree) (p q : Progress) → ((held : List ℕ) → Reads most held p → Gave most held t len q) → IsReached most p → IsReached most q

@@ -12,7 +12,7 @@ use Rattle.resp_core.specs.declared.head.Found.TheVariants as founds
 use Rattle.resp_core.specs.declared.progress.Progress.{Progress}
 use Rattle.resp_core.specs.Grammar.{max_depth, max_text}
 use Rattle.resp_core.specs.Reading.{found, unfinished, refused, and_then, text_at, value_at}
-use Rattle.resp_core.specs.Begun.{nested}
+use Rattle.resp_core.specs.Begun.{nested_outcome}
 use Rattle.resp_core.specs.Progress.{Reads, resume, seen_of}
 use Rattle.resp_core.proofs.Places.{InLine}
 use Rattle.resp_core.proofs.Parts.{IsTextLine, text-reads}
@@ -46,7 +46,7 @@ cuts_line_at v b items rest s b_is few e =
 
 pub line_along : (k : Line) (most l : ℕ) (p q : Progress) (b rest s : List ℕ) (w : Value) → p.done ≡ None → p.next ≡ nexts.Found (founds.Line k) → q.opens.items ≡ p.opens.items → q.done ≡ Some w → tree_of w ≡ line_tree k s → text_at [] b ≡ found s rest → take l p.pending.items ≡ s ++ line_end → (y : List ℕ) → resume most p (take l p.pending.items ++ y) ≡ resume most q y
 line_along k most l p q b rest s w none is opens done t e all y =
-    rw (none, is, opens, done, t, all) (ap (nested most max_depth p.opens.items) (ap (λ o. and_then o (λ s rest. found (line_tree k s) rest)) ((line_cut b rest s e).same y)))
+    rw (none, is, opens, done, t, all) (ap (nested_outcome most max_depth p.opens.items) (ap (λ o. and_then o (λ s rest. found (line_tree k s) rest)) ((line_cut b rest s e).same y)))
 
 -- a line that is refused
 pub line_refused : (k : Line) (most v : ℕ) (held : List ℕ) (p : Progress) (b rest : List ℕ) (w : Refusal) → p.done ≡ None → p.next ≡ nexts.Found (founds.Line k) → b ≡ take v p.pending.items → p.came ≤ max_text + 1 → v ≡ min (length p.pending.items) (max_text + 1 - p.came) → text_at [] b ≡ refused w rest → Reads most held p → value_at most max_depth (seen_of held) ≡ refused w (drop (p.came + (v - length rest)) (seen_of held))

@@ -9,6 +9,6 @@ abbrev pub in_list : ℕ → ℕ → Begun → Outcome Tree → Outcome Tree
 in_list most left begun o = and_then o (λ t rest. and_then (many_at (value_at most left) begun.due rest) (λ ts rest. found (list (trees_of (begun.members ++ t ∷ ts))) rest))
 
 -- The outermost value, where this is what is read within these lists, the outermost first.
-abbrev pub nested : ℕ → ℕ → List Begun → Outcome Tree → Outcome Tree
-nested most left [] o = o
-nested most left (begun ∷ others) o = in_list most (left - 1) begun (nested most (left - 1) others o)
+abbrev pub nested_outcome : ℕ → ℕ → List Begun → Outcome Tree → Outcome Tree
+nested_outcome most left [] o = o
+nested_outcome most left (begun ∷ others) o = in_list most (left - 1) begun (nested_outcome most (left - 1) others o)

@@ -47,9 +47,9 @@ limit_signed true = 2 ^ 63
 limit_signed false = 2 ^ 63 - 1
 
 -- the integer of this sign and amount
-abbrev pub signed : Bool → ℕ → ℤ
-signed true n = neg_ℤ (pos n)
-signed false n = pos n
+abbrev pub signed_value : Bool → ℕ → ℤ
+signed_value true n = neg_ℤ (pos n)
+signed_value false n = pos n
 
 -- what is read from the next byte of a head on
 abbrev pub head_at : ℕ → ℕ → Head → List ℕ → Outcome Tree
@@ -59,7 +59,7 @@ head_at most left (heads.One s) b = and_then (null_end_at b) (λ _ rest. behind_
 head_at most left (heads.Return s) b = and_then (byte_at 13 (λ _. BadLength) b) (λ _ rest. and_then (byte_at 10 (λ _. BadLineEnd) rest) (λ _ rest. behind_length most left s None rest))
 head_at most left (heads.Digits s count n) b = and_then (digits_at (of_length (limit_of most s)) count n b) (λ n rest. behind_length most left s (Some n) rest)
 head_at most left heads.Sign b = and_then (integer_at b) (λ n rest. found (whole n) rest)
-head_at most left (heads.Number minus digits count n) b = and_then (digits_at (of_integer (limit_signed minus) digits) count n b) (λ n rest. found (whole (signed minus n)) rest)
+head_at most left (heads.Number minus digits count n) b = and_then (digits_at (of_integer (limit_signed minus) digits) count n b) (λ n rest. found (whole (signed_value minus n)) rest)
 head_at most left (heads.Feed f) b = and_then (byte_at 10 (λ _. BadLineEnd) b) (λ _ rest. found_at most left f rest)
 
 -- what is read next

@@ -5,7 +5,7 @@ use Rattle.resp_core.specs.Value.{tree_of}
 use Rattle.resp_core.specs.Grammar.{max_depth, max_text}
 use Rattle.resp_core.specs.Reading.{Outcome, found, unfinished, refused, value_at}
 use Rattle.resp_core.specs.Going.{next_at, IsGoodNext}
-use Rattle.resp_core.specs.Begun.{nested}
+use Rattle.resp_core.specs.Begun.{nested_outcome}
 use Rattle.resp_core.specs.Seen.{IsSeen}
 use Rattle.resp_core.specs.Front.{IsFirstValue, IsFault}
 use Rattle.resp_core.specs.Offset.{refusal_number}
@@ -25,7 +25,7 @@ due_at most left None next b = next_at most left next b
 
 -- what is read of the outermost value, from the next byte on
 abbrev pub resume : ℕ → Progress → List ℕ → Outcome Tree
-resume most p b = nested most max_depth p.opens.items (due_at most (max_depth - length p.opens.items) p.done p.next b)
+resume most p b = nested_outcome most max_depth p.opens.items (due_at most (max_depth - length p.opens.items) p.done p.next b)
 
 -- The bytes are those of the value that were taken, and those that were fed behind them; and what was taken is read as the
 -- progress says, whatever follows it.
@@ -61,8 +61,8 @@ abbrev pub held_of : Progress → ℕ
 held_of p = p.came + length p.pending.items
 
 -- the same but for the room behind the bytes
-abbrev pub shown : Progress → Progress
-shown p = record { pending = record { items = p.pending.items; spare = 0 }; room = 0; opens = p.opens; done = p.done; next = p.next; seen = p.seen; came = p.came; needed = p.needed }
+abbrev pub shown_progress : Progress → Progress
+shown_progress p = record { pending = record { items = p.pending.items; spare = 0 }; room = 0; opens = p.opens; done = p.done; next = p.next; seen = p.seen; came = p.came; needed = p.needed }
 
 -- 1 where a head was read to its end
 abbrev pub behind_head : Next → ℕ

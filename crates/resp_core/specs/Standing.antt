@@ -5,7 +5,7 @@ use Rattle.resp_core.specs.declared.error.RespError.{RespError}
 use Rattle.resp_core.specs.declared.progress.Progress.{Progress}
 use Rattle.resp_core.specs.Offset.{offset_of, number_of}
 use Rattle.resp_core.specs.Stream.{Splits, HasRefusal, told_offset}
-use Rattle.resp_core.specs.Progress.{Reads, held_of, shown}
+use Rattle.resp_core.specs.Progress.{Reads, held_of, shown_progress}
 
 -- what clauses see of a reader: how many members an array may have, how many bytes came before the unfinished value, how
 -- far it has come in that value, and the refusal that was told
@@ -17,7 +17,7 @@ pub record ReaderState : Type 0 where
 
 -- the state of a reader whose unfinished value has come so far, whatever room there is behind its bytes
 abbrev pub state_of : ℕ → ℕ → Progress → Option RespError → ReaderState
-state_of most consumed p refusal = record { most = most; consumed = consumed; progress = shown p; refusal = refusal }
+state_of most consumed p refusal = record { most = most; consumed = consumed; progress = shown_progress p; refusal = refusal }
 
 -- how many bytes behind the values given a reader has been fed, and 0 after a refusal
 abbrev pub unread_by : Option RespError → Progress → ℕ
@@ -25,8 +25,8 @@ unread_by None p = held_of p
 unread_by (Some e) p = 0
 
 -- how many bytes behind the values given a reader holds
-abbrev pub unread : ReaderState → ℕ
-unread r = unread_by r.refusal r.progress
+abbrev pub unread_bytes : ReaderState → ℕ
+unread_bytes r = unread_by r.refusal r.progress
 
 -- the bytes are the texts of these values, each of at most as many bytes as a text may have, and then so many others
 pub record Leaves (most : ℕ) (b : List ℕ) (ts : List Tree) (n : ℕ) : Type 0 where
@@ -52,5 +52,5 @@ pub record IsReached (most : ℕ) (p : Progress) : Type 0 where
 pub record Unmoved (r s : ReaderState) : Type 0 where
   pub most : s.most ≡ r.most
   pub refusal : s.refusal ≡ r.refusal
-  pub unread : unread s ≡ unread r
+  pub unread : unread_bytes s ≡ unread_bytes r
   pub stands : (b : List ℕ) (ts : List Tree) → Stands r b ts → Stands s b ts

@@ -1,6 +1,6 @@
 //! Lists whose members have not all come.
 ghost use Rattle.std.specs.Prelude.{◌≡◌, ◌≤◌, ◌-◌, ℕ, List, [], length, ◌++◌, ◌∷◌, ◌<◌, vec_len, vec_capacity, IfOk, IfErr, IfSome, IfNone};
-ghost use Rattle.resp_core.specs.Begun.{nested};
+ghost use Rattle.resp_core.specs.Begun.{nested_outcome};
 ghost use Rattle.resp_core.specs.Reading.{value_at, found};
 ghost use Rattle.resp_core.specs.Value.{tree_of};
 
@@ -18,15 +18,19 @@ pub(crate) struct Begun {
 // value, if it is whole. Where memory is refused the lists may be fewer, and the value is a greater one.
 pub(crate) fn put(opens: &mut Vec<Begun>, value: Value) -> Result<Option<Value>, AllocFailed<Value>>
     ensures due { IfOk result (λ o. IfNone o ((most left : ℕ) (rest : List ℕ)
-        → length opens.old.items ≤ left → nested most left opens.old.items (found (tree_of value) rest)
-        ≡ nested most left opens.new.items (value_at most (left - length opens.new.items) rest))) }
+        → length opens.old.items ≤ left
+        → nested_outcome most left opens.old.items (found (tree_of value) rest)
+        ≡ nested_outcome most left opens.new.items
+        (value_at most (left - length opens.new.items) rest))) }
     ensures whole { IfOk result (λ o. IfSome o (λ v. (opens.new.items ≡ [])
         × ((most left : ℕ) (rest : List ℕ)
-        → length opens.old.items ≤ left → nested most left opens.old.items (found (tree_of value) rest)
+        → length opens.old.items ≤ left
+        → nested_outcome most left opens.old.items (found (tree_of value) rest)
         ≡ found (tree_of v) rest))) }
     ensures err { IfErr result (λ e. (most left : ℕ) (rest : List ℕ)
-        → length opens.old.items ≤ left → nested most left opens.old.items (found (tree_of value) rest)
-        ≡ nested most left opens.new.items (found (tree_of e.value) rest)) }
+        → length opens.old.items ≤ left
+        → nested_outcome most left opens.old.items (found (tree_of value) rest)
+        ≡ nested_outcome most left opens.new.items (found (tree_of e.value) rest)) }
     ensures fewer { length opens.new.items ≤ length opens.old.items }
 {
     let mut value = value;

@@ -1,6 +1,6 @@
 //! How far a reader has come in an unfinished value.
 ghost use Rattle.std.specs.Prelude.{true, false, ◌≡◌, ◌≢◌, ◌⊎◌, ◌≤◌, ◌<◌, ◌-◌, ◌+◌, ◌++◌, List, ℕ, [], length, take, drop, Some, None, IfOk, IfErr, IfSome, IfNone, OnOk, OnErr, IsOk};
-ghost use Rattle.resp_core.specs.Progress.{Reads, IsGood, IsFresh, LeadsTo, LeadsToValue, IsShort, HaltsIn, Gave, Stopped, shown, to_read};
+ghost use Rattle.resp_core.specs.Progress.{Reads, IsGood, IsFresh, LeadsTo, LeadsToValue, IsShort, HaltsIn, Gave, Stopped, shown_progress, to_read};
 ghost use Rattle.resp_core.specs.Front.{IsUnfinished};
 ghost use Rattle.resp_core.specs.Value.{tree_of};
 ghost use Rattle.resp_core.specs.Grammar.{max_text};
@@ -125,7 +125,7 @@ impl Progress {
         ensures good { (most : ℕ) → IsGood most self.old → IsGood most self.new }
         ensures reads { OnOk result ((most : ℕ) (held : List ℕ) → Reads most held self.old
             → Reads most (held ++ piece.now) self.new) }
-        ensures same { OnErr result (shown self.new ≡ shown self.old) }
+        ensures same { OnErr result (shown_progress self.new ≡ shown_progress self.old) }
     {
         match piece {
             // A byte alone is stored, without a call that copies any length.
@@ -137,7 +137,7 @@ impl Progress {
     // Takes note of the room for bytes, before any are taken.
     fn note_room(&mut self)
         ensures good { (most : ℕ) → IsGood most self.old → IsGood most self.new }
-        ensures same { shown self.new ≡ shown self.old }
+        ensures same { shown_progress self.new ≡ shown_progress self.old }
     {
         self.room = self.room.max(self.pending.capacity());
     }
@@ -145,7 +145,7 @@ impl Progress {
     // Gives back a large buffer if no byte is pending.
     fn give_back(&mut self, alloc: Global)
         ensures good { (most : ℕ) → IsGood most self.old → IsGood most self.new }
-        ensures same { shown self.new ≡ shown self.old }
+        ensures same { shown_progress self.new ≡ shown_progress self.old }
     {
         if self.room > MOST_IDLE && self.pending.is_empty() {
             self.pending = BytesMut::new(alloc);

@@ -1,7 +1,7 @@
 //! A reader of a stream that comes in pieces.
 ghost use Rattle.std.specs.Prelude.{◌≡◌, ◌≢◌, ◌⊎◌, ◌∷◌, ◌++◌, [], Ok, Err, Some, None, OnOk, OnErr, IfOk, IfErr, IfSome, IfNone, IsErrOf, ◌<◌, ◌≤◌, List, ℕ};
 ghost use Rattle.resp_core.specs.Tree.{Tree};
-ghost use Rattle.resp_core.specs.Standing.{Stands, Unmoved, Leaves, unread};
+ghost use Rattle.resp_core.specs.Standing.{Stands, Unmoved, Leaves, unread_bytes};
 ghost use Rattle.resp_core.specs.Stream.{HasRefusal, HasNoRefusal};
 ghost use Rattle.resp_core.specs.Readable.{IsReadable};
 ghost use Rattle.resp_core.specs.Offset.{offset_of, number_of};
@@ -94,7 +94,7 @@ impl Reader {
     ///
     /// At most 8,388,608 after `next_value` has answered `None`.
     pub fn held(&self) -> u64
-        ensures is { result ≡ unread self.now }
+        ensures is { result ≡ unread_bytes self.now }
         ensures left { (b : List ℕ) (ts : List Tree) → Stands self.now b ts
             → IfNone self.now.refusal (Leaves self.now.most b ts result) }
         ensures told { IfSome self.now.refusal (λ _. result ≡ 0) }
@@ -140,7 +140,8 @@ impl Reader {
             → Stands self.old b ts
             → Stands self.new b (ts ++ tree_of v ∷ []))) }
         ensures given { IfOk result (λ o. IfSome o (λ v. IsReadable self.old.most (tree_of v))) }
-        ensures falls { IfOk result (λ o. IfSome o (λ _. unread self.new < unread self.old)) }
+        ensures falls { IfOk result (λ o. IfSome o
+            (λ _. unread_bytes self.new < unread_bytes self.old)) }
         ensures none { IfOk result (λ o. IfNone o ((b : List ℕ) (ts : List Tree)
             → Stands self.old b ts
             → HasNoRefusal self.old.most b ts)) }
@@ -148,7 +149,7 @@ impl Reader {
             → Stands self.new b ts
             → HasNoRefusal self.new.most b ts)) }
         ensures none_same { IfOk result (λ o. IfNone o (Unmoved self.old self.new)) }
-        ensures few { IfOk result (λ o. IfNone o (unread self.new ≤ max_text)) }
+        ensures few { IfOk result (λ o. IfNone o (unread_bytes self.new ≤ max_text)) }
         ensures refused { IfErr result (λ e. e ≢ RespError.NoMemory → (b : List ℕ) (ts : List Tree)
             → Stands self.old b ts
             → Stands self.new b ts × HasRefusal self.old.most b ts (offset_of e) (number_of e)) }
@@ -176,7 +177,8 @@ impl Reader {
             → Stands self.old b ts
             → Stands self.new b (ts ++ tree_of v ∷ []))) }
         ensures given { IfOk result (λ o. IfSome o (λ v. IsReadable self.old.most (tree_of v))) }
-        ensures falls { IfOk result (λ o. IfSome o (λ _. unread self.new < unread self.old)) }
+        ensures falls { IfOk result (λ o. IfSome o
+            (λ _. unread_bytes self.new < unread_bytes self.old)) }
         ensures none { IfOk result (λ o. IfNone o ((b : List ℕ) (ts : List Tree)
             → Stands self.old b ts
             → HasNoRefusal self.old.most b ts)) }
@@ -184,7 +186,7 @@ impl Reader {
             → Stands self.new b ts
             → HasNoRefusal self.new.most b ts)) }
         ensures none_same { IfOk result (λ o. IfNone o (Unmoved self.old self.new)) }
-        ensures few { IfOk result (λ o. IfNone o (unread self.new ≤ max_text)) }
+        ensures few { IfOk result (λ o. IfNone o (unread_bytes self.new ≤ max_text)) }
         ensures refused { IfErr result (λ e. e ≢ RespError.NoMemory → (b : List ℕ) (ts : List Tree)
             → Stands self.old b ts
             → Stands self.new b ts × HasRefusal self.old.most b ts (offset_of e) (number_of e)) }

@@ -14,7 +14,7 @@ use Rattle.command_table.specs.declared.Kind.{Kind}
 use Rattle.command_table.specs.declared.Kind.TheVariants.{Ping, Echo, Quit, One, SplitGet, SplitSet, SplitSum}
 use Rattle.splitter.specs.declared.plans.Join.TheVariants.{Same, Get, Set, Sum}
 use Rattle.splitter.specs.Request.{read, broken}
-use Rattle.splitter.specs.Plan.{shown_byte, shown, takes, plan_by, plan_by_row}
+use Rattle.splitter.specs.Plan.{shown_byte, shown_name, takes, plan_by, plan_by_row}
 use Rattle.splitter.specs.Join.{in_place, is_done, is_whole, total, told_sum, unless_failed, finished_with, first_of}
 use Rattle.splitter.specs.Split.{Words}
 use Rattle.splitter.specs.Laws.{has_plain_value, PlanTextsArePlain, JoinsOfPlainValuesArePlain}
@@ -64,7 +64,7 @@ plain_by SplitSet r words = refl
 plain_by SplitSum r words = refl
 
 plain_by_row : (o : Option Row) (words : Words) → row_named (word words 0) ≡ o → has_plain_value (plan_by_row o words) ≡ true
-plain_by_row None words e = joined (codes "unsupported command '") (shown (word words 0) ++ codes "'") refl (joined (shown (word words 0)) (codes "'") (all_shown (take 64 (word words 0))) refl)
+plain_by_row None words e = joined (codes "unsupported command '") (shown_name (word words 0) ++ codes "'") refl (joined (shown_name (word words 0)) (codes "'") (all_shown (take 64 (word words 0))) refl)
 plain_by_row (Some r) words e =
     elim (cases_Bool (takes r.kind r.least (length words))) [
       | inl f ↦ rw f (plain_by r.kind r words)

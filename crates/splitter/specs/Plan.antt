@@ -24,12 +24,12 @@ abbrev pub shown_byte : ℕ → ℕ
 shown_byte b = if nat_le 32 b && nat_le b 126 then b else 63
 
 -- a name as it is shown: its first 64 bytes
-abbrev pub shown : List ℕ → List ℕ
-shown name = map shown_byte (take 64 name)
+abbrev pub shown_name : List ℕ → List ℕ
+shown_name name = map shown_byte (take 64 name)
 
 -- the text for a name that isn't in the table
-abbrev pub unsupported : List ℕ → List ℕ
-unsupported name = codes "unsupported command '" ++ shown name ++ codes "'"
+abbrev pub unsupported_text : List ℕ → List ℕ
+unsupported_text name = codes "unsupported_text command '" ++ shown_name name ++ codes "'"
 
 -- the text for a wrong number of words
 abbrev pub wrong_number : Row → List ℕ
@@ -61,7 +61,7 @@ plan_by SplitSum r words = plan_of_parts r words
 
 -- the plan of a command by its row, if it has one
 abbrev pub plan_by_row : Option Row → Words → Plan
-plan_by_row None words = here Unsupported (fault (unsupported (word words 0)))
+plan_by_row None words = here Unsupported (fault (unsupported_text (word words 0)))
 plan_by_row (Some r) words = if takes r.kind r.least (length words) then plan_by r.kind r words else here WrongNumber (fault (wrong_number r))
 
 -- the table of plans, its cases in their order

@@ -1,7 +1,7 @@
 //! The texts of the proxy's own answers to commands that it can't plan.
 ghost use Rattle.std.specs.Prelude.{◌≡◌, ◌++◌, IfOk, IfErr, OnOk};
 ghost use Rattle.command_table.specs.Entry.{row_of};
-ghost use Rattle.splitter.specs.Plan.{shown, shown_byte, unsupported, wrong_number};
+ghost use Rattle.splitter.specs.Plan.{shown_name, shown_byte, unsupported_text, wrong_number};
 
 use crate::error::SplitError;
 use bytes::Bytes;
@@ -13,7 +13,7 @@ const SHOWN: usize = 64;
 
 /// The text that tells of an unknown name.
 pub(crate) fn unsupported(alloc: Global, name: &[u8]) -> Result<Bytes, SplitError>
-    ensures text { IfOk result (λ text. text ≡ unsupported name.now) }
+    ensures text { IfOk result (λ text. text ≡ unsupported_text name.now) }
     ensures err { IfErr result (λ e. e ≡ SplitError.NoMemory) }
 {
     let mut text = Vec::new(alloc);
@@ -25,7 +25,7 @@ pub(crate) fn unsupported(alloc: Global, name: &[u8]) -> Result<Bytes, SplitErro
 
 // Appends the name as it is shown.
 fn append_shown(text: &mut Vec<u8>, name: &[u8]) -> Result<(), AllocError>
-    ensures { OnOk result (text.new.items ≡ text.old.items ++ shown name.now) }
+    ensures { OnOk result (text.new.items ≡ text.old.items ++ shown_name name.now) }
 {
     for byte in &name[..name.len().min(SHOWN)] {
         text.push(shown_byte(*byte))?;

@@ -55,7 +55,9 @@ pub(crate) fn key_parts(alloc: Global, name: Bytes, words: &Values) -> Result<Pa
 /// A part for each two words behind the first, a key and its value: a SET of them.
 pub(crate) fn pair_parts(alloc: Global, words: &Values) -> Result<PartPlans, SplitError>
     requires { are_words words.now ≡ true }
-    ensures parts { IfOk result (λ ps. ps ≡ map (λ pair. part_at 1 (codes "SET" ∷ pair.0 ∷ pair.1 ∷ [])) (pairs (drop 1 (map payload_of words.now)))) }
+    ensures parts { IfOk result (λ ps. ps
+        ≡ map (λ pair. part_at 1 (codes "SET" ∷ pair.0 ∷ pair.1 ∷ []))
+        (pairs (drop 1 (map payload_of words.now)))) }
     ensures err { IfErr result (λ e. e ≡ SplitError.NoMemory) }
 {
     let head = head(alloc, 3, Bytes::from_static(b"SET"))?;

@@ -9,9 +9,9 @@ use Rattle.stub_server.specs.declared.command.Command.TheVariants.{Get, Set, Del
 use Rattle.stub_server.specs.declared.map.Entry.{Entry}
 use Rattle.stub_server.specs.Command.{command_named, takes}
 use Rattle.resp_core.specs.Command.{is_command, words_of, word}
-use Rattle.stub_server.specs.Map.{Map, value_at, is_key, with_value, names_key, without, has_distinct_keys}
+use Rattle.stub_server.specs.Map.{Map, value_at, is_key, with_value, names_key, map_without, has_distinct_keys}
 use Rattle.stub_server.specs.Number.{one_more}
-use Rattle.stub_server.specs.Table.{Outcome, gives, unknown_command, wrong_number, number_at, counted, incremented, outcome_by, outcome_named, outcome_of_words, map_after}
+use Rattle.stub_server.specs.Table.{Outcome, gives, unknown_command, wrong_number, number_at, counted_reply, incremented_reply, outcome_by, outcome_named, outcome_of_words, map_after}
 
 equal : (xs ys : List ℕ) → bytes_eq xs ys ≡ true → xs ≡ ys
 equal xs ys = (bytes_eq-Decides xs ys).0
@@ -46,7 +46,7 @@ value_at-with_value key value other (x ∷ m) =
           ]
     ]
 
-pub value_at-without : (keys : List (List ℕ)) (other : List ℕ) (m : Map) → value_at other (without keys m) ≡ (if names_key keys other then None else value_at other m)
+pub value_at-without : (keys : List (List ℕ)) (other : List ℕ) (m : Map) → value_at other (map_without keys m) ≡ (if names_key keys other then None else value_at other m)
 value_at-without keys other [] = elim (cases_Bool (names_key keys other)) [ inl g ↦ rw g refl | inr g ↦ rw g refl ]
 value_at-without keys other (x ∷ m) =
     let next = value_at-without keys other m in
@@ -119,11 +119,11 @@ distinct-filter p (x ∷ m) h =
       | inr f ↦ rw f (distinct-filter p m q.1)
     ]
 
-distinct-counted : (m : Map) (key : List ℕ) (o : Option ℤ) → has_distinct_keys m ≡ true → has_distinct_keys (counted m key o).map ≡ true
+distinct-counted : (m : Map) (key : List ℕ) (o : Option ℤ) → has_distinct_keys m ≡ true → has_distinct_keys (counted_reply m key o).map ≡ true
 distinct-counted m key None h = h
 distinct-counted m key (Some n) h = distinct-with_value key _ m h
 
-distinct-incremented : (m : Map) (key : List ℕ) (o : Option ℤ) → has_distinct_keys m ≡ true → has_distinct_keys (incremented m key o).map ≡ true
+distinct-incremented : (m : Map) (key : List ℕ) (o : Option ℤ) → has_distinct_keys m ≡ true → has_distinct_keys (incremented_reply m key o).map ≡ true
 distinct-incremented m key None h = h
 distinct-incremented m key (Some n) h = distinct-counted m key (one_more n) h
 

@@ -3,7 +3,7 @@ use Rattle.std.specs.Prelude.{◌≡◌, ◌↔◌, ℕ, ℤ, true, List, Some, 
 use Rattle.std.specs.Fmt.{signed_decimal}
 use Rattle.std.specs.Str.{bytes_eq}
 use Rattle.resp_core.specs.Tree.{Tree}
-use Rattle.stub_server.specs.Map.{Map, value_at, with_value, without, names_key, has_distinct_keys}
+use Rattle.stub_server.specs.Map.{Map, value_at, with_value, map_without, names_key, has_distinct_keys}
 use Rattle.stub_server.specs.Number.{number_in}
 use Rattle.resp_core.specs.Within.{is_long}
 use Rattle.stub_server.specs.Table.{map_after}
@@ -14,7 +14,7 @@ SetKeyHasItsValue = (key value other : List ℕ) (m : Map) → value_at other (w
 
 -- After keys were taken out they have no value, and all other keys have the values that they had.
 abbrev pub RemovedKeyHasNoValue : Type 0
-RemovedKeyHasNoValue = (keys : List (List ℕ)) (other : List ℕ) (m : Map) → value_at other (without keys m) ≡ (if names_key keys other then None else value_at other m)
+RemovedKeyHasNoValue = (keys : List (List ℕ)) (other : List ℕ) (m : Map) → value_at other (map_without keys m) ≡ (if names_key keys other then None else value_at other m)
 
 -- Each key stands once in a map, before a request and after it.
 abbrev pub KeysStayDistinct : Type 0

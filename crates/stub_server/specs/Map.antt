@@ -31,8 +31,8 @@ abbrev pub names_key : List (List ℕ) → List ℕ → Bool
 names_key words key = list_any (λ word. bytes_eq word key) words
 
 -- the map without these keys
-abbrev pub without : List (List ℕ) → Map → Map
-without keys m = filter (λ e. not (names_key keys e.key)) m
+abbrev pub map_without : List (List ℕ) → Map → Map
+map_without keys m = filter (λ e. not (names_key keys e.key)) m
 
 -- how many keys of the map are among these
 abbrev pub count_among : List (List ℕ) → Map → ℕ

@@ -1,6 +1,6 @@
 -- How far the requests of a link have been served.
 use Rattle.std.specs.Prelude.{ℕ, ◌+◌, ◌*◌}
-use Rattle.resp_core.specs.Standing.{unread}
+use Rattle.resp_core.specs.Standing.{unread_bytes}
 use Rattle.stub_server.specs.declared.session.Next.{Next}
 use Rattle.stub_server.specs.declared.session.Next.TheVariants as nexts
 use Rattle.stub_server.specs.declared.session.Session.{Session}
@@ -14,4 +14,4 @@ steps_of nexts.Garble = 1
 
 -- a number that falls with each step
 abbrev pub left_of : Session → ℕ
-left_of s = unread s.requests * 3 + steps_of s.next
+left_of s = unread_bytes s.requests * 3 + steps_of s.next

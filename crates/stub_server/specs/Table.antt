@@ -4,7 +4,7 @@ use Rattle.std.specs.Fmt.{signed_decimal}
 use Rattle.resp_core.specs.Tree.{Tree, simple, fault, whole, bulk, null_bulk}
 use Rattle.resp_core.specs.Command.{is_command, words_of, word}
 use Rattle.stub_server.specs.Command.{command_named, takes}
-use Rattle.stub_server.specs.Map.{Map, value_at, with_value, without, count_among, count_keys}
+use Rattle.stub_server.specs.Map.{Map, value_at, with_value, map_without, count_among, count_keys}
 use Rattle.stub_server.specs.Number.{number_in, one_more}
 use Rattle.stub_server.specs.declared.command.Command.{Command}
 use Rattle.stub_server.specs.declared.command.Command.TheVariants.{Get, Set, Del, Exists, Incr}
@@ -19,8 +19,8 @@ abbrev pub gives : Tree → Map → Outcome
 gives answer m = record { answer = answer; map = m }
 
 -- the answer to what was done
-abbrev pub done : Tree
-done = simple (codes "OK")
+abbrev pub ok_reply : Tree
+ok_reply = simple (codes "OK")
 
 -- the error of a name that isn't in the table
 abbrev pub unknown_command : Tree
@@ -49,22 +49,22 @@ abbrev pub number_at : List ℕ → Map → Option ℤ
 number_at key m = number_of_value (value_at key m)
 
 -- the number is answered and stored, where there is one
-abbrev pub counted : Map → List ℕ → Option ℤ → Outcome
-counted m key None = gives no_number m
-counted m key (Some n) = gives (whole n) (with_value key (signed_decimal n) m)
+abbrev pub counted_reply : Map → List ℕ → Option ℤ → Outcome
+counted_reply m key None = gives no_number m
+counted_reply m key (Some n) = gives (whole n) (with_value key (signed_decimal n) m)
 
 -- the number at the key grows by one, where there is one and it isn't the greatest
-abbrev pub incremented : Map → List ℕ → Option ℤ → Outcome
-incremented m key None = gives no_number m
-incremented m key (Some n) = counted m key (one_more n)
+abbrev pub incremented_reply : Map → List ℕ → Option ℤ → Outcome
+incremented_reply m key None = gives no_number m
+incremented_reply m key (Some n) = counted_reply m key (one_more n)
 
 -- the outcome of a command with a right number of words
 abbrev pub outcome_by : Map → Command → List (List ℕ) → Outcome
 outcome_by m Get words = gives (bulk_of (value_at (word words 1) m)) m
-outcome_by m Set words = gives done (with_value (word words 1) (word words 2) m)
-outcome_by m Del words = gives (whole (pos (count_among (drop 1 words) m))) (without (drop 1 words) m)
+outcome_by m Set words = gives ok_reply (with_value (word words 1) (word words 2) m)
+outcome_by m Del words = gives (whole (pos (count_among (drop 1 words) m))) (map_without (drop 1 words) m)
 outcome_by m Exists words = gives (whole (pos (count_keys m (drop 1 words)))) m
-outcome_by m Incr words = incremented m (word words 1) (number_at (word words 1) m)
+outcome_by m Incr words = incremented_reply m (word words 1) (number_at (word words 1) m)
 
 -- what a command comes to by its name
 abbrev pub outcome_named : Map → Option Command → List (List ℕ) → Outcome

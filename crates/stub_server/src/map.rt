@@ -3,7 +3,7 @@ ghost use Rattle.std.specs.Prelude.{◌≡◌, IfSome, IfNone, Some, None, OnOk,
 ghost use Rattle.std.specs.List.{position};
 ghost use Rattle.resp_core.specs.Value.{tree_of};
 ghost use Rattle.resp_core.specs.Command.{payload_of};
-ghost use Rattle.stub_server.specs.Map.{value_at, is_of, is_key, with_value, count_among, count_keys, without, names_key};
+ghost use Rattle.stub_server.specs.Map.{value_at, is_of, is_key, with_value, count_among, count_keys, map_without, names_key};
 
 use crate::error::StubError;
 use crate::words::payload;
@@ -59,7 +59,7 @@ pub(crate) fn count_among(entries: &[Entry], keys: &[Value]) -> usize
 
 /// Takes out the entries of these keys. It takes no memory.
 pub(crate) fn take_out(entries: &mut Vec<Entry>, keys: &[Value])
-    ensures { entries.new.items ≡ without
+    ensures { entries.new.items ≡ map_without
         (map payload_of (map tree_of keys.now)) entries.old.items }
 {
     entries.retain(|entry| !is_among(keys, entry.key.as_slice()));

@@ -4,9 +4,9 @@ ghost use Rattle.resp_core.specs.Value.{tree_of};
 ghost use Rattle.resp_core.specs.Tree.{whole, fault};
 ghost use Rattle.stub_server.specs.Command.{takes};
 ghost use Rattle.resp_core.specs.Command.{are_words, payload_of};
-ghost use Rattle.stub_server.specs.Map.{value_at, with_value, without, count_among};
+ghost use Rattle.stub_server.specs.Map.{value_at, with_value, map_without, count_among};
 ghost use Rattle.stub_server.specs.Script.{IsResponse, act_of, acts_after, map_by};
-ghost use Rattle.stub_server.specs.Table.{answer_of, map_after, outcome_of_words, outcome_by, incremented, number_at, bulk_of, done};
+ghost use Rattle.stub_server.specs.Table.{answer_of, map_after, outcome_of_words, outcome_by, incremented_reply, number_at, bulk_of, ok_reply};
 
 use crate::command::{Command, command_named};
 use crate::error::StubError;
@@ -189,7 +189,7 @@ fn get(entries: &[Entry], key: &Bytes) -> Result<Value, StubError>
 
 // SET
 fn set(entries: &mut Vec<Entry>, key: &Bytes, value: &Bytes) -> Result<Value, StubError>
-    ensures answer { IfOk result (λ answer. tree_of answer ≡ done) }
+    ensures answer { IfOk result (λ answer. tree_of answer ≡ ok_reply) }
     ensures map { IfOk result
         (λ _. entries.new.items ≡ with_value key.now value.now entries.old.items) }
     ensures err { OnErr result (entries.new.items ≡ entries.old.items) }
@@ -205,7 +205,8 @@ fn delete(entries: &mut Vec<Entry>, keys: &[Value]) -> Result<Value, StubError>
         (λ answer. tree_of answer ≡ whole
         (pos (count_among (map payload_of (map tree_of keys.now)) entries.old.items))) }
     ensures map { IfOk result
-        (λ _. entries.new.items ≡ without (map payload_of (map tree_of keys.now)) entries.old.items) }
+        (λ _. entries.new.items
+        ≡ map_without (map payload_of (map tree_of keys.now)) entries.old.items) }
     ensures err { OnErr result (entries.new.items ≡ entries.old.items) }
     ensures memory { IfErr result (λ e. e ≡ StubError.NoMemory) }
 {
@@ -218,10 +219,11 @@ fn delete(entries: &mut Vec<Entry>, keys: &[Value]) -> Result<Value, StubError>
 fn increment(alloc: Global, entries: &mut Vec<Entry>, key: &Bytes) -> Result<Value, StubError>
     ensures answer { IfOk result
         (λ answer. tree_of answer ≡
-        (incremented entries.old.items key.now (number_at key.now entries.old.items)).answer) }
+        (incremented_reply entries.old.items key.now
+        (number_at key.now entries.old.items)).answer) }
     ensures map { IfOk result
         (λ _. entries.new.items ≡
-        (incremented entries.old.items key.now (number_at key.now entries.old.items)).map) }
+        (incremented_reply entries.old.items key.now (number_at key.now entries.old.items)).map) }
     ensures err { OnErr result (entries.new.items ≡ entries.old.items) }
     ensures memory { IfErr result (λ e. e ≡ StubError.NoMemory) }
 {

@@ -58,8 +58,8 @@ pub record GateRule {S E A C : Type 0} (journal : S → List (ℕ × E × A)) (s
   pub each_view : (j : ℕ) (v : View E A C) → get_elem? s.views j ≡ maybe.some v → ViewAgrees standing c j v
 
 -- a place that knows nothing but the setting
-abbrev pub blank : {E A C : Type 0} → Option C → Knowledge E A C
-blank setting = record {
+abbrev pub blank_state : {E A C : Type 0} → Option C → Knowledge E A C
+blank_state setting = record {
   number = None;
   ticket = None;
   inside = false;
@@ -77,8 +77,8 @@ view_of k = record { own = k; other = None }
 
 -- the view of a gate's first seat, which has found both words of the tickets at `first`
 abbrev pub first_view : {E A C : Type 0} → C → ℕ → View E A C
-first_view c first = view_of (record (blank (Some c)) { last_served = first; last_drawn = first })
+first_view c first = view_of (record (blank_state (Some c)) { last_served = first; last_drawn = first })
 
 -- the view that is left where a seat was joined to another
 abbrev pub spent_view : {E A C : Type 0} → View E A C
-spent_view = view_of (blank None)
+spent_view = view_of (blank_state None)

@@ -33,7 +33,8 @@ pub trait Recorded {
     ghost legal: { Self.Setting → List (ℕ × Self.Event × Self.Answer) → Type 0 };
 
     /// When a refusal of an event is due, over the journal so far.
-    ghost cause: { Self.Setting → Self.Refusal → Self.Event → List (ℕ × Self.Event × Self.Answer) → Type 0 };
+    ghost cause: { Self.Setting → Self.Refusal → Self.Event → List (ℕ × Self.Event × Self.Answer)
+        → Type 0 };
 
     /// What a look at a state with this setting and this journal tells.
     ghost sight_of: { Self.Setting → List (ℕ × Self.Event × Self.Answer) → Self.Sight };

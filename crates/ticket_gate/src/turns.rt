@@ -40,7 +40,8 @@ pub trait Turns {
     ghost legal: { Self.Setting → List (ℕ × Self.Event × Self.Answer) → Type 0 };
 
     /// When a refusal of an event by the state is due, over the journal so far.
-    ghost cause: { Self.Setting → Self.Refusal → Self.Event → List (ℕ × Self.Event × Self.Answer) → Type 0 };
+    ghost cause: { Self.Setting → Self.Refusal → Self.Event → List (ℕ × Self.Event × Self.Answer)
+        → Type 0 };
 
     /// What holds where a turn was refused because no ticket is left.
     ghost spent: { Self → Type 0 };

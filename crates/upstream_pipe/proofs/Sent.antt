@@ -2,7 +2,7 @@
 use Rattle.std.proofs.Common.{◌≡◌, ◌≤◌, ◌+◌, ℕ, zero, suc, add-one, List, [], ◌∷◌, Option, Some, slice_get, length, map, drop, sym, ap, ◌∙◌, arith}
 use Rattle.std.proofs.lemmas.List.{length-map, drop-map}
 use Rattle.upstream_pipe.specs.declared.part.Owner.{Owner}
-use Rattle.upstream_pipe.specs.Pipe.{PipeState, HasSent, forgotten}
+use Rattle.upstream_pipe.specs.Pipe.{PipeState, HasSent, forgotten_owner}
 
 -- the item behind the first so many, and those behind it
 item_behind : (sent rest : List (Option Owner)) (owner : Option Owner) (count : ℕ) → drop count sent ≡ owner ∷ rest → (slice_get sent count ≡ Some owner) × (drop (suc count) sent ≡ rest) × (suc count ≤ length sent)
@@ -16,8 +16,8 @@ sent_answered p q sent count owner h e =
     let f = item_behind sent q.flying owner count (sym h.flying ∙ e) in
     (f.0, record { some = omega (arith, f.2); flying = rw add-one (sym f.1) })
 
-pub sent_forgotten : (p q : PipeState) (conn : ℕ) (sent : List (Option Owner)) (count : ℕ) → HasSent p sent count → q.flying ≡ map (forgotten conn) p.flying → HasSent q (map (forgotten conn) sent) count
+pub sent_forgotten : (p q : PipeState) (conn : ℕ) (sent : List (Option Owner)) (count : ℕ) → HasSent p sent count → q.flying ≡ map (forgotten_owner conn) p.flying → HasSent q (map (forgotten_owner conn) sent) count
 sent_forgotten p q conn sent count h e = record {
-  some = omega (arith, h.some, length-map sent (forgotten conn));
-  flying = e ∙ ap (map (forgotten conn)) h.flying ∙ sym (drop-map (forgotten conn) count sent);
+  some = omega (arith, h.some, length-map sent (forgotten_owner conn));
+  flying = e ∙ ap (map (forgotten_owner conn)) h.flying ∙ sym (drop-map (forgotten_owner conn) count sent);
 }

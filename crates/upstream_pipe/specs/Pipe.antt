@@ -29,6 +29,6 @@ abbrev pub is_kept : ℕ → Part → Bool
 is_kept conn part = not (part.owner.conn == conn)
 
 -- the place of a part that flies, once this connection is forgotten
-abbrev pub forgotten : ℕ → Option Owner → Option Owner
-forgotten conn None = None
-forgotten conn (Some owner) = if owner.conn == conn then None else Some owner
+abbrev pub forgotten_owner : ℕ → Option Owner → Option Owner
+forgotten_owner conn None = None
+forgotten_owner conn (Some owner) = if owner.conn == conn then None else Some owner

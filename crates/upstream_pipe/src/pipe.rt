@@ -3,7 +3,7 @@ ghost use Rattle.std.specs.Prelude.{◌≡◌, ◌≢◌, ◌⊎◌, ◌<◌, �
 ghost use Rattle.std.specs.Option.{option_copied};
 ghost use Rattle.std.specs.VecDeque.{deque_len, deque_capacity};
 ghost use Rattle.upstream_pipe.specs.declared.part.Owner.{Owner};
-ghost use Rattle.upstream_pipe.specs.Pipe.{HasSent, IsAsBefore, owner_in, is_kept, forgotten};
+ghost use Rattle.upstream_pipe.specs.Pipe.{HasSent, IsAsBefore, owner_in, is_kept, forgotten_owner};
 
 use crate::lost::Lost;
 use crate::part::{Owner, Part};
@@ -40,10 +40,12 @@ impl Model for Pipe {
       waiting = p.waiting.items;
       flying = p.flying.items;
       epoch = p.epoch;
-      room = min (deque_capacity p.waiting - deque_len p.waiting) (deque_capacity p.flying - (deque_len p.flying + deque_len p.waiting));
+      room = min (deque_capacity p.waiting - deque_len p.waiting)
+          (deque_capacity p.flying - (deque_len p.flying + deque_len p.waiting));
     } };
 
-    ghost invariant = { λ p. (deque_len p.waiting ≤ MAX_WAITING) × (deque_len p.flying + deque_len p.waiting ≤ deque_capacity p.flying) };
+    ghost invariant = { λ p. (deque_len p.waiting ≤ MAX_WAITING)
+        × (deque_len p.flying + deque_len p.waiting ≤ deque_capacity p.flying) };
 }
 
 impl Pipe {
@@ -226,9 +228,9 @@ impl Pipe {
     /// that their replies go to nobody. It takes no memory.
     pub fn forget(&mut self, conn: u64)
         ensures waiting { self.new.waiting ≡ filter (is_kept conn) self.old.waiting }
-        ensures flying { self.new.flying ≡ map (forgotten conn) self.old.flying }
+        ensures flying { self.new.flying ≡ map (forgotten_owner conn) self.old.flying }
         ensures places { (sent : List (Option Owner)) (count : ℕ) → HasSent self.old sent count
-            → HasSent self.new (map (forgotten conn) sent) count }
+            → HasSent self.new (map (forgotten_owner conn) sent) count }
         ensures epoch { self.new.epoch ≡ self.old.epoch }
         ensures room { self.old.room ≤ self.new.room }
     {
@@ -248,7 +250,7 @@ fn forget_waiting(waiting: &mut VecDeque<Part>, conn: u64)
 
 // Takes the owner out of each place of the connection.
 fn forget_flying(flying: &mut VecDeque<Option<Owner>>, conn: u64)
-    ensures items { flying.new.items ≡ map (forgotten conn) flying.old.items }
+    ensures items { flying.new.items ≡ map (forgotten_owner conn) flying.old.items }
     ensures len { deque_len flying.new ≡ deque_len flying.old }
     ensures capacity { deque_capacity flying.new ≡ deque_capacity flying.old }
 {
@@ -261,7 +263,7 @@ fn forget_flying(flying: &mut VecDeque<Option<Owner>>, conn: u64)
 
 // The place, without its owner if it is of the connection.
 fn forgotten(conn: u64, place: Option<Owner>) -> Option<Owner>
-    ensures { result ≡ forgotten conn place }
+    ensures { result ≡ forgotten_owner conn place }
 {
     match place {
         Some(owner) if owner.conn == conn => None,

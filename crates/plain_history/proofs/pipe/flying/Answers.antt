@@ -1,6 +1,6 @@
 use Rattle.std.proofs.Common.{length, ap, ◌∙◌, arith}
-use Rattle.proxy_history.specs.Replies.{came}
-use Rattle.plain_history.specs.Scan.{history_of, seen}
+use Rattle.proxy_history.specs.Replies.{replies_from}
+use Rattle.plain_history.specs.Scan.{history_of, past_of_scan}
 use Rattle.proxy_history.specs.Waiting.{sent_to}
 use Rattle.proxy_history.specs.History.{epoch}
 use Rattle.std.proofs.Common.{[]}
@@ -13,6 +13,6 @@ returns-clause-value c =
     omega (
       arith,
       c.saturating_sub.ensures,
-      c.sent.ensures.value c.args.steps.now ∙ ap (λ z. length (sent_to c.args.host z (seen c.args.steps.now [] c.args.replay.now))) is,
-      c.replies.ensures ∙ ap (λ z. length (came c.args.host z (history_of c.args.steps.now))) is,
+      c.sent.ensures.value c.args.steps.now ∙ ap (λ z. length (sent_to c.args.host z (past_of_scan c.args.steps.now [] c.args.replay.now))) is,
+      c.replies.ensures ∙ ap (λ z. length (replies_from c.args.host z (history_of c.args.steps.now))) is,
     )

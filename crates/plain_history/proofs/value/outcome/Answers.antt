@@ -5,7 +5,7 @@ use Rattle.splitter.specs.Plan.{parts}
 use Rattle.splitter.specs.Planned.{plan_in}
 use Rattle.proxy_history.specs.History.{plan_for, requests}
 use Rattle.proxy_history.specs.Outcome.{is_part_of, values_of}
-use Rattle.plain_history.specs.Scan.{history_of, parts_of, seen}
+use Rattle.plain_history.specs.Scan.{history_of, parts_of, past_of_scan}
 use Rattle.proxy_history.proofs.CallerLemmas.{if_some_may_join, values_may_join}
 use Rattle.plain_history.proofs.value.outcome.Goals as goal
 
@@ -13,7 +13,7 @@ pub joined-requires : goal.joined-requires
 joined-requires c =
     let (S, shows) = c.requires in
     let H = history_of c.args.steps.now in
-    let x = seen c.args.steps.now [] c.args.replay.now in
+    let x = past_of_scan c.args.steps.now [] c.args.replay.now in
     let ps = parts_of c.args.replay.now.parts.items in
     let asked : slice_get (requests c.args.conn H) c.args.index ≡ Some c.in-Some.request.now = sym c.request_at.ensures ∙ ap option_copied c.in-Some.is in
     let planned : plan_for c.in-Some.request.now ≡ parts c.in-Parts.how c.in-Parts.list = sym c.in_ok-value.ensures.plan ∙ ap plan_in c.in-Parts.is in

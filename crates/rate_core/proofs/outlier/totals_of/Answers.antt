@@ -1,6 +1,6 @@
 use Rattle.std.proofs.Common.{◌≤◌, None, refl, take, arith, length-append}
 use Rattle.std.proofs.lemmas.List.Sums.{sum_by_push}
-use Rattle.rate_core.specs.Outlier.{known, square}
+use Rattle.rate_core.specs.Outlier.{known_rates, square}
 use Rattle.rate_core.proofs.Known.{known_more_some, known_more_none, square_within}
 use Rattle.rate_core.proofs.outlier.totals_of.Goals as goal
 use Rattle.rate_core.proofs.outlier.totals_of.Goals.{in-Some, in_default}
@@ -8,7 +8,7 @@ use Rattle.rate_core.proofs.outlier.totals_of.Goals.{in-Some, in_default}
 pub loop-rate-preserved : goal.loop-rate-preserved
 loop-rate-preserved c =
     let inv = c.loop-rate.invariant in
-    let so_far = known (take c.loop-rate.rate-index c.args.rates.now) in
+    let so_far = known_rates (take c.loop-rate.rate-index c.args.rates.now) in
     elim c.match-rate.branch [
       | in-Some w ↦
           let more = known_more_some c.args.rates.now c.loop-rate.rate-index w.in-Some.r c.loop-rate-test.true w.in-Some.is in

@@ -1,11 +1,11 @@
 use Rattle.std.proofs.Common.{◌≡◌, [], length, map, replicate, false, refl, sym, ap, ◌∙◌, arith}
 use Rattle.std.proofs.lemmas.List.{take-replicate}
-use Rattle.proxy_history.specs.History.{accepted}
-use Rattle.proxy_history.specs.Arrival.{placing}
+use Rattle.proxy_history.specs.History.{accepted_count}
+use Rattle.proxy_history.specs.Arrival.{parts_placed}
 use Rattle.proxy_core.specs.Places.{placed_as, value_of_placed}
 use Rattle.proxy_core.specs.Machine.{setting_in, memory_in}
 use Rattle.proxy_core.specs.Arrivals.{answer_of, pushed_all}
-use Rattle.proxy_core.specs.Connections.{ConnectionTable, with_connection, accepting}
+use Rattle.proxy_core.specs.Connections.{ConnectionTable, with_connection, connection_with_command}
 use Rattle.proxy_core.proofs.Arriving.{accepted_as, list_accepted, index_told}
 use Rattle.proxy_core.proofs.Pushed.{have_room}
 use Rattle.proxy_core.proofs.machine.Machine.accept_list.Goals as goal
@@ -34,18 +34,18 @@ pub returns-clause-accepted : goal.returns-clause-accepted
 returns-clause-accepted c = λ x tells.
     let m = c.args.self.now in
     let conn = c.args.conn in
-    let n = accepted conn x.steps in
+    let n = accepted_count conn x.steps in
     let pushed = c.push.new.self.states in
     let connections = c.accept.new.self.numbered in
     let placed = c.in_ok-placed.placed.items in
-    let ps = placing (setting_in m) x conn n [] c.args.list in
+    let ps = parts_placed (setting_in m) x conn n [] c.args.list in
     let are : placed ≡ map placed_as ps = c.in_ok-placed.ensures.placed x conn n tells in
     let index : c.in_ok-index.index ≡ n = c.in_ok-index.ensures.index ∙ index_told (setting_in m) (memory_in m) conn x tells c.requires.open in
     let deref : c.deref.result.now ≡ placed = c.deref.ensures.value in
     let shown : c.deref-2.result.now ≡ placed = c.deref-2.ensures.value in
-    let accepts_it : connections ≡ with_connection (accepting (record { how = c.args.how; values = map value_of_placed placed }) false) conn m.connections.numbered =
+    let accepts_it : connections ≡ with_connection (connection_with_command (record { how = c.args.how; values = map value_of_placed placed }) false) conn m.connections.numbered =
     ap (λ (t : ConnectionTable). t.numbered) c.in_ok-index.ensures.accepted
-    ∙ ap (λ z. with_connection (accepting (record { how = c.args.how; values = map value_of_placed z }) false) conn m.connections.numbered) deref in
+    ∙ ap (λ z. with_connection (connection_with_command (record { how = c.args.how; values = map value_of_placed z }) false) conn m.connections.numbered) deref in
     let pushes : pushed ≡ pushed_all conn c.in_ok-index.index placed m.pipelines.states =
     c.push.ensures ∙ ap (pushed_all conn c.in_ok-index.index placed) c.reserve.ensures.same in
     let closed : c.accept.new.self.closed ≡ m.connections.closed = ap (λ (t : ConnectionTable). t.closed) c.in_ok-index.ensures.accepted in

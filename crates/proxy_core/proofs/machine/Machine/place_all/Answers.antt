@@ -8,8 +8,8 @@ use Rattle.ketama.specs.Key.{point_of}
 use Rattle.ketama.specs.Owner.{owner_of}
 use Rattle.ejector.specs.State.{hosts_of}
 use Rattle.ejector.specs.Usable.{is_usable}
-use Rattle.proxy_history.specs.Arrival.{usable, host_for}
-use Rattle.proxy_history.specs.Waiting.{waiting}
+use Rattle.proxy_history.specs.Arrival.{usable_flags, host_for}
+use Rattle.proxy_history.specs.Waiting.{waiting_parts}
 use Rattle.proxy_core.specs.Places.{counted_at, next_place}
 use Rattle.proxy_core.specs.declared.place.Placed.{Placed}
 use Rattle.proxy_core.specs.Pipelines.{pipeline_at}
@@ -52,10 +52,10 @@ loop-plan-preserved c =
       places = omega (arith, c.loop-plan.invariant.places, c.push_reserved.ensures.capacity);
       counted = rw (items, more) (counted_more pipelines counts placed host part within refl c.loop-plan.invariant.counted);
       placed = λ x conn command tells.
-          let known : usable S x ≡ c.args.usable.now = ap (λ z. map (is_usable m.ejector.rules z) (hosts_of m.ejector.rules)) (sym tells.state_is) ∙ sym c.requires.usable in
+          let known : usable_flags S x ≡ c.args.usable.now = ap (λ z. map (is_usable m.ejector.rules z) (hosts_of m.ejector.rules)) (sym tells.state_is) ∙ sym c.requires.usable in
           let its : host_for S x p.key ≡ host = ap (owner_of m.ring.pairs (point_of p.key m.ejector.rules.settings.tags)) known in
           let so_far = subst (λ z. AreSoFar S x conn command c.args.list placed z) steps (c.loop-plan.invariant.placed x conn command tells) in
-          let of_host : (h : ℕ) → h < length pipelines → length (pipeline_at h pipelines).waiting ≡ length (waiting h x) =
+          let of_host : (h : ℕ) → h < length pipelines → length (pipeline_at h pipelines).waiting ≡ length (waiting_parts h x) =
           λ h l. tells.waiting_are h (omega (arith, l, c.requires.pipelines)) in
           rw items (one_more S x conn command c.args.list placed p rest pipelines counts host its within of_host c.loop-plan.invariant.counted so_far);
     }

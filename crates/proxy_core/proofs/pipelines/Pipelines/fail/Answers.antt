@@ -1,7 +1,7 @@
 use Rattle.std.proofs.Common.{map, sym, ap, ◌∙◌, arith}
 use Rattle.std.proofs.lemmas.Result.{IfOk-weaker, on_ok_weaker, on_err_weaker}
 use Rattle.upstream_pipe.specs.Pipe.{owner_in}
-use Rattle.proxy_core.specs.Pipelines.{PipelineState, failed}
+use Rattle.proxy_core.specs.Pipelines.{PipelineState, failed_pipeline}
 use Rattle.proxy_core.proofs.PipelineTableLemmas.{length-table, state_shown, states_changed, states_same}
 use Rattle.proxy_core.proofs.pipelines.Pipelines.fail.Goals as goal
 
@@ -24,7 +24,7 @@ returns-clause-waiting c =
 
 pub returns-clause-failed : goal.returns-clause-failed
 returns-clause-failed c =
-    on_ok_weaker c.fail.result (λ e. rw (← c.self.view_is) (states_changed failed c.self.inside.by_host.items c.args.host c.index_mut.result.now c.fail.new.self c.index_mut.result.now c.index_mut.ensures.value e)) c.fail.ensures.failed
+    on_ok_weaker c.fail.result (λ e. rw (← c.self.view_is) (states_changed failed_pipeline c.self.inside.by_host.items c.args.host c.index_mut.result.now c.fail.new.self c.index_mut.result.now c.index_mut.ensures.value e)) c.fail.ensures.failed
 
 pub returns-clause-err : goal.returns-clause-err
 returns-clause-err c =

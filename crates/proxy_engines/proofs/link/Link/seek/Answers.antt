@@ -1,6 +1,6 @@
 use Rattle.std.proofs.Common.{◌∙◌, sym, refl, Some, None, [], append-nil}
 use Rattle.proxy_engines.proofs.HostMoves.{sought_on, sought_none, stays_on, none_is, refused_is, with_refusal}
-use Rattle.proxy_engines.specs.Host.{waiting}
+use Rattle.proxy_engines.specs.Host.{waiting_requests}
 use Rattle.proxy_engines.proofs.link.Link.seek.Goals as goal
 
 pub returns-then-is_some-clause-goes : goal.returns-then-is_some-clause-goes
@@ -14,7 +14,7 @@ returns-in-Ok-Some-Read-clause-goes g c = λ l H m.
     let still = whole (λ e. absurd cc) in
     rw (← c.self.view_is)
     (sought_on l _ c.next_request.new.self (Some c.in-Ok-Some-Read.value) H m none (rw (← c.self.view_is) at c.requires.whole) c.next_request.ensures.left c.next_request.ensures.most
-    (λ b rs h. with_refusal c.next_request.new.self b rs (waiting (Some c.in-Ok-Some-Read.value)) None still (next b rs h)))
+    (λ b rs h. with_refusal c.next_request.new.self b rs (waiting_requests (Some c.in-Ok-Some-Read.value)) None still (next b rs h)))
 
 pub returns-in-Ok-Some-Broken-clause-goes : goal.returns-in-Ok-Some-Broken-clause-goes
 returns-in-Ok-Some-Broken-clause-goes g c = λ l H m.

@@ -2,7 +2,7 @@ use Rattle.std.proofs.Common.{◌≤◌, ℕ, List, subst}
 use Rattle.resp_core.specs.Tree.{Tree}
 use Rattle.resp_core.specs.Grammar.{max_text}
 use Rattle.resp_core.specs.Stream.{HasNoRefusal}
-use Rattle.resp_core.specs.Standing.{ReaderState, state_of, Stands, unread}
+use Rattle.resp_core.specs.Standing.{ReaderState, state_of, Stands, unread_bytes}
 use Rattle.resp_core.proofs.Bridges.{shown_reads}
 use Rattle.resp_core.proofs.Standing.{few_left, no_refusal}
 use Rattle.resp_core.proofs.reader.Reader.next_value.Goals as goal
@@ -19,5 +19,5 @@ returns-then-is_short-clause-rests c = returns-then-is_short-clause-none c
 pub returns-then-is_short-clause-few : goal.returns-then-is_short-clause-few
 returns-then-is_short-clause-few c =
     let i = c.self.inside in
-    subst (λ (z : ReaderState). unread z ≤ max_text) c.self.view_is
+    subst (λ (z : ReaderState). unread_bytes z ≤ max_text) c.self.view_is
     (rw c.in_default.is (few_left i.array i.progress i.progress (λ held r. (r, c.is_short.ensures c.if-is_short.true i.array c.self.invariant.0 held r)) c.self.invariant.1))

@@ -5,7 +5,7 @@ use Rattle.resp_core.specs.Front.{IsFault}
 use Rattle.resp_core.specs.Readable.{IsReadable}
 use Rattle.resp_core.specs.Offset.{offset_of, number_of}
 use Rattle.resp_core.specs.Stream.{HasRefusal, HasNoRefusal}
-use Rattle.resp_core.specs.Standing.{ReaderState, state_of, Stands, Unmoved, unread}
+use Rattle.resp_core.specs.Standing.{ReaderState, state_of, Stands, Unmoved, unread_bytes}
 use Rattle.resp_core.proofs.Bridges.{shown_reads}
 use Rattle.resp_core.proofs.Standing.{stands_given, stands_told, unmoved, falls, few_left, no_refusal, rests_unfinished, has_refusal, gives_readable, shown_gave, shown_on, shown_reached, given_reached, on_reached}
 use Rattle.resp_core.proofs.reader.Reader.read_value.Goals as goal
@@ -40,7 +40,7 @@ returns-in-Ok-Some-clause-given c =
 pub returns-in-Ok-Some-clause-falls : goal.returns-in-Ok-Some-clause-falls
 returns-in-Ok-Some-clause-falls c =
     let i = c.self.inside in
-    subst (λ (z : ReaderState). unread (state_of i.array c.saturating_add-self-inside.result c.next_value.new.self i.refusal) < unread z) c.self.view_is
+    subst (λ (z : ReaderState). unread_bytes (state_of i.array c.saturating_add-self-inside.result c.next_value.new.self i.refusal) < unread_bytes z) c.self.view_is
     (falls (state_of i.array i.consumed i.progress i.refusal) (state_of i.array c.saturating_add-self-inside.result c.next_value.new.self i.refusal) refl (tree_of c.in-Ok-Some.value) c.in-Ok-Some.len (ap (λ z. z.refusal) c.self.view_is ∙ c.requires.untold) (ap (λ z. z.refusal) c.self.view_is ∙ c.requires.untold)
     (shown_gave i.array c.in-Ok-Some.len (tree_of c.in-Ok-Some.value) i.progress c.next_value.new.self (rw c.in-Ok-Some.field-0-is at c.in-Ok-Some.ensures.value)) (shown_reached i.array i.progress c.self.invariant.1))
 
