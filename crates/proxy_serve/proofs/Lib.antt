@@ -1,3 +1,1 @@
-mod OutgoingLemmas
-mod OwnLemmas
 mod ServeCrosses

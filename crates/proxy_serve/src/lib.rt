@@ -10,8 +10,6 @@
 #![tactic(auto)]
 
 mod client;
-mod dealing;
-mod gatherer;
 mod generation;
 mod hall;
 mod house;

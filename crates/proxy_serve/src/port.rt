@@ -1,9 +1,9 @@
 //! A socket that is asked only where it may have something, and is written in large pieces.
 ghost use Rattle.std.specs.Io.{ReadsAtMost, WritesAtMost};
 
-use crate::gatherer::Gatherer;
 use mio::event::Event;
 use mio::net::TcpStream;
+use serve_parts::Gatherer;
 use std::alloc::Global;
 use std::cell::RefCell;
 use std::io;

@@ -1,7 +1,6 @@
 //! Serving, from its listener to its last line.
 ghost use Rattle.proxy_config.specs.RingParts.{AreRingParts};
 
-use crate::dealing::Rota;
 use crate::generation::{Ground, Marks, Plan, keep};
 use crate::house::{Asked, House};
 use crate::worker::MOST_TRIES;
@@ -11,6 +10,7 @@ use proxy_config::Config;
 use proxy_core::Handover;
 use proxy_run::Ending;
 use proxy_stats::Counts;
+use serve_parts::Rota;
 use std::alloc::Global;
 use std::io::{ErrorKind, Write};
 use std::net::Net;

@@ -1,7 +1,6 @@
 //! A worker: a thread with a poll of its own, over its clients and hosts.
 
 use crate::client::{Attended, Client, Hitch, hitch_of};
-use crate::dealing::own_hosts;
 use crate::generation::Post;
 use crate::hall::{Course, Hall};
 use crate::upstream::Upstream;
@@ -11,6 +10,7 @@ use mio::{Events, Interest, Poll, Token};
 use proxy_config::Config;
 use proxy_core::Core;
 use proxy_run::Ending;
+use serve_parts::own_hosts;
 use slab::Slab;
 use std::alloc::{AllocError, Global};
 use std::net::Net;

@@ -29,7 +29,7 @@ shown_name name = map shown_byte (take 64 name)
 
 -- the text for a name that isn't in the table
 abbrev pub unsupported_text : List ℕ → List ℕ
-unsupported_text name = codes "unsupported_text command '" ++ shown_name name ++ codes "'"
+unsupported_text name = codes "unsupported command '" ++ shown_name name ++ codes "'"
 
 -- the text for a wrong number of words
 abbrev pub wrong_number : Row → List ℕ

@@ -1,5 +1,5 @@
-use Rattle.proxy_serve.specs.Turns.{AreOwn}
-use Rattle.proxy_serve.proofs.dealing.own_hosts.Given as goal
+use Rattle.serve_parts.specs.Turns.{AreOwn}
+use Rattle.serve_parts.proofs.dealing.own_hosts.Given as goal
 
 -- those of the hosts so far
 abbrev pub invariant-loop-host : goal.invariant-loop-host

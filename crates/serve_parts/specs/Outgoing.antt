@@ -1,11 +1,14 @@
 -- What goes out by a writer that is given large pieces.
-use Rattle.std.specs.Prelude.{◌≡◌, ◌++◌, ℕ, List, Option}
+use Rattle.std.specs.Prelude.{◌≡◌, ◌++◌, ℕ, Bool, List, Option}
 use Rattle.std.specs.Io.KnownBytes.{Appends}
 
--- what a writer took, as far as it tells, and the bytes that are gathered for it
+-- what a writer took, as far as it tells, and the bytes that are gathered for it; whether it may take some, and whether a
+-- write failed
 pub record Outgoing : Type 0 where
   pub held : Option (List ℕ)
   pub gathered : List ℕ
+  pub is_open : Bool
+  pub is_broken : Bool
 
 -- These bytes go out behind what was gathered, and no other: what the writer took since and what is gathered now are what
 -- was gathered before and these bytes.

@@ -1,8 +1,8 @@
 use Rattle.std.proofs.Common.{[], take}
 use Rattle.std.proofs.lemmas.Result.{IfOk-weaker, on_err_weaker}
-use Rattle.proxy_serve.specs.Outgoing.{GoesOut}
-use Rattle.proxy_serve.proofs.OutgoingLemmas.{GoesOut-then}
-use Rattle.proxy_serve.proofs.gatherer.Gatherer.write_long.Goals as goal
+use Rattle.serve_parts.specs.Outgoing.{GoesOut}
+use Rattle.serve_parts.proofs.OutgoingLemmas.{GoesOut-then}
+use Rattle.serve_parts.proofs.gatherer.Gatherer.write_long.Goals as goal
 
 pub returns-clause-ok : goal.returns-clause-ok
 returns-clause-ok g c =

@@ -1,7 +1,7 @@
 //! A writer that is given large pieces.
-ghost use Rattle.std.specs.Prelude.{◌≡◌, ◌==◌, ℕ, [], ◌++◌, length, take, IfOk, OnOk, OnErr};
+ghost use Rattle.std.specs.Prelude.{◌≡◌, ◌==◌, ◌&&◌, not, true, false, ℕ, [], ◌++◌, length, take, IfOk, OnOk, OnErr};
 ghost use Rattle.std.specs.Io.{WritesAtMost};
-ghost use Rattle.proxy_serve.specs.Outgoing.{GoesOut};
+ghost use Rattle.serve_parts.specs.Outgoing.{GoesOut};
 
 use std::alloc::{AllocError, Global};
 use std::io::{ErrorKind, Write};
@@ -9,13 +9,14 @@ use std::marker::Model;
 use std::{io, mem};
 
 /// So many bytes or more are written before further ones are gathered, and a text of so many isn't gathered at all.
-pub(crate) const MOST_GATHERED: usize = 65_536;
+pub const MOST_GATHERED: usize = 65_536;
 
 /// A writer, and the bytes that it is still to be given.
 ///
-/// Contracts see what the writer took, as far as it tells, and what is gathered.
+/// Contracts see what the writer took, as far as it tells, what is gathered, whether the writer may take something, and
+/// whether a write failed.
 #[derive(Drop)]
-pub(crate) struct Gatherer<W: Write> {
+pub struct Gatherer<W: Write> {
     alloc: Global,
     writer: W,
     bytes: Vec<u8>,
@@ -28,13 +29,15 @@ pub(crate) struct Gatherer<W: Write> {
 
 impl<W: Write> Model for Gatherer<W> {
     ghost use Rattle.std.specs.Prelude.{◌≤◌, drop, length};
-    ghost use Rattle.proxy_serve.specs.Outgoing.{Outgoing};
+    ghost use Rattle.serve_parts.specs.Outgoing.{Outgoing};
 
     ghost Value = { Outgoing };
 
     ghost view = { λ g. record {
       held = W.contents g.writer;
       gathered = drop g.written g.bytes.items;
+      is_open = g.is_open;
+      is_broken = g.is_broken;
     } };
 
     ghost invariant = { λ g. g.written ≤ length g.bytes.items };
@@ -50,9 +53,11 @@ fn broken() -> io::Error {
 
 impl<W: Write> Gatherer<W> {
     /// Nothing is gathered, and the writer may take something.
-    pub(crate) fn new(alloc: Global, writer: W) -> Gatherer<W>
+    pub fn new(alloc: Global, writer: W) -> Gatherer<W>
         ensures held { result.held ≡ W.contents writer }
         ensures gathered { result.gathered ≡ [] }
+        ensures open { result.is_open ≡ true }
+        ensures whole { result.is_broken ≡ false }
     {
         Gatherer {
             alloc,
@@ -64,44 +69,51 @@ impl<W: Write> Gatherer<W> {
         }
     }
 
-    /// The writer.
-    pub(crate) fn writer(&self) -> &W {
+    /// The writer, to ask it what it is. What is written past the gatherer would come before what is gathered.
+    pub fn writer(&self) -> &W
+        ensures { W.contents result.now ≡ self.now.held }
+    {
         &self.writer
     }
 
     /// The writer may take something again.
-    pub(crate) fn reopen(&mut self)
-        ensures { self.new ≡ self.old }
+    pub fn reopen(&mut self)
+        ensures { self.new ≡ record self.old { is_open = true } }
     {
         self.is_open = true;
     }
 
     /// From here on it is as if a write had failed.
-    pub(crate) fn break_off(&mut self)
-        ensures { self.new ≡ self.old }
+    pub fn break_off(&mut self)
+        ensures { self.new ≡ record self.old { is_broken = true } }
     {
         self.is_broken = true;
     }
 
     /// Whether a write failed.
-    pub(crate) fn is_broken(&self) -> bool {
+    pub fn is_broken(&self) -> bool
+        ensures { result ≡ self.now.is_broken }
+    {
         self.is_broken
     }
 
     /// Whether nothing is gathered.
-    pub(crate) fn is_empty(&self) -> bool
+    pub fn is_empty(&self) -> bool
         ensures { result ≡ (length self.now.gathered == 0) }
     {
         self.count() == 0
     }
 
     /// Whether bytes are gathered that the writer may take.
-    pub(crate) fn may_write(&self) -> bool {
+    pub fn may_write(&self) -> bool
+        ensures { result
+            ≡ (self.now.is_open && not self.now.is_broken && not (length self.now.gathered == 0)) }
+    {
         self.is_open && !self.is_broken && !self.is_empty()
     }
 
     /// Gathers in this room from here on, where nothing is gathered. What stood in the room is dropped.
-    pub(crate) fn borrow_room(&mut self, room: &mut Vec<u8>)
+    pub fn borrow_room(&mut self, room: &mut Vec<u8>)
         ensures { self.new ≡ self.old }
     {
         if self.is_empty() {
@@ -113,7 +125,7 @@ impl<W: Write> Gatherer<W> {
     }
 
     /// Writes what is gathered, as far as the writer takes it. Where all of it was taken, the room is given back.
-    pub(crate) fn write_out(&mut self, room: &mut Vec<u8>)
+    pub fn write_out(&mut self, room: &mut Vec<u8>)
         ensures { GoesOut self.old self.new [] }
     {
         self.write_gathered();
@@ -142,8 +154,10 @@ impl<W: Write> Gatherer<W> {
         }
     }
 
+    // Takes note of why a write took nothing.
     fn note_refused(&mut self, kind: ErrorKind)
-        ensures { self.new ≡ self.old }
+        ensures held { self.new.held ≡ self.old.held }
+        ensures gathered { self.new.gathered ≡ self.old.gathered }
     {
         match kind {
             ErrorKind::WouldBlock => self.is_open = false,
@@ -247,7 +261,7 @@ impl<W: Write> Gatherer<W> {
     ///
     /// Answers `WouldBlock`, and has taken nothing, where 65,536 bytes are gathered that the writer doesn't take, and where
     /// there is no memory; `BrokenPipe` once a write has failed.
-    pub(crate) fn write(&mut self, bytes: &[u8]) -> io::Result<usize>
+    pub fn write(&mut self, bytes: &[u8]) -> io::Result<usize>
         ensures bound { WritesAtMost result bytes.now }
         ensures ok { IfOk result (λ n. GoesOut self.old self.new (take n bytes.now)) }
         ensures err { OnErr result (GoesOut self.old self.new []) }

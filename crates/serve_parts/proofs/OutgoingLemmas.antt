@@ -1,7 +1,7 @@
-use Rattle.std.proofs.Common.{◌≡◌, ◌∙◌, ◌++◌, ◌+◌, ℕ, List, [], Option, Some, None, take, drop, take-append-drop, ap, append_assoc, append-nil, refl, sym, arith}
+use Rattle.std.proofs.Common.{◌≡◌, ◌∙◌, ◌++◌, ◌+◌, ℕ, List, [], Option, Some, None, take, drop, take-append-drop, ap, append_assoc, append-nil, sym, arith}
 use Rattle.std.proofs.lemmas.List.{drop-drop}
 use Rattle.std.specs.Io.KnownBytes.{Appends}
-use Rattle.proxy_serve.specs.Outgoing.{Outgoing, GoesOut}
+use Rattle.serve_parts.specs.Outgoing.{Outgoing, GoesOut}
 
 -- nothing was taken
 pub Appends-none : (a : Option (List ℕ)) → Appends a a []

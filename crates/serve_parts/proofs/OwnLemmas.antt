@@ -1,7 +1,7 @@
 use Rattle.std.proofs.Common.{◌≡◌, ◌<◌, ◌≤◌, ◌+◌, ◌%◌, ◌++◌, ℕ, List, [], ◌∷◌, refl, inl, inr, arith}
 use Rattle.std.proofs.lemmas.Bool.{cases_lt}
 use Rattle.std.proofs.lemmas.List.Elements.{All-push, Contains-append_left, Contains-append_right}
-use Rattle.proxy_serve.specs.Turns.{AreOwn}
+use Rattle.serve_parts.specs.Turns.{AreOwn}
 
 -- no host at all
 pub AreOwn-none : (place workers : ℕ) → AreOwn place workers 0 []

@@ -1,20 +1,20 @@
 //! Which worker gets what: new sockets in turn, and hosts by their numbers.
 ghost use Rattle.std.specs.Prelude.{◌≡◌, ◌<◌, ◌+◌, ◌%◌, IfOk};
-ghost use Rattle.proxy_serve.specs.Turns.{AreOwn};
+ghost use Rattle.serve_parts.specs.Turns.{AreOwn};
 
 use std::alloc::{AllocError, Global};
 use std::marker::Model;
 
 /// Whose turn it is, of so many who take turns.
 #[derive(Drop)]
-pub(crate) struct Rota {
+pub struct Rota {
     next: usize,
     count: usize,
 }
 
 impl Model for Rota {
     ghost use Rattle.std.specs.Prelude.{◌<◌};
-    ghost use Rattle.proxy_serve.specs.Turns.{Turns};
+    ghost use Rattle.serve_parts.specs.Turns.{Turns};
 
     ghost Value = { Turns };
 
@@ -25,7 +25,7 @@ impl Model for Rota {
 
 impl Rota {
     /// Of so many, or of one where there is none, it is the first one's turn.
-    pub(crate) fn new(count: usize) -> Rota
+    pub fn new(count: usize) -> Rota
         ensures next { result.next ≡ 0 }
         ensures count { 0 < count → result.count ≡ count }
     {
@@ -36,7 +36,7 @@ impl Rota {
     }
 
     /// The one whose turn it is. Then it is the next one's, and behind the last the first one's.
-    pub(crate) fn take(&mut self) -> usize
+    pub fn take(&mut self) -> usize
         ensures turn { result ≡ self.old.next }
         ensures next { self.new.next ≡ (self.old.next + 1) % self.old.count }
         ensures count { self.new.count ≡ self.old.count }
@@ -50,7 +50,7 @@ impl Rota {
 /// The numbers of a worker's hosts, of so many: each one that leaves the worker's place behind, and no other.
 ///
 /// Refused where there is no memory.
-pub(crate) fn own_hosts(
+pub fn own_hosts(
     alloc: Global,
     place: usize,
     workers: usize,

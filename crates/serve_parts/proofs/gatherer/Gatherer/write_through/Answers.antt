@@ -1,5 +1,5 @@
 use Rattle.std.proofs.Common.{take, append-nil, ◌∙◌, ◌++◌, sym, ap}
-use Rattle.proxy_serve.proofs.gatherer.Gatherer.write_through.Goals as goal
+use Rattle.serve_parts.proofs.gatherer.Gatherer.write_through.Goals as goal
 
 pub returns-in-Ok-clause-ok : goal.returns-in-Ok-clause-ok
 returns-in-Ok-clause-ok g c =

@@ -1,7 +1,7 @@
 use Rattle.std.proofs.Common.{arith}
-use Rattle.proxy_serve.proofs.OwnLemmas.{AreOwn-none, AreOwn-skip, AreOwn-take}
-use Rattle.proxy_serve.proofs.dealing.own_hosts.Goals as goal
-use Rattle.proxy_serve.proofs.dealing.own_hosts.Goals.{then-host-workers+in_ok-push, else-host-workers}
+use Rattle.serve_parts.proofs.OwnLemmas.{AreOwn-none, AreOwn-skip, AreOwn-take}
+use Rattle.serve_parts.proofs.dealing.own_hosts.Goals as goal
+use Rattle.serve_parts.proofs.dealing.own_hosts.Goals.{then-host-workers+in_ok-push, else-host-workers}
 
 pub loop-host-init : goal.loop-host-init
 loop-host-init c = rw c.new-own.ensures.items (AreOwn-none c.args.place c.args.workers)

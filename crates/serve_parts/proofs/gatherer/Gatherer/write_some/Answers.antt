@@ -1,6 +1,6 @@
 use Rattle.std.proofs.Common.{take, drop}
-use Rattle.proxy_serve.proofs.OutgoingLemmas.{drop-written}
-use Rattle.proxy_serve.proofs.gatherer.Gatherer.write_some.Goals as goal
+use Rattle.serve_parts.proofs.OutgoingLemmas.{drop-written}
+use Rattle.serve_parts.proofs.gatherer.Gatherer.write_some.Goals as goal
 
 pub returns-in-Ok : goal.returns-in-Ok
 returns-in-Ok g c = (

@@ -1,6 +1,6 @@
 use Rattle.std.specs.Prelude.{[]}
-use Rattle.proxy_serve.specs.Outgoing.{GoesOut}
-use Rattle.proxy_serve.proofs.gatherer.Gatherer.write_gathered.Given as goal
+use Rattle.serve_parts.specs.Outgoing.{GoesOut}
+use Rattle.serve_parts.proofs.gatherer.Gatherer.write_gathered.Given as goal
 
 -- what was gathered goes out
 abbrev pub invariant-loop : goal.invariant-loop

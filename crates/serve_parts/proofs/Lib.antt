@@ -1,0 +1,2 @@
+mod OutgoingLemmas
+mod OwnLemmas
