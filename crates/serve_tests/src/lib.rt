@@ -5,3 +5,5 @@
 mod ends;
 #[cfg(test)]
 mod serving_tests;
+#[cfg(test)]
+mod visitors;

@@ -1,7 +1,9 @@
 //! Serving by the settings, from its first connection to its last line.
 use crate::ends::{client, host, patient_client, waiting_client};
+use crate::visitors::{Visitor, Visits};
 use mio::net::TcpListener;
 use proxy_config::Config;
+use proxy_engines::run_all;
 use proxy_serve::{Marks, serve_run};
 use std::net;
 use std::net::{Ipv4Addr, Net, SocketAddr};
@@ -135,6 +137,51 @@ fn many_generations_answer_each_command(rt: HostRuntime) -> Result<(), Fail> {
         "accepted {got} handed {got} sent 0 answered 0 lost 0 ejections 0\n"
     )?;
     assert_eq!(&rt; out.as_slice(), wanted.as_bytes());
+    Ok(())
+}
+
+// Each client makes a connection, pipelines till it is ended, and makes another one: so a client's connections are of different
+// generations, and of 200 connections of ten clients 20 or more are one client's.
+fn visit<
+    R: AllocGlobal
+        + Threads
+        + Wait
+        + Net<Listener = net::TcpListener, Stream = net::TcpStream>
+        + Sync,
+>(rt: &R, address: SocketAddr, visits: &Visits) -> Result<(), Fail> {
+    let mut works = Vec::new(rt.alloc());
+    for number in 0..10 {
+        works.push(Visitor {
+            visits,
+            address,
+            number,
+        })?;
+    }
+    run_all(rt, rt.alloc(), works)?;
+    Ok(())
+}
+
+#[test]
+fn ten_pipelining_clients_connect_again(rt: HostRuntime) -> Result<(), Fail> {
+    let listener = TcpListener::bind(&rt, loopback())?;
+    let address = listener.local_addr()?;
+    let settings = "{\"hosts\":[\"127.0.0.1:1\"],\"workers\":2}";
+    let marks = Marks {
+        steps: 100,
+        bytes: 58_720_256,
+    };
+    let visits = Visits::new(200);
+    let mut out = Vec::new(rt.alloc());
+    let (served, visited) = join(
+        &rt,
+        || serve(&rt, listener, settings, 200, marks, &mut out),
+        || visit(&rt, address, &visits),
+    );
+    assert!(&rt; served);
+    visited?;
+    assert_eq!(&rt; visits.failed(), 0);
+    assert!(&rt; visits.replies() >= 200);
+    assert!(&rt; is_balanced(out.as_slice(), "sent 0 answered 0 lost 0 ejections 0\n"));
     Ok(())
 }
 
