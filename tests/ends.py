@@ -227,8 +227,9 @@ class Stream(threading.Thread):
         super().__init__(daemon=True)
         self.proxy, self.number, self.on_end = proxy, number, on_end
         self.goes, self.wrong = True, None
-        # Replies that came, connections that were made, those that the proxy ended, and of them those that were reset.
-        self.good, self.made, self.ended, self.resets = 0, 0, 0, 0
+        # Replies that came, and commands without one; connections that were made, those that the proxy ended, and of them
+        # those that were reset.
+        self.good, self.unanswered, self.made, self.ended, self.resets = 0, 0, 0, 0, 0
         asked, wanted, self.ends = [], [], [0]
         for place in range(50):
             key, value = b"s%d-%d" % (number, place), b"%d-%d-" % (number, place) + self.MARK
@@ -269,7 +270,9 @@ class Stream(threading.Thread):
         assert wanted.startswith(got), f"{got[-200:]!r} came of client {self.number}, pipeline {turn}"
         # (a reset takes bytes that had come and weren't read yet)
         assert is_reset or len(got) in self.ends, "a reply was cut"
-        self.good += bisect.bisect_right(self.ends, len(got)) - 1
+        replies = bisect.bisect_right(self.ends, len(got)) - 1
+        self.good += replies
+        self.unanswered += len(self.ends) - 1 - replies
         self.resets += is_reset
         if len(got) == len(wanted):
             return True
