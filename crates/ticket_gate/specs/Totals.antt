@@ -15,12 +15,15 @@ amount_sum journal = sum_by (λ step. step.1) journal
 pub record AreTotals (limit : ℕ) (journal : List (ℕ × ℕ × ℕ)) : Type 0 where
   pub each_total : (before after : List (ℕ × ℕ × ℕ)) (step : ℕ × ℕ × ℕ) → journal ≡ before ++ step ∷ after → (step.2 ≡ amount_sum before + step.1) × (step.2 ≤ limit)
 
+-- an empty journal has no step
 pub nothing_in_empty : {X : Type 0} (before after : List X) (x : X) → [] ≡ before ++ x ∷ after → ⊥
 nothing_in_empty [] after x e = cc
 nothing_in_empty (b ∷ bs) after x e = cc
 
+-- the totals of an empty journal are right
 pub totals_at_first : (limit : ℕ) → AreTotals limit []
 totals_at_first limit = record { each_total = λ before after step is. absurd (nothing_in_empty before after step is) }
 
+-- the totals of a beginning are right where those of the whole are
 pub totals_before : (limit : ℕ) (journal more : List (ℕ × ℕ × ℕ)) → AreTotals limit (journal ++ more) → AreTotals limit journal
 totals_before limit journal more totals = record { each_total = λ before after step is. totals.each_total before (after ++ more) step (ap (λ l. l ++ more) is ∙ append_assoc before (step ∷ after) more) }
