@@ -150,9 +150,17 @@ impl Client {
             return true;
         }
         if let Stage::Lingering { until } = self.stage {
-            return now >= until || self.is_stirred();
+            return now >= until || self.may_read();
         }
         self.is_stirred() || (self.unanswered > 0 && self.replies != hall.replies())
+    }
+
+    // Whether the socket may have something.
+    fn may_read(&self) -> bool {
+        match self.port.try_borrow() {
+            Ok(port) => port.may_read(),
+            Err(_) => false,
+        }
     }
 
     // Whether the socket may have or take something.

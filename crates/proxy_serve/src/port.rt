@@ -21,6 +21,10 @@ pub(crate) struct Port {
     is_readable: bool,
     // The peer sends nothing more: an end of the input stands behind what is unread.
     is_ended: bool,
+    // The last write took less than it was given.
+    is_short: bool,
+    // And since then the poll told of room.
+    has_room: bool,
     // So many bytes were read.
     taken: u64,
 }
@@ -36,6 +40,8 @@ impl Port {
             output: Gatherer::new(alloc, stream),
             is_readable: true,
             is_ended: false,
+            is_short: false,
+            has_room: false,
             taken: 0,
         }
     }
@@ -50,6 +56,7 @@ impl Port {
         }
         if event.is_writable() || event.is_write_closed() || event.is_error() {
             self.output.reopen();
+            self.has_room = self.is_short;
         }
     }
 
@@ -69,9 +76,9 @@ impl Port {
         self.is_readable
     }
 
-    /// Whether bytes are gathered that the socket may take.
+    /// Whether the socket may take bytes that are gathered, or the rest of a text that it didn't take whole.
     pub(crate) fn may_write(&self) -> bool {
-        self.output.may_write()
+        self.has_room || self.output.may_write()
     }
 
     /// Whether bytes are gathered.
@@ -91,7 +98,19 @@ impl Port {
 
     /// Writes what is gathered, and gives the room back where all of it was taken.
     pub(crate) fn write_out(&mut self, room: &mut Vec<u8>) {
+        self.has_room = false;
         self.output.write_out(room);
+    }
+
+    fn write(&mut self, bytes: &[u8]) -> io::Result<usize>
+        ensures { WritesAtMost result bytes.now }
+    {
+        let written = self.output.write(bytes);
+        self.is_short = match &written {
+            Ok(count) => *count < bytes.len(),
+            Err(error) => error.kind() == ErrorKind::WouldBlock,
+        };
+        written
     }
 
     fn read(&mut self, buffer: &mut [u8]) -> io::Result<usize>
@@ -174,7 +193,7 @@ impl Read for PortReader {
 impl Write for PortWriter {
     fn write(&mut self, bytes: &[u8]) -> io::Result<usize> {
         match self.0.try_borrow_mut() {
-            Ok(mut port) => port.output.write(bytes),
+            Ok(mut port) => port.write(bytes),
             Err(_) => Err(paused()),
         }
     }
