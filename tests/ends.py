@@ -5,6 +5,7 @@ Whoever starts a process by `start` ends all by `end_all`.
 import bisect
 import contextlib
 import hashlib
+import itertools
 import json
 import os
 import re
@@ -22,6 +23,7 @@ PROGRAM = os.environ.get("REDPROXY", os.path.join(TOP, "redproxy"))
 # No call to a socket waits longer than so many seconds.
 PATIENCE = 20
 STARTED = []
+PORTS = itertools.count(os.getpid() * 101)
 
 
 class Late(AssertionError):
@@ -35,9 +37,13 @@ def in_time(limit, what):
 
 
 def free_port():
-    with socket.socket() as probe:
-        probe.bind(("127.0.0.1", 0))
-        return probe.getsockname()[1]
+    """A port on which nobody listens. It is below those that the system gives to connections, and no two calls give the same."""
+    for number in PORTS:
+        port = 20_000 + number % 12_000
+        with socket.socket() as probe, contextlib.suppress(OSError):
+            probe.bind(("127.0.0.1", port))
+            return port
+    raise AssertionError("there is no end of numbers")
 
 
 def start(words, **rest):
