@@ -1,26 +1,36 @@
 //! Readers and writers that fail for good once so many bytes have passed.
-ghost use Rattle.std.specs.Prelude.{◌≡◌, ◌+◌, min, IsErr, OnErr, IfOk};
-ghost use Rattle.std.specs.Io.{ReadsAtMost, WritesAtMost};
-ghost use Rattle.std.specs.Io.KnownBytes.{ReadConsumes, WriteAppends};
+ghost use Rattle.std.specs.Prelude.{◌≡◌, ◌≢◌, [], ◌<◌, ◌≤◌, ◌+◌, ◌-◌, ◌^◌, min, length, take};
+ghost use Rattle.proxy_engines.specs.declared.tally.Told.{Told};
+ghost use Rattle.proxy_engines.specs.Device.{IsRead, IsWritten};
+ghost use Rattle.proxy_engines.specs.Faulty.{moved_count, with_failures};
 
+use crate::tally::{ReadTally, Tally, Told, WriteTally};
 use std::io;
 use std::io::{ErrorKind, Read, Write};
 
-/// A reader or a writer that passes so many bytes of another, and then answers `ConnectionReset` at each call: for tests of
-/// what becomes of a connection or a link that fails at any byte.
+/// A reader or a writer that passes so many bytes of another, and then fails at each call: for tests of what becomes of a
+/// connection or a link that fails at any byte.
+///
+/// Its counts are those of the other one, and its own failures.
 #[derive(Drop)]
 pub struct Faulty<S> {
     inner: S,
     left: u64,
+    failures: u64,
 }
 
 impl<S> Faulty<S> {
-    /// With `after` bytes to pass before the first failure.
+    /// With `after` bytes to pass before the first failure, and no failure yet.
     pub fn new(inner: S, after: u64) -> Faulty<S>
         ensures inner { result.inner ≡ inner }
         ensures left { result.left ≡ after }
+        ensures failures { result.failures ≡ 0 }
     {
-        Faulty { inner, left: after }
+        Faulty {
+            inner,
+            left: after,
+            failures: 0,
+        }
     }
 
     /// How many bytes it passes yet.
@@ -36,19 +46,92 @@ impl<S> Faulty<S> {
     {
         (bytes as u64).min(self.left) as usize
     }
+
+    // Counts a failure of its own.
+    fn fail(&mut self)
+        ensures { self.new
+            ≡ record self.old { failures = min (self.old.failures + 1) (2 ^ 64 - 1) } }
+    {
+        self.failures = self.failures.saturating_add(1);
+    }
+
+    // Takes note of what the other one told.
+    fn pass(&mut self, told: Told)
+        requires { moved_count told ≤ self.old.left }
+        ensures { self.new ≡ record self.old { left = self.old.left - moved_count told } }
+    {
+        if let Told::Moved(n) = told {
+            self.left -= n as u64;
+        }
+    }
 }
 
-impl<S: Read> Faulty<S> {
-    /// One read of the inner reader, of at most as many bytes as are left. It fails where none is, and takes nothing then.
-    pub fn read_passed(&mut self, buffer: &mut [u8]) -> io::Result<usize>
-        ensures bound { ReadsAtMost result buffer.new }
-        ensures bytes { ReadConsumes (S.remaining self.old.inner) (S.remaining self.new.inner)
-            result buffer.new }
-        ensures spent { IfOk result (λ n. self.old.left ≡ self.new.left + n) }
-        ensures kept { OnErr result (self.new.left ≡ self.old.left) }
-        ensures fails { self.old.left ≡ 0 → IsErr result × (self.new ≡ self.old) }
+impl<S: Tally> Tally for Faulty<S> {
+    ghost counts = { λ f. with_failures f.failures (S.counts f.inner) };
+
+    fn failures(&self) -> u64 {
+        self.inner.failures().saturating_add(self.failures)
+    }
+
+    fn pauses(&self) -> u64 {
+        self.inner.pauses()
+    }
+}
+
+impl<S: ReadTally> Faulty<S> {
+    /// One read of the other one, of at most as many bytes as are left, into a buffer that isn't empty. Where none is left it
+    /// fails, and the other one isn't asked.
+    pub fn read_passed(&mut self, buffer: &mut [u8]) -> Told
+        requires room { 0 < length buffer.old }
+        ensures passes { 0 < self.old.left → IsRead (S.remaining self.old.inner)
+            (S.remaining self.new.inner) (S.counts self.old.inner) (S.counts self.new.inner)
+            (take (min (length buffer.new) self.old.left) buffer.new) result }
+        ensures spent { self.old.left ≡ self.new.left + moved_count result }
+        ensures kept { 0 < self.old.left → self.new.failures ≡ self.old.failures }
+        ensures fails { self.old.left ≡ 0 → (result ≡ Told.Failed) × (self.new
+            ≡ record self.old { failures = min (self.old.failures + 1) (2 ^ 64 - 1) }) }
     {
         if self.left == 0 {
+            self.fail();
+            return Told::Failed;
+        }
+        let most = self.most(buffer.len());
+        let told = self.inner.read_told(&mut buffer[..most]);
+        self.pass(told);
+        told
+    }
+}
+
+impl<S: WriteTally> Faulty<S> {
+    /// One write to the other one, of at most as many bytes as are left, of which there is one at least. Where none is left it
+    /// fails, and the other one isn't given anything.
+    pub fn write_passed(&mut self, bytes: &[u8]) -> Told
+        requires some { bytes.now ≢ [] }
+        ensures passes { 0 < self.old.left → IsWritten (S.contents self.old.inner)
+            (S.contents self.new.inner) (S.counts self.old.inner) (S.counts self.new.inner)
+            (take self.old.left bytes.now) result }
+        ensures spent { self.old.left ≡ self.new.left + moved_count result }
+        ensures kept { 0 < self.old.left → self.new.failures ≡ self.old.failures }
+        ensures fails { self.old.left ≡ 0 → (result ≡ Told.Failed) × (self.new
+            ≡ record self.old { failures = min (self.old.failures + 1) (2 ^ 64 - 1) }) }
+    {
+        if self.left == 0 {
+            self.fail();
+            return Told::Failed;
+        }
+        let most = self.most(bytes.len());
+        let told = self.inner.write_told(&bytes[..most]);
+        self.pass(told);
+        told
+    }
+}
+
+impl<S: Read> Read for Faulty<S> {
+    ghost remaining = { λ f. S.remaining f.inner };
+
+    fn read(&mut self, buffer: &mut [u8]) -> io::Result<usize> {
+        if self.left == 0 {
+            self.fail();
             return Err(io::Error::from(ErrorKind::ConnectionReset));
         }
         let most = self.most(buffer.len());
@@ -58,17 +141,12 @@ impl<S: Read> Faulty<S> {
     }
 }
 
-impl<S: Write> Faulty<S> {
-    /// One write of the inner writer, of at most as many bytes as are left. It fails where none is, and gives nothing then.
-    pub fn write_passed(&mut self, bytes: &[u8]) -> io::Result<usize>
-        ensures bound { WritesAtMost result bytes.now }
-        ensures bytes { WriteAppends (S.contents self.old.inner) (S.contents self.new.inner)
-            result bytes.now }
-        ensures spent { IfOk result (λ n. self.old.left ≡ self.new.left + n) }
-        ensures kept { OnErr result (self.new.left ≡ self.old.left) }
-        ensures fails { self.old.left ≡ 0 → IsErr result × (self.new ≡ self.old) }
-    {
+impl<S: Write> Write for Faulty<S> {
+    ghost contents = { λ f. S.contents f.inner };
+
+    fn write(&mut self, bytes: &[u8]) -> io::Result<usize> {
         if self.left == 0 {
+            self.fail();
             return Err(io::Error::from(ErrorKind::ConnectionReset));
         }
         let most = self.most(bytes.len());
@@ -76,24 +154,20 @@ impl<S: Write> Faulty<S> {
         self.left -= n as u64;
         Ok(n)
     }
+
+    fn flush(&mut self) -> io::Result<()> {
+        self.inner.flush()
+    }
 }
 
-impl<S: Read> Read for Faulty<S> {
-    ghost remaining = { λ f. S.remaining f.inner };
-
-    fn read(&mut self, buffer: &mut [u8]) -> io::Result<usize> {
+impl<S: ReadTally> ReadTally for Faulty<S> {
+    fn read_told(&mut self, buffer: &mut [u8]) -> Told {
         self.read_passed(buffer)
     }
 }
 
-impl<S: Write> Write for Faulty<S> {
-    ghost contents = { λ f. S.contents f.inner };
-
-    fn write(&mut self, bytes: &[u8]) -> io::Result<usize> {
+impl<S: WriteTally> WriteTally for Faulty<S> {
+    fn write_told(&mut self, bytes: &[u8]) -> Told {
         self.write_passed(bytes)
-    }
-
-    fn flush(&mut self) -> io::Result<()> {
-        self.inner.flush()
     }
 }
