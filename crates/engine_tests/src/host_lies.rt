@@ -95,7 +95,7 @@ fn garbled_replies_end_the_link(rt: HostRuntime) -> Result<(), Fail> {
     Ok(())
 }
 
-const ZEROS: &[u8] = &[b'0'; 1_024];
+const ZEROS: &[u8] = &[b'0'; 8_192];
 
 // Has the host say a text, and so many times another one.
 fn say<Rt: Wait>(rt: &Rt, scene: &Scene, rig: &mut Rig<'_>, feed: Feed) -> Result<(), Fail> {
@@ -103,7 +103,7 @@ fn say<Rt: Wait>(rt: &Rt, scene: &Scene, rig: &mut Rig<'_>, feed: Feed) -> Resul
     rig.run(rt, 3)
 }
 
-// Has the host say the head of a bulk string, so many times 1,024 zeros, some more, and its end.
+// Has the host say the head of a bulk string, so many times 8,192 zeros, some more, and its end.
 fn say_bulk<Rt: Wait>(
     rt: &Rt,
     scene: &Scene,
@@ -127,7 +127,7 @@ fn say_nine<'a, Rt: Wait + AllocGlobal>(
     rig.run(rt, 3)?;
     say(rt, scene, &mut rig, Feed::open(b"*9\r\n"))?;
     for _ in 0..8 {
-        say_bulk(rt, scene, &mut rig, (b"$1040384\r\n", 1_016, 0))?;
+        say_bulk(rt, scene, &mut rig, (b"$1040384\r\n", 127, 0))?;
     }
     say_bulk(rt, scene, &mut rig, last)?;
     Ok(rig)
@@ -137,13 +137,13 @@ fn say_nine<'a, Rt: Wait + AllocGlobal>(
 #[test]
 fn replies_have_a_greatest_length(rt: HostRuntime) -> Result<(), Fail> {
     let scene = Scene::new(rt.alloc(), Feed::open(GET), Feed::open(b""));
-    let rig = say_nine(&rt, &scene, (b"$65426\r\n", 63, 914))?;
+    let rig = say_nine(&rt, &scene, (b"$65426\r\n", 7, 8_082))?;
     assert_eq!(rt; scene.answered.len(), 8_388_608);
     assert!(rt; scene.answered.starts_with(b"*9\r\n$1040384\r\n000"));
     assert!(rt; scene.answered.ends_with(b"000\r\n"));
     assert_eq!(rt; last_loss(rig.core()), None);
     let scene = Scene::new(rt.alloc(), Feed::open(GET), Feed::open(b""));
-    let rig = say_nine(&rt, &scene, (b"$65427\r\n", 63, 915))?;
+    let rig = say_nine(&rt, &scene, (b"$65427\r\n", 7, 8_083))?;
     assert!(rt; scene.answered.is(FAILURE));
     assert!(rt; has_lost(&rig, Kind::Garbled, 1, 3));
     Ok(())

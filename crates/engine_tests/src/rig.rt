@@ -14,11 +14,11 @@ use std::test::Fail;
 use stub_server::{Act, Stub, StubLink};
 use ticket_gate::{Alone, TurnRefusal, Turns};
 
-pub(crate) type Client<'a> = ClientEngine<Tallied<Faulty<Source<'a>>>, Tallied<Faulty<Sink<'a>>>>;
+pub(crate) type Client<'a> = ClientEngine<Faulty<Tallied<Source<'a>>>, Faulty<Tallied<Sink<'a>>>>;
 
 pub(crate) type Host<'a> = HostEngine<
-    Tallied<Faulty<HostReader<'a>>>,
-    Tallied<Faulty<HostWriter<'a>>>,
+    Faulty<Tallied<HostReader<'a>>>,
+    Faulty<Tallied<HostWriter<'a>>>,
 >;
 
 // After how many milliseconds a reply is late.
@@ -123,8 +123,8 @@ impl<'a> Rig<'a> {
             sink,
             writes,
         } = ends;
-        let reader = Tallied::new(Faulty::new(source, reads));
-        let writer = Tallied::new(Faulty::new(sink, writes));
+        let reader = Faulty::new(Tallied::new(source), reads);
+        let writer = Faulty::new(Tallied::new(sink), writes);
         let client = ClientEngine::open(rt, rt.alloc(), &mut self.turns, reader, writer)?;
         match self.clients.push(client) {
             Ok(()) => Ok(()),
@@ -261,8 +261,8 @@ fn attach<'a>(host: &mut Host<'a>, link: Link<'a>) -> Result<(), Fail>
         writer,
         writes,
     } = link;
-    let reader = Tallied::new(Faulty::new(reader, reads));
-    let writer = Tallied::new(Faulty::new(writer, writes));
+    let reader = Faulty::new(Tallied::new(reader), reads);
+    let writer = Faulty::new(Tallied::new(writer), writes);
     match host.attach(reader, writer) {
         Ok(()) => Ok(()),
         Err((error, _, _)) => Err(error.into()),
