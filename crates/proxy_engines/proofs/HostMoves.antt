@@ -231,7 +231,7 @@ sought_on l k i next H m none whole left most f = rests_on l (Some k) (Some (rec
   given = h.given ++ (waiting_requests next ++ refusal_requests i.values.refusal);
   holds = f b h.given h.holds;
   most_is = most ∙ h.most_is;
-  given_are = ap (λ z. z ++ (waiting_requests next ++ refusal_requests i.values.refusal)) (h.given_are ∙ rw (none, whole) (append-nil (map read replies_from)));
+  given_are = ap (λ z. z ++ (waiting_requests next ++ refusal_requests i.values.refusal)) (h.given_are ∙ rw (none, whole) (append-nil (map read came)));
 })
 
 -- and no value came by it
@@ -241,7 +241,7 @@ sought_none l k i H m none whole left most f = rests_on l (Some k) (Some (record
   given = h.given ++ refusal_requests i.values.refusal;
   holds = f b h.given h.holds;
   most_is = most ∙ h.most_is;
-  given_are = rw none (ap (λ z. z ++ refusal_requests i.values.refusal) (h.given_are ∙ rw (none, whole) (append-nil (map read replies_from))));
+  given_are = rw none (ap (λ z. z ++ refusal_requests i.values.refusal) (h.given_are ∙ rw (none, whole) (append-nil (map read came))));
 })
 
 pub none_is : (o : Option Value) → is_some o ≡ false → o ≡ None
