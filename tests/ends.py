@@ -24,6 +24,8 @@ PROGRAM = os.environ.get("REDPROXY", os.path.join(TOP, "redproxy"))
 PATIENCE = 20
 STARTED = []
 PORTS = itertools.count(os.getpid() * 101)
+# A process that is being started has a copy of each socket till its program begins; so none is started while a port is tried.
+STARTING = threading.Lock()
 
 
 class Late(AssertionError):
@@ -40,14 +42,15 @@ def free_port():
     """A port on which nobody listens. It is below those that the system gives to connections, and no two calls give the same."""
     for number in PORTS:
         port = 20_000 + number % 12_000
-        with socket.socket() as probe, contextlib.suppress(OSError):
+        with STARTING, socket.socket() as probe, contextlib.suppress(OSError):
             probe.bind(("127.0.0.1", port))
             return port
     raise AssertionError("there is no end of numbers")
 
 
 def start(words, **rest):
-    process = subprocess.Popen(words, stdin=subprocess.DEVNULL, **rest)
+    with STARTING:
+        process = subprocess.Popen(words, stdin=subprocess.DEVNULL, **rest)
     STARTED.append(process)
     return process
 
