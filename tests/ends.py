@@ -200,6 +200,8 @@ class Client:
             if rest == b"-1":
                 return None
             whole = self.file.read(int(rest) + 2)
+            if len(whole) < int(rest) + 2:
+                raise EOFError("the connection ended in a reply")
             assert whole.endswith(b"\r\n")
             return whole[:-2]
         assert kind == b"*", line
