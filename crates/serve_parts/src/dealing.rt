@@ -28,6 +28,7 @@ impl Rota {
     pub fn new(count: usize) -> Rota
         ensures next { result.next ≡ 0 }
         ensures count { 0 < count → result.count ≡ count }
+        ensures one { count ≡ 0 → result.count ≡ 1 }
     {
         Rota {
             next: 0,
