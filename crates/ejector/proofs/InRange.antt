@@ -25,15 +25,15 @@ within low high n e = let parts = and_parts (nat_le low n) (nat_le n high) e in 
 pub in_range : (R : Rules) → first_fault R ≡ None → IsInRange R
 in_range R e =
     let s = R.settings in
-    let tests = all_pass (field_tests R) e in
-    let hosts = within 1 MAX_HOSTS R.hosts tests.0 in
-    let base = within 1 3600000 s.base_ms tests.1.1.0 in
-    let longest = within s.base_ms 86400000 s.max_ms tests.1.1.1.0 in
-    let percent = within 0 100 s.max_percent tests.1.1.1.1.0 in
-    let consecutive = within 0 1000000 s.consecutive tests.1.1.1.1.1.0 in
-    let volume = within 1 1000000 s.request_volume tests.1.1.1.1.1.1.1.0 in
-    let factor = within 0 100000 s.factor tests.1.1.1.1.1.1.1.1.0 in
-    let panic = within 0 100 s.panic_percent tests.1.1.1.1.1.1.1.1.1.0 in
+    let (hosts_pass, _, base_passes, longest_passes, percent_passes, consecutive_passes, _, volume_passes, factor_passes, panic_passes, _) = all_pass (field_tests R) e in
+    let hosts = within 1 MAX_HOSTS R.hosts hosts_pass in
+    let base = within 1 3600000 s.base_ms base_passes in
+    let longest = within s.base_ms 86400000 s.max_ms longest_passes in
+    let percent = within 0 100 s.max_percent percent_passes in
+    let consecutive = within 0 1000000 s.consecutive consecutive_passes in
+    let volume = within 1 1000000 s.request_volume volume_passes in
+    let factor = within 0 100000 s.factor factor_passes in
+    let panic = within 0 100 s.panic_percent panic_passes in
     record {
       some_hosts = hosts.0;
       few_hosts = hosts.1;

@@ -47,9 +47,9 @@ impl Model for Reference {
     ghost use Rattle.std.specs.Prelude.{◌≡◌, None, reverse};
     ghost use Rattle.ejector.specs.Settings.{first_fault};
     ghost use Rattle.proxy_history.specs.Legal.{IsLegal};
-    ghost use Rattle.proxy_history.specs.Proxy.{Kept, rules_of, setting_of};
+    ghost use Rattle.proxy_history.specs.Proxy.{Proxy, rules_of, setting_of};
 
-    ghost Value = { Kept };
+    ghost Value = { Proxy };
 
     ghost use Rattle.std.specs.Coded.{codes};
     ghost use Rattle.resp_core.specs.Code.{tree_code};

@@ -20,7 +20,7 @@ use Rattle.proxy_history.specs.declared.event.Event.TheVariants.{Arrived}
 use Rattle.proxy_history.proofs.CallerLemmas.{AreOf, AreOf-placing_first as are_placed, MayJoin-plan_for as plan_may_join, first_true-none as are_false}
 use Rattle.proxy_core.specs.Places.{place_by, placed_as, value_at, value_of_placed, is_without_host, is_too_many}
 use Rattle.proxy_core.specs.Pipelines.{PipelineState, pushed_part, pushed_parts, pipeline_at}
-use Rattle.proxy_core.specs.Kept.{Memory}
+use Rattle.proxy_core.specs.Memory.{Memory}
 use Rattle.proxy_core.specs.Machine.{setting_in, memory_in, history_in, own_cause_in, IsKept, IsReady}
 use Rattle.proxy_core.specs.Connections.{with_connection, connection_with_command, arrived_command, connection_at, MayAccept, next_index}
 use Rattle.proxy_core.specs.declared.connection.Connection.{Connection}
@@ -133,11 +133,11 @@ kept_accepts m conn request k e few =
     let S = setting_in m in
     let H = history_in m in
     let x = past S H in
-    let none = are_false (causes S x (Arrived conn request)) (kept_cause m conn request k e) in
+    let (_, _, left_some, _) = are_false (causes S x (Arrived conn request)) (kept_cause m conn request k e) in
     record {
       connection = open_connection x conn;
       is_open = kept_connection m conn request k e;
-      left = omega (arith, length-queue_of x conn, leb-false max_unwritten _ none.1.1.0);
+      left = omega (arith, length-queue_of x conn, leb-false max_unwritten _ left_some);
       index = omega (arith, popped_and_left S H conn k.legal, accepted-at_most conn H, length-reverse m.journal.steps, few);
     }
 

@@ -24,7 +24,7 @@ use Rattle.proxy_history.specs.declared.event.Event.TheVariants.{Opened, Arrived
 use Rattle.proxy_history.specs.declared.refusal.Refusal.TheVariants as refusal
 use Rattle.proxy_history.proofs.CallerLemmas.{length-requests}
 use Rattle.proxy_core.specs.Connections.{queue_of, connection_of, connections_of, connection_at}
-use Rattle.proxy_core.specs.Kept.{memory_of}
+use Rattle.proxy_core.specs.Memory.{memory_of}
 use Rattle.proxy_core.specs.Machine.{own_cause_in, text_in, payload_in}
 use Rattle.proxy_core.specs.declared.connection.Connection.{Connection}
 use Rattle.proxy_core.proofs.CommandRows.{row, length-row, front_reply-row}

@@ -21,7 +21,7 @@ use Rattle.proxy_history.specs.declared.event.Event.{Event}
 use Rattle.proxy_history.specs.declared.event.Event.TheVariants.{Opened, Arrived, Finished, Taken, Answered, Failed, Swept, Handed, Closed}
 use Rattle.proxy_history.proofs.CallerLemmas.{times-length}
 use Rattle.proxy_core.specs.Pipelines.{pipe_part, place_of, pipeline_of, pipelines_of, no_pipeline, pipeline_at, text_of_oldest}
-use Rattle.proxy_core.specs.Kept.{memory_of}
+use Rattle.proxy_core.specs.Memory.{memory_of}
 use Rattle.proxy_core.specs.Machine.{own_cause_in, payload_in}
 
 -- THE PIPELINE OF A HOST

@@ -23,7 +23,7 @@ use Rattle.proxy_history.specs.declared.refusal.Refusal.TheVariants as refusal
 use Rattle.proxy_history.proofs.CallerLemmas.{first_true-none as are_false}
 use Rattle.proxy_core.specs.Connections.{connections_of}
 use Rattle.proxy_core.specs.Pipelines.{PipelineState, pipelines_of}
-use Rattle.proxy_core.specs.Kept.{Memory, memory_of}
+use Rattle.proxy_core.specs.Memory.{Memory, memory_of}
 use Rattle.proxy_core.specs.Machine.{setting_in, memory_in, history_in, own_cause_in, payload_in, IsKept, IsDone, IsSame, HasCauseIn, FitsIn}
 use Rattle.proxy_core.specs.Core.{IsMade, IsLeft, with_step}
 use Rattle.proxy_core.specs.declared.connection.Connection.{Connection}

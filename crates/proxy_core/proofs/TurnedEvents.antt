@@ -24,7 +24,7 @@ use Rattle.proxy_history.specs.declared.event.Kind.{Kind}
 use Rattle.proxy_history.proofs.CallerLemmas.{HasHost-own_cause as has_host}
 use Rattle.proxy_core.specs.Connections.{connections_of, fresh_connection, with_connection, finished_connection, connections_without, connection_without_front, answered_parts, connection_with_command, arrived_command}
 use Rattle.proxy_core.specs.Pipelines.{PipelineState, pipeline_of, pipelines_of, without_connection, with_pipeline, taken_from, answered_by, next_owner, failed_pipeline, lost_owners, pushed_parts, pipeline_at, text_of_oldest}
-use Rattle.proxy_core.specs.Kept.{Memory}
+use Rattle.proxy_core.specs.Memory.{Memory}
 use Rattle.proxy_core.specs.Machine.{setting_in, memory_in, history_in, text_in, fault_mark, IsKept}
 use Rattle.proxy_core.specs.Core.{IsMade}
 use Rattle.proxy_core.specs.declared.machine.Machine.{Machine}

@@ -4,7 +4,7 @@ use Rattle.std.proofs.lemmas.Result.{IfOk-weaker}
 use Rattle.proxy_history.specs.declared.answer.Answer.{Answer}
 use Rattle.proxy_history.specs.declared.event.Event.{Event}
 use Rattle.proxy_history.specs.declared.refusal.Refusal.{Refusal}
-use Rattle.proxy_core.specs.Kept.{Memory}
+use Rattle.proxy_core.specs.Memory.{Memory}
 use Rattle.proxy_core.specs.Machine.{IsDone, IsKept, IsSame, HasCauseIn}
 use Rattle.proxy_core.specs.Core.{IsMade, IsLeft, IsSettled, with_step}
 use Rattle.proxy_core.specs.declared.machine.Machine.{Machine}

@@ -19,7 +19,7 @@ use Rattle.proxy_history.specs.declared.answer.Answer.TheVariants as answer
 use Rattle.proxy_core.specs.Places.{count_at}
 use Rattle.proxy_core.specs.Pipelines.{PipelineState, PipelineTable, with_waiting, with_pipeline, pushed_parts, pipeline_at}
 use Rattle.proxy_core.specs.Connections.{with_connection, connection_with_command, arrived_command, connection_at}
-use Rattle.proxy_core.specs.Kept.{Memory}
+use Rattle.proxy_core.specs.Memory.{Memory}
 use Rattle.proxy_core.specs.Machine.{setting_in, memory_in, own_cause_in, payload_in}
 use Rattle.proxy_core.specs.declared.machine.Machine.{Machine}
 use Rattle.proxy_core.specs.declared.connection.Connection.{Connection}

@@ -6,7 +6,7 @@ use Rattle.proxy_history.specs.Setting.{Setting}
 use Rattle.proxy_history.specs.History.{History}
 use Rattle.proxy_history.specs.Past.{past}
 use Rattle.proxy_history.specs.Legal.{MayFollow, IsCause}
-use Rattle.proxy_history.specs.Proxy.{Kept}
+use Rattle.proxy_history.specs.Proxy.{Proxy}
 use Rattle.proxy_history.specs.Proxy as Reference
 use Rattle.proxy_history.specs.declared.refusal.Refusal.{Refusal}
 use Rattle.proxy_history.specs.declared.answer.Answer.{Answer}
@@ -49,7 +49,7 @@ pub record IsLeft (old new : Machine) (event : Event) (r : Refused) : Type 0 whe
   pub is_kept : IsKept new
 
 -- what outlier detection knows of the hosts
-abbrev pub detector_state : Kept → State
+abbrev pub detector_state : Proxy → State
 detector_state k = state k.setting.rules k.setting.opening (past k.setting (Reference.history_in k)).marks
 
 -- One event was taken: its step was added with this answer, which may come next, or it was refused with its cause and the

@@ -13,50 +13,50 @@ use Rattle.proxy_history.specs.declared.event.Event.TheVariants.{Opened, Arrived
 use Rattle.proxy_history.specs.declared.answer.Answer.TheVariants as answer
 use Rattle.proxy_history.specs.declared.refusal.Refusal.{Refusal}
 use Rattle.proxy_history.specs.declared.refusal.Refusal.TheVariants as refusal
-use Rattle.proxy_core.specs.Recorded.{Made, setting_by}
+use Rattle.proxy_core.specs.Recorded.{Origin, setting_by}
 
 -- what a pass has seen of the steps of a connection
 abbrev pub seen_of_connection : ℕ → List SeenStep → List SeenStep
 seen_of_connection c seen = filter (λ (s : SeenStep). is_connection_step c s.1 s.2) seen
 
 -- Which lists of steps are legal.
-module _ (legal : Made → List SeenStep → Type 0) where
+module _ (legal : Origin → List SeenStep → Type 0) where
   -- what is seen is a legal history, in the other order
   abbrev pub AreHistories : Type 0
-  AreHistories = (made : Made) (seen : List SeenStep) → legal made seen
+  AreHistories = (made : Origin) (seen : List SeenStep) → legal made seen
       → IsLegal (setting_by made) (history_of_seen seen)
 
   -- each event has an answer of its kind
   abbrev pub AnswersFit : Type 0
-  AnswersFit = (made : Made) (seen : List SeenStep) (s : SeenStep)
+  AnswersFit = (made : Origin) (seen : List SeenStep) (s : SeenStep)
       → legal made (seen ++ s ∷ []) → IsAnswerTo s.1 s.2
 
   -- no step before uses the number of a connection that is opened
   abbrev pub OpeningsAreNew : Type 0
-  OpeningsAreNew = (made : Made) (seen : List SeenStep) (pass c : ℕ)
+  OpeningsAreNew = (made : Origin) (seen : List SeenStep) (pass c : ℕ)
       → legal made (seen ++ (pass, Opened, answer.Opened c) ∷ [])
       → seen_of_connection c seen ≡ []
 
   -- no more steps are seen than a journal takes
   abbrev pub AreFewSteps : Type 0
-  AreFewSteps = (made : Made) (seen : List SeenStep) → legal made seen
+  AreFewSteps = (made : Origin) (seen : List SeenStep) → legal made seen
       → length seen ≤ max_steps
 
   -- each step of a host names its present epoch
   abbrev pub EpochsArePresent : Type 0
-  EpochsArePresent = (made : Made) (seen : List SeenStep) (s : SeenStep)
+  EpochsArePresent = (made : Origin) (seen : List SeenStep) (s : SeenStep)
       → legal made (seen ++ s ∷ []) → IsOfPresentEpoch (history_of_seen seen) s.1 s.2
 
 -- When a refusal of an event is due, over what is seen.
-module _ (cause : Made → Refusal → Event → List SeenStep → Type 0) where
+module _ (cause : Origin → Refusal → Event → List SeenStep → Type 0) where
   -- what a refusal says of what is seen
   abbrev pub RefusalsMean : Type 0
-  RefusalsMean = (made : Made) (r : Refusal) (event : Event) (seen : List SeenStep)
+  RefusalsMean = (made : Origin) (r : Refusal) (event : Event) (seen : List SeenStep)
       → cause made r event seen → Means (setting_by made) (history_of_seen seen) event r
 
   -- an open connection that finishes takes no command more
   abbrev pub FinishingTakesNothing : Type 0
-  FinishingTakesNothing = (made : Made) (c : ℕ) (request : Request) (seen : List SeenStep)
+  FinishingTakesNothing = (made : Origin) (c : ℕ) (request : Request) (seen : List SeenStep)
       → is_open c (history_of_seen seen) ≡ true
       → is_finishing c (history_of_seen seen) ≡ true
       → cause made refusal.Finishing (Arrived c request) seen

@@ -1,7 +1,7 @@
 pub mod Connections
 pub mod Pipelines
 pub mod Places
-pub mod Kept
+pub mod Memory
 pub mod Machine
 pub mod Arrivals
 pub mod Core

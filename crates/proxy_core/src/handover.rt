@@ -18,9 +18,9 @@ pub struct Handover {
 }
 
 impl Model for Handover {
-    ghost use Rattle.proxy_core.specs.Handover.{Handed};
+    ghost use Rattle.proxy_core.specs.Handover.{HandoverFacts};
 
-    ghost Value = { Handed };
+    ghost Value = { HandoverFacts };
 
     ghost view = { λ h. record { detection = h.detection; steps = h.steps; bytes = h.bytes } };
 }

@@ -3,7 +3,7 @@
 //! Each event is one turn. It is answered, and its step joins the journal, or it is refused with a cause and nothing has
 //! changed. The journal is a legal history (`proxy_history`) whatever events come, in whatever order. The core answers from
 //! what it keeps: a queue for each open connection, a pipe to each host, the state of outlier detection and counts; and what
-//! it keeps is what the history determines (`specs/Kept`). It never looks at its journal to answer.
+//! it keeps is what the history determines (`specs/Memory`). It never looks at its journal to answer.
 #![tactic(auto)]
 
 mod answered;

@@ -37,10 +37,10 @@ pub struct Core {
 }
 
 impl Model for Core {
-    ghost use Rattle.proxy_history.specs.Proxy.{Kept};
+    ghost use Rattle.proxy_history.specs.Proxy.{Proxy};
     ghost use Rattle.proxy_core.specs.Machine.{IsKept, setting_in};
 
-    ghost Value = { Kept };
+    ghost Value = { Proxy };
 
     ghost use Rattle.std.specs.Coded.{codes};
     ghost use Rattle.resp_core.specs.Code.{tree_code};
@@ -242,7 +242,7 @@ impl Core {
 }
 
 impl Recorded for Core {
-    ghost use Rattle.proxy_core.specs.Recorded.{journal_of, made_with, IsLegalJournal, IsCauseIn, handed_over, legal_at_first, legal_before};
+    ghost use Rattle.proxy_core.specs.Recorded.{journal_of, made_with, IsLegalJournal, IsCauseIn, handover_of, legal_at_first, legal_before};
 
     type Event = Event;
 
@@ -263,7 +263,7 @@ impl Recorded for Core {
 
     ghost cause = { IsCauseIn };
 
-    ghost sight_of = { handed_over };
+    ghost sight_of = { handover_of };
 
     fn sight(&self) -> Handover {
         self.hand_over()

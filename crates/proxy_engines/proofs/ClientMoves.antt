@@ -18,7 +18,7 @@ use Rattle.proxy_history.specs.OwnLaws.{SameOfConnection}
 use Rattle.proxy_history.specs.declared.event.Event.{Event}
 use Rattle.proxy_history.specs.declared.answer.Answer.{Answer}
 use Rattle.proxy_history.proofs.CallerLemmas as history
-use Rattle.proxy_engines.specs.Ends.{Sending, Sends, Receiving, Holds, HasGivenAll}
+use Rattle.proxy_engines.specs.Ends.{OutboxState, Sends, InboxState, Holds, HasGivenAll}
 use Rattle.proxy_engines.specs.Turned.{step_by}
 use Rattle.proxy_engines.specs.Client.{Client, Carries, Goes, IsAllRead, IsAtStage, IsDone, IsFinished, IsLive, IsOver, NoneFinishes, asked_requests, waiting_requests}
 use Rattle.proxy_engines.specs.Moves.{has_moved, AsTold}
@@ -132,7 +132,7 @@ stage_at : (s : Stage) (e : Client) (H : History) (b : List ℕ) (given : List R
 stage_at s e H b given is at = subst (λ (z : Stage). IsAtStage z (IsDone e H) (asked_requests e.conn H) e.is_drained e.inbox e.next b given) is at
 
 -- a live stage doesn't look at whether all is done
-live_stage : (s : Stage) (D E : Type 0) (asks : List Request) (d : Bool) (i : Receiving) (next : Option Request') (b : List ℕ) (given : List Request) → IsLive s
+live_stage : (s : Stage) (D E : Type 0) (asks : List Request) (d : Bool) (i : InboxState) (next : Option Request') (b : List ℕ) (given : List Request) → IsLive s
     → IsAtStage s D asks d i next b given → IsAtStage s E asks d i next b given
 live_stage Stage.Open D E asks d i next b given live at = at
 live_stage Stage.AtEnd D E asks d i next b given live at = at
@@ -239,7 +239,7 @@ closed_goes e pass a H is empty handed =
 
 -- A WRITE
 
-pub wrote_goes : (e : Client) (o : Sending) (gave : List ℕ) (H : History) (moved : Bool) → IsLive e.stage → Sends e.outbox o gave → moved ≡ has_moved [] gave [] → Goes e (record e { outbox = o }) H H moved
+pub wrote_goes : (e : Client) (o : OutboxState) (gave : List ℕ) (H : History) (moved : Bool) → IsLive e.stage → Sends e.outbox o gave → moved ≡ has_moved [] gave [] → Goes e (record e { outbox = o }) H H moved
 wrote_goes e o gave H moved live sends told = record {
   got = [];
   gave = gave;
@@ -299,7 +299,7 @@ module _ (e : Client) (r : Request') (pass : ℕ) (H : History) (a : Answer) (op
 -- WHAT COMES IN
 
 -- a request has come whole, or none has
-pub fetched_goes : (e : Client) (i : Receiving) (next : Option Request') (H : History) → e.stage ≡ Stage.Open → e.next ≡ None → i.left ≡ e.inbox.left → i.counts ≡ e.inbox.counts → i.values.most ≡ e.inbox.values.most
+pub fetched_goes : (e : Client) (i : InboxState) (next : Option Request') (H : History) → e.stage ≡ Stage.Open → e.next ≡ None → i.left ≡ e.inbox.left → i.counts ≡ e.inbox.counts → i.values.most ≡ e.inbox.values.most
     → ((b : List ℕ) (rs : List Request) → Holds e.inbox b rs → Holds i b (rs ++ waiting_requests next)) → Goes e (record e { inbox = i; next = next }) H H false
 fetched_goes e i next H open_is none left counts most f = still_goes e (record e { inbox = i; next = next }) H refl refl left counts refl (λ taken b k. record {
   given = k.given ++ waiting_requests next;
@@ -313,7 +313,7 @@ fetched_goes e i next H open_is none left counts most f = still_goes e (record e
 })
 
 -- the reader of values went on, and gave none
-pub kept_goes : (e : Client) (i : Receiving) (H : History) → e.stage ≡ Stage.Open → i.left ≡ e.inbox.left → i.counts ≡ e.inbox.counts → i.values.most ≡ e.inbox.values.most
+pub kept_goes : (e : Client) (i : InboxState) (H : History) → e.stage ≡ Stage.Open → i.left ≡ e.inbox.left → i.counts ≡ e.inbox.counts → i.values.most ≡ e.inbox.values.most
     → ((b : List ℕ) (rs : List Request) → Holds e.inbox b rs → Holds i b rs) → Goes e (record e { inbox = i }) H H false
 kept_goes e i H open_is left counts most f = still_goes e (record e { inbox = i }) H refl refl left counts refl (λ taken b k. record {
   given = k.given;
@@ -326,13 +326,13 @@ kept_goes e i H open_is left counts most f = still_goes e (record e { inbox = i 
   stage_is = subst (λ (z : Stage). IsAtStage z (IsDone (record e { inbox = i }) H) (asked_requests e.conn H) e.is_drained i e.next b k.given) (sym open_is) (stage_at Stage.Open e H b k.given open_is k.stage_is);
 })
 
-pub fetched_holds : (i j : Receiving) (next : Option Request') → IfSome next (λ r. (b : List ℕ) (rs : List Request) → Holds i b rs → Holds j b (rs ++ request_of r ∷ []))
+pub fetched_holds : (i j : InboxState) (next : Option Request') → IfSome next (λ r. (b : List ℕ) (rs : List Request) → Holds i b rs → Holds j b (rs ++ request_of r ∷ []))
     → IfNone next ((b : List ℕ) (rs : List Request) → Holds i b rs → Holds j b rs) → (b : List ℕ) (rs : List Request) → Holds i b rs → Holds j b (rs ++ waiting_requests next)
 fetched_holds i j None s n b rs h = rw (append-nil rs) (n b rs h)
 fetched_holds i j (Some r) s n b rs h = s b rs h
 
 -- bytes are read
-pub read_holds : (i j : Receiving) (b : List ℕ) (rs : List Request) → i.values.refusal ≡ None → i.fresh ≡ [] → j.values ≡ i.values → Holds i b rs → Holds j (b ++ j.fresh) rs
+pub read_holds : (i j : InboxState) (b : List ℕ) (rs : List Request) → i.values.refusal ≡ None → i.fresh ≡ [] → j.values ≡ i.values → Holds i b rs → Holds j (b ++ j.fresh) rs
 read_holds i j b rs whole empty same h = record {
   fed = h.fed;
   given = h.given;
@@ -342,7 +342,7 @@ read_holds i j b rs whole empty same h = record {
   after = rw (same, whole) tt;
 }
 
-pub read_goes : (e : Client) (i : Receiving) (H : History) (moved : Bool) → moved ≡ has_moved i.fresh [] [] → e.stage ≡ Stage.Open → e.is_drained ≡ false → e.inbox.values.refusal ≡ None → e.inbox.fresh ≡ [] → Consumes e.inbox.left i.left i.fresh → i.values ≡ e.inbox.values
+pub read_goes : (e : Client) (i : InboxState) (H : History) (moved : Bool) → moved ≡ has_moved i.fresh [] [] → e.stage ≡ Stage.Open → e.is_drained ≡ false → e.inbox.values.refusal ≡ None → e.inbox.fresh ≡ [] → Consumes e.inbox.left i.left i.fresh → i.values ≡ e.inbox.values
     → Goes e (record e { inbox = i }) H H moved
 read_goes e i H moved told open_is reads whole empty input same = record {
   got = i.fresh;
@@ -384,15 +384,15 @@ over_goes e H open_is none all over = still_goes e (record e { stage = Stage.AtE
 
 -- A DRAIN
 
-all_read : (d : Bool) (i : Receiving) (next : Option Request') (b : List ℕ) (given : List Request) → IsAllRead d i next b given → IsAllRead true i next b given
+all_read : (d : Bool) (i : InboxState) (next : Option Request') (b : List ℕ) (given : List Request) → IsAllRead d i next b given → IsAllRead true i next b given
 all_read d i next b given r = record { end = inl refl; all = r.all; none_waits = r.none_waits }
 
-finished_drained : (asks : List Request) (d : Bool) (i : Receiving) (next : Option Request') (b : List ℕ) (given : List Request) → IsFinished asks d i next b given → IsFinished asks true i next b given
+finished_drained : (asks : List Request) (d : Bool) (i : InboxState) (next : Option Request') (b : List ℕ) (given : List Request) → IsFinished asks d i next b given → IsFinished asks true i next b given
 finished_drained asks d i next b given (inl stays) = inl (stays.0, all_read d i next b given stays.1)
 finished_drained asks d i next b given (inr last) = inr last
 
 -- what holds at a stage holds where nothing more is to be read
-stage_drained : (s : Stage) (D E : Type 0) (asks : List Request) (d : Bool) (i : Receiving) (next : Option Request') (b : List ℕ) (given : List Request) → (D → E)
+stage_drained : (s : Stage) (D E : Type 0) (asks : List Request) (d : Bool) (i : InboxState) (next : Option Request') (b : List ℕ) (given : List Request) → (D → E)
     → IsAtStage s D asks d i next b given → IsAtStage s E asks true i next b given
 stage_drained Stage.Open D E asks d i next b given f at = at
 stage_drained Stage.AtEnd D E asks d i next b given f at = (at.0, all_read d i next b given at.1)
@@ -445,7 +445,7 @@ module _ (e : Client) (H later : History) (others : connection_steps e.conn late
 
 -- THE BEGINNING
 
-pub opened_carries : (conn pass : ℕ) (i : Receiving) (o : Sending) (H : History) → connection_steps conn H ≡ [] → o.pending ≡ [] → i.values.most ≡ CLIENT_MEMBERS → Holds i [] []
+pub opened_carries : (conn pass : ℕ) (i : InboxState) (o : OutboxState) (H : History) → connection_steps conn H ≡ [] → o.pending ≡ [] → i.values.most ≡ CLIENT_MEMBERS → Holds i [] []
     → Carries (record { conn = conn; inbox = i; outbox = o; next = None; accepted = 0; handed = 0; stage = Stage.Open; is_drained = false }) (step_by pass Event.Opened (Answer.Opened conn) ∷ H) [] []
 opened_carries conn pass i o H none empty most holds =
     let same = history.SameOfConnection-connection_steps conn H in

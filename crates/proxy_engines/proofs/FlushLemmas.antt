@@ -4,7 +4,7 @@ use Rattle.std.specs.Io.KnownBytes.{Appends, Keeps}
 use Rattle.splitter.specs.Request.{Request}
 use Rattle.splitter.specs.declared.request.Request.{Request as Request'}
 use Rattle.proxy_history.specs.History.{History}
-use Rattle.proxy_engines.specs.Ends.{Receiving, Sending}
+use Rattle.proxy_engines.specs.Ends.{InboxState, OutboxState}
 use Rattle.proxy_engines.specs.Client.{Client, Goes, IsAtStage, IsDone, asked_requests}
 use Rattle.proxy_engines.specs.declared.client.Stage.{Stage}
 use Rattle.proxy_engines.proofs.ClientMoves.{Consumes-none}
@@ -15,7 +15,7 @@ Appends-kept (Some xs) None k = absurd k
 Appends-kept (Some xs) (Some ys) k = rw (append-nil xs) k
 
 -- a stage looks at the end alone, whether all is done
-stage_with : (s : Stage) (D E : Type 0) (asks : List Request) (d : Bool) (i : Receiving) (next : Option Request') (b : List ℕ) (given : List Request) → (D → E)
+stage_with : (s : Stage) (D E : Type 0) (asks : List Request) (d : Bool) (i : InboxState) (next : Option Request') (b : List ℕ) (given : List Request) → (D → E)
     → IsAtStage s D asks d i next b given → IsAtStage s E asks d i next b given
 stage_with Stage.Open D E asks d i next b given f at = at
 stage_with Stage.AtEnd D E asks d i next b given f at = at
@@ -24,7 +24,7 @@ stage_with Stage.Failed D E asks d i next b given f at = at
 stage_with (Stage.Closed true) D E asks d i next b given f at = at
 stage_with (Stage.Closed false) D E asks d i next b given f at = (at.0, f at.1)
 
-module _ (e : Client) (o : Sending) (H : History) (same : o.pending ≡ e.outbox.pending) where
+module _ (e : Client) (o : OutboxState) (H : History) (same : o.pending ≡ e.outbox.pending) where
   done_still : IsDone e H → IsDone (record e { outbox = o }) H
   done_still d = record { all_written = rw same d.all_written; all_handed = d.all_handed; closed = d.closed }
 

@@ -23,7 +23,7 @@ use Rattle.proxy_history.specs.declared.event.Event.{Event}
 use Rattle.proxy_history.specs.declared.event.Kind.{Kind}
 use Rattle.proxy_history.specs.declared.answer.Answer.{Answer}
 use Rattle.proxy_history.proofs.CallerLemmas as history
-use Rattle.proxy_engines.specs.Ends.{Receiving, Holds, HasGivenAll, refusal_requests}
+use Rattle.proxy_engines.specs.Ends.{InboxState, Holds, HasGivenAll, refusal_requests}
 use Rattle.proxy_engines.specs.Turned.{step_by}
 use Rattle.proxy_engines.specs.Host.{LineState, LinkState, IsOnLink, CarriesHost, GoesOn, FailsHost, ReadsOn, WritesOn, moments_by, moments_after, waiting_requests, next_link}
 use Rattle.proxy_engines.specs.Moves.{has_moved, AsTold}
@@ -225,7 +225,7 @@ first_is (y ∷ ys) x l e = (ys, ap (λ z. z ∷ ys) (sym e))
 -- A LINK
 
 -- what was read goes on to the reader of values
-pub sought_on : (l : LineState) (k : LinkState) (i : Receiving) (next : Option Value) (H : History) (m : ℕ) → k.next ≡ None → k.inbox.values.refusal ≡ None → i.left ≡ k.inbox.left → i.values.most ≡ k.inbox.values.most
+pub sought_on : (l : LineState) (k : LinkState) (i : InboxState) (next : Option Value) (H : History) (m : ℕ) → k.next ≡ None → k.inbox.values.refusal ≡ None → i.left ≡ k.inbox.left → i.values.most ≡ k.inbox.values.most
     → ((b : List ℕ) (rs : List Request) → Holds k.inbox b rs → Holds i b (rs ++ (waiting_requests next ++ refusal_requests i.values.refusal))) → GoesOn l l (Some k) (Some (record k { inbox = i; next = next })) H H m false
 sought_on l k i next H m none whole left most f = rests_on l (Some k) (Some (record k { inbox = i; next = next })) H m (rw left (Consumes-none k.inbox.left)) (Appends-none k.held) (λ came taken b h. record {
   given = h.given ++ (waiting_requests next ++ refusal_requests i.values.refusal);
@@ -235,7 +235,7 @@ sought_on l k i next H m none whole left most f = rests_on l (Some k) (Some (rec
 })
 
 -- and no value came by it
-pub sought_none : (l : LineState) (k : LinkState) (i : Receiving) (H : History) (m : ℕ) → k.next ≡ None → k.inbox.values.refusal ≡ None → i.left ≡ k.inbox.left → i.values.most ≡ k.inbox.values.most
+pub sought_none : (l : LineState) (k : LinkState) (i : InboxState) (H : History) (m : ℕ) → k.next ≡ None → k.inbox.values.refusal ≡ None → i.left ≡ k.inbox.left → i.values.most ≡ k.inbox.values.most
     → ((b : List ℕ) (rs : List Request) → Holds k.inbox b rs → Holds i b (rs ++ refusal_requests i.values.refusal)) → GoesOn l l (Some k) (Some (record k { inbox = i })) H H m false
 sought_none l k i H m none whole left most f = rests_on l (Some k) (Some (record k { inbox = i })) H m (rw left (Consumes-none k.inbox.left)) (Appends-none k.held) (λ came taken b h. record {
   given = h.given ++ refusal_requests i.values.refusal;
@@ -252,7 +252,7 @@ pub refused_is : (o : Option RespError) → o ≢ None → refusal_requests o �
 refused_is None e = absurd (e refl)
 refused_is (Some r) e = refl
 
-pub with_refusal : (i : Receiving) (b : List ℕ) (rs x : List Request) (r : Option RespError) → i.values.refusal ≡ r → Holds i b (rs ++ (x ++ refusal_requests r)) → Holds i b (rs ++ (x ++ refusal_requests i.values.refusal))
+pub with_refusal : (i : InboxState) (b : List ℕ) (rs x : List Request) (r : Option RespError) → i.values.refusal ≡ r → Holds i b (rs ++ (x ++ refusal_requests r)) → Holds i b (rs ++ (x ++ refusal_requests i.values.refusal))
 with_refusal i b rs x r e h = subst (λ (z : Option RespError). Holds i b (rs ++ (x ++ refusal_requests z))) (sym e) h
 
 -- a value has its turn
@@ -322,7 +322,7 @@ wrote_on l k k' gave rest H m moved told inbox next writes split = record {
 }
 
 -- a read, where nothing waits for the reader of values
-pub heard_on : (l : LineState) (k : LinkState) (i : Receiving) (H : History) (m : ℕ) (moved : Bool) → moved ≡ has_moved i.fresh [] [] → HasGivenAll k.inbox → Consumes k.inbox.left i.left i.fresh → i.values ≡ k.inbox.values → GoesOn l l (Some k) (Some (record k { inbox = i })) H H m moved
+pub heard_on : (l : LineState) (k : LinkState) (i : InboxState) (H : History) (m : ℕ) (moved : Bool) → moved ≡ has_moved i.fresh [] [] → HasGivenAll k.inbox → Consumes k.inbox.left i.left i.fresh → i.values ≡ k.inbox.values → GoesOn l l (Some k) (Some (record k { inbox = i })) H H m moved
 heard_on l k i H m moved told all input same = record {
   got = i.fresh;
   gave = [];

@@ -5,7 +5,7 @@ use Rattle.ticket_gate.specs.Journal.{StartsWith}
 use Rattle.proxy_history.specs.Seen.{SeenStep}
 use Rattle.proxy_history.specs.declared.event.Event.{Event}
 use Rattle.proxy_history.specs.declared.refusal.Refusal.{Refusal}
-use Rattle.proxy_engines.specs.Ends.{Receiving, HasGivenAll}
+use Rattle.proxy_engines.specs.Ends.{InboxState, HasGivenAll}
 use Rattle.proxy_engines.specs.Turned.{HasHeld}
 use Rattle.proxy_engines.specs.Client.{Client, AwaitsBytes, AwaitsReplies, HandsNothing, IsHeldBack, IsIdle}
 use Rattle.proxy_engines.specs.declared.client.Progress.{Progress}
@@ -37,7 +37,7 @@ if_ok P Q (Ok p) f h = f p h
 if_ok P Q (Err e) f h = tt
 
 -- after a read that brought nothing all requests are still given
-pub given_still : (i j : Receiving) → HasGivenAll i → j.fresh ≡ [] → j.values ≡ i.values → HasGivenAll j
+pub given_still : (i j : InboxState) → HasGivenAll i → j.fresh ≡ [] → j.values ≡ i.values → HasGivenAll j
 given_still i j all none same = record {
   none_fresh = none;
   none_refused = rw same all.none_refused;

@@ -7,16 +7,16 @@ use Rattle.resp_core.specs.Standing.{Stands}
 use Rattle.resp_core.specs.Stream.{HasNoRefusal}
 use Rattle.resp_core.specs.declared.error.RespError.{RespError}
 use Rattle.splitter.specs.Request.{Request as Asked, read, broken}
-use Rattle.proxy_engines.specs.Ends.{Receiving, Holds, AreRequests}
+use Rattle.proxy_engines.specs.Ends.{InboxState, Holds, AreRequests}
 
-after-none : (i : Receiving) → i.fresh ≡ [] → IfSome i.values.refusal (λ _. i.fresh ≡ [])
+after-none : (i : InboxState) → i.fresh ≡ [] → IfSome i.values.refusal (λ _. i.fresh ≡ [])
 after-none i e = if_some i.values.refusal e
   where
     if_some : {P : Type 0} (o : Option RespError) → P → IfSome o (λ _. P)
     if_some None p = tt
     if_some (Some x) p = p
 
-pub holds-fed : (i j : Receiving) (b : List ℕ) (rs : List Asked) → j.fresh ≡ [] → j.values.refusal ≡ i.values.refusal → ((x : List ℕ) (ts : List Tree) → Stands i.values x ts → Stands j.values (x ++ i.fresh) ts) → Holds i b rs → Holds j b rs
+pub holds-fed : (i j : InboxState) (b : List ℕ) (rs : List Asked) → j.fresh ≡ [] → j.values.refusal ≡ i.values.refusal → ((x : List ℕ) (ts : List Tree) → Stands i.values x ts → Stands j.values (x ++ i.fresh) ts) → Holds i b rs → Holds j b rs
 holds-fed i j b rs none same f h = record {
   fed = h.fed ++ i.fresh;
   given = h.given;
@@ -27,7 +27,7 @@ holds-fed i j b rs none same f h = record {
 }
 
 -- no byte and no value came, and the reader stands as before
-pub holds-unmoved : (i j : Receiving) (b : List ℕ) (rs : List Asked) → j.fresh ≡ i.fresh → j.values.refusal ≡ i.values.refusal → ((x : List ℕ) (ts : List Tree) → Stands i.values x ts → Stands j.values x ts) → Holds i b rs → Holds j b rs
+pub holds-unmoved : (i j : InboxState) (b : List ℕ) (rs : List Asked) → j.fresh ≡ i.fresh → j.values.refusal ≡ i.values.refusal → ((x : List ℕ) (ts : List Tree) → Stands i.values x ts → Stands j.values x ts) → Holds i b rs → Holds j b rs
 holds-unmoved i j b rs fresh same f h = record {
   fed = h.fed;
   given = h.given;
@@ -37,7 +37,7 @@ holds-unmoved i j b rs fresh same f h = record {
   after = rw (same, fresh) h.after;
 }
 
-pub holds-value : (i j : Receiving) (t : Tree) (b : List ℕ) (rs : List Asked) → i.fresh ≡ [] → j.fresh ≡ [] → i.values.refusal ≡ None → j.values.refusal ≡ None → ((x : List ℕ) (ts : List Tree) → Stands i.values x ts → Stands j.values x (ts ++ t ∷ [])) → Holds i b rs → Holds j b (rs ++ read t ∷ [])
+pub holds-value : (i j : InboxState) (t : Tree) (b : List ℕ) (rs : List Asked) → i.fresh ≡ [] → j.fresh ≡ [] → i.values.refusal ≡ None → j.values.refusal ≡ None → ((x : List ℕ) (ts : List Tree) → Stands i.values x ts → Stands j.values x (ts ++ t ∷ [])) → Holds i b rs → Holds j b (rs ++ read t ∷ [])
 holds-value i j t b rs e e' n n' f h = record {
   fed = h.fed;
   given = h.given ++ t ∷ [];
@@ -47,7 +47,7 @@ holds-value i j t b rs e e' n n' f h = record {
   after = after-none j e';
 }
 
-pub holds-refused : (i j : Receiving) (e : RespError) (b : List ℕ) (rs : List Asked) → i.fresh ≡ [] → j.fresh ≡ [] → i.values.refusal ≡ None → j.values.refusal ≡ Some e → ((x : List ℕ) (ts : List Tree) → Stands i.values x ts → Stands j.values x ts) → Holds i b rs → Holds j b (rs ++ broken ∷ [])
+pub holds-refused : (i j : InboxState) (e : RespError) (b : List ℕ) (rs : List Asked) → i.fresh ≡ [] → j.fresh ≡ [] → i.values.refusal ≡ None → j.values.refusal ≡ Some e → ((x : List ℕ) (ts : List Tree) → Stands i.values x ts → Stands j.values x ts) → Holds i b rs → Holds j b (rs ++ broken ∷ [])
 holds-refused i j e b rs d d' n n' f h = record {
   fed = h.fed;
   given = h.given;
@@ -57,7 +57,7 @@ holds-refused i j e b rs d d' n n' f h = record {
   after = after-none j d';
 }
 
-pub all-given : (i : Receiving) (b : List ℕ) (rs : List Asked) → i.fresh ≡ [] → i.values.refusal ≡ None → ((x : List ℕ) (ts : List Tree) → Stands i.values x ts → HasNoRefusal i.values.most x ts) → Holds i b rs → AreRequests i.values.most b rs
+pub all-given : (i : InboxState) (b : List ℕ) (rs : List Asked) → i.fresh ≡ [] → i.values.refusal ≡ None → ((x : List ℕ) (ts : List Tree) → Stands i.values x ts → HasNoRefusal i.values.most x ts) → Holds i b rs → AreRequests i.values.most b rs
 all-given i b rs d n f h =
     let bytes : b ≡ h.fed = h.bytes ∙ (rw d (append-nil h.fed)) in
     (h.given, false, (rw bytes (f h.fed h.given h.stands)), (rw n at h.requests))

@@ -15,7 +15,7 @@ use Rattle.proxy_history.specs.Output.{transcript}
 use Rattle.proxy_history.specs.Own.{connection_steps}
 use Rattle.proxy_engines.specs.Moves.{has_moved}
 use Rattle.proxy_engines.specs.Device.{HasPaused}
-use Rattle.proxy_engines.specs.Ends.{Sending, Receiving, Holds, HasGivenAll, AreRequests}
+use Rattle.proxy_engines.specs.Ends.{OutboxState, InboxState, Holds, HasGivenAll, AreRequests}
 use Rattle.proxy_engines.specs.Turned.{HasHeld}
 use Rattle.proxy_engines.specs.declared.client.Stage.{Stage}
 
@@ -23,8 +23,8 @@ use Rattle.proxy_engines.specs.declared.client.Stage.{Stage}
 -- handed out, how far the connection has come, and whether nothing more is to be read
 pub record Client : Type 0 where
   pub conn : ℕ
-  pub inbox : Receiving
-  pub outbox : Sending
+  pub inbox : InboxState
+  pub outbox : OutboxState
   pub next : Option Request'
   pub accepted : ℕ
   pub handed : ℕ
@@ -66,21 +66,21 @@ pub record LastFinishes (rs : List Request) : Type 0 where
   pub finishes : finishes last ≡ true
 
 -- the bytes read are all that will be: nothing more is to be read, or the input has ended
-abbrev pub IsOver : Bool → Receiving → Type 0
+abbrev pub IsOver : Bool → InboxState → Type 0
 IsOver drained i = (drained ≡ true) ⊎ IsAtEnd i.left
 
 -- No byte is read any more, and all requests of those that were read were given.
-pub record IsAllRead (drained : Bool) (i : Receiving) (next : Option Request') (b : List ℕ) (given : List Request) : Type 0 where
+pub record IsAllRead (drained : Bool) (i : InboxState) (next : Option Request') (b : List ℕ) (given : List Request) : Type 0 where
   pub end : IsOver drained i
   pub all : AreRequests i.values.most b given
   pub none_waits : next ≡ None
 
 -- nothing more arrives: no byte is read any more, or a request finishes the connection
-abbrev pub IsFinished : List Request → Bool → Receiving → Option Request' → List ℕ → List Request → Type 0
+abbrev pub IsFinished : List Request → Bool → InboxState → Option Request' → List ℕ → List Request → Type 0
 IsFinished asked drained i next b given = (NoneFinishes asked × IsAllRead drained i next b given) ⊎ LastFinishes asked
 
 -- what holds at each stage, of what was asked and what was read; at the end the connection is done
-abbrev pub IsAtStage : Stage → Type 0 → List Request → Bool → Receiving → Option Request' → List ℕ → List Request → Type 0
+abbrev pub IsAtStage : Stage → Type 0 → List Request → Bool → InboxState → Option Request' → List ℕ → List Request → Type 0
 IsAtStage Stage.Open done asked drained i next b given = NoneFinishes asked
 IsAtStage Stage.AtEnd done asked drained i next b given = NoneFinishes asked × IsAllRead drained i next b given
 IsAtStage Stage.Finishing done asked drained i next b given = IsFinished asked drained i next b given
@@ -130,7 +130,7 @@ IsIdle cause old new x y =
     ⊎ ((old.outbox.pending ≡ []) × HandsNothing cause old x y × (IsHeldBack cause new x y ⊎ (AwaitsReplies new ⊎ AwaitsBytes old new)))
 
 -- Nothing was read: no bytes came, and the reader is as it was.
-pub record IsUnread (old new : Receiving) (got : List ℕ) : Type 0 where
+pub record IsUnread (old new : InboxState) (got : List ℕ) : Type 0 where
   pub none : got ≡ []
   pub left : new.left ≡ old.left
   pub counts : new.counts ≡ old.counts

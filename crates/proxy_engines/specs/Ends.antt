@@ -10,18 +10,18 @@ use Rattle.splitter.specs.Requests.{end_of}
 use Rattle.proxy_engines.specs.Device.{Counts}
 
 -- a writer's contents, where they are known, its counts, and what is to be written next
-pub record Sending : Type 0 where
+pub record OutboxState : Type 0 where
   pub held : Option (List ℕ)
   pub counts : Counts
   pub pending : List ℕ
 
 -- the writer took these bytes from the front of what was to be written
-pub record Sends (old new : Sending) (gave : List ℕ) : Type 0 where
+pub record Sends (old new : OutboxState) (gave : List ℕ) : Type 0 where
   pub held : Appends old.held new.held gave
   pub pending : old.pending ≡ gave ++ new.pending
 
 -- what a reader has left, where it is known, its counts, the bytes that came last, and the reader of values
-pub record Receiving : Type 0 where
+pub record InboxState : Type 0 where
   pub left : Option (List ℕ)
   pub counts : Counts
   pub fresh : List ℕ
@@ -33,7 +33,7 @@ refusal_requests None = []
 refusal_requests (Some e) = broken ∷ []
 
 -- The end was given the bytes b, and has given these requests.
-pub record Holds (i : Receiving) (b : List ℕ) (rs : List Request) : Type 0 where
+pub record Holds (i : InboxState) (b : List ℕ) (rs : List Request) : Type 0 where
   pub fed : List ℕ
   pub given : List Tree
   pub bytes : b ≡ fed ++ i.fresh
@@ -47,7 +47,7 @@ abbrev pub AreRequests : ℕ → List ℕ → List Request → Type 0
 AreRequests most b rs = (ts : List Tree) × (is_refused : Bool) × resp.Holds most b ts is_refused × (rs ≡ map read ts ++ end_of is_refused)
 
 -- The end has given all requests that came, and no byte behind them is refused.
-pub record HasGivenAll (i : Receiving) : Type 0 where
+pub record HasGivenAll (i : InboxState) : Type 0 where
   pub none_fresh : i.fresh ≡ []
   pub none_refused : i.values.refusal ≡ None
   pub all : (b : List ℕ) (rs : List Request) → Holds i b rs → AreRequests i.values.most b rs

@@ -15,7 +15,7 @@ use Rattle.proxy_history.specs.declared.event.Kind.{Kind}
 use Rattle.proxy_history.specs.declared.answer.Answer.{Answer}
 use Rattle.proxy_engines.specs.Device.{Counts}
 use Rattle.proxy_engines.specs.Moves.{has_moved}
-use Rattle.proxy_engines.specs.Ends.{Receiving, Holds, refusal_requests}
+use Rattle.proxy_engines.specs.Ends.{InboxState, Holds, refusal_requests}
 use Rattle.proxy_engines.specs.Turned.{step_by}
 
 -- The engine without its link: its host, after how many milliseconds a reply is late, the epoch, the text that is pending, and
@@ -31,7 +31,7 @@ pub record LineState : Type 0 where
 
 -- a link: what is read, the writer's contents, where they are known, and its counts, and a value whose turn was not answered
 pub record LinkState : Type 0 where
-  pub inbox : Receiving
+  pub inbox : InboxState
   pub held : Option (List ℕ)
   pub counts : Counts
   pub next : Option Value

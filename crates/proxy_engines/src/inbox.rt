@@ -54,10 +54,10 @@ pub(crate) struct Inbox<R: ReadTally> {
 
 impl<R: ReadTally> Model for Inbox<R> {
     ghost use Rattle.std.specs.Prelude.{◌≡◌, ◌≤◌, take, length};
-    ghost use Rattle.proxy_engines.specs.Ends.{Receiving};
+    ghost use Rattle.proxy_engines.specs.Ends.{InboxState};
     ghost use Rattle.proxy_engines.specs.declared.inbox.TheConstants.{READ_SIZE, LEAST_READ_SIZE};
 
-    ghost Value = { Receiving };
+    ghost Value = { InboxState };
 
     ghost use Rattle.std.specs.Coded.{codes};
     ghost use Rattle.resp_core.specs.Code.{tree_code};

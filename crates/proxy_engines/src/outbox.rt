@@ -18,9 +18,9 @@ pub(crate) struct Outbox<W: WriteTally> {
 }
 
 impl<W: WriteTally> Model for Outbox<W> {
-    ghost use Rattle.proxy_engines.specs.Ends.{Sending};
+    ghost use Rattle.proxy_engines.specs.Ends.{OutboxState};
 
-    ghost Value = { Sending };
+    ghost Value = { OutboxState };
 
     ghost view = { λ o. record {
       held = W.contents o.writer;

@@ -14,7 +14,7 @@ use std::thread;
 use std::thread::{Promise, PromisedHandle, Scope, Threads};
 
 // What the run of a work answers.
-type Ended = Result<(), EngineError>;
+type WorkResult = Result<(), EngineError>;
 
 // The promise that an answer is one that the work may give.
 #[derive(Drop)]
@@ -23,7 +23,7 @@ struct AnswerOf<Rt: Wait, K: Work<Rt>> {
     at: PhantomData<*const Rt>,
 }
 
-impl<Rt: Wait, K: Work<Rt>> Promise<Ended> for AnswerOf<Rt, K> {
+impl<Rt: Wait, K: Work<Rt>> Promise<WorkResult> for AnswerOf<Rt, K> {
     ghost use Rattle.std.specs.Prelude.{◌≡◌};
 
     ghost kept_by = { λ promise answer. K.may_answer promise.work.value answer };
@@ -32,7 +32,7 @@ impl<Rt: Wait, K: Work<Rt>> Promise<Ended> for AnswerOf<Rt, K> {
 // A thread that runs a work. Contracts see the work.
 #[derive(Drop)]
 struct Started<Rt: Wait, K: Work<Rt>> {
-    handle: PromisedHandle<Ended, AnswerOf<Rt, K>>,
+    handle: PromisedHandle<WorkResult, AnswerOf<Rt, K>>,
 }
 
 impl<Rt: Wait, K: Work<Rt>> Model for Started<Rt, K> {
@@ -45,7 +45,7 @@ impl<Rt: Wait, K: Work<Rt>> Model for Started<Rt, K> {
 
 impl<Rt: Wait, K: Work<Rt>> Started<Rt, K> {
     // Waits for its answer.
-    fn join<H: Threads>(self, rt: &H) -> Ended
+    fn join<H: Threads>(self, rt: &H) -> WorkResult
         ensures { K.may_answer self result }
     {
         let Started { handle } = self;
@@ -64,10 +64,10 @@ enum Begun<Rt: Wait, K: Work<Rt>, F> {
 #[derive(Drop)]
 enum Settled<Rt: Wait, K: Work<Rt>> {
     There(Started<Rt, K>),
-    Here(Ended),
+    Here(WorkResult),
 }
 
-impl<Rt: Wait, K: Work<Rt>, F: FnOnce() -> Ended> Begun<Rt, K, F> {
+impl<Rt: Wait, K: Work<Rt>, F: FnOnce() -> WorkResult> Begun<Rt, K, F> {
     // Runs the work here if no thread does.
     fn settle(self) -> Settled<Rt, K>
         requires { IsCallable F.pre self }
@@ -82,7 +82,7 @@ impl<Rt: Wait, K: Work<Rt>, F: FnOnce() -> Ended> Begun<Rt, K, F> {
 
 impl<Rt: Wait, K: Work<Rt>> Settled<Rt, K> {
     // Its answer, for which this may wait.
-    fn answer<H: Threads>(self, rt: &H) -> Ended
+    fn answer<H: Threads>(self, rt: &H) -> WorkResult
         ensures { Answers K.may_answer self result }
     {
         match self {
@@ -93,7 +93,7 @@ impl<Rt: Wait, K: Work<Rt>> Settled<Rt, K> {
 }
 
 // Starts a thread for the call that runs the work.
-fn begin<'s, E, Rt: Wait, K: Work<Rt>, F: FnOnce() -> Ended + Send + 's>(
+fn begin<'s, E, Rt: Wait, K: Work<Rt>, F: FnOnce() -> WorkResult + Send + 's>(
     scope: &Scope<'s, E>,
     work: Snapshot<K>,
     call: F,
@@ -120,7 +120,7 @@ fn begin_all<
     E,
     Rt: Wait,
     K: Work<Rt> + Drop,
-    F: FnOnce() -> Ended + Send + Drop + 's,
+    F: FnOnce() -> WorkResult + Send + Drop + 's,
     G: Fn(K) -> F,
 >(scope: &Scope<'s, E>, works: Vec<K>, make: G, room: Vec<Begun<Rt, K, F>>) -> Vec<Begun<Rt, K, F>>
     requires empty { room.items ≡ [] }
@@ -144,7 +144,7 @@ fn begin_all<
 }
 
 // Runs the works that no thread runs, one after another. There is room for them.
-fn settle_all<Rt: Wait, K: Work<Rt>, F: FnOnce() -> Ended + Drop>(
+fn settle_all<Rt: Wait, K: Work<Rt>, F: FnOnce() -> WorkResult + Drop>(
     begun: Vec<Begun<Rt, K, F>>,
     room: Vec<Settled<Rt, K>>,
 ) -> Vec<Settled<Rt, K>>
@@ -165,8 +165,8 @@ fn settle_all<Rt: Wait, K: Work<Rt>, F: FnOnce() -> Ended + Drop>(
 fn answer_all<Rt: Wait, K: Work<Rt>, H: Threads>(
     rt: &H,
     settled: Vec<Settled<Rt, K>>,
-    room: Vec<Ended>,
-) -> Vec<Ended>
+    room: Vec<WorkResult>,
+) -> Vec<WorkResult>
     requires empty { room.items ≡ [] }
     requires room { vec_len settled ≤ vec_capacity room }
     ensures { AllZip (Answers K.may_answer) settled.items result.items }
@@ -190,7 +190,7 @@ fn room_for<T>(alloc: Global, count: usize) -> Result<Vec<T>, EngineError>
 }
 
 // Runs the work in whichever thread this is.
-fn run_one<Rt: Wait, K: Work<Rt> + Drop>(rt: &Rt, mut work: K) -> Ended
+fn run_one<Rt: Wait, K: Work<Rt> + Drop>(rt: &Rt, mut work: K) -> WorkResult
     requires { K.is_fresh work }
     ensures { K.may_answer work result }
 {
@@ -213,7 +213,7 @@ pub fn run_all<Rt: Threads + Wait + Sync, K: Work<Rt> + Send + Drop>(
     thread::scope(
         thread::scope_env(),
         rt,
-        |scope| -> Result<Vec<Ended>, EngineError>
+        |scope| -> Result<Vec<WorkResult>, EngineError>
             requires { All K.is_fresh works.items }
             ensures each { IfOk result (λ answers. AllZip K.may_answer works.items answers.items) }
             ensures err { IfErr result (λ e. e ≡ EngineError.NoMemory) }

@@ -14,7 +14,7 @@ use Rattle.proxy_history.specs.declared.refusal.Refusal.{Refusal}
 use Rattle.proxy_history.specs.declared.refusal.Refusal.TheVariants as refusal
 
 -- its setting, and its steps, the oldest first
-pub record Kept : Type 0 where
+pub record Proxy : Type 0 where
   pub setting : Setting
   pub steps : List Step
 
@@ -33,11 +33,11 @@ setting_of ring settings =
     (record { rules = rules_of ring settings; state = fresh_state (rules_of ring settings) })
 
 -- the history of what is kept
-abbrev pub history_in : Kept → History
+abbrev pub history_in : Proxy → History
 history_in k = reverse k.steps
 
 -- A step of this pass and event was added, with the answer that it has there; the setting stays.
-pub record IsStep (old new : Kept) (pass : ℕ) (event : Event) (s : Step) : Type 0 where
+pub record IsStep (old new : Proxy) (pass : ℕ) (event : Event) (s : Step) : Type 0 where
   pub pass_is : s.pass ≡ pass
   pub event_is : s.event ≡ event
   pub may_follow : MayFollow old.setting (past old.setting (history_in old)) s
@@ -45,5 +45,5 @@ pub record IsStep (old new : Kept) (pass : ℕ) (event : Event) (s : Step) : Typ
   pub setting : new.setting ≡ old.setting
 
 -- The refusal is for want of memory, or has its cause.
-abbrev pub HasCause : Kept → Event → Refusal → Type 0
+abbrev pub HasCause : Proxy → Event → Refusal → Type 0
 HasCause k event r = (r ≡ refusal.NoMemory) ⊎ IsCause k.setting (history_in k) event r

@@ -12,7 +12,7 @@ use Rattle.splitter.specs.Request.{Request, read}
 use Rattle.splitter.specs.Requests.{AreRequests, end_of, up_to_last}
 use Rattle.splitter.proofs.CallerLemmas as splits
 use Rattle.proxy_history.specs.History.{History}
-use Rattle.proxy_engines.specs.Ends.{Receiving}
+use Rattle.proxy_engines.specs.Ends.{InboxState}
 use Rattle.proxy_engines.specs.Client.{Client, Carries, IsAtStage, IsDone, IsFinished, IsOver, asked_requests, waiting_requests}
 use Rattle.proxy_engines.specs.declared.client.Stage.{Stage}
 use Rattle.proxy_engines.proofs.CallerLemmas as engines
@@ -58,7 +58,7 @@ module _ (e : Client) (H : History) (taken b more : List ℕ) (k : Carries e H t
       by (Some x) is = where_some x is
 
 -- where more could be read, the input has ended
-at_end_of : (d : Bool) (i : Receiving) → d ≡ false → IsOver d i → IsAtEnd i.left
+at_end_of : (d : Bool) (i : InboxState) → d ≡ false → IsOver d i → IsAtEnd i.left
 at_end_of d i reads (inl drained) = absurd (true_not_false (sym drained ∙ reads))
 at_end_of d i reads (inr end) = end
 

@@ -94,9 +94,9 @@ pub record Gave (most : ℕ) (held : List ℕ) (t : Tree) (len : ℕ) (p : Progr
   pub reads : Reads most (drop len held) p
 
 -- no value was given: for want of memory, and then it goes on from there; or the byte at this place is refused
-abbrev pub Stopped : ℕ → List ℕ → Progress → Halt → Type 0
-Stopped most held p halts.NoMemory = Reads most held p
-Stopped most held p (halts.Refused r place) = IsFault most held place (refusal_number r)
+abbrev pub HasStopped : ℕ → List ℕ → Progress → Halt → Type 0
+HasStopped most held p halts.NoMemory = Reads most held p
+HasStopped most held p (halts.Refused r place) = IsFault most held place (refusal_number r)
 
 -- whatever bytes the one has come so far in, the other has come so far in
 abbrev pub LeadsTo : ℕ → Progress → Progress → Type 0

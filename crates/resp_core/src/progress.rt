@@ -1,6 +1,6 @@
 //! How far a reader has come in an unfinished value.
 ghost use Rattle.std.specs.Prelude.{true, false, ◌≡◌, ◌≢◌, ◌⊎◌, ◌≤◌, ◌<◌, ◌-◌, ◌+◌, ◌++◌, List, ℕ, [], length, take, drop, Some, None, IfOk, IfErr, IfSome, IfNone, OnOk, OnErr, IsOk};
-ghost use Rattle.resp_core.specs.Progress.{Reads, IsGood, IsFresh, LeadsTo, LeadsToValue, IsShort, HaltsIn, Gave, Stopped, shown_progress, to_read};
+ghost use Rattle.resp_core.specs.Progress.{Reads, IsGood, IsFresh, LeadsTo, LeadsToValue, IsShort, HaltsIn, Gave, HasStopped, shown_progress, to_read};
 ghost use Rattle.resp_core.specs.Front.{IsUnfinished};
 ghost use Rattle.resp_core.specs.Value.{tree_of};
 ghost use Rattle.resp_core.specs.Grammar.{max_text};
@@ -166,7 +166,7 @@ impl Progress {
         ensures none { IfOk result (λ o. IfNone o ((held : List ℕ) → Reads most held self.old
             → Reads most held self.new × IsUnfinished most held)) }
         ensures halts { IfErr result (λ e. (held : List ℕ) → Reads most held self.old
-            → Stopped most held self.new e) }
+            → HasStopped most held self.new e) }
     {
         match self.go_on(alloc, most) {
             Ok(Some(_)) if self.came > MAX_TEXT => Err(Halt::Refused(Refusal::TooLong, MAX_TEXT)),

@@ -6,7 +6,7 @@ use Rattle.ticket_gate.specs.declared.view.Knowledge.{Knowledge}
 use Rattle.ticket_gate.specs.declared.view.View.{View}
 use Rattle.ticket_gate.specs.Journal.{steps_of, StartsWith, Meets}
 use Rattle.ticket_gate.specs.Rule.{ViewAgrees, GateRule}
-use Rattle.ticket_gate.specs.Steps.{ComparesPasses, looked}
+use Rattle.ticket_gate.specs.Steps.{ComparesPasses, after_look}
 use Rattle.ticket_gate.proofs.Journals.{either_begins, steps_of-between}
 use Rattle.ticket_gate.proofs.Stepping.{Whole, serving_at, stays, goes_at}
 use Rattle.ticket_gate.proofs.Reading.{serving_is_read}
@@ -48,7 +48,7 @@ module _ {S E A C : Type 0} (journal : S → List (ℕ × E × A)) (setting : S 
       let v : View E A C = record { own = k; other = o } in
       let g = r.standing in
       let known = r.each_view id v at in
-      let w : View E A C = record { own = looked k g.serving; other = o } in
+      let w : View E A C = record { own = after_look k g.serving; other = o } in
       let found = serving_at journal setting legal c s r in
       goes_at journal setting legal c s id 1 held (ComparesPasses legal (step slots 1 0 0 none) (v, held)) (λ n. n) g.serving found (
         w,

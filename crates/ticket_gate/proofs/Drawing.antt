@@ -6,7 +6,7 @@ use prog.Atomic.{either}
 use Rattle.atomic_table.specs.Table.{step, keeps, stepped, Allows}
 use Rattle.ticket_gate.specs.declared.view.Knowledge.{Knowledge}
 use Rattle.ticket_gate.specs.Rule.{Standing, Agrees, ViewAgrees, GateRule, view_of}
-use Rattle.ticket_gate.specs.Steps.{Sitting, DrawsTicket}
+use Rattle.ticket_gate.specs.Steps.{SeatState, DrawsTicket}
 use Rattle.ticket_gate.proofs.Journals.{append-nil}
 use Rattle.ticket_gate.proofs.Seats.{each_after, not_inside, not_none, same_number, given, given-here, given-else}
 use Rattle.ticket_gate.proofs.Carrying.{Carries, view_agrees_on}
@@ -69,7 +69,7 @@ module _ {S E A C : Type 0} (journal : S → List (ℕ × E × A)) (setting : S 
       (λ is. (view_of (with_ticket k old), keeps, tt, gives_ticket s r id old new n k held is up numbered outside at, ((λ _. refl), λ apart. absurd (apart is))))
       (λ apart. (view_of k, keeps, tt, stays journal setting legal c s r 0 id m (view_of k) (view_of k) held found at (λ i. i) (r.each_view id (view_of k) at), ((λ is. absurd (apart is)), λ _. refl))))
 
-  pub draws_ticket : (slots id old new n : ℕ) (me : Sitting S E A C) → me ≡ (view_of me.0.own, []) → new ≡ old + 1 → me.0.own.number ≡ Some n → me.0.own.inside ≡ false
+  pub draws_ticket : (slots id old new n : ℕ) (me : SeatState S E A C) → me ≡ (view_of me.0.own, []) → new ≡ old + 1 → me.0.own.number ≡ Some n → me.0.own.inside ≡ false
       → Allows Rule slots id me 0 (λ n. either (eqb n old) new n) (DrawsTicket (step slots 0 old new none) me)
-  draws_ticket slots id old new n me is up numbered outside = subst (λ (m : Sitting S E A C). Allows Rule slots id m 0 (λ n. either (eqb n old) new n) (DrawsTicket (step slots 0 old new none) m)) (sym is)
+  draws_ticket slots id old new n me is up numbered outside = subst (λ (m : SeatState S E A C). Allows Rule slots id m 0 (λ n. either (eqb n old) new n) (DrawsTicket (step slots 0 old new none) m)) (sym is)
       (draws_ticket-own slots id old new n me.0.own [] up numbered outside)

@@ -12,7 +12,7 @@ use Rattle.ticket_gate.specs.declared.view.Knowledge.{Knowledge}
 use Rattle.ticket_gate.specs.declared.view.View.{View}
 use Rattle.ticket_gate.specs.Journal.{steps_of, StartsWith}
 use Rattle.ticket_gate.specs.Rule.{Standing, Agrees, ViewAgrees, GateRule, view_of}
-use Rattle.ticket_gate.specs.Steps.{Sitting, LooksAtServing, EntersAtOnce, GoesOnFrom, looked, gone_inside}
+use Rattle.ticket_gate.specs.Steps.{SeatState, LooksAtServing, EntersAtOnce, GoesOnFrom, after_look, after_entry}
 use Rattle.ticket_gate.proofs.Journals.{append-nil, starts_itself}
 use Rattle.ticket_gate.proofs.Seats.{within, each_after, not_inside, not_none, same_number, given, given-here, given-else}
 use Rattle.ticket_gate.proofs.Carrying.{Carries, view_agrees_on}
@@ -72,7 +72,7 @@ module _ {S E A C : Type 0} (journal : S → List (ℕ × E × A)) (setting : S 
       let then = LooksAtServing journal setting legal (step slots 1 0 0 none) (view_of k, held) in
       let g = r.standing in
       let f = (r.each_view id (view_of k) at).0 in
-      let l : Knowledge E A C = looked k g.serving in
+      let l : Knowledge E A C = after_look k g.serving in
       let found = serving_at journal setting legal c s r in
       goes_at journal setting legal c s id 1 held then (λ n. n) g.serving found (dite (ℕ_discrete t g.serving)
       (λ mine.
@@ -80,11 +80,11 @@ module _ {S E A C : Type 0} (journal : S → List (ℕ × E × A)) (setting : S 
       let me : j ≡ id = sym its.1 ∙ ap g.holder_of (sym mine) ∙ (f.ticket t has).2 in
       not_inside (sym outside ∙ its.2 (view_of k) (ap (get_elem? s.views) me ∙ at)) in
       let home = home_if journal setting g.journal c s.homes s.views g.inside nobody r.placed in
-      let x = home.1.0 in
+      let (_, x, at_home) = home in
       let u : Knowledge E A C = record l { inside = true; seen = journal x } in (
         view_of u,
         takes 0 (Some x),
-        ap (λ (homes : List (maybe.Option (Option S))). get_elem? homes 0) home.1.1,
+        ap (λ (homes : List (maybe.Option (Option S))). get_elem? homes 0) at_home,
         goes_inside s r 1 id g.drawn g.serving g.holder_of k u held at (ap (λ (words : List ℕ). set words 1 g.serving) r.words) (le_refl g.drawn) (λ j n _ its. its) home.0 home.1 (record {
           last_served = le_refl g.serving;
           last_drawn = f.last_drawn;
@@ -114,13 +114,13 @@ module _ {S E A C : Type 0} (journal : S → List (ℕ × E × A)) (setting : S 
       (λ is.
       let nobody : (j : ℕ) → g.inside ≡ some j → ⊥ = λ j its. let l = (inside_ticket journal setting legal c s r j its).0 in omega arith in
       let home = home_if journal setting g.journal c s.homes s.views g.inside nobody r.placed in
-      let x = home.1.0 in
-      let u : Knowledge E A C = gone_inside k old (journal x) in
+      let (_, x, at_home) = home in
+      let u : Knowledge E A C = after_entry k old (journal x) in
       let holder_of : ℕ → ℕ = given old id g.holder_of in
       let now : old ≡ g.serving = omega arith in (
         view_of u,
         takes 0 (Some x),
-        ap (λ (homes : List (maybe.Option (Option S))). get_elem? homes 0) home.1.1,
+        ap (λ (homes : List (maybe.Option (Option S))). get_elem? homes 0) at_home,
         goes_inside s r 0 id new new holder_of k u held at (ap (λ (words : List ℕ). set words 0 new) r.words) (omega arith) (λ j t l its. given-else old id t g.holder_of (λ q. omega arith) ∙ its) home.0 home.1 (record {
           last_served = f.last_served;
           last_drawn = let a = f.last_drawn in omega arith;
@@ -137,12 +137,12 @@ module _ {S E A C : Type 0} (journal : S → List (ℕ × E × A)) (setting : S 
       (λ apart. let w : View E A C = view_of (record k { last_drawn = g.drawn }) in
       (w, keeps, tt, stays journal setting legal c s r 0 id g.drawn (view_of k) w held found at (λ i. i) (drawn_is_read g c id k f, tt), ((λ is. absurd (apart is)), λ _. (omega arith, refl)))))
 
-  pub looks_with_ticket : (slots id t : ℕ) (me : Sitting S E A C) → me ≡ (view_of me.0.own, []) → me.0.own.ticket ≡ Some t → me.0.own.inside ≡ false
+  pub looks_with_ticket : (slots id t : ℕ) (me : SeatState S E A C) → me ≡ (view_of me.0.own, []) → me.0.own.ticket ≡ Some t → me.0.own.inside ≡ false
       → Allows Rule slots id me 1 (λ n. n) (LooksAtServing journal setting legal (step slots 1 0 0 none) me)
-  looks_with_ticket slots id t me is has outside = subst (λ (m : Sitting S E A C). Allows Rule slots id m 1 (λ n. n) (LooksAtServing journal setting legal (step slots 1 0 0 none) m)) (sym is)
+  looks_with_ticket slots id t me is has outside = subst (λ (m : SeatState S E A C). Allows Rule slots id m 1 (λ n. n) (LooksAtServing journal setting legal (step slots 1 0 0 none) m)) (sym is)
       (looks-served slots id t me.0.own [] has outside)
 
-  pub enters_at_once : (slots id old new n : ℕ) (me : Sitting S E A C) → me ≡ (view_of me.0.own, []) → new ≡ old + 1 → me.0.own.last_served ≡ old → me.0.own.number ≡ Some n → me.0.own.inside ≡ false
+  pub enters_at_once : (slots id old new n : ℕ) (me : SeatState S E A C) → me ≡ (view_of me.0.own, []) → new ≡ old + 1 → me.0.own.last_served ≡ old → me.0.own.number ≡ Some n → me.0.own.inside ≡ false
       → Allows Rule slots id me 0 (λ n. either (eqb n old) new n) (EntersAtOnce journal setting legal (step slots 0 old new none) me)
-  enters_at_once slots id old new n me is up looked_at numbered outside = subst (λ (m : Sitting S E A C). Allows Rule slots id m 0 (λ n. either (eqb n old) new n) (EntersAtOnce journal setting legal (step slots 0 old new none) m)) (sym is)
+  enters_at_once slots id old new n me is up looked_at numbered outside = subst (λ (m : SeatState S E A C). Allows Rule slots id m 0 (λ n. either (eqb n old) new n) (EntersAtOnce journal setting legal (step slots 0 old new none) m)) (sym is)
       (enters_free slots id old new n me.0.own [] up looked_at numbered outside)

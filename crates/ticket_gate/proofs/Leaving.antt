@@ -8,7 +8,7 @@ use Rattle.ticket_gate.specs.declared.view.Knowledge.{Knowledge}
 use Rattle.ticket_gate.specs.declared.view.View.{View}
 use Rattle.ticket_gate.specs.Journal.{steps_of, PassesBelow}
 use Rattle.ticket_gate.specs.Rule.{Standing, Agrees, ViewAgrees, StateIsPlaced, GateRule, view_of}
-use Rattle.ticket_gate.specs.Steps.{Sitting, ServesNext, gone_outside}
+use Rattle.ticket_gate.specs.Steps.{SeatState, ServesNext, after_exit}
 use Rattle.ticket_gate.proofs.Journals.{append-nil, starts_itself, steps_of-append, steps_of-other, passes_below-append}
 use Rattle.ticket_gate.proofs.Seats.{each_after, not_inside, not_none, same_number}
 use Rattle.ticket_gate.proofs.Carrying.{Carries, view_agrees_on}
@@ -46,7 +46,7 @@ module _ {S E A C : Type 0} (journal : S → List (ℕ × E × A)) (setting : S 
       let number = f.number n numbered in
       let ticket = f.ticket t has in
       let grown : journal x ≡ g.journal ++ more = longer ∙ ap (λ l. l ++ more) i.2 in
-      let w : View E A C = view_of (gone_outside k new (journal x)) in
+      let w : View E A C = view_of (after_exit k new (journal x)) in
       let out : s.homes ≡ none ∷ [] = (subst (StateIsPlaced journal setting g.journal c s.homes s.views) i.1 r.placed).1 in
       let h : Standing E A = record g { serving = new; journal = journal x; inside = none } in
       let carries : (j : ℕ) → j ≢ id → Carries g h j = λ j apart. record {
@@ -59,7 +59,7 @@ module _ {S E A C : Type 0} (journal : S → List (ℕ × E × A)) (setting : S 
             (its, ap (steps_of m) grown ∙ steps_of-append m g.journal more ∙ ap (λ l. steps_of m g.journal ++ l) (no_other n m more one other) ∙ append-nil (steps_of m g.journal));
         more = (more, grown);
       } in
-      let mine : Agrees h c id (gone_outside k new (journal x)) = record {
+      let mine : Agrees h c id (after_exit k new (journal x)) = record {
         last_served = le_refl new;
         last_drawn = f.last_drawn;
         last_enrolled = f.last_enrolled;
@@ -85,12 +85,12 @@ module _ {S E A C : Type 0} (journal : S → List (ℕ × E × A)) (setting : S 
           placed = (x, ap (λ (homes : List (maybe.Option (Option S))). set homes 0 (some (Some x))) out, refl, same);
           each_view = each_after (ViewAgrees h c) s.views id w (mine, tt) (λ j v apart there. view_agrees_on g h c j (carries j apart) v (r.each_view j v there));
         },
-        λ y others is. let first : x ≡ y = ap (held_or x) is in let behind : held ≡ others = ap after_first is in λ j. (view_of (gone_outside k new (journal (first j))), behind j),
+        λ y others is. let first : x ≡ y = ap (held_or x) is in let behind : held ≡ others = ap after_first is in λ j. (view_of (after_exit k new (journal (first j))), behind j),
       )
 
   -- The state that is put back may have one more step of the pass, if that keeps it legal.
-  pub serves_next : (slots id n t new : ℕ) (me : Sitting S E A C) (k : Knowledge E A C) (x : S) (more : List (ℕ × E × A)) → me ≡ (view_of k, (0, Some x) ∷ []) → new ≡ t + 1 → k.ticket ≡ Some t → k.inside ≡ true → k.number ≡ Some n
+  pub serves_next : (slots id n t new : ℕ) (me : SeatState S E A C) (k : Knowledge E A C) (x : S) (more : List (ℕ × E × A)) → me ≡ (view_of k, (0, Some x) ∷ []) → new ≡ t + 1 → k.ticket ≡ Some t → k.inside ≡ true → k.number ≡ Some n
       → journal x ≡ k.seen ++ more → ((event : E) (answer : A) → more ≡ (n, event, answer) ∷ [] → legal c (journal x)) → setting x ≡ c → AtMostOneOf n more
       → Allows Rule slots id me 1 (λ _. new) (λ _. ServesNext journal (step slots 1 new 0 none) me new)
-  serves_next slots id n t new me k x more is up has in_now numbered longer ok same one = subst (λ (m : Sitting S E A C). Allows Rule slots id m 1 (λ _. new) (λ _. ServesNext journal (step slots 1 new 0 none) m new)) (sym is)
+  serves_next slots id n t new me k x more is up has in_now numbered longer ok same one = subst (λ (m : SeatState S E A C). Allows Rule slots id m 1 (λ _. new) (λ _. ServesNext journal (step slots 1 new 0 none) m new)) (sym is)
       (serves_next-own slots id n t new k x more [] up has in_now numbered longer ok same one)

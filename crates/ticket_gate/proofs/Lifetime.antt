@@ -56,12 +56,11 @@ module _ {S E A C : Type 0} (journal : S → List (ℕ × E × A)) (setting : S 
   pub closes : (id : ℕ) (v : View E A C) (words : List ℕ) (slots : List (Option S)) → Final (Seen (GateRule journal setting legal c) id v) words slots → (n m : ℕ) → get_elem? words 0 ≡ some n → get_elem? words 1 ≡ some m → n ≡ m
       → (x : S) → get_elem? slots 0 ≡ some (Some x) → (k : ℕ) → v.own.number ≡ Some k → Closes journal setting legal c k v.own.seen x
   closes id v words slots last n m first second same x is k numbered =
-      let s = last.0 in
-      let r = last.1.0 in
+      let (s, r, its_place, words_are) = last in
       let g = r.standing in
-      let f = (r.each_view id v last.1.1).0 in
-      let d : g.drawn ≡ n = some-injective g.drawn n (ap (λ (l : List ℕ). get_elem? l 0) (sym r.words ∙ last.2) ∙ first) in
-      let e : g.serving ≡ m = some-injective g.serving m (ap (λ (l : List ℕ). get_elem? l 1) (sym r.words ∙ last.2) ∙ second) in
+      let f = (r.each_view id v its_place).0 in
+      let d : g.drawn ≡ n = some-injective g.drawn n (ap (λ (l : List ℕ). get_elem? l 0) (sym r.words ∙ words_are) ∙ first) in
+      let e : g.serving ≡ m = some-injective g.serving m (ap (λ (l : List ℕ). get_elem? l 1) (sym r.words ∙ words_are) ∙ second) in
       let nobody : (j : ℕ) → g.inside ≡ some j → ⊥ = λ j its. let l = (inside_ticket journal setting legal c s r j its).0 in omega arith in
       let home = (home_if journal setting g.journal c s.homes s.views g.inside nobody r.placed).1 in
       let there : get_elem? slots 0 ≡ some (Some home.0) = last.4 0 (Some home.0) (ap (λ (homes : List (maybe.Option (Option S))). get_elem? homes 0) home.1) in

@@ -6,7 +6,7 @@ use prog.Atomic.{either}
 use Rattle.atomic_table.specs.Table.{step, keeps, stepped, Allows}
 use Rattle.ticket_gate.specs.declared.view.Knowledge.{Knowledge}
 use Rattle.ticket_gate.specs.Rule.{Standing, Agrees, ViewAgrees, GateRule, view_of}
-use Rattle.ticket_gate.specs.Steps.{Sitting, TakesNumber}
+use Rattle.ticket_gate.specs.Steps.{SeatState, TakesNumber}
 use Rattle.ticket_gate.proofs.Journals.{append-nil, steps_of-new, passes_below-more}
 use Rattle.ticket_gate.proofs.Seats.{each_after, not_inside, not_none, same_number, given, given-here, given-else}
 use Rattle.ticket_gate.proofs.Carrying.{Carries, view_agrees_on}
@@ -72,7 +72,7 @@ module _ {S E A C : Type 0} (journal : S → List (ℕ × E × A)) (setting : S 
       (λ is. (view_of (numbered k old), keeps, tt, gives_number s r id old new k held is up room no_number outside at, ((λ _. refl), λ apart. absurd (apart is))))
       (λ apart. (view_of k, keeps, tt, stays journal setting legal c s r 2 id n (view_of k) (view_of k) held found at (λ i. i) (r.each_view id (view_of k) at), ((λ is. absurd (apart is)), λ _. refl))))
 
-  pub takes_number : (slots id old new : ℕ) (me : Sitting S E A C) → me ≡ (view_of me.0.own, []) → new ≡ old + 1 → old < 256 → me.0.own.number ≡ None → me.0.own.inside ≡ false
+  pub takes_number : (slots id old new : ℕ) (me : SeatState S E A C) → me ≡ (view_of me.0.own, []) → new ≡ old + 1 → old < 256 → me.0.own.number ≡ None → me.0.own.inside ≡ false
       → Allows Rule slots id me 2 (λ n. either (eqb n old) new n) (TakesNumber (step slots 2 old new none) me)
-  takes_number slots id old new me is up room no_number outside = subst (λ (m : Sitting S E A C). Allows Rule slots id m 2 (λ n. either (eqb n old) new n) (TakesNumber (step slots 2 old new none) m)) (sym is)
+  takes_number slots id old new me is up room no_number outside = subst (λ (m : SeatState S E A C). Allows Rule slots id m 2 (λ n. either (eqb n old) new n) (TakesNumber (step slots 2 old new none) m)) (sym is)
       (takes_number-own slots id old new me.0.own [] up room no_number outside)

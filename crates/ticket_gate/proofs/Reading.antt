@@ -5,7 +5,7 @@ use Rattle.atomic_table.specs.Table.{step, keeps, Allows}
 use Rattle.ticket_gate.specs.declared.view.Knowledge.{Knowledge}
 use Rattle.ticket_gate.specs.declared.view.View.{View}
 use Rattle.ticket_gate.specs.Rule.{Standing, Agrees, GateRule, view_of}
-use Rattle.ticket_gate.specs.Steps.{Sitting, ReadsEnrolled, ReadsDrawn, LooksAtServing, looked}
+use Rattle.ticket_gate.specs.Steps.{SeatState, ReadsEnrolled, ReadsDrawn, LooksAtServing, after_look}
 use Rattle.ticket_gate.proofs.Seats.{not_none}
 use Rattle.ticket_gate.proofs.Stepping.{Whole, drawn_at, serving_at, enrolled_at, stays, goes_at}
 
@@ -36,7 +36,7 @@ module _ {E A C : Type 0} (g : Standing E A) (c : C) (id : ℕ) (k : Knowledge E
     setting = f.setting;
   }
 
-  pub serving_is_read : Agrees g c id (looked k g.serving)
+  pub serving_is_read : Agrees g c id (after_look k g.serving)
   serving_is_read = record {
     last_served = le_refl g.serving;
     last_drawn = f.last_drawn;
@@ -84,7 +84,7 @@ module _ {S E A C : Type 0} (journal : S → List (ℕ × E × A)) (setting : S 
   looks-own slots id k held no_ticket s r len at small =
       let g = r.standing in
       let found = serving_at journal setting legal c s r in
-      let w : View E A C = view_of (looked k g.serving) in
+      let w : View E A C = view_of (after_look k g.serving) in
       goes_at journal setting legal c s id 1 held (LooksAtServing journal setting legal (step slots 1 0 0 none) (view_of k, held)) (λ n. n) g.serving found (
         w,
         keeps,
@@ -93,12 +93,12 @@ module _ {S E A C : Type 0} (journal : S → List (ℕ × E × A)) (setting : S 
         ((λ is. absurd (not_none (sym no_ticket ∙ is))), λ _. refl),
       )
 
-  pub reads_enrolled : (slots id : ℕ) (me : Sitting S E A C) → me ≡ (view_of me.0.own, []) → Allows Rule slots id me 2 (λ n. n) (ReadsEnrolled (step slots 2 0 0 none) me)
-  reads_enrolled slots id me is = subst (λ (m : Sitting S E A C). Allows Rule slots id m 2 (λ n. n) (ReadsEnrolled (step slots 2 0 0 none) m)) (sym is) (reads_enrolled-own slots id me.0.own [])
+  pub reads_enrolled : (slots id : ℕ) (me : SeatState S E A C) → me ≡ (view_of me.0.own, []) → Allows Rule slots id me 2 (λ n. n) (ReadsEnrolled (step slots 2 0 0 none) me)
+  reads_enrolled slots id me is = subst (λ (m : SeatState S E A C). Allows Rule slots id m 2 (λ n. n) (ReadsEnrolled (step slots 2 0 0 none) m)) (sym is) (reads_enrolled-own slots id me.0.own [])
 
-  pub reads_drawn : (slots id : ℕ) (me : Sitting S E A C) → me ≡ (view_of me.0.own, []) → Allows Rule slots id me 0 (λ n. n) (ReadsDrawn (step slots 0 0 0 none) me)
-  reads_drawn slots id me is = subst (λ (m : Sitting S E A C). Allows Rule slots id m 0 (λ n. n) (ReadsDrawn (step slots 0 0 0 none) m)) (sym is) (reads_drawn-own slots id me.0.own [])
+  pub reads_drawn : (slots id : ℕ) (me : SeatState S E A C) → me ≡ (view_of me.0.own, []) → Allows Rule slots id me 0 (λ n. n) (ReadsDrawn (step slots 0 0 0 none) me)
+  reads_drawn slots id me is = subst (λ (m : SeatState S E A C). Allows Rule slots id m 0 (λ n. n) (ReadsDrawn (step slots 0 0 0 none) m)) (sym is) (reads_drawn-own slots id me.0.own [])
 
   -- a place with no ticket only looks
-  pub looks_without_ticket : (slots id : ℕ) (me : Sitting S E A C) → me ≡ (view_of me.0.own, []) → me.0.own.ticket ≡ None → Allows Rule slots id me 1 (λ n. n) (LooksAtServing journal setting legal (step slots 1 0 0 none) me)
-  looks_without_ticket slots id me is no_ticket = subst (λ (m : Sitting S E A C). Allows Rule slots id m 1 (λ n. n) (LooksAtServing journal setting legal (step slots 1 0 0 none) m)) (sym is) (looks-own slots id me.0.own [] no_ticket)
+  pub looks_without_ticket : (slots id : ℕ) (me : SeatState S E A C) → me ≡ (view_of me.0.own, []) → me.0.own.ticket ≡ None → Allows Rule slots id me 1 (λ n. n) (LooksAtServing journal setting legal (step slots 1 0 0 none) me)
+  looks_without_ticket slots id me is no_ticket = subst (λ (m : SeatState S E A C). Allows Rule slots id m 1 (λ n. n) (LooksAtServing journal setting legal (step slots 1 0 0 none) m)) (sym is) (looks-own slots id me.0.own [] no_ticket)

@@ -10,7 +10,7 @@ use Rattle.atomic_table.specs.Table.{State, Act, keeps, stepped, carried_after, 
 use Rattle.ticket_gate.specs.declared.view.Knowledge.{Knowledge}
 use Rattle.ticket_gate.specs.declared.view.View.{View}
 use Rattle.ticket_gate.specs.Rule.{ViewAgrees, GateRule, view_of}
-use Rattle.ticket_gate.specs.Steps.{Sitting, with_own}
+use Rattle.ticket_gate.specs.Steps.{SeatState, with_own}
 use Rattle.ticket_gate.proofs.Seats.{each_after}
 use Rattle.ticket_gate.proofs.Placing.{placed-set}
 
@@ -47,16 +47,16 @@ module _ {S E A C : Type 0} (journal : S → List (ℕ × E × A)) (setting : S 
         }
 
   -- a step whose word is at n, which becomes m
-  abbrev pub Goes : Whole S E A C → ℕ → ℕ → List (ℕ × Option S) → (ℕ → Sitting S E A C → Type 0) → ℕ → ℕ → Type 0
+  abbrev pub Goes : Whole S E A C → ℕ → ℕ → List (ℕ × Option S) → (ℕ → SeatState S E A C → Type 0) → ℕ → ℕ → Type 0
   Goes s id i held then n m = (w : View E A C) × (a : Act (Option S)) × Valid s.homes held a × GateRule journal setting legal c (stepped s i m id held w a) × then n (w, carried_after held a)
 
   -- the word that the step finds
-  pub goes_at : (s : Whole S E A C) (id i : ℕ) (held : List (ℕ × Option S)) (then : ℕ → Sitting S E A C → Type 0) (f : ℕ → ℕ) (n : ℕ) → get_or s.words i 0 ≡ n → Goes s id i held then n (f n)
+  pub goes_at : (s : Whole S E A C) (id i : ℕ) (held : List (ℕ × Option S)) (then : ℕ → SeatState S E A C → Type 0) (f : ℕ → ℕ) (n : ℕ) → get_or s.words i 0 ≡ n → Goes s id i held then n (f n)
       → Goes s id i held then (get_or s.words i 0) (f (get_or s.words i 0))
   goes_at s id i held then f n is goes = subst (λ (k : ℕ). Goes s id i held then k (f k)) (sym is) goes
 
   -- a compare-exchange that finds n
-  pub goes_if : (s : Whole S E A C) (id i : ℕ) (held : List (ℕ × Option S)) (then : ℕ → Sitting S E A C → Type 0) (n old new : ℕ) → (n ≡ old → Goes s id i held then n new) → (n ≢ old → Goes s id i held then n n)
+  pub goes_if : (s : Whole S E A C) (id i : ℕ) (held : List (ℕ × Option S)) (then : ℕ → SeatState S E A C → Type 0) (n old new : ℕ) → (n ≡ old → Goes s id i held then n new) → (n ≢ old → Goes s id i held then n n)
       → Goes s id i held then n (either (eqb n old) new n)
   goes_if s id i held then n old new hit miss = dite (ℕ_discrete n old)
       (λ is. subst (λ (b : Bool). Goes s id i held then n (either b new n)) (sym (eq-eqb n old is)) (hit is))
@@ -64,10 +64,10 @@ module _ {S E A C : Type 0} (journal : S → List (ℕ × E × A)) (setting : S 
 
 module _ {S E A C : Type 0} where
   -- a place at rest after a step that changes its own knowledge
-  pub alone_after : (me me' : Sitting S E A C) (k : Knowledge E A C) → me ≡ (view_of me.0.own, []) → me' ≡ (with_own me.0 k, me.1) → me' ≡ (view_of me'.0.own, [])
+  pub alone_after : (me me' : SeatState S E A C) (k : Knowledge E A C) → me ≡ (view_of me.0.own, []) → me' ≡ (with_own me.0 k, me.1) → me' ≡ (view_of me'.0.own, [])
   alone_after me me' k is told =
       let now : me' ≡ (view_of k, []) = told ∙ (λ i. (record { own = k; other = (is i).0.other }, (is i).1)) in
-      now ∙ ap (λ (u : Knowledge E A C). (view_of u, [])) (sym (ap (λ (z : Sitting S E A C). z.0.own) now))
+      now ∙ ap (λ (u : Knowledge E A C). (view_of u, [])) (sym (ap (λ (z : SeatState S E A C). z.0.own) now))
 
-  pub own_after : (me me' : Sitting S E A C) (k : Knowledge E A C) → me' ≡ (with_own me.0 k, me.1) → me'.0.own ≡ k
-  own_after me me' k told = ap (λ (z : Sitting S E A C). z.0.own) told
+  pub own_after : (me me' : SeatState S E A C) (k : Knowledge E A C) → me' ≡ (with_own me.0 k, me.1) → me'.0.own ≡ k
+  own_after me me' k told = ap (λ (z : SeatState S E A C). z.0.own) told

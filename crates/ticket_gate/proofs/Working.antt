@@ -7,7 +7,7 @@ use Rattle.atomic_table.specs.declared.shared.Seat.{Seat}
 use Rattle.ticket_gate.specs.declared.view.Knowledge.{Knowledge}
 use Rattle.ticket_gate.specs.declared.view.View.{View}
 use Rattle.ticket_gate.specs.Rule.{view_of}
-use Rattle.ticket_gate.specs.Steps.{Sitting, with_own, gone_outside}
+use Rattle.ticket_gate.specs.Steps.{SeatState, with_own, after_exit}
 use Rattle.ticket_gate.specs.Gate.{IsAtRest}
 use Rattle.ticket_gate.specs.Visit.{KeepsSeen, HasMadeTurn}
 use Rattle.ticket_gate.proofs.Journals.{append-nil}
@@ -23,7 +23,7 @@ module _ {S : Type 0} where
   taken held x y found is was out = ap (λ o. unwrap_or o y) (sym out ∙ ap (first_or found) (sym was ∙ is))
 
   -- and put back
-  pub put_back : {E A C : Type 0} (me me' me'' : Sitting S E A C) (k : Knowledge E A C) (x y : S) → me ≡ (view_of k, (0, Some x) ∷ []) → me' ≡ (me.0, (0, None) ∷ rest me.1) → me'' ≡ (me'.0, (0, Some y) ∷ rest me'.1)
+  pub put_back : {E A C : Type 0} (me me' me'' : SeatState S E A C) (k : Knowledge E A C) (x y : S) → me ≡ (view_of k, (0, Some x) ∷ []) → me' ≡ (me.0, (0, None) ∷ rest me.1) → me'' ≡ (me'.0, (0, Some y) ∷ rest me'.1)
       → me'' ≡ (view_of k, (0, Some y) ∷ [])
   put_back me me' me'' k x y is out back = back ∙ (λ i. ((out i).0, (0, Some y) ∷ rest (out i).1)) ∙ (λ i. ((is i).0, (0, Some y) ∷ rest (is i).1))
 
@@ -60,13 +60,13 @@ module _ {S E A C R : Type 0} (journal : S → List (ℕ × E × A)) (setting : 
         subst (λ (z : C × List (ℕ × E × A)). cause z.0 why.0 event z.1) (λ i. (its.0 i, (sym refused.0 ∙ sym now) i)) refused.2,
   )
 
-  pub has_made_turn : (k : Knowledge E A C) (t : ℕ) (outcome : Result A (R × E)) (me : Sitting S E A C) (seat : Seat (Option S) (View E A C)) → me ≡ (view_of k, (0, Some y) ∷ [])
-      → ((z : S) (after : List (ℕ × Option S)) → me.1 ≡ (0, Some z) ∷ after → seat.me ≡ (with_own me.0 (gone_outside me.0.own (t + 1) (journal z)), after))
+  pub has_made_turn : (k : Knowledge E A C) (t : ℕ) (outcome : Result A (R × E)) (me : SeatState S E A C) (seat : Seat (Option S) (View E A C)) → me ≡ (view_of k, (0, Some y) ∷ [])
+      → ((z : S) (after : List (ℕ × Option S)) → me.1 ≡ (0, Some z) ∷ after → seat.me ≡ (with_own me.0 (after_exit me.0.own (t + 1) (journal z)), after))
       → k.seen ≡ journal x → Answered outcome → StaysLegal outcome → Refused outcome → ((c : C) → k.setting ≡ Some c → (setting x ≡ c) × legal c (journal x)) → HasMadeTurn legal cause k n event outcome seat
   has_made_turn k t outcome me seat is told was grown keeps refused known =
-      let l : Knowledge E A C = gone_outside k (t + 1) (journal y) in
-      let now : seat.me ≡ (view_of l, []) = told y [] (ap (λ (z : Sitting S E A C). z.1) is) ∙ (λ i. (with_own (is i).0 (gone_outside (is i).0.own (t + 1) (journal y)), [])) in
-      let own : seat.me.0.own ≡ l = ap (λ (z : Sitting S E A C). z.0.own) now in record {
+      let l : Knowledge E A C = after_exit k (t + 1) (journal y) in
+      let now : seat.me ≡ (view_of l, []) = told y [] (ap (λ (z : SeatState S E A C). z.1) is) ∙ (λ i. (with_own (is i).0 (after_exit (is i).0.own (t + 1) (journal y)), [])) in
+      let own : seat.me.0.own ≡ l = ap (λ (z : SeatState S E A C). z.0.own) now in record {
         at_rest = record { alone = now ∙ ap (λ (u : Knowledge E A C). (view_of u, [])) (sym own); no_ticket = ap (λ (u : Knowledge E A C). u.ticket) own; outside = ap (λ (u : Knowledge E A C). u.inside) own };
         number = ap (λ (u : Knowledge E A C). u.number) own;
         has_setting = ap (λ (u : Knowledge E A C). u.setting) own;
@@ -75,13 +75,13 @@ module _ {S E A C R : Type 0} (journal : S → List (ℕ × E × A)) (setting : 
 
 module _ {S E A C : Type 0} (journal : S → List (ℕ × E × A)) where
   -- a place that was inside and put the state back as it was is at rest, and has seen what it saw inside
-  pub has_looked : (k : Knowledge E A C) (t : ℕ) (x : S) (me : Sitting S E A C) (seat : Seat (Option S) (View E A C)) → me ≡ (view_of k, (0, Some x) ∷ [])
-      → ((z : S) (after : List (ℕ × Option S)) → me.1 ≡ (0, Some z) ∷ after → seat.me ≡ (with_own me.0 (gone_outside me.0.own (t + 1) (journal z)), after))
+  pub has_looked : (k : Knowledge E A C) (t : ℕ) (x : S) (me : SeatState S E A C) (seat : Seat (Option S) (View E A C)) → me ≡ (view_of k, (0, Some x) ∷ [])
+      → ((z : S) (after : List (ℕ × Option S)) → me.1 ≡ (0, Some z) ∷ after → seat.me ≡ (with_own me.0 (after_exit me.0.own (t + 1) (journal z)), after))
       → k.seen ≡ journal x → IsAtRest seat × KeepsSeen k seat.me.0.own
   has_looked k t x me seat is told was =
-      let l : Knowledge E A C = gone_outside k (t + 1) (journal x) in
-      let now : seat.me ≡ (view_of l, []) = told x [] (ap (λ (z : Sitting S E A C). z.1) is) ∙ (λ i. (with_own (is i).0 (gone_outside (is i).0.own (t + 1) (journal x)), [])) in
-      let own : seat.me.0.own ≡ l = ap (λ (z : Sitting S E A C). z.0.own) now in (
+      let l : Knowledge E A C = after_exit k (t + 1) (journal x) in
+      let now : seat.me ≡ (view_of l, []) = told x [] (ap (λ (z : SeatState S E A C). z.1) is) ∙ (λ i. (with_own (is i).0 (after_exit (is i).0.own (t + 1) (journal x)), [])) in
+      let own : seat.me.0.own ≡ l = ap (λ (z : SeatState S E A C). z.0.own) now in (
         record { alone = now ∙ ap (λ (u : Knowledge E A C). (view_of u, [])) (sym own); no_ticket = ap (λ (u : Knowledge E A C). u.ticket) own; outside = ap (λ (u : Knowledge E A C). u.inside) own },
         record { number = ap (λ (u : Knowledge E A C). u.number) own; seen = ap (λ (u : Knowledge E A C). u.seen) own ∙ sym was; setting = ap (λ (u : Knowledge E A C). u.setting) own },
       )

@@ -29,38 +29,38 @@ module _ {E A C : Type 0} where
   second_of v = view_or_spent v.other
 
   -- after a look at `serving`
-  abbrev pub looked : Knowledge E A C → ℕ → Knowledge E A C
-  looked k n = record k { last_served = n; looks = k.looks + 1 }
+  abbrev pub after_look : Knowledge E A C → ℕ → Knowledge E A C
+  after_look k n = record k { last_served = n; looks = k.looks + 1 }
 
   -- inside with the ticket t, and the whole journal seen
-  abbrev pub gone_inside : Knowledge E A C → ℕ → List (ℕ × E × A) → Knowledge E A C
-  gone_inside k t journal = record k { ticket = Some t; inside = true; seen = journal }
+  abbrev pub after_entry : Knowledge E A C → ℕ → List (ℕ × E × A) → Knowledge E A C
+  after_entry k t journal = record k { ticket = Some t; inside = true; seen = journal }
 
   -- outside again, with no ticket, after the number n was stored in `serving`
-  abbrev pub gone_outside : Knowledge E A C → ℕ → List (ℕ × E × A) → Knowledge E A C
-  gone_outside k n journal = record k { last_served = n; ticket = None; inside = false; seen = journal }
+  abbrev pub after_exit : Knowledge E A C → ℕ → List (ℕ × E × A) → Knowledge E A C
+  after_exit k n journal = record k { last_served = n; ticket = None; inside = false; seen = journal }
 
 -- a seat: its view, and the slots that are out with it
-abbrev pub Sitting : Type 0 → Type 0 → Type 0 → Type 0 → Type 0
-Sitting S E A C = Me (Option S) (View E A C)
+abbrev pub SeatState : Type 0 → Type 0 → Type 0 → Type 0 → Type 0
+SeatState S E A C = Me (Option S) (View E A C)
 
 module _ {S E A C : Type 0} where
   -- the count of passes is read
-  abbrev pub ReadsEnrolled : Step (Option S) → Sitting S E A C → ℕ → Sitting S E A C → Type 0
+  abbrev pub ReadsEnrolled : Step (Option S) → SeatState S E A C → ℕ → SeatState S E A C → Type 0
   ReadsEnrolled step me n me' = (me' ≡ (with_own me.0 (record me.0.own { last_enrolled = n }), me.1)) × (n ≤ 256)
 
   -- a compare-exchange that finds the number that it expects takes it for the pass
-  abbrev pub TakesNumber : Step (Option S) → Sitting S E A C → ℕ → Sitting S E A C → Type 0
+  abbrev pub TakesNumber : Step (Option S) → SeatState S E A C → ℕ → SeatState S E A C → Type 0
   TakesNumber step me n me' =
       (n ≡ step.first → me' ≡ (with_own me.0 (record me.0.own { number = Some step.first; seen = [] }), me.1))
       × (n ≢ step.first → me' ≡ me)
 
   -- the count of tickets is read
-  abbrev pub ReadsDrawn : Step (Option S) → Sitting S E A C → ℕ → Sitting S E A C → Type 0
+  abbrev pub ReadsDrawn : Step (Option S) → SeatState S E A C → ℕ → SeatState S E A C → Type 0
   ReadsDrawn step me n me' = me' ≡ (with_own me.0 (record me.0.own { last_drawn = n }), me.1)
 
   -- a ticket is drawn
-  abbrev pub DrawsTicket : Step (Option S) → Sitting S E A C → ℕ → Sitting S E A C → Type 0
+  abbrev pub DrawsTicket : Step (Option S) → SeatState S E A C → ℕ → SeatState S E A C → Type 0
   DrawsTicket step me n me' =
       (n ≡ step.first → me' ≡ (with_own me.0 (record me.0.own { ticket = Some step.first }), me.1))
       × (n ≢ step.first → me' ≡ me)
@@ -74,24 +74,24 @@ module _ {S E A C : Type 0} where
       pub own : (n : ℕ) → k.number ≡ Some n → steps_of n (journal x) ≡ steps_of n k.seen
 
     -- a look that finds the seat's own ticket takes it inside, and the slot is out with it
-    abbrev pub LooksAtServing : Step (Option S) → Sitting S E A C → ℕ → Sitting S E A C → Type 0
+    abbrev pub LooksAtServing : Step (Option S) → SeatState S E A C → ℕ → SeatState S E A C → Type 0
     LooksAtServing step me n me' =
-        (me.0.own.ticket ≡ Some n → (x : S) × (me' ≡ (with_own me.0 (record (looked me.0.own n) { inside = true; seen = journal x }), (0, Some x) ∷ me.1)) × GoesOnFrom me.0.own x)
-        × (me.0.own.ticket ≢ Some n → me' ≡ (with_own me.0 (looked me.0.own n), me.1))
+        (me.0.own.ticket ≡ Some n → (x : S) × (me' ≡ (with_own me.0 (record (after_look me.0.own n) { inside = true; seen = journal x }), (0, Some x) ∷ me.1)) × GoesOnFrom me.0.own x)
+        × (me.0.own.ticket ≢ Some n → me' ≡ (with_own me.0 (after_look me.0.own n), me.1))
 
     -- a ticket is drawn and entered at once, or more tickets were drawn than served
-    abbrev pub EntersAtOnce : Step (Option S) → Sitting S E A C → ℕ → Sitting S E A C → Type 0
+    abbrev pub EntersAtOnce : Step (Option S) → SeatState S E A C → ℕ → SeatState S E A C → Type 0
     EntersAtOnce step me n me' =
-        (n ≡ step.first → (x : S) × (me' ≡ (with_own me.0 (gone_inside me.0.own step.first (journal x)), (0, Some x) ∷ me.1)) × GoesOnFrom me.0.own x)
+        (n ≡ step.first → (x : S) × (me' ≡ (with_own me.0 (after_entry me.0.own step.first (journal x)), (0, Some x) ∷ me.1)) × GoesOnFrom me.0.own x)
         × (n ≢ step.first → (step.first < n) × (me' ≡ (with_own me.0 (record me.0.own { last_drawn = n }), me.1)))
 
   -- the state goes home with its journal, and the next ticket is served
-  abbrev pub ServesNext : (S → List (ℕ × E × A)) → Step (Option S) → Sitting S E A C → ℕ → Sitting S E A C → Type 0
+  abbrev pub ServesNext : (S → List (ℕ × E × A)) → Step (Option S) → SeatState S E A C → ℕ → SeatState S E A C → Type 0
   ServesNext journal step me n me' = (x : S) (rest : List (ℕ × Option S)) → me.1 ≡ (0, Some x) ∷ rest
-      → me' ≡ (with_own me.0 (gone_outside me.0.own step.first (journal x)), rest)
+      → me' ≡ (with_own me.0 (after_exit me.0.own step.first (journal x)), rest)
 
   -- two passes in one seat are compared
-  abbrev pub ComparesPasses : (C → List (ℕ × E × A) → Type 0) → Step (Option S) → Sitting S E A C → ℕ → Sitting S E A C → Type 0
+  abbrev pub ComparesPasses : (C → List (ℕ × E × A) → Type 0) → Step (Option S) → SeatState S E A C → ℕ → SeatState S E A C → Type 0
   ComparesPasses legal step me n me' =
-      (me' ≡ (with_own me.0 (looked me.0.own n), me.1))
+      (me' ≡ (with_own me.0 (after_look me.0.own n), me.1))
       × ((other : Knowledge E A C) (c : C) (k l : ℕ) → me.0.other ≡ Some other → me.0.own.setting ≡ Some c → me.0.own.number ≡ Some k → other.number ≡ Some l → Meets (legal c) k me.0.own.seen l other.seen)

@@ -1,5 +1,5 @@
 use Rattle.std.proofs.Common.{◌≡◌, subst}
-use Rattle.proxy_history.specs.Proxy.{Kept}
+use Rattle.proxy_history.specs.Proxy.{Proxy}
 use Rattle.proxy_core.specs.Recorded.{IsLegalJournal, journal_of, made_with}
 use Rattle.ticket_gate.specs.Journal.{steps_of}
 use Rattle.ticket_gate.specs.Turns.{AloneFacts}
@@ -14,7 +14,7 @@ returns g c =
     let ran = RunsLocal-alone c.in_ok-stub_core.field-0 c.open.new.turns c.run_client-ran.new.turns _ c.in_ok-client.client c.run_client-ran.new.client
     c.in_ok-stub_core.ensures.empty c.in_ok-stub_core.ensures.setting opened (rw c.new-turns.ensures at c.in_ok-client.ensures.pass) (rw c.new-turns.ensures at c.in_ok-client.ensures.setting)
     begins c.in_ok-client.ensures.reads c.in_ok-ran.ensures.goes c.in_ok-ran.ensures.ended c.in_ok-ran.ensures.pass c.in_ok-ran.ensures.setting
-    (subst (λ (t : AloneFacts Kept). IsLegalJournal (made_with t.state) (journal_of t.state)) last.view_is last.invariant.is_legal)
-    (subst (λ (t : AloneFacts Kept). steps_of t.pass (journal_of t.state) ≡ journal_of t.state) last.view_is last.invariant.own) in
+    (subst (λ (t : AloneFacts Proxy). IsLegalJournal (made_with t.state) (journal_of t.state)) last.view_is last.invariant.is_legal)
+    (subst (λ (t : AloneFacts Proxy). steps_of t.pass (journal_of t.state) ≡ journal_of t.state) last.view_is last.invariant.own) in
     let begun = rw (c.in_ok-client.ensures.ends.0, c.in_ok-client.ensures.ends.1, c.new-reader.ensures.inner, c.new.ensures, c.new-2.ensures.inner, c.in-Ok.ensures.inner, c.in-Ok.ensures.empty) at ran in
     record { runs = RunsLocal-written _ _ _ _ begun (rw c.into_writer.ensures at c.in_ok-writer.ensures) }

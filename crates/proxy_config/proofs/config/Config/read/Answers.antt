@@ -32,4 +32,4 @@ returns-clause-refused c =
     IfErr-weaker _ _ _ (λ e refused. refuses c.args.bytes.now (members_view es) (view c.in-Ok.file) e is known o refused) c.from_object.ensures.refused
 
 pub returns-clause-parts : goal.returns-clause-parts
-returns-clause-parts c = IfOk-weaker _ _ _ (λ config fit. ring_parts _ _ _ _ fit.1.0 fit.1.1.0) c.from_object.ensures.ok
+returns-clause-parts c = IfOk-weaker _ _ _ (λ config fit. let (_, hosts_fit, weights_fit, _) = fit in ring_parts _ _ _ _ hosts_fit weights_fit) c.from_object.ensures.ok

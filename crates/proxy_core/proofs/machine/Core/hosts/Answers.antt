@@ -3,7 +3,7 @@ use Rattle.ejector.specs.Settings.{IsInRange}
 use Rattle.ejector.specs.Opening.{IsOpening}
 use Rattle.ejector.proofs.CallerLemmas.{in_range}
 use Rattle.proxy_history.specs.Setting.{hosts}
-use Rattle.proxy_history.specs.Proxy.{Kept}
+use Rattle.proxy_history.specs.Proxy.{Proxy}
 use Rattle.proxy_core.specs.declared.machine.Machine.{Machine}
 use Rattle.proxy_core.proofs.TurnedAsked.{asked_hosts}
 use Rattle.proxy_core.proofs.machine.Core.hosts.Goals as goal
@@ -13,7 +13,7 @@ returns-clause-hosts c =
     c.len.ensures
     ∙ ap (λ (m : Machine). length m.pipelines.states) c.deref.ensures
     ∙ asked_hosts c.self.inside.machine.value c.self.invariant
-    ∙ ap (λ (k : Kept). hosts k.setting) c.self.view_is
+    ∙ ap (λ (k : Proxy). hosts k.setting) c.self.view_is
 
 pub returns-clause-ring : goal.returns-clause-ring
 returns-clause-ring c =
@@ -22,15 +22,15 @@ returns-clause-ring c =
     ∙ ap (λ (k : Machine). length k.pipelines.states) c.deref.ensures
     ∙ asked_hosts m c.self.invariant
     ∙ c.self.invariant.hosts
-    ∙ ap (λ (k : Kept). k.setting.ring.hosts) c.self.view_is
+    ∙ ap (λ (k : Proxy). k.setting.ring.hosts) c.self.view_is
 
 pub returns-clause-range : goal.returns-clause-range
 returns-clause-range c =
-    subst (λ (k : Kept). IsInRange k.setting.rules) c.self.view_is (in_range c.self.inside.machine.value.ejector.rules c.self.invariant.rules)
+    subst (λ (k : Proxy). IsInRange k.setting.rules) c.self.view_is (in_range c.self.inside.machine.value.ejector.rules c.self.invariant.rules)
 
 pub returns-clause-opening : goal.returns-clause-opening
 returns-clause-opening c =
-    subst (λ (k : Kept). IsOpening k.setting.rules k.setting.opening) c.self.view_is c.self.invariant.opening
+    subst (λ (k : Proxy). IsOpening k.setting.rules k.setting.opening) c.self.view_is c.self.invariant.opening
 
 pub returns-clause-few : goal.returns-clause-few
 returns-clause-few c =

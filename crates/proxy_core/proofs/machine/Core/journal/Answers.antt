@@ -1,7 +1,7 @@
 use Rattle.std.proofs.Common.{◌∙◌, ap}
 use Rattle.proxy_history.specs.Payload.{payload}
-use Rattle.proxy_history.specs.Proxy.{Kept, history_in}
-use Rattle.proxy_core.specs.Kept.{Memory}
+use Rattle.proxy_history.specs.Proxy.{Proxy, history_in}
+use Rattle.proxy_core.specs.Memory.{Memory}
 use Rattle.proxy_core.specs.declared.machine.Machine.{Machine}
 use Rattle.proxy_core.proofs.machine.Core.journal.Goals as goal
 
@@ -9,4 +9,4 @@ pub returns-clause-bytes : goal.returns-clause-bytes
 returns-clause-bytes c =
     ap (λ (m : Machine). m.journal.bytes) c.deref.ensures
     ∙ ap (λ (z : Memory). z.bytes) c.self.invariant.memory
-    ∙ ap (λ (k : Kept). payload (history_in k)) c.self.view_is
+    ∙ ap (λ (k : Proxy). payload (history_in k)) c.self.view_is

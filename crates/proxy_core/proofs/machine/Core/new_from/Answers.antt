@@ -4,12 +4,12 @@ use Rattle.ejector.specs.Ejector.{Ejection}
 use Rattle.ejector.specs.Opening.{IsOpening}
 use Rattle.ejector.specs.Settings.{first_difference}
 use Rattle.ejector.proofs.CallerLemmas.{opening_first, no_difference}
-use Rattle.proxy_history.specs.Proxy.{Kept, rules_of, setting_from}
+use Rattle.proxy_history.specs.Proxy.{Proxy, rules_of, setting_from}
 use Rattle.proxy_core.specs.Core.{detector_state}
 use Rattle.proxy_core.proofs.machine.Core.new_from.Goals as goal
 
 -- with an empty journal outlier detection stands where it was
-detected-handed : (k : Kept) (ring : Continuum) (e : Ejection) → k.setting ≡ setting_from ring e → k.steps ≡ [] → IsOpening e.rules e.state → detector_state k ≡ e.state
+detected-handed : (k : Proxy) (ring : Continuum) (e : Ejection) → k.setting ≡ setting_from ring e → k.steps ≡ [] → IsOpening e.rules e.state → detector_state k ≡ e.state
 detected-handed k ring e setting steps opening =
     let same : k ≡ record { setting = setting_from ring e; steps = [] } = λ i. record { setting = setting i; steps = steps i } in
     ap detector_state same ∙ opening_first e.rules e.state opening

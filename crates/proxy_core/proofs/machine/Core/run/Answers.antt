@@ -1,7 +1,7 @@
 use Rattle.std.proofs.Common.{◌++◌, [], ◌∷◌, List, Result, ℕ, length, refl, sym, ap, ◌∙◌, subst, arith}
 use Rattle.proxy_history.specs.Setting.{Setting}
 use Rattle.proxy_history.specs.Legal.{IsLegal}
-use Rattle.proxy_history.specs.Proxy.{Kept, history_in}
+use Rattle.proxy_history.specs.Proxy.{Proxy, history_in}
 use Rattle.proxy_history.specs.declared.answer.Answer.{Answer}
 use Rattle.proxy_history.specs.declared.event.Event.{Event}
 use Rattle.proxy_history.specs.declared.refusal.Refusal.{Refusal}
@@ -44,6 +44,6 @@ returns-clause-run c =
 pub returns-clause-legal : goal.returns-clause-legal
 returns-clause-legal c =
     let i = c.loop-pass.invariant in
-    let before = subst (λ (k : Kept). IsLegal k.setting (history_in k)) c.self.view_is c.self.invariant.legal in
+    let before = subst (λ (k : Proxy). IsLegal k.setting (history_in k)) c.self.view_is c.self.invariant.legal in
     subst (λ (T : Setting). IsLegal T (history_in c.loop-pass.self)) (sym i.setting)
     (IsLegal-run c.args.self.now.setting (history_in c.args.self.now) c.loop-pass.yielded c.loop-pass.answers.items (history_in c.loop-pass.self) before i.run)

@@ -1,6 +1,6 @@
 use Rattle.std.proofs.Common.{◌≡◌, ◌≢◌, ◌∙◌, ap, sym, refl}
 use Rattle.resp_core.specs.declared.error.RespError.{RespError}
-use Rattle.proxy_engines.specs.Ends.{Receiving}
+use Rattle.proxy_engines.specs.Ends.{InboxState}
 use Rattle.proxy_engines.proofs.InboxLemmas.{holds-value, holds-refused, holds-unmoved, all-given}
 use Rattle.proxy_engines.proofs.inbox.Inbox.next_request.Goals as goal
 use Rattle.proxy_engines.proofs.inbox.Inbox.next_request.Goals.{in-Ok-Some, in-Ok-None, in-Err+else-is_memory}
@@ -8,13 +8,13 @@ use Rattle.proxy_engines.proofs.inbox.Inbox.next_request.Goals.{in-Ok-Some, in-O
 pub returns-then-is_memory-clause-err : goal.returns-then-is_memory-clause-err
 returns-then-is_memory-clause-err g c =
     let same = c.in-Err.ensures.memory (rw (c.is_memory.ensures.0 c.if-is_memory.true) refl) in
-    let values : c.self.inside.values ≡ c.feed.new.self.values = ap (λ (z : Receiving). z.values) c.self.view_is in
-    λ b rs h. holds-unmoved c.feed.new.self _ b rs (ap (λ (z : Receiving). z.fresh) c.self.view_is) (rw values at same.refusal) (rw values at same.stands) (c.in_ok-feed.ensures.holds b rs h)
+    let values : c.self.inside.values ≡ c.feed.new.self.values = ap (λ (z : InboxState). z.values) c.self.view_is in
+    λ b rs h. holds-unmoved c.feed.new.self _ b rs (ap (λ (z : InboxState). z.fresh) c.self.view_is) (rw values at same.refusal) (rw values at same.stands) (c.in_ok-feed.ensures.holds b rs h)
 
 pub returns-clause-some : goal.returns-clause-some
 returns-clause-some g c =
-    let values : c.self.inside.values ≡ c.feed.new.self.values = ap (λ (z : Receiving). z.values) c.self.view_is in
-    let fresh = ap (λ (z : Receiving). z.fresh) c.self.view_is ∙ c.in_ok-feed.ensures.fresh in
+    let values : c.self.inside.values ≡ c.feed.new.self.values = ap (λ (z : InboxState). z.values) c.self.view_is in
+    let fresh = ap (λ (z : InboxState). z.fresh) c.self.view_is ∙ c.in_ok-feed.ensures.fresh in
     elim c.match-next_value.branch [
       | in-Ok-Some w ↦
           let next = rw w.in-Ok-Some.field-0-is at w.in-Ok-Some.ensures.value in
@@ -28,18 +28,18 @@ returns-clause-some g c =
 
 pub returns-clause-none : goal.returns-clause-none
 returns-clause-none g c =
-    let values : c.self.inside.values ≡ c.feed.new.self.values = ap (λ (z : Receiving). z.values) c.self.view_is in
+    let values : c.self.inside.values ≡ c.feed.new.self.values = ap (λ (z : InboxState). z.values) c.self.view_is in
     elim c.match-next_value.branch [
       | in-Ok-Some w ↦ rw w.result-is tt
       | in-Ok-None w ↦
           let same = rw w.in-Ok-None.field-0-is at w.in-Ok-None.ensures.none_same in
-          rw w.result-is (λ b rs h. holds-unmoved c.feed.new.self _ b rs (ap (λ (z : Receiving). z.fresh) c.self.view_is) (rw values at same.refusal) (rw values at same.stands) (c.in_ok-feed.ensures.holds b rs h))
+          rw w.result-is (λ b rs h. holds-unmoved c.feed.new.self _ b rs (ap (λ (z : InboxState). z.fresh) c.self.view_is) (rw values at same.refusal) (rw values at same.stands) (c.in_ok-feed.ensures.holds b rs h))
       | in-Err+else-is_memory w ↦ rw w.result-is tt
     ]
 
 pub returns-clause-all : goal.returns-clause-all
 returns-clause-all g c =
-    let fresh = ap (λ (z : Receiving). z.fresh) c.self.view_is ∙ c.in_ok-feed.ensures.fresh in
+    let fresh = ap (λ (z : InboxState). z.fresh) c.self.view_is ∙ c.in_ok-feed.ensures.fresh in
     elim c.match-next_value.branch [
       | in-Ok-Some w ↦ rw w.result-is tt
       | in-Ok-None w ↦

@@ -3,7 +3,7 @@ use Rattle.proxy_engines.proofs.HostMoves.{told_both, told_either}
 use Rattle.proxy_history.specs.declared.event.Event.{Event}
 use Rattle.proxy_history.specs.declared.refusal.Refusal.{Refusal}
 use Rattle.proxy_engines.specs.Device.{Counts, HasRisen}
-use Rattle.proxy_engines.specs.Ends.{Receiving}
+use Rattle.proxy_engines.specs.Ends.{InboxState}
 use Rattle.proxy_engines.specs.Turned.{HasHeld}
 use Rattle.proxy_engines.proofs.FaultLemmas.{either_still, idle_then, not_late}
 use Rattle.proxy_engines.proofs.MoveLemmas.{moves-err, as_faulty}
@@ -25,7 +25,7 @@ returns-clause-idle g c = λ e.
     let both = either_still c.in_ok-sent.sent c.in_ok-received.received (sym c.or.ensures.is ∙ e) in
     let sent = c.in_ok-sent.ensures.idle both.0 in
     let received = c.in_ok-received.ensures.idle both.1 in (
-      subst (λ (i : Receiving). HasRisen i.counts.paused c.receive.new.self.inbox.counts.paused) c.send.ensures.inbox received,
+      subst (λ (i : InboxState). HasRisen i.counts.paused c.receive.new.self.inbox.counts.paused) c.send.ensures.inbox received,
       subst (λ (n : Counts). HasRisen c.args.self.now.counts.paused n.paused ⊎ ((c.args.line.now.pending ≡ []) × HasHeld (g.T.Turns.cause (g.T.Turns.setting c.args.turns.now) Refusal.NothingWaiting) (Event.Taken c.args.line.now.host) (g.T.Turns.seen c.args.turns.now) (g.T.Turns.seen c.receive.new.turns))) (sym c.receive.ensures.writes)
           (idle_then (g.T.Turns.cause (g.T.Turns.setting c.args.turns.now) Refusal.NothingWaiting) (Event.Taken c.args.line.now.host) _ _ _ _ _ c.send.ensures.seen c.receive.ensures.seen sent),
     )
