@@ -1,12 +1,15 @@
-//! Measures turns of the core.
+//! Measures turns of the core, owners that a ring tells, and reading of values.
 //!
 //! `core_bench run` prints how long the cycle Arrived, Taken, Answered, Handed takes for a GET with replies of several
 //! lengths, for an MGET of ten keys and for pipelines of 64 commands, and beside it the MD5 of the key and a push and a pop
 //! of a queue, as a scale. The events are built before the time is taken; a journal is thrown away at 20,000 steps. Each
-//! figure is the least of several rounds. With no argument it prints how to run it, so that its output is always the same.
+//! figure is the least of several rounds. `core_bench rings` prints how fast rings are, `core_bench reader` how fast the
+//! reader of values is. With no argument it prints how to run it, so that its output is always the same.
 #![tactic(auto)]
 
 mod load;
+mod reader;
+mod rings;
 mod scale;
 
 use crate::load::Load;
@@ -17,33 +20,37 @@ use std::env;
 use std::io::Print;
 use std::rt::Clock;
 
+const HELP: &str = "core_bench run: prints how long the turns of a command take
+core_bench rings: prints owners a second for rings of 3 and of 64 hosts
+core_bench reader: prints bytes a second of a reader, and of a plain copy";
+
 fn main(rt: HostRuntime) -> Result<()> {
-    let asked_to_run = env::args(&rt)?
-        .nth(1)
-        .is_some_and(|word| word.as_str() == "run");
-    if !asked_to_run {
-        println!(rt; "core_bench run: prints how long the turns of a command take")?;
-        return Ok(());
-    }
     let alloc = rt.alloc();
-    print_load(&rt, alloc, "GET, reply of 64 bytes", Load::get(alloc, 64)?)?;
-    print_load(&rt, alloc, "GET, reply of 4 KiB", Load::get(alloc, 4_096)?)?;
+    let word = env::args(&rt)?.nth(1);
+    match word.as_ref().map_or("", |word| word.as_str()) {
+        "run" => print_turns(&rt, alloc)?,
+        "rings" => rings::print(&rt, alloc)?,
+        "reader" => reader::print(&rt, alloc)?,
+        _ => println!(rt; "{HELP}")?,
+    }
+    Ok(())
+}
+
+// Prints how long the turns of a command take.
+fn print_turns(rt: &(impl Clock + Print), alloc: Global) -> Result<()> {
+    print_load(rt, alloc, "GET, reply of 64 bytes", Load::get(alloc, 64)?)?;
+    print_load(rt, alloc, "GET, reply of 4 KiB", Load::get(alloc, 4_096)?)?;
+    print_load(rt, alloc, "GET, reply of 64 KiB", Load::get(alloc, 65_536)?)?;
+    print_load(rt, alloc, "MGET of 10 keys", Load::mget(alloc, 10)?)?;
     print_load(
-        &rt,
-        alloc,
-        "GET, reply of 64 KiB",
-        Load::get(alloc, 65_536)?,
-    )?;
-    print_load(&rt, alloc, "MGET of 10 keys", Load::mget(alloc, 10)?)?;
-    print_load(
-        &rt,
+        rt,
         alloc,
         "GET, 64 in a pipeline",
         Load::pipeline(alloc, 64)?,
     )?;
-    let digest = digest_time(&rt)?;
+    let digest = digest_time(rt)?;
     println!(rt; "MD5 of the key: {digest} ns")?;
-    let queue = queue_time(&rt, alloc)?;
+    let queue = queue_time(rt, alloc)?;
     println!(rt; "push and pop of a VecDeque: {queue} ns")?;
     Ok(())
 }

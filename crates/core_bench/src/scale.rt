@@ -5,7 +5,7 @@ use ketama::point_of_key;
 use std::alloc::Global;
 use std::collections::VecDeque;
 use std::rt::Clock;
-use std::time::Instant;
+use std::time::{Duration, Instant};
 
 const CALLS: u64 = 100_000;
 
@@ -31,4 +31,12 @@ pub fn queue_time(rt: &impl Clock, alloc: Global) -> Result<u128> {
     }
     let time = start.elapsed(rt)?.as_nanos();
     Ok(time / u128::from(CALLS) + u128::from(sum / u64::MAX))
+}
+
+/// The microseconds of a duration.
+pub fn micros(elapsed: Duration) -> u64 {
+    elapsed
+        .as_secs()
+        .saturating_mul(1_000_000)
+        .saturating_add(u64::from(elapsed.subsec_micros()))
 }

@@ -1,5 +1,5 @@
 //! A writer that is given large pieces.
-ghost use Rattle.std.specs.Prelude.{◌≡◌, ◌==◌, ◌&&◌, not, true, false, ℕ, [], ◌++◌, length, take, IfOk, OnOk, OnErr};
+ghost use Rattle.std.specs.Prelude.{◌≡◌, ◌==◌, ◌&&◌, not, true, false, ℕ, [], ◌++◌, length, take, IfOk, OnOk, OnErr, IsErr};
 ghost use Rattle.std.specs.Io.{WritesAtMost};
 ghost use Rattle.serve_parts.specs.Outgoing.{GoesOut};
 
@@ -124,9 +124,11 @@ impl<W: Write> Gatherer<W> {
         }
     }
 
-    /// Writes what is gathered, as far as the writer takes it. Where all of it was taken, the room is given back.
+    /// Writes what is gathered, as far as the writer takes it. Where all of it was taken, the room is given back. Once a write
+    /// has failed nothing is written and nothing changes.
     pub fn write_out(&mut self, room: &mut Vec<u8>)
-        ensures { GoesOut self.old self.new [] }
+        ensures goes_out { GoesOut self.old self.new [] }
+        ensures broken { self.old.is_broken ≡ true → self.new ≡ self.old }
     {
         self.write_gathered();
         if self.is_empty() {
@@ -168,7 +170,8 @@ impl<W: Write> Gatherer<W> {
 
     // Writes until all is taken or the writer takes no more.
     fn write_gathered(&mut self)
-        ensures { GoesOut self.old self.new [] }
+        ensures goes_out { GoesOut self.old self.new [] }
+        ensures broken { self.old.is_broken ≡ true → self.new ≡ self.old }
     {
         for _ in 0..self.bytes.len() {
             if !self.may_write() {
@@ -228,7 +231,8 @@ impl<W: Write> Gatherer<W> {
 
     // Writes first where so many bytes more are too many.
     fn make_room(&mut self, count: usize)
-        ensures { GoesOut self.old self.new [] }
+        ensures goes_out { GoesOut self.old self.new [] }
+        ensures broken { self.old.is_broken ≡ true → self.new ≡ self.old }
     {
         if self.count() >= MOST_GATHERED || count >= MOST_GATHERED {
             self.write_gathered();
@@ -239,6 +243,7 @@ impl<W: Write> Gatherer<W> {
         ensures bound { WritesAtMost result bytes.now }
         ensures ok { IfOk result (λ n. GoesOut self.old self.new (take n bytes.now)) }
         ensures err { OnErr result (GoesOut self.old self.new []) }
+        ensures broken { self.old.is_broken ≡ true → IsErr result × (self.new ≡ self.old) }
     {
         if self.is_broken {
             return Err(broken());
@@ -257,14 +262,16 @@ impl<W: Write> Gatherer<W> {
     }
 
     /// Takes these bytes, all of them where they are fewer than 65,536. They are gathered behind the others; a text that is
-    /// longer is written at once.
+    /// longer, or for which there is no memory, is written at once, behind the others, as far as the writer takes it.
     ///
-    /// Answers `WouldBlock`, and has taken nothing, where 65,536 bytes are gathered that the writer doesn't take, and where
-    /// there is no memory; `BrokenPipe` once a write has failed.
+    /// Answers `WouldBlock`, and has taken nothing, where 65,536 bytes are gathered that the writer doesn't take, and where a
+    /// text that isn't gathered can't be written now. `BrokenPipe` says that a write has failed before: nothing is taken and
+    /// nothing changes. An error of a text that is written at once is the writer's own.
     pub fn write(&mut self, bytes: &[u8]) -> io::Result<usize>
         ensures bound { WritesAtMost result bytes.now }
         ensures ok { IfOk result (λ n. GoesOut self.old self.new (take n bytes.now)) }
         ensures err { OnErr result (GoesOut self.old self.new []) }
+        ensures broken { self.old.is_broken ≡ true → IsErr result × (self.new ≡ self.old) }
     {
         self.make_room(bytes.len());
         self.take_in(bytes)

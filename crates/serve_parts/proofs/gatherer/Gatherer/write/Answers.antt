@@ -11,11 +11,11 @@ returns-clause-ok g c =
     let new = c.take_in.new.self in
     let bytes = c.args.bytes.now in
     IfOk-weaker c.take_in.result (λ n. GoesOut mid new (take n bytes)) (λ n. GoesOut old new (take n bytes))
-    (λ n out. GoesOut-then old mid new (take n bytes) c.make_room.ensures out) c.take_in.ensures.ok
+    (λ n out. GoesOut-then old mid new (take n bytes) c.make_room.ensures.goes_out out) c.take_in.ensures.ok
 
 pub returns-clause-err : goal.returns-clause-err
 returns-clause-err g c =
     let mid = c.make_room.new.self in
     let new = c.take_in.new.self in
-    on_err_weaker c.take_in.result (λ out. GoesOut-then c.args.self.now mid new [] c.make_room.ensures out)
+    on_err_weaker c.take_in.result (λ out. GoesOut-then c.args.self.now mid new [] c.make_room.ensures.goes_out out)
     c.take_in.ensures.err

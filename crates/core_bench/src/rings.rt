@@ -1,36 +1,27 @@
-//! Measures how many owners a second a ring tells, and how long it takes to build one.
-//!
-//! `ketama_bench run` prints both on this machine for 3 and for 64 hosts. With no argument it
-//! prints how to run it, so that its output is always the same.
-#![tactic(auto)]
+//! How many owners a second a ring tells, and how long it takes to build one.
 
 ghost use Rattle.std.specs.Prelude.{◌≡◌, length};
 
+use crate::scale::micros;
 use anyhow::Result;
 use ketama::{HostName, Ring, RingError};
 use std::alloc::Global;
-use std::env;
+use std::io::Print;
 use std::rt::Clock;
-use std::time::{Duration, Instant};
+use std::time::Instant;
 
-/// How many owners are asked for in one measurement.
+// How many owners are asked for in one measurement.
 const ASKED: u32 = 20_000_000;
 
-/// How many rings are built in one measurement.
+// How many rings are built in one measurement.
 const BUILT: u64 = 20;
 
-fn main(rt: HostRuntime) -> Result<()> {
-    let asked_to_run = env::args(&rt)?
-        .nth(1)
-        .is_some_and(|word| word.as_str() == "run");
-    if !asked_to_run {
-        println!(rt; "ketama_bench run: prints owners a second for rings of 3 and of 64 hosts")?;
-        return Ok(());
-    }
+/// Prints both for 3 and for 64 hosts.
+pub fn print(rt: &(impl Clock + Print), alloc: Global) -> Result<()> {
     for hosts in [3, 64] {
-        let ring = ring_of(rt.alloc(), hosts)?;
-        let built = micros_to_build(&rt, rt.alloc(), hosts)?;
-        let rate = owners_a_second(&rt, rt.alloc(), &ring)?;
+        let ring = ring_of(alloc, hosts)?;
+        let built = micros_to_build(rt, alloc, hosts)?;
+        let rate = owners_a_second(rt, alloc, &ring)?;
         println!(rt; "{hosts} hosts: built in {built} microseconds, {rate} owners a second")?;
     }
     Ok(())
@@ -44,7 +35,7 @@ fn owners_a_second(rt: &impl Clock, alloc: Global, ring: &Ring) -> Result<u64> {
     Ok(u64::from(owned) * 1_000_000 / micros.max(1))
 }
 
-/// The mean over some rings of these hosts, in microseconds.
+// The mean over some rings of these hosts, in microseconds.
 fn micros_to_build(rt: &impl Clock, alloc: Global, hosts: usize) -> Result<u64> {
     let start = Instant::now(rt)?;
     for _ in 0..BUILT {
@@ -53,14 +44,7 @@ fn micros_to_build(rt: &impl Clock, alloc: Global, hosts: usize) -> Result<u64> 
     Ok(micros(start.elapsed(rt)?) / BUILT)
 }
 
-fn micros(elapsed: Duration) -> u64 {
-    elapsed
-        .as_secs()
-        .saturating_mul(1_000_000)
-        .saturating_add(u64::from(elapsed.subsec_micros()))
-}
-
-/// How many of some points all over the ring have an owner.
+// How many of some points all over the ring have an owner.
 fn count_owned(ring: &Ring, usable: &[bool]) -> u32
     requires { length usable.now ≡ ring.now.hosts }
 {

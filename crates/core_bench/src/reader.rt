@@ -1,34 +1,24 @@
-//! Measures how fast values are read from a stream.
-//!
-//! `reader_bench run` prints, for streams of some 4 MB and for each length of the pieces in which they come, the bytes
-//! that are read a second on this machine, and beside them those of a plain copy of the same pieces into one buffer. With
-//! no argument it prints how to run it, so that its output is always the same.
-#![tactic(auto)]
+//! How fast values are read from a stream.
 
+use crate::scale::micros;
 use anyhow::Result;
 use resp_core::{Limits, Reader, RespError};
 use std::alloc::Global;
-use std::env;
+use std::io::Print;
 use std::rt::Clock;
 use std::time::{Duration, Instant};
 
-/// The lengths of the pieces.
+// The lengths of the pieces.
 const PIECES: [usize; 2] = [16_384, 1];
 
-fn main(rt: HostRuntime) -> Result<()> {
-    let asked_to_run = env::args(&rt)?
-        .nth(1)
-        .is_some_and(|word| word.as_str() == "run");
-    if !asked_to_run {
-        println!(rt; "reader_bench run: prints bytes a second of a reader, and of a plain copy")?;
-        return Ok(());
-    }
-    let alloc = rt.alloc();
+/// Prints, for streams of some 4 MB and for each length of the pieces in which they come, the bytes that are read a second,
+/// and beside them those of a plain copy of the same pieces into one buffer.
+pub fn print(rt: &(impl Clock + Print), alloc: Global) -> Result<()> {
     for stream in Stream::ALL {
         let bytes = stream.bytes(alloc)?;
         for piece in PIECES {
-            let read = bytes_a_second(bytes.len(), time_read(&rt, alloc, &bytes, piece)?);
-            let copied = bytes_a_second(bytes.len(), time_copied(&rt, alloc, &bytes, piece)?);
+            let read = bytes_a_second(bytes.len(), time_read(rt, alloc, &bytes, piece)?);
+            let copied = bytes_a_second(bytes.len(), time_copied(rt, alloc, &bytes, piece)?);
             let name = stream.name();
             let len = bytes.len();
             println!(rt;
@@ -39,7 +29,7 @@ fn main(rt: HostRuntime) -> Result<()> {
     Ok(())
 }
 
-/// What a stream holds.
+// What a stream holds.
 #[derive(Clone, Copy, Drop)]
 enum Stream {
     Commands,
@@ -49,7 +39,7 @@ enum Stream {
 }
 
 impl Stream {
-    /// The streams that are measured.
+    // The streams that are measured.
     const ALL: [Stream; 4] = [
         Stream::Commands,
         Stream::Bulks,
@@ -153,9 +143,5 @@ fn time_copied(rt: &impl Clock, alloc: Global, bytes: &[u8], piece: usize) -> Re
 }
 
 fn bytes_a_second(bytes: usize, elapsed: Duration) -> u64 {
-    let micros = elapsed
-        .as_secs()
-        .saturating_mul(1_000_000)
-        .saturating_add(u64::from(elapsed.subsec_micros()));
-    (bytes as u64).saturating_mul(1_000_000) / micros.max(1)
+    (bytes as u64).saturating_mul(1_000_000) / micros(elapsed).max(1)
 }
