@@ -105,9 +105,9 @@ pushed_by conn command p (Some h) None pipelines e f a b = rw (e, f, ← a, ← 
 pub pushed_as_parts : (conn command : ℕ) (ps : List Part) (pipelines : List PipelineState) → AreOf conn command ps
     → pushed_all conn command (map placed_as ps) pipelines ≡ pushed_parts ps pipelines
 pushed_as_parts conn command [] pipelines a = refl
-pushed_as_parts conn command (p ∷ ps) pipelines a =
-    ap (pushed_all conn command (map placed_as ps)) (pushed_by conn command p p.host p.local pipelines refl refl a.0 a.1)
-    ∙ pushed_as_parts conn command ps (pushed_part p pipelines) a.2
+pushed_as_parts conn command (p ∷ ps) pipelines (of_conn, of_command, others) =
+    ap (pushed_all conn command (map placed_as ps)) (pushed_by conn command p p.host p.local pipelines refl refl of_conn of_command)
+    ∙ pushed_as_parts conn command ps (pushed_part p pipelines) others
 
 -- A KEPT MACHINE
 

@@ -75,9 +75,9 @@ any_open H ps q o = by_any (cases_Bool (list_any (is_same q) ps))
   where
     by_any : (list_any (is_same q) ps ≡ true) ⊎ (list_any (is_same q) ps ≡ false) → list_any (is_same q) (open_parts H ps) ≡ list_any (is_same q) ps
     by_any (inl y) =
-        let a = list_any-true (is_same q) ps y in
-        let still : has_open H a.0 ≡ true = ap (λ c. not (is_closed c H)) (sym (same_conn a.0 q a.2)) ∙ ap not o in
-        list_any-member (is_same q) (open_parts H ps) a.0 (Contains-filter_passing (has_open H) ps a.0 a.1 still) a.2 ∙ sym y
+        let (p, among, same) = list_any-true (is_same q) ps y in
+        let still : has_open H p ≡ true = ap (λ c. not (is_closed c H)) (sym (same_conn p q same)) ∙ ap not o in
+        list_any-member (is_same q) (open_parts H ps) p (Contains-filter_passing (has_open H) ps p among still) same ∙ sym y
     by_any (inr n) = list_any-none (is_same q) (open_parts H ps) (λ p h. list_any-false (is_same q) ps p n (Contains-filter (has_open H) ps p h)) ∙ sym n
 
 -- after a step that brings no parts and changes nothing but values

@@ -29,9 +29,12 @@ module _ (S : Setting) (H : History) (host e t : ℕ) (value : Value) (legal : I
   oldest : (p : Part) × (rest : List Part) × (in_flight host (past S H) ≡ p ∷ rest)
   oldest = oldest_flies S H host e t value none
 
+  flight_is : in_flight host (past S H) ≡ oldest.0 ∷ oldest.1
+  flight_is = let (_, _, is) = oldest in is
+
   flies : (p : Part) → Contains (oldest.0 ∷ []) p → Contains (in_flight host (past S H)) p
   flies p i = elim (Contains-cases oldest.0 [] p i) [
-    | inl one ↦ subst (λ (z : Part). Contains (in_flight host (past S H)) z) one (subst (λ (z : List Part). Contains z oldest.0) (sym oldest.2) (Contains-first oldest.0 oldest.1))
+    | inl one ↦ subst (λ (z : Part). Contains (in_flight host (past S H)) z) one (subst (λ (z : List Part). Contains z oldest.0) (sym flight_is) (Contains-first oldest.0 oldest.1))
     | inr more ↦ absurd (Contains-nil p more)
   ]
 
@@ -43,7 +46,7 @@ module _ (S : Setting) (H : History) (host e t : ℕ) (value : Value) (legal : I
   }
 
   next_owner_is : next_owner (pipeline_of (past S H) host).flying ≡ map owner_of_part (open_parts H (oldest.0 ∷ []))
-  next_owner_is = ap (λ (z : List Part). next_owner (map (place_of (past S H)) z)) oldest.2 ∙ next_is (past S H) oldest.0 oldest.1
+  next_owner_is = ap (λ (z : List Part). next_owner (map (place_of (past S H)) z)) flight_is ∙ next_is (past S H) oldest.0 oldest.1
 
   -- the part that is answered has no value yet
   pub answered-awaited : AreAwaited (next_owner (pipeline_of (past S H) host).flying) (tree_of value) (connections_of (past S H))
@@ -60,5 +63,5 @@ connections-answered S H pass host e t value answer legal none =
     let o = oldest S H host e t value legal none in
     come-connections S H (record { pass = pass; event = Answered host e value t; answer = answer }) (o.0 ∷ []) (tree_of value) legal (none_yet S H host e t value legal none)
     (connections-valued x' ∙ map-range_same _ _ 0 (openings H) (λ c l m. nothing-new (value_of x') (past S H).parts H c))
-    (λ q i o'. values_answered S H pass host e t value answer none o.0 o.1 o.2 q i)
+    (λ q i o'. values_answered S H pass host e t value answer none o.0 o.1 (flight_is S H host e t value legal none) q i)
     ∙ ap (λ (z : List Owner). answered_parts z (tree_of value) (connections_of (past S H))) (sym (next_owner_is S H host e t value legal none))

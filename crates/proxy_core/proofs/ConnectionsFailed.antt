@@ -32,7 +32,7 @@ all_open H [] f = refl
 all_open H (p ∷ ps) f = rw (f p (Contains-first p ps)) (ap (λ z. p ∷ z) (all_open H ps (λ q h. f q (Contains-later p ps q h))))
 
 waiting_are_open : (h : ℕ) (x : Past) → open_parts x.steps (waiting_parts h x) ≡ waiting_parts h x
-waiting_are_open h x = all_open x.steps (waiting_parts h x) (λ p i. (waits_parts h x p (filter-passes (waits h x) x.parts p i)).2)
+waiting_are_open h x = all_open x.steps (waiting_parts h x) (λ p i. let (_, _, is_open) = waits_parts h x p (filter-passes (waits h x) x.parts p i) in is_open)
 
 -- those that a fault loses: the owners of what flew and of what waited, of open connections
 lost_is : (x : Past) (h : ℕ) → lost_owners (pipeline_of x h) ≡ map owner_of_part (open_parts x.steps (at_host h x))

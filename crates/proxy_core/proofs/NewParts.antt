@@ -115,9 +115,9 @@ value-local x p e now = ap (value_or p.local) (no_value x p p.host e now) ∙ by
 
 new_values : (S : Setting) (H : History) (conn : ℕ) (ps : List Part) → AreOf conn (accepted_count conn H) ps → AreNow H ps → map (value_of (past S H)) ps ≡ map (λ (p : Part). p.local) ps
 new_values S H conn [] a now = refl
-new_values S H conn (p ∷ ps) a now =
-    let next : p.command ≡ accepted_count p.conn H = a.1 ∙ ap (λ z. accepted_count z H) (sym a.0) in
-    rw (value-local (past S H) p (not_sent S H p next) now.0, new_values S H conn ps a.2 now.1) refl
+new_values S H conn (p ∷ ps) (of_conn, of_command, others) now =
+    let next : p.command ≡ accepted_count p.conn H = of_command ∙ ap (λ z. accepted_count z H) (sym of_conn) in
+    rw (value-local (past S H) p (not_sent S H p next) now.0, new_values S H conn ps others now.1) refl
 
 -- the values of a command's parts as it arrives
 pub placed_values : (S : Setting) (H : History) (conn : ℕ) (list : List PartPlan)

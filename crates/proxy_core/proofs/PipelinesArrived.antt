@@ -83,12 +83,12 @@ placed_now S x conn (leave name value) = tt
 new_wait : (S : Setting) (H : History) (conn h : ℕ) (ps : List Part) → is_closed conn H ≡ false → AreOf conn (accepted_count conn H) ps
     → filter (waits h (past S H)) ps ≡ filter (is_of h (epoch h H)) ps
 new_wait S H conn h [] o a = refl
-new_wait S H conn h (p ∷ ps) o a =
-    let next : p.command ≡ accepted_count p.conn H = a.1 ∙ ap (λ z. accepted_count z H) (sym a.0) in
-    let its_open : is_closed p.conn H ≡ false = ap (λ z. is_closed z H) a.0 ∙ o in
+new_wait S H conn h (p ∷ ps) o (of_conn, of_command, others) =
+    let next : p.command ≡ accepted_count p.conn H = of_command ∙ ap (λ z. accepted_count z H) (sym of_conn) in
+    let its_open : is_closed p.conn H ≡ false = ap (λ z. is_closed z H) of_conn ∙ o in
     elim (cases_Bool (is_of h (epoch h H) p)) [
-      | inl t ↦ rw (t, not_sent S H p next, its_open) (ap (λ z. p ∷ z) (new_wait S H conn h ps o a.2))
-      | inr f ↦ rw f (new_wait S H conn h ps o a.2)
+      | inl t ↦ rw (t, not_sent S H p next, its_open) (ap (λ z. p ∷ z) (new_wait S H conn h ps o others))
+      | inr f ↦ rw f (new_wait S H conn h ps o others)
     ]
 
 arrived_at : (S : Setting) (H : History) (pass conn : ℕ) (request : Request) (answer : Answer) (h : ℕ) → is_closed conn H ≡ false

@@ -72,13 +72,13 @@ taken_at S H pass host answer p ps legal q =
     let e = epoch host H in
     let n = length (replies_from host e H) in
     let sent = sent_to host e x in
-    let it = waits_parts host x p (first_waits host x p ps q) in
+    let (of_host, _, is_open) = waits_parts host x p (first_waits host x p ps q) in
     let sends : sent_by x s.event ≡ p ∷ [] = ap first q in
-    let of_it : filter (is_of host e) (p ∷ []) ≡ p ∷ [] = rw it.0 refl in
+    let of_it : filter (is_of host e) (p ∷ []) ≡ p ∷ [] = rw of_host refl in
     let more : sent_to host e x' ≡ sent ++ p ∷ [] = sent_to-after S x s host e ∙ ap (λ z. sent ++ filter (is_of host e) z) sends ∙ ap (λ z. sent ++ z) of_it in
     let same_came : replies_from host e (s ∷ H) ≡ replies_from host e H = append-nil (replies_from host e H) in
     let asked : n ≤ length sent = replies_were_asked S H host e legal in
-    let place : place_of x p ≡ Some (owner_of_part p) = rw it.2 refl in
+    let place : place_of x p ≡ Some (owner_of_part p) = rw is_open refl in
     same_pipeline (pipeline_of x' host) (taken_from (pipeline_of x host))
     (ap (map pipe_part) (after_taken S host pass answer x p ps (parts_are_in_order S H).apart q) ∙ ap (λ z. drop 1 (map pipe_part z)) (sym q))
     (ap (λ z. map (place_of x') (drop (length z) (sent_to host e x'))) same_came

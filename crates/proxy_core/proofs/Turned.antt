@@ -237,11 +237,10 @@ cause_so m event refusal.NoSuchHost kept h = sym (own_cause_is m event kept) ∙
 cause_so m event refusal.NotPlain kept h = sym (own_cause_is m event kept) ∙ h
 
 pub left : (old new : Machine) (event : Event) (r : Refused) → IsKept old → (r.event ≡ event) × IsSame old new × HasCauseIn old event r.cause → IsLeft old new event r
-left old new event r kept h =
-    let same = h.1 in
+left old new event r kept (is_event, same, has_cause) =
     record {
-      is_event = h.0;
-      cause = cause_so old event r.cause kept h.2;
+      is_event = is_event;
+      cause = cause_so old event r.cause kept has_cause;
       steps = same.steps;
       setting = same.setting;
       is_kept = kept_so new (setting_in old) (history_in old) same.setting (ap reverse same.steps) kept.legal (same.memory ∙ kept.memory) kept.hosts kept.rules kept.opening;

@@ -53,10 +53,10 @@ pub if_left : (done : Result Done Refusal) (r : Result Answer Refused) (old new 
     → IfErr done (λ cause. IsSame old new × HasCauseIn old event cause)
     → IfErr r (λ r. (r.event ≡ event) × (done ≡ Err r.cause) × (after ≡ new)) → IfErr r (λ r. IsLeft old after event' r)
 if_left done (Ok a) old new after event event' e kept h is = tt
-if_left done (Err r) old new after event event' e kept h is =
-    let cause = subst (λ (z : Result Done Refusal). IfErr z (λ cause. IsSame old new × HasCauseIn old event cause)) is.1 h in
+if_left done (Err r) old new after event event' e kept h (is_event, is_cause, is_new) =
+    let cause = subst (λ (z : Result Done Refusal). IfErr z (λ cause. IsSame old new × HasCauseIn old event cause)) is_cause h in
     subst (λ (z : Event). IsLeft old after z r) (sym e)
-    (subst (λ (m : Machine). IsLeft old m event r) (sym is.2) (left old new event r kept (is.0, cause.0, cause.1)))
+    (subst (λ (m : Machine). IsLeft old m event r) (sym is_new) (left old new event r kept (is_event, cause.0, cause.1)))
 
 pub all_three : (P Q R : Done → Type 0) (r : Result Done Refusal) → IfOk r P → IfOk r Q → IfOk r R → IfOk r (λ d. P d × Q d × R d)
 all_three P Q R (Ok d) p q s = (p, q, s)

@@ -16,7 +16,8 @@ pub run_more : (S : Setting) (before : History) (pairs : List (ℕ × Event)) (r
 run_more S before [] [] between pass event r after h turn = (after, subst (λ (z : History). IsTurn S z pass event r after) h turn, refl)
 run_more S before [] (x ∷ results) between pass event r after h turn = absurd h
 run_more S before (p ∷ pairs) [] between pass event r after h turn = absurd h
-run_more S before (p ∷ pairs) (x ∷ results) between pass event r after h turn = (h.0, h.1, run_more S h.0 pairs results between pass event r after h.2 turn)
+run_more S before (p ∷ pairs) (x ∷ results) between pass event r after (next, first, others) turn =
+    (next, first, run_more S next pairs results between pass event r after others turn)
 
 -- a turn leads from a legal history to a legal one
 IsLegal-turn : (S : Setting) (before : History) (pass : ℕ) (event : Event) (r : Result Answer Refusal) (after : History) → IsLegal S before → IsTurn S before pass event r after
@@ -30,8 +31,8 @@ pub IsLegal-run : (S : Setting) (before : History) (pairs : List (ℕ × Event))
 IsLegal-run S before [] [] after legal run = subst (IsLegal S) (sym run) legal
 IsLegal-run S before [] (r ∷ results) after legal run = absurd run
 IsLegal-run S before (p ∷ pairs) [] after legal run = absurd run
-IsLegal-run S before (p ∷ pairs) (r ∷ results) after legal run =
-    IsLegal-run S run.0 pairs results after (IsLegal-turn S before p.0 p.1 r run.0 legal run.1) run.2
+IsLegal-run S before (p ∷ pairs) (r ∷ results) after legal (next, first, others) =
+    IsLegal-run S next pairs results after (IsLegal-turn S before p.0 p.1 r next legal first) others
 
 pub append-item : {X : Type 0} (xs ys zs all : List X) (x : X) → ys ≡ x ∷ zs → xs ++ ys ≡ all → (xs ++ x ∷ []) ++ zs ≡ all
 append-item xs ys zs all x e h = append_assoc xs (x ∷ []) zs ∙ ap (λ z. xs ++ z) (sym e) ∙ h

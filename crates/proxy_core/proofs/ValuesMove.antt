@@ -86,12 +86,12 @@ flight_was_sent h x p i = Contains-drop (length (replies_from h (epoch h x.steps
 pub flight_is_unanswered : (h : ℕ) (x : Past) (p : Part) → AreApart x.sent → Contains (in_flight h x) p → IsUnanswered x h p
 flight_is_unanswered h x p a i =
     let e = epoch h x.steps in
-    let b = of_pipe h e p (filter-passes (is_of h e) x.sent p (flight_was_sent h x p i)) in
+    let (host_is, epoch_is, no_local) = of_pipe h e p (filter-passes (is_of h e) x.sent p (flight_was_sent h x p i)) in
     record {
-      no_local = b.2;
-      host_is = b.0;
-      epoch_is = b.1;
-      no_reply = not_found x h e p b.1 (behind_unfound (sent_to h e x) (replies_from h e x.steps) p (apart_filter (is_of h e) x.sent a) i);
+      no_local = no_local;
+      host_is = host_is;
+      epoch_is = epoch_is;
+      no_reply = not_found x h e p epoch_is (behind_unfound (sent_to h e x) (replies_from h e x.steps) p (apart_filter (is_of h e) x.sent a) i);
     }
 
 -- who waits has none
@@ -99,12 +99,12 @@ pub waiting_is_unanswered : (h : ℕ) (x : Past) (p : Part) → Contains (waitin
 waiting_is_unanswered h x p i =
     let e = epoch h x.steps in
     let w = waits_parts h x p (filter-passes (waits h x) x.parts p i) in
-    let b = of_pipe h e p w.0 in
+    let (host_is, epoch_is, no_local) = of_pipe h e p w.0 in
     record {
-      no_local = b.2;
-      host_is = b.0;
-      epoch_is = b.1;
-      no_reply = not_found x h e p b.1 (find-zip_none (is_same p) (sent_to h e x) (replies_from h e x.steps) (list_any-filter (is_same p) (is_of h e) x.sent w.1));
+      no_local = no_local;
+      host_is = host_is;
+      epoch_is = epoch_is;
+      no_reply = not_found x h e p epoch_is (find-zip_none (is_same p) (sent_to h e x) (replies_from h e x.steps) (list_any-filter (is_same p) (is_of h e) x.sent w.1));
     }
 
 pub at_host_is_unanswered : (h : ℕ) (x : Past) (p : Part) → AreApart x.sent → Contains (at_host h x) p → IsUnanswered x h p
@@ -277,10 +277,10 @@ unanswered_is_at_host S H h q i o u = list_any-append (is_same q) (in_flight h (
         → (list_any (is_same q) (in_flight h (past S H)) || list_any (is_same q) (waiting_parts h (past S H))) ≡ true
     by_sent (inl sent) =
         let x = past S H in
-        let a = list_any-true (is_same q) x.sent sent in
-        let is : q ≡ a.0 = is_same-apart x.parts q a.0 (parts_are_in_order S H).apart i (sent_parts_arrived S H a.0 a.1) a.2 in
-        let also : Contains (sent_to h (epoch h H) x) a.0 = Contains-filter_passing (is_of h (epoch h H)) x.sent a.0 a.1 (ap (is_of h (epoch h H)) (sym is) ∙ ours) in
-        let among : list_any (is_same q) (sent_to h (epoch h H) x) ≡ true = list_any-member (is_same q) (sent_to h (epoch h H) x) a.0 also a.2 in
+        let (p, was_sent, same) = list_any-true (is_same q) x.sent sent in
+        let is : q ≡ p = is_same-apart x.parts q p (parts_are_in_order S H).apart i (sent_parts_arrived S H p was_sent) same in
+        let also : Contains (sent_to h (epoch h H) x) p = Contains-filter_passing (is_of h (epoch h H)) x.sent p was_sent (ap (is_of h (epoch h H)) (sym is) ∙ ours) in
+        let among : list_any (is_same q) (sent_to h (epoch h H) x) ≡ true = list_any-member (is_same q) (sent_to h (epoch h H) x) p also same in
         or_left (list_any (is_same q) (in_flight h x)) (list_any (is_same q) (waiting_parts h x)) (list_any-unfound (is_same q) (sent_to h (epoch h H) x) (replies_from h (epoch h H) H) not_there among)
     by_sent (inr never) =
         let x = past S H in
@@ -349,9 +349,9 @@ module _ (S : Setting) (H : History) (pass host e t : ℕ) (kind : Kind) (answer
           → value_of (past S (failed_step ∷ H)) q ≡ (if list_any (is_same q) (at_host host (past S H)) then Some upstream_failure else value_of (past S H) q)
       by_place (inl y) =
           let x = past S H in
-          let a = list_any-true (is_same q) (at_host host x) y in
-          let is : q ≡ a.0 = is_same-apart x.parts q a.0 (parts_are_in_order S H).apart i (at_host_arrived S H host a.0 a.1) a.2 in
-          ap (value_of (past S (failed_step ∷ H))) is ∙ lost_now a.0 (at_host_is_unanswered host x a.0 (none_twice S H) a.1)
+          let (p, is_there, same) = list_any-true (is_same q) (at_host host x) y in
+          let is : q ≡ p = is_same-apart x.parts q p (parts_are_in_order S H).apart i (at_host_arrived S H host p is_there) same in
+          ap (value_of (past S (failed_step ∷ H))) is ∙ lost_now p (at_host_is_unanswered host x p (none_twice S H) is_there)
           ∙ ap (λ (b : Bool). if b then Some upstream_failure else value_of x q) (sym y)
       by_place (inr n) =
           let x = past S H in

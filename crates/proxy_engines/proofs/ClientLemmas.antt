@@ -24,16 +24,17 @@ module _ (e : Client) (H : History) (taken b : List ℕ) (k : Carries e H taken 
   where_none : e.inbox.values.refusal ≡ None → (more : List Request) × (rs ≡ asked_requests e.conn H ++ more)
   where_none none =
       let h = k.holds in
+      let (values, is_refused, holds, requests_are) = are in
       let split : Splits CLIENT_MEMBERS h.fed h.given h.stands.rest = rw k.most_is at h.stands.splits in
-      let whole : resp.Holds CLIENT_MEMBERS (h.fed ++ e.inbox.fresh) are.0 are.1 = rw h.bytes at are.2 in
-      let others = resp_core.values_stay CLIENT_MEMBERS h.fed e.inbox.fresh h.stands.rest h.given are.0 are.1 split whole in
-      let rest = map read others.0 ++ end_of are.1 in
+      let whole : resp.Holds CLIENT_MEMBERS (h.fed ++ e.inbox.fresh) values is_refused = rw h.bytes at holds in
+      let others = resp_core.values_stay CLIENT_MEMBERS h.fed e.inbox.fresh h.stands.rest h.given values is_refused split whole in
+      let rest = map read others.0 ++ end_of is_refused in
       let given : map read h.given ≡ asked_requests e.conn H ++ waiting_requests e.next = sym (append-nil (map read h.given)) ∙ sym (rw none at h.requests) ∙ k.given_are in (
         waiting_requests e.next ++ rest,
-        are.3
-            ∙ ap (λ (z : List Tree). map read z ++ end_of are.1) others.1
-            ∙ ap (λ z. z ++ end_of are.1) (map-append read h.given others.0)
-            ∙ append_assoc (map read h.given) (map read others.0) (end_of are.1)
+        requests_are
+            ∙ ap (λ (z : List Tree). map read z ++ end_of is_refused) others.1
+            ∙ ap (λ z. z ++ end_of is_refused) (map-append read h.given others.0)
+            ∙ append_assoc (map read h.given) (map read others.0) (end_of is_refused)
             ∙ ap (λ z. z ++ rest) given
             ∙ append_assoc (asked_requests e.conn H) (waiting_requests e.next) rest,
       )

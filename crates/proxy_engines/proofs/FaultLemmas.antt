@@ -52,11 +52,12 @@ front_of (x ∷ xs) = x
 
 -- a late reply is that of the oldest part
 pub late_is : (l : LineState) (m oldest : ℕ) (rest : List ℕ) → l.moments ≡ oldest ∷ rest → IsLate l m → l.reply_ms ≤ m - oldest
-late_is l m oldest rest is late = let same : oldest ≡ late.0 = ap front_of (sym is ∙ late.2) in rw same late.3
+late_is l m oldest rest is (first, others, moments, waited) =
+    let same : oldest ≡ first = ap front_of (sym is ∙ moments) in rw same waited
 
 -- where no part waits for a reply, none is late
 pub not_late-none : (l : LineState) (m : ℕ) → l.moments ≡ [] → ¬ IsLate l m
-not_late-none l m none late = let e : [] ≡ late.0 ∷ late.1 = sym none ∙ late.2 in absurd cc
+not_late-none l m none (first, others, moments, _) = let e : [] ≡ first ∷ others = sym none ∙ moments in absurd cc
 
 -- where nothing says that a reply is late, none is
 pub not_late : (l : LineState) (m : ℕ) (b : Bool) → b ≡ false → (b ≡ true) ↔ IsLate l m → ¬ IsLate l m

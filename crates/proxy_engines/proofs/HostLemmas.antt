@@ -30,12 +30,12 @@ module _ (U : LineState → LinkState → Type 0) where
 -- the cause of a fault, of the lists before and after it was recorded
 pub unasked_here : (C : Event → List SeenStep → Type 0) (x y z : List SeenStep) (m : ℕ) → StartsWith y x → StartsWith z y → (kind : Kind) (error : Option EngineError) (l : LineState) (j k : LinkState)
     → IsCauseOf kind error l j k ((v : Value) × (k.next ≡ Some v) × C (Event.Answered l.host l.epoch v m) y) m → IsCauseOf kind error l j k (IsUnasked C x z m l k) m
-unasked_here C x y z m later last kind error l j k cause = cause_later l l j j k _ _ m refl refl refl (λ u. (u.0, u.1, (y, later, last, u.2))) kind error cause
+unasked_here C x y z m later last kind error l j k cause = cause_later l l j j k _ _ m refl refl refl (λ (value, next, unasked). (value, next, (y, later, last, unasked))) kind error cause
 
 -- the causes of faults over longer lists
 module _ (C : Event → List SeenStep → Type 0) (x y z : List SeenStep) (m : ℕ) (later : StartsWith y x) where
   unasked_earlier : (l : LineState) (k : LinkState) → IsUnasked C y z m l k → IsUnasked C x z m l k
-  unasked_earlier l k u = let held = u.2 in (u.0, u.1, (held.0, starts_then x y held.0 later held.1, held.2, held.3))
+  unasked_earlier l k (value, next, (between, begins, ends, cause)) = (value, next, (between, starts_then x y between later begins, ends, cause))
 
   caused_earlier : (kind : Kind) (error : Option EngineError) (l : LineState) (j k : Option LinkState) → IsCausedOn (IsUnasked C y z m) kind error l j k m → IsCausedOn (IsUnasked C x z m) kind error l j k m
   caused_earlier kind error l None None c = c
@@ -55,8 +55,8 @@ module _ (C : Event → List SeenStep → Type 0) (x y z : List SeenStep) (m : �
           ⊎ ((kind : Kind) × (error : Option EngineError) × Records w.last new w.between I kind m × IsCausedOn (IsUnasked C y z m) kind error w.last.line k w.last.link m × (result ≡ answer_of error))
           → ((new.line ≡ w.last.line) × (new.link ≡ w.last.link) × (I ≡ w.between) × IsAnswered w.moved result × IfSome new.fault (λ kind. (error : Option EngineError) × IsCausedOn (IsUnasked C x z m) kind error w.last.line k w.last.link m))
           ⊎ ((kind : Kind) × (error : Option EngineError) × Records w.last new w.between I kind m × IsCausedOn (IsUnasked C x z m) kind error w.last.line k w.last.link m × (result ≡ answer_of error))
-      by (inl e) = inl (e.0, e.1, e.2, e.3, left_earlier new.fault w.last.line k w.last.link e.4)
-      by (inr e) = inr (e.0, e.1, e.2, caused_earlier e.0 e.1 w.last.line k w.last.link e.3, e.4)
+      by (inl (line, link, same, told, left)) = inl (line, link, same, told, left_earlier new.fault w.last.line k w.last.link left)
+      by (inr (kind, error, records, cause, answer)) = inr (kind, error, records, caused_earlier kind error w.last.line k w.last.link cause, answer)
 
   -- an earlier fault is recorded first
   pub steps_after : (old first new : HostState) (kind : Kind) (H I J : History) (answer result : Result Progress EngineError) → old.fault ≡ Some kind → FailsHost old.line first.line old.link H I kind m → first.link ≡ None → first.fault ≡ None

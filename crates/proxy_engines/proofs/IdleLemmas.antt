@@ -14,7 +14,8 @@ use Rattle.proxy_engines.proofs.HostMoves.{starts_then}
 
 -- what held between two lists held between two that stand further apart
 held_within : (C : Event → List SeenStep → Type 0) (event : Event) (w x y z : List SeenStep) → StartsWith x w → StartsWith z y → HasHeld C event x y → HasHeld C event w z
-held_within C event w x y z first last h = (h.0, starts_then w x h.0 first h.1, starts_then h.0 y z h.2 last, h.3)
+held_within C event w x y z first last (between, begins, ends, cause) =
+    (between, starts_then w x between first begins, starts_then between y z ends last, cause)
 
 -- what holds now held between the list before and this one
 pub held_now : (C : Event → List SeenStep → Type 0) (event : Event) (x y : List SeenStep) → StartsWith y x → C event y → HasHeld C event x y
@@ -26,7 +27,8 @@ module _ (C : Refusal → Event → List SeenStep → Type 0) (e new : Client) (
   nothing_later (inr n) = inr (n.0, held_within (C (Refusal.NotReady n.0)) (Event.Handed e.conn) x x y z ([], sym (append-nil x)) last n.1)
 
   pub idle_open : HandsNothing C e x y → IsHeldBack C new y z ⊎ AwaitsBytes e new → IsIdle C e new x z
-  idle_open nothing (inl b) = inr (empty, nothing_later nothing, inl (b.0, b.1, held_within (C Refusal.Crowded) (Event.Arrived new.conn b.0) x y z z first ([], sym (append-nil z)) b.2))
+  idle_open nothing (inl (request, next, crowded)) =
+      inr (empty, nothing_later nothing, inl (request, next, held_within (C Refusal.Crowded) (Event.Arrived new.conn request) x y z z first ([], sym (append-nil z)) crowded))
   idle_open nothing (inr a) = inr (empty, nothing_later nothing, inr (inr a))
 
   pub idle_finishing : HandsNothing C e x y → AwaitsReplies new → IsIdle C e new x z

@@ -38,6 +38,6 @@ filter-none p q (x ∷ xs) e = grind (arith, filter-none p q xs)
 -- a connection of which nothing was seen has no own steps
 pub connection_steps-own_steps : (c pass : ℕ) (before between : List SeenStep) → seen_of_connection c (before ++ between) ≡ [] → connection_steps c (own_steps pass before) ≡ []
 connection_steps-own_steps c pass before between none =
-    let is_own : SeenStep → Bool = λ s. is_connection_step c s.1 s.2 in
+    let is_own : SeenStep → Bool = λ (_, event, answer). is_connection_step c event answer in
     (history.IsReadInOrder-seen (steps_of pass before)).connection_steps_are c
     ∙ ap history_of_seen (filter-none is_own (λ (s : SeenStep). s.0 == pass) before (filter-append_first is_own before between none))

@@ -68,15 +68,15 @@ earlier_both H (p ∷ ps) qs a b = (a.0, earlier_both H ps qs a.1 b)
 
 new_are_earlier : (H : History) (conn : ℕ) (ps : List Part) → AreOf conn (accepted_count conn H) ps → (s : Step) → is_arrival conn s.event ≡ true → AreEarlier (s ∷ H) ps
 new_are_earlier H conn [] a s e = tt
-new_are_earlier H conn (p ∷ ps) a s e =
+new_are_earlier H conn (p ∷ ps) (of_conn, of_command, others) s e =
     let now : accepted_count conn (s ∷ H) ≡ accepted_count conn H + 1 = rw (e) refl in
-    (omega (arith, now, a.1, ap (λ k. accepted_count k (s ∷ H)) a.0), new_are_earlier H conn ps a.2 s e)
+    (omega (arith, now, of_command, ap (λ k. accepted_count k (s ∷ H)) of_conn), new_are_earlier H conn ps others s e)
 
 none_same_of : (p : Part) (conn command : ℕ) (qs : List Part) → ((p.conn == conn) && (p.command == command)) ≡ false → AreOf conn command qs → list_any (is_same p) qs ≡ false
 none_same_of p conn command [] e a = refl
-none_same_of p conn command (q ∷ qs) e a =
-    let f : ((p.conn == q.conn) && (p.command == q.command)) ≡ false = rw (a.0, a.1) e in
-    or_from _ _ (and_left _ (p.number == q.number) f) (none_same_of p conn command qs e a.2)
+none_same_of p conn command (q ∷ qs) e (of_conn, of_command, others) =
+    let f : ((p.conn == q.conn) && (p.command == q.command)) ≡ false = rw (of_conn, of_command) e in
+    or_from _ _ (and_left _ (p.number == q.number) f) (none_same_of p conn command qs e others)
 
 not_new : (H : History) (conn : ℕ) (p : Part) → p.command < accepted_count p.conn H → ((p.conn == conn) && (p.command == accepted_count conn H)) ≡ false
 not_new H conn p l = false_from_ne_true _ (λ t.

@@ -46,11 +46,11 @@ pub not_ready_means : (S : Setting) (x : Past) (c unwritten : ℕ)
     → (own_cause S x (Handed c) ≡ Some (refusal.NotReady unwritten)) ↔ HasNothingReady x c unwritten
 not_ready_means S x c unwritten = (
   λ e.
-      let a = refused_by (is_open c x.steps) (is_ready c x) unwritten (commands_left c x) e in
+      let (opened, unready, unwritten_are) = refused_by (is_open c x.steps) (is_ready c x) unwritten (commands_left c x) e in
       record {
-        opened = a.0;
-        unwritten_are = a.2;
-        none_ready = elim (not_ready x c a.1) [ inl none ↦ inl (a.2 ∙ none) | inr none ↦ inr none ];
+        opened = opened;
+        unwritten_are = unwritten_are;
+        none_ready = elim (not_ready x c unready) [ inl none ↦ inl (unwritten_are ∙ none) | inr none ↦ inr none ];
       },
   λ a. rw (a.opened, nothing_ready x c unwritten a, a.unwritten_are) refl,
 )

@@ -37,10 +37,10 @@ length-placing S x conn command placed (p ∷ ps) =
 
 pub all_of : (conn command : ℕ) (ps : List Part) → AreOf conn command ps → filter (is_part_of conn command) ps ≡ ps
 all_of conn command [] a = refl
-all_of conn command (p ∷ ps) a =
-    let f : (p.conn == conn) ≡ true = eq-eqb p.conn conn a.0 in
-    let g : (p.command == command) ≡ true = eq-eqb p.command command a.1 in
-    rw (f, g) (ap (λ z. p ∷ z) (all_of conn command ps a.2))
+all_of conn command (p ∷ ps) (of_conn, of_command, others) =
+    let f : (p.conn == conn) ≡ true = eq-eqb p.conn conn of_conn in
+    let g : (p.command == command) ≡ true = eq-eqb p.command command of_command in
+    rw (f, g) (ap (λ z. p ∷ z) (all_of conn command ps others))
 
 pub are_placed : (S : Setting) (x : Past) (conn : ℕ) (list : List PartPlan) → AreOf conn (accepted_count conn x.steps) (parts_placed S x conn (accepted_count conn x.steps) [] list)
 are_placed S x conn list = placing_are_of S x conn (accepted_count conn x.steps) [] list tt

@@ -44,7 +44,7 @@ AreOf conn command (p ∷ ps) = (p.conn ≡ conn) × (p.command ≡ command) × 
 
 are_of_with : (conn command : ℕ) (ps : List Part) (q : Part) → AreOf conn command ps → q.conn ≡ conn → q.command ≡ command → AreOf conn command (ps ++ q ∷ [])
 are_of_with conn command [] q a e f = (e, f, tt)
-are_of_with conn command (p ∷ ps) q a e f = (a.0, a.1, are_of_with conn command ps q a.2 e f)
+are_of_with conn command (p ∷ ps) q (of_conn, of_command, others) e f = (of_conn, of_command, are_of_with conn command ps q others e f)
 
 pub host_keeps_conn : (x : Past) (placed : List Part) (o : Option ℕ) (p : Part) → (with_host x placed o p).conn ≡ p.conn
 host_keeps_conn x placed None p = refl
@@ -65,9 +65,9 @@ placing_are_of S x conn command placed (p ∷ ps) a =
 -- none of these parts is of another command
 pub none_of : (c i conn command : ℕ) (ps : List Part) → ((conn == c) && (command == i)) ≡ false → AreOf conn command ps → filter (is_part_of c i) ps ≡ []
 none_of c i conn command [] e a = refl
-none_of c i conn command (p ∷ ps) e a =
-    let f : is_part_of c i p ≡ false = rw (a.0, a.1) e in
-    rw (f) (none_of c i conn command ps e a.2)
+none_of c i conn command (p ∷ ps) e (of_conn, of_command, others) =
+    let f : is_part_of c i p ≡ false = rw (of_conn, of_command) e in
+    rw (f) (none_of c i conn command ps e others)
 
 is_other : (x : Past) (c i conn : ℕ) → i < accepted_count c x.steps → ((conn == c) && (accepted_count conn x.steps == i)) ≡ false
 is_other x c i conn l = elim (cases_Bool (conn == c)) [

@@ -179,12 +179,12 @@ waited : (S : Setting) (before : History) (s : Step) (h : ℕ) → is_fault h s.
     → waits h (past S (s ∷ before)) p ≡ true → waits h (past S before) p ≡ true
 waited S before s h f p w =
     let x = past S before in
-    let a = waits_parts h (past S (s ∷ before)) p w in
+    let (of_host, not_sent, not_closed) = waits_parts h (past S (s ∷ before)) p w in
     let now : epoch h (s ∷ before) ≡ epoch h before = rw f refl in
-    let here : is_of h (epoch h before) p ≡ true = sym (ap (λ e. is_of h e p) now) ∙ a.0 in
+    let here : is_of h (epoch h before) p ≡ true = sym (ap (λ e. is_of h e p) now) ∙ of_host in
     let unsent =
-    or_parts (list_any (is_same p) x.sent) (list_any (is_same p) (sent_by x s.event)) (sym (list_any-append (is_same p) x.sent (sent_by x s.event)) ∙ a.1) in
-    let stays = or_parts (is_closing p.conn s.event) (is_closed p.conn before) a.2 in
+    or_parts (list_any (is_same p) x.sent) (list_any (is_same p) (sent_by x s.event)) (sym (list_any-append (is_same p) x.sent (sent_by x s.event)) ∙ not_sent) in
+    let stays = or_parts (is_closing p.conn s.event) (is_closed p.conn before) not_closed in
     rw (here, unsent.0, stays.1) refl
 
 is_of_present : (S : Setting) (before : History) (s : Step) (h : ℕ) → is_fault h s.event ≡ false → (p : Part)

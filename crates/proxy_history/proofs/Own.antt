@@ -112,11 +112,11 @@ value_is_own : (S : Setting) (H : History) (p : Part) (h : ℕ) (v : Tree) → I
 value_is_own S H p h v legal here =
     elim (by_reply (past S H) h p v (nat_lt p.epoch (epoch h H)) (reply_to p h (past S H)) refl here) [
       | inl reply ↦ inl reply
-      | inr lost ↦ inr (
-        lost.0,
+      | inr (failure, gone, none_found) ↦ inr (
+        failure,
         record {
-          fault = (epochs_end_by_faults S H h p.epoch legal).1 (ltb-true p.epoch (epoch h H) lost.1);
-          unanswered = no_reply_at (past S H) h p (find (λ r. is_same p r.0) (replies h p.epoch (past S H))) refl lost.2;
+          fault = (epochs_end_by_faults S H h p.epoch legal).1 (ltb-true p.epoch (epoch h H) gone);
+          unanswered = no_reply_at (past S H) h p (find (λ r. is_same p r.0) (replies h p.epoch (past S H))) refl none_found;
         },
       )
     ]

@@ -73,8 +73,8 @@ is_waiting : (S : Setting) (H : History) (h : ℕ) (p : Part) → Contains (wait
 is_waiting S H h p c =
     let x = past S H in
     let a = parts_have_arrived S H p (Contains-filter (waits h x) x.parts p c) in
-    let w = waits_parts h x p (is_good (waits h x) (waiting_parts h x) p (filter_is_good (waits h x) x.parts) c) in
-    let o = and_parts (is_host h p.host && (p.epoch == epoch h H)) (is_none p.local) w.0 in
+    let (of_host, not_sent, not_closed) = waits_parts h x p (is_good (waits h x) (waiting_parts h x) p (filter_is_good (waits h x) x.parts) c) in
+    let o = and_parts (is_host h p.host && (p.epoch == epoch h H)) (is_none p.local) of_host in
     let b = and_parts (is_host h p.host) (p.epoch == epoch h H) o.0 in
     let host : p.host ≡ Some h = is_some_host h p.host b.0 in
     let same : epoch h (a.later ++ a.step ∷ a.before) ≡ epoch h (a.step ∷ a.before) =
@@ -85,8 +85,8 @@ is_waiting S H h p c =
       for_host = host;
       no_value = has_no_value p.local o.1;
       no_fault = (faults_raise_epochs a.later (a.step ∷ a.before) h).1 same;
-      not_sent = λ s. both_ways (list_any (is_same p) x.sent) w.1 (list_any-member (is_same p) x.sent p s (is_same_self p));
-      not_closed = w.2;
+      not_sent = λ s. both_ways (list_any (is_same p) x.sent) not_sent (list_any-member (is_same p) x.sent p s (is_same_self p));
+      not_closed = not_closed;
     }
 
 -- a part that arrived is among the parts
@@ -116,10 +116,10 @@ in_waiting S H h p w =
     let of_host : is_of h (epoch h H) p ≡ true =
     rw (w.for_host, eq-eqb h h refl, eq-eqb p.epoch (epoch h H) now, w.no_value) refl in
     let unsent : list_any (is_same p) x.sent ≡ false = false_from_ne_true (list_any (is_same p) x.sent) (λ t.
-    let q = list_any-true (is_same p) x.sent t in
-    let is : p ≡ q.0 =
-    one_part x.parts p q.0 (parts_are_in_order S H).apart part (sent_parts_arrived S H q.0 q.1) q.2 in
-    w.not_sent (subst (Contains x.sent) (sym is) q.1)) in
+    let (q, was_sent, same) = list_any-true (is_same p) x.sent t in
+    let is : p ≡ q =
+    one_part x.parts p q (parts_are_in_order S H).apart part (sent_parts_arrived S H q was_sent) same in
+    w.not_sent (subst (Contains x.sent) (sym is) was_sent)) in
     Contains-filter_passing (waits h x) x.parts p part (rw (of_host, unsent, w.not_closed) refl)
 
 pub unsent_parts_wait : (S : Setting) (H : History) (h : ℕ) (p : Part)

@@ -25,17 +25,18 @@ module _ (e : Client) (H : History) (taken b more : List ℕ) (k : Carries e H t
   where_none : e.inbox.values.refusal ≡ None → (others : List Request) × (rs ≡ asked_requests e.conn H ++ others)
   where_none none =
       let h = k.holds in
+      let (values, is_refused, holds, requests_are) = are in
       let split : Splits CLIENT_MEMBERS h.fed h.given h.stands.rest = rw k.most_is at h.stands.splits in
       let bytes : b ++ more ≡ h.fed ++ (e.inbox.fresh ++ more) = ap (λ z. z ++ more) h.bytes ∙ append_assoc h.fed e.inbox.fresh more in
-      let whole : resp.Holds CLIENT_MEMBERS (h.fed ++ (e.inbox.fresh ++ more)) are.0 are.1 = subst (λ (z : List ℕ). resp.Holds CLIENT_MEMBERS z are.0 are.1) bytes are.2 in
-      let others = resp_core.values_stay CLIENT_MEMBERS h.fed (e.inbox.fresh ++ more) h.stands.rest h.given are.0 are.1 split whole in
-      let rest = map read others.0 ++ end_of are.1 in
+      let whole : resp.Holds CLIENT_MEMBERS (h.fed ++ (e.inbox.fresh ++ more)) values is_refused = subst (λ (z : List ℕ). resp.Holds CLIENT_MEMBERS z values is_refused) bytes holds in
+      let others = resp_core.values_stay CLIENT_MEMBERS h.fed (e.inbox.fresh ++ more) h.stands.rest h.given values is_refused split whole in
+      let rest = map read others.0 ++ end_of is_refused in
       let given : map read h.given ≡ asked_requests e.conn H ++ waiting_requests e.next = sym (append-nil (map read h.given)) ∙ sym (rw none at h.requests) ∙ k.given_are in (
         waiting_requests e.next ++ rest,
-        are.3
-            ∙ ap (λ z. map read z ++ end_of are.1) others.1
-            ∙ ap (λ z. z ++ end_of are.1) (map-append read h.given others.0)
-            ∙ append_assoc (map read h.given) (map read others.0) (end_of are.1)
+        requests_are
+            ∙ ap (λ z. map read z ++ end_of is_refused) others.1
+            ∙ ap (λ z. z ++ end_of is_refused) (map-append read h.given others.0)
+            ∙ append_assoc (map read h.given) (map read others.0) (end_of is_refused)
             ∙ ap (λ z. z ++ rest) given
             ∙ append_assoc (asked_requests e.conn H) (waiting_requests e.next) rest,
       )

@@ -53,19 +53,19 @@ works : (U : LineState → LinkState → Type 0) (old : LineState) (new : HostSt
     → WorksHost U old new k H H' m r → IsBeside H H'
 works U old new k H H' m r w =
     IsBeside-then H w.between H' (goes_on old w.last.line k w.last.link H w.between m w.moved w.goes)
-    (elim w.ends [ inl e ↦ same_steps w.between H' e.2 | inr f ↦ records w.last new w.between H' f.0 m f.2 ])
+    (elim w.ends [ inl (_, _, same, _) ↦ same_steps w.between H' same | inr (kind, _, recorded, _) ↦ records w.last new w.between H' kind m recorded ])
 
 module _ (U : LineState → LinkState → Type 0) (old new : HostState) (H H' : History) (m : ℕ) (r : Result Progress EngineError) where
   steps : StepsHost U old new H H' m r → IsBeside H H'
   steps s =
       IsBeside-then H s.between H'
-      (elim s.begins [ inl e ↦ same_steps H s.between e.1 | inr f ↦ records old s.first H s.between f.0 m f.2 ])
+      (elim s.begins [ inl e ↦ same_steps H s.between e.1 | inr (kind, _, recorded, _) ↦ records old s.first H s.between kind m recorded ])
       (works U s.first.line new s.first.link s.between H' m s.answer s.works)
 
   -- a step of a host is beside a client
   pub IsBeside-step : (StepsHost U old new H H' m r ⊎ RestsHost old new H H' r) → IsBeside H H'
   IsBeside-step (inl s) = steps s
-  IsBeside-step (inr e) = same_steps H H' e.2
+  IsBeside-step (inr (_, _, same, _)) = same_steps H H' same
 
 -- THE CLIENT
 

@@ -21,11 +21,11 @@ GoesOut-none a = ([], Appends-none a.held, sym (append-nil a.gathered))
 
 -- what was gathered before goes out, and then these bytes behind what is left
 pub GoesOut-then : (a b c : Outgoing) (bytes : List ℕ) → GoesOut a b [] → GoesOut b c bytes → GoesOut a c bytes
-GoesOut-then a b c bytes p q = (
-  p.0 ++ q.0,
-  Appends-append a.held b.held c.held p.0 q.0 p.1 q.1,
-  append_assoc p.0 q.0 c.gathered ∙ ap (λ t. p.0 ++ t) q.2 ∙ sym (append_assoc p.0 b.gathered bytes)
-      ∙ ap (λ t. t ++ bytes) (p.2 ∙ append-nil a.gathered),
+GoesOut-then a b c bytes (first, takes, left) (second, takes_more, left_then) = (
+  first ++ second,
+  Appends-append a.held b.held c.held first second takes takes_more,
+  append_assoc first second c.gathered ∙ ap (λ t. first ++ t) left_then ∙ sym (append_assoc first b.gathered bytes)
+      ∙ ap (λ t. t ++ bytes) (left ∙ append-nil a.gathered),
 )
 
 -- what is left behind what was written

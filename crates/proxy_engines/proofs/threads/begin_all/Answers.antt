@@ -6,12 +6,12 @@ use Rattle.std.proofs.lemmas.Slice.Zip.{all_zipped_more}
 use Rattle.proxy_engines.proofs.threads.begin_all.Goals as goal
 
 pub loop-work-preserved : goal.loop-work-preserved
-loop-work-preserved g c = (
+loop-work-preserved g c = let (_, _, _, _, fresh, callable, begun) = c.loop-work.invariant in (
   search rules,
   search rules,
   search rules,
   search rules,
-  All-tail g.K.Work.is_fresh c.in-Some.work (into_iter_items c.next.new.self) (rw c.in-Some.ensures.steps.0 at c.loop-work.invariant.4),
-  rw c.push_reserved.ensures.items (All-append (IsCallable (goal.F-pre g)) c.loop-work.begun.items (c.begin.result ∷ []) c.loop-work.invariant.5 (All-cons (IsCallable (goal.F-pre g)) c.begin.result [] c.begin.ensures.callable (All-nil (IsCallable (goal.F-pre g))))),
-  rw c.push_reserved.ensures.items (all_zipped_more _ c.loop-work.yielded c.loop-work.begun.items c.in-Some.work c.begin.result c.loop-work.invariant.6 (rw c.of-of.ensures at c.begin.ensures.begun)),
+  All-tail g.K.Work.is_fresh c.in-Some.work (into_iter_items c.next.new.self) (rw c.in-Some.ensures.steps.0 at fresh),
+  rw c.push_reserved.ensures.items (All-append (IsCallable (goal.F-pre g)) c.loop-work.begun.items (c.begin.result ∷ []) callable (All-cons (IsCallable (goal.F-pre g)) c.begin.result [] c.begin.ensures.callable (All-nil (IsCallable (goal.F-pre g))))),
+  rw c.push_reserved.ensures.items (all_zipped_more _ c.loop-work.yielded c.loop-work.begun.items c.in-Some.work c.begin.result begun (rw c.of-of.ensures at c.begin.ensures.begun)),
 )

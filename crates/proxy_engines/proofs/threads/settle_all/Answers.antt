@@ -6,11 +6,11 @@ use Rattle.std.proofs.lemmas.Slice.Zip.{all_zipped_more}
 use Rattle.proxy_engines.proofs.threads.settle_all.Goals as goal
 
 pub loop-work-preserved : goal.loop-work-preserved
-loop-work-preserved g c = (
+loop-work-preserved g c = let (_, _, _, _, callable, settled) = c.loop-work.invariant in (
   search rules,
   search rules,
   search rules,
   search rules,
-  All-tail (IsCallable (goal.F-pre g)) c.in-Some.work (into_iter_items c.next.new.self) (rw c.in-Some.ensures.steps.0 at c.loop-work.invariant.4),
-  rw c.push_reserved.ensures.items (all_zipped_more _ c.loop-work.yielded c.loop-work.settled.items c.in-Some.work c.settle.result c.loop-work.invariant.5 c.settle.ensures),
+  All-tail (IsCallable (goal.F-pre g)) c.in-Some.work (into_iter_items c.next.new.self) (rw c.in-Some.ensures.steps.0 at callable),
+  rw c.push_reserved.ensures.items (all_zipped_more _ c.loop-work.yielded c.loop-work.settled.items c.in-Some.work c.settle.result settled c.settle.ensures),
 )

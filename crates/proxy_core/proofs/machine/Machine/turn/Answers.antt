@@ -86,14 +86,14 @@ pub settle-requires-in-Answered : goal.settle-requires-in-Answered
 settle-requires-in-Answered c =
     has_room c.answer-done.result c.args.self.now c.answer-done.new.self (Answered c.in-Answered.host c.in-Answered.epoch c.in-Answered.value c.in-Answered.t)
     (if_makes _ c.answer-done.result c.args.self.now c.answer-done.new.self (Answered c.in-Answered.host c.in-Answered.epoch c.in-Answered.value c.in-Answered.t)
-    (λ d h. makes c.args.self.now c.answer-done.new.self (Answered c.in-Answered.host c.in-Answered.epoch c.in-Answered.value c.in-Answered.t) d _ h.0 (λ pass is. answered-made c.args.self.now (with_step c.answer-done.new.self pass (Answered c.in-Answered.host c.in-Answered.epoch c.in-Answered.value c.in-Answered.t) d) pass c.in-Answered.host c.in-Answered.epoch c.in-Answered.t c.in-Answered.value d.answer c.requires is h.1 h.2))
+    (λ d (gives, its_own, hosts). makes c.args.self.now c.answer-done.new.self (Answered c.in-Answered.host c.in-Answered.epoch c.in-Answered.value c.in-Answered.t) d _ gives (λ pass is. answered-made c.args.self.now (with_step c.answer-done.new.self pass (Answered c.in-Answered.host c.in-Answered.epoch c.in-Answered.value c.in-Answered.t) d) pass c.in-Answered.host c.in-Answered.epoch c.in-Answered.t c.in-Answered.value d.answer c.requires is its_own hosts))
     (all_three _ _ _ c.answer-done.result c.answer-done.ensures.done c.answer-done.ensures.matched (if_ok _ c.answer-done.result c.answer-done.ensures.hosts)))
 
 pub returns-in-Answered-clause-answered : goal.returns-in-Answered-clause-answered
 returns-in-Answered-clause-answered c =
     if_made c.answer-done.result c.settle-in-Answered.result c.args.self.now c.answer-done.new.self c.settle-in-Answered.new.self c.args.pass (Answered c.in-Answered.host c.in-Answered.epoch c.in-Answered.value c.in-Answered.t) c.args.event c.in-Answered.is
     (if_makes _ c.answer-done.result c.args.self.now c.answer-done.new.self (Answered c.in-Answered.host c.in-Answered.epoch c.in-Answered.value c.in-Answered.t)
-    (λ d h. makes c.args.self.now c.answer-done.new.self (Answered c.in-Answered.host c.in-Answered.epoch c.in-Answered.value c.in-Answered.t) d _ h.0 (λ pass is. answered-made c.args.self.now (with_step c.answer-done.new.self pass (Answered c.in-Answered.host c.in-Answered.epoch c.in-Answered.value c.in-Answered.t) d) pass c.in-Answered.host c.in-Answered.epoch c.in-Answered.t c.in-Answered.value d.answer c.requires is h.1 h.2))
+    (λ d (gives, its_own, hosts). makes c.args.self.now c.answer-done.new.self (Answered c.in-Answered.host c.in-Answered.epoch c.in-Answered.value c.in-Answered.t) d _ gives (λ pass is. answered-made c.args.self.now (with_step c.answer-done.new.self pass (Answered c.in-Answered.host c.in-Answered.epoch c.in-Answered.value c.in-Answered.t) d) pass c.in-Answered.host c.in-Answered.epoch c.in-Answered.t c.in-Answered.value d.answer c.requires is its_own hosts))
     (all_three _ _ _ c.answer-done.result c.answer-done.ensures.done c.answer-done.ensures.matched (if_ok _ c.answer-done.result c.answer-done.ensures.hosts)))
     c.settle-in-Answered.ensures.answered
 
@@ -105,14 +105,14 @@ pub settle-requires-in-Failed : goal.settle-requires-in-Failed
 settle-requires-in-Failed c =
     has_room c.fail-done.result c.args.self.now c.fail-done.new.self (Failed c.in-Failed.host c.in-Failed.epoch c.in-Failed.kind c.in-Failed.t)
     (if_makes _ c.fail-done.result c.args.self.now c.fail-done.new.self (Failed c.in-Failed.host c.in-Failed.epoch c.in-Failed.kind c.in-Failed.t)
-    (λ d h. makes c.args.self.now c.fail-done.new.self (Failed c.in-Failed.host c.in-Failed.epoch c.in-Failed.kind c.in-Failed.t) d _ h.0 (λ pass is. failed-made c.args.self.now (with_step c.fail-done.new.self pass (Failed c.in-Failed.host c.in-Failed.epoch c.in-Failed.kind c.in-Failed.t) d) pass c.in-Failed.host c.in-Failed.epoch c.in-Failed.t c.in-Failed.kind d.answer c.requires is h.1 h.2))
+    (λ d (gives, its_own, hosts). makes c.args.self.now c.fail-done.new.self (Failed c.in-Failed.host c.in-Failed.epoch c.in-Failed.kind c.in-Failed.t) d _ gives (λ pass is. failed-made c.args.self.now (with_step c.fail-done.new.self pass (Failed c.in-Failed.host c.in-Failed.epoch c.in-Failed.kind c.in-Failed.t) d) pass c.in-Failed.host c.in-Failed.epoch c.in-Failed.t c.in-Failed.kind d.answer c.requires is its_own hosts))
     (all_three _ _ _ c.fail-done.result c.fail-done.ensures.done c.fail-done.ensures.lost (if_ok _ c.fail-done.result c.fail-done.ensures.hosts)))
 
 pub returns-in-Failed-clause-answered : goal.returns-in-Failed-clause-answered
 returns-in-Failed-clause-answered c =
     if_made c.fail-done.result c.settle-in-Failed.result c.args.self.now c.fail-done.new.self c.settle-in-Failed.new.self c.args.pass (Failed c.in-Failed.host c.in-Failed.epoch c.in-Failed.kind c.in-Failed.t) c.args.event c.in-Failed.is
     (if_makes _ c.fail-done.result c.args.self.now c.fail-done.new.self (Failed c.in-Failed.host c.in-Failed.epoch c.in-Failed.kind c.in-Failed.t)
-    (λ d h. makes c.args.self.now c.fail-done.new.self (Failed c.in-Failed.host c.in-Failed.epoch c.in-Failed.kind c.in-Failed.t) d _ h.0 (λ pass is. failed-made c.args.self.now (with_step c.fail-done.new.self pass (Failed c.in-Failed.host c.in-Failed.epoch c.in-Failed.kind c.in-Failed.t) d) pass c.in-Failed.host c.in-Failed.epoch c.in-Failed.t c.in-Failed.kind d.answer c.requires is h.1 h.2))
+    (λ d (gives, its_own, hosts). makes c.args.self.now c.fail-done.new.self (Failed c.in-Failed.host c.in-Failed.epoch c.in-Failed.kind c.in-Failed.t) d _ gives (λ pass is. failed-made c.args.self.now (with_step c.fail-done.new.self pass (Failed c.in-Failed.host c.in-Failed.epoch c.in-Failed.kind c.in-Failed.t) d) pass c.in-Failed.host c.in-Failed.epoch c.in-Failed.t c.in-Failed.kind d.answer c.requires is its_own hosts))
     (all_three _ _ _ c.fail-done.result c.fail-done.ensures.done c.fail-done.ensures.lost (if_ok _ c.fail-done.result c.fail-done.ensures.hosts)))
     c.settle-in-Failed.ensures.answered
 
@@ -124,14 +124,14 @@ pub settle-requires-in-Swept : goal.settle-requires-in-Swept
 settle-requires-in-Swept c =
     has_room c.sweep-done.result c.args.self.now c.sweep-done.new.self (Swept c.in-Swept.t)
     (if_makes _ c.sweep-done.result c.args.self.now c.sweep-done.new.self (Swept c.in-Swept.t)
-    (λ d h. makes c.args.self.now c.sweep-done.new.self (Swept c.in-Swept.t) d _ h.0 (λ pass is. swept-made c.args.self.now (with_step c.sweep-done.new.self pass (Swept c.in-Swept.t) d) pass c.in-Swept.t d.answer c.requires is h.1 h.2))
+    (λ d (gives, its_own, hosts). makes c.args.self.now c.sweep-done.new.self (Swept c.in-Swept.t) d _ gives (λ pass is. swept-made c.args.self.now (with_step c.sweep-done.new.self pass (Swept c.in-Swept.t) d) pass c.in-Swept.t d.answer c.requires is its_own hosts))
     (all_three _ _ _ c.sweep-done.result c.sweep-done.ensures.done c.sweep-done.ensures.swept (if_ok _ c.sweep-done.result c.sweep-done.ensures.hosts)))
 
 pub returns-in-Swept-clause-answered : goal.returns-in-Swept-clause-answered
 returns-in-Swept-clause-answered c =
     if_made c.sweep-done.result c.settle-in-Swept.result c.args.self.now c.sweep-done.new.self c.settle-in-Swept.new.self c.args.pass (Swept c.in-Swept.t) c.args.event c.in-Swept.is
     (if_makes _ c.sweep-done.result c.args.self.now c.sweep-done.new.self (Swept c.in-Swept.t)
-    (λ d h. makes c.args.self.now c.sweep-done.new.self (Swept c.in-Swept.t) d _ h.0 (λ pass is. swept-made c.args.self.now (with_step c.sweep-done.new.self pass (Swept c.in-Swept.t) d) pass c.in-Swept.t d.answer c.requires is h.1 h.2))
+    (λ d (gives, its_own, hosts). makes c.args.self.now c.sweep-done.new.self (Swept c.in-Swept.t) d _ gives (λ pass is. swept-made c.args.self.now (with_step c.sweep-done.new.self pass (Swept c.in-Swept.t) d) pass c.in-Swept.t d.answer c.requires is its_own hosts))
     (all_three _ _ _ c.sweep-done.result c.sweep-done.ensures.done c.sweep-done.ensures.swept (if_ok _ c.sweep-done.result c.sweep-done.ensures.hosts)))
     c.settle-in-Swept.ensures.answered
 

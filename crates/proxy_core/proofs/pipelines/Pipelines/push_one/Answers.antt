@@ -14,9 +14,10 @@ index_mut-requires c =
 pub push-requires : goal.push-requires
 push-requires c =
     let may : MayWait (Waits c.in-Waits.host) c.args.self.now = rw c.in-Waits.is at c.requires in
+    let (of_host, has_room, not_full) = may in
     record {
-      room = omega (arith, may.1, room_shown c.self.inside.by_host.items c.args.self.now c.in-Waits.host c.index_mut.result.now c.self.view_is may.0 c.index_mut.ensures.value);
-      limit = omega (arith, may.2, ap (λ (q : PipelineState). length q.waiting) (state_shown c.self.inside.by_host.items c.args.self.now c.in-Waits.host c.index_mut.result.now c.self.view_is may.0 c.index_mut.ensures.value));
+      room = omega (arith, has_room, room_shown c.self.inside.by_host.items c.args.self.now c.in-Waits.host c.index_mut.result.now c.self.view_is may.0 c.index_mut.ensures.value);
+      limit = omega (arith, not_full, ap (λ (q : PipelineState). length q.waiting) (state_shown c.self.inside.by_host.items c.args.self.now c.in-Waits.host c.index_mut.result.now c.self.view_is may.0 c.index_mut.ensures.value));
     }
 
 pub returns-in-Waits-clause-pushed : goal.returns-in-Waits-clause-pushed

@@ -22,6 +22,6 @@ returns-else-branch-clause-goes g c = goes_then _ _ _ _ _ _ false false (c.has_n
 
 pub returns-else-branch-clause-idle : goal.returns-else-branch-clause-idle
 returns-else-branch-clause-idle g c = λ _.
-    let crowded = c.in_ok-offer.ensures.crowded c.if-branch.false in
+    let (request, next, cause) = c.in_ok-offer.ensures.crowded c.if-branch.false in
     rw (c.in_ok-offer.ensures.held c.if-branch.false)
-    (inl (crowded.0, crowded.1, held_now (g.T.Turns.cause (g.T.Turns.setting c.args.turns.now) Refusal.Crowded) _ _ _ c.offer.ensures.seen crowded.2))
+    (inl (request, next, held_now (g.T.Turns.cause (g.T.Turns.setting c.args.turns.now) Refusal.Crowded) _ _ _ c.offer.ensures.seen cause))

@@ -12,10 +12,10 @@ use Rattle.proxy_engines.proofs.host.HostEngine.go_on_alone.Goals.{then-taken, e
 pub returns-then-is_late-clause-works : goal.returns-then-is_late-clause-works
 returns-then-is_late-clause-works g c =
     let went = some_told _ (told_by_turn c.take_one.result) c.take_one.ensures.goes in
-    let fails = c.in_ok-give_up.ensures.fails in
+    let (fails, no_link, no_fault) = c.in_ok-give_up.ensures.fails in
     let late : IsLate c.take_one.new.self.line c.args.moment = rw (← c.self.view_is) (c.is_late.ensures.0 c.if-is_late.true) in
     works_fault _ _ None (record { line = c.take_one.new.self.line; link = None; fault = None }) c.give_up.new.self Kind.Late None _ _ _ c.args.moment went.0 _ went.1
-    (rw c.take_one.ensures.link at (rw c.take_one.ensures.pass at fails.0)) fails.1 fails.2 (refl, refl, late) refl
+    (rw c.take_one.ensures.link at (rw c.take_one.ensures.pass at fails)) no_link no_fault (refl, refl, late) refl
 
 pub returns-clause-idle : goal.returns-clause-idle
 returns-clause-idle g c =

@@ -9,9 +9,9 @@ use Rattle.proxy_engines.proofs.host.HostEngine.go_on_link.Goals as goal
 
 pub returns-in_err-attend-clause-works : goal.returns-in_err-attend-clause-works
 returns-in_err-attend-clause-works g c =
-    let p = err_from_is_err_and c.from_residual.result c.from_residual.ensures.1 in
+    let (_, result_is, error_is) = err_from_is_err_and c.from_residual.result c.from_residual.ensures.1 in
     let went = c.in_err-attend.ensures.goes in
-    rw (p.1, p.2, ← c.self.view_is, c.in-Some.is)
+    rw (result_is, error_is, ← c.self.view_is, c.in-Some.is)
     (works_on _ _ _ _ _ _ c.args.moment went.0 _ went.1 c.in_err-attend.ensures.plain (rw (← c.self.view_is) at c.requires.no_fault))
 
 pub returns-in-Still-clause-works : goal.returns-in-Still-clause-works
@@ -29,29 +29,29 @@ returns-in-Still-clause-idle g c = λ _. rw (← c.self.view_is, c.in-Some.is) (
 
 pub returns-in_err-give_up-in-Fault-clause-works : goal.returns-in_err-give_up-in-Fault-clause-works
 returns-in_err-give_up-in-Fault-clause-works g c =
-    let p = err_from_is_err_and c.from_residual-in_err-give_up-in-Fault.result c.from_residual-in_err-give_up-in-Fault.ensures.1 in
+    let (_, result_is, error_is) = err_from_is_err_and c.from_residual-in_err-give_up-in-Fault.result c.from_residual-in_err-give_up-in-Fault.ensures.1 in
     let went = some_told _ (told_by_moves c.attend.result) c.attend.ensures.goes in
     let kept = c.in_err-give_up-in-Fault.ensures.kept in
     let refused = c.in_err-give_up-in-Fault.ensures.err in
     let cause = unasked_here (g.T.Turns.cause (g.T.Turns.setting c.args.turns.now) Refusal.Unasked) (g.T.Turns.seen c.args.turns.now) (g.T.Turns.seen c.attend.new.turns) (g.T.Turns.seen c.give_up.new.turns) c.args.moment c.attend.ensures.seen c.give_up.ensures.seen c.in-Fault.kind c.in-Fault.error c.attend.new.line c.in-Some.link c.attend.new.self (rw c.in-Fault.is at c.in_ok-attend.ensures.fault) in
-    rw (p.1, p.2, ← c.self.view_is, c.in-Some.is)
+    rw (result_is, error_is, ← c.self.view_is, c.in-Some.is)
     (works_left _ _ _ (record { line = c.attend.new.line; link = Some c.attend.new.self; fault = Some c.in-Fault.kind }) c.give_up.new.self c.in-Fault.kind c.in-Fault.error _ _ _ c.args.moment went.0 _ went.1
     (ap (λ (z : HostState). z.line) kept.0) (ap (λ (z : HostState). z.link) kept.0) (ap (λ (z : HostState). z.fault) kept.0) (rw c.attend.ensures.pass at kept.1) (rw refused.1 tt) cause)
 
 pub returns-in-None-clause-works : goal.returns-in-None-clause-works
 returns-in-None-clause-works g c =
     let went = some_told _ (told_by_moves c.attend.result) c.attend.ensures.goes in
-    let fails = c.in_ok-give_up-in-Fault.ensures.fails in
+    let (fails, no_link, no_fault) = c.in_ok-give_up-in-Fault.ensures.fails in
     let cause = unasked_here (g.T.Turns.cause (g.T.Turns.setting c.args.turns.now) Refusal.Unasked) (g.T.Turns.seen c.args.turns.now) (g.T.Turns.seen c.attend.new.turns) (g.T.Turns.seen c.give_up.new.turns) c.args.moment c.attend.ensures.seen c.give_up.ensures.seen c.in-Fault.kind c.in-Fault.error c.attend.new.line c.in-Some.link c.attend.new.self (rw c.in-Fault.is at c.in_ok-attend.ensures.fault) in
     rw (← c.self.view_is, c.in-Some.is)
     (works_fault _ _ _ (record { line = c.attend.new.line; link = Some c.attend.new.self; fault = Some c.in-Fault.kind }) c.give_up.new.self c.in-Fault.kind None _ _ _ c.args.moment went.0 _ went.1
-    (rw c.attend.ensures.pass at fails.0) fails.1 fails.2 (rw c.in-None.is at cause) refl)
+    (rw c.attend.ensures.pass at fails) no_link no_fault (rw c.in-None.is at cause) refl)
 
 pub returns-in-Some-error-clause-works : goal.returns-in-Some-error-clause-works
 returns-in-Some-error-clause-works g c =
     let went = some_told _ (told_by_moves c.attend.result) c.attend.ensures.goes in
-    let fails = c.in_ok-give_up-in-Fault.ensures.fails in
+    let (fails, no_link, no_fault) = c.in_ok-give_up-in-Fault.ensures.fails in
     let cause = unasked_here (g.T.Turns.cause (g.T.Turns.setting c.args.turns.now) Refusal.Unasked) (g.T.Turns.seen c.args.turns.now) (g.T.Turns.seen c.attend.new.turns) (g.T.Turns.seen c.give_up.new.turns) c.args.moment c.attend.ensures.seen c.give_up.ensures.seen c.in-Fault.kind c.in-Fault.error c.attend.new.line c.in-Some.link c.attend.new.self (rw c.in-Fault.is at c.in_ok-attend.ensures.fault) in
     rw (← c.self.view_is, c.in-Some.is)
     (works_fault _ _ _ (record { line = c.attend.new.line; link = Some c.attend.new.self; fault = Some c.in-Fault.kind }) c.give_up.new.self c.in-Fault.kind (Some c.in-Some-error.error) _ _ _ c.args.moment went.0 _ went.1
-    (rw c.attend.ensures.pass at fails.0) fails.1 fails.2 (rw c.in-Some-error.is at cause) refl)
+    (rw c.attend.ensures.pass at fails) no_link no_fault (rw c.in-Some-error.is at cause) refl)

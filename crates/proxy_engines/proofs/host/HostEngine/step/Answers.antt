@@ -9,18 +9,18 @@ use Rattle.proxy_engines.proofs.host.HostEngine.step.Goals as goal
 pub returns-in_err-progress-clause-steps : goal.returns-in_err-progress-clause-steps
 returns-in_err-progress-clause-steps g c =
     let was = ap (λ (h : HostState). h.fault) (sym c.self.view_is) ∙ c.in-Some.is in
-    let fails = c.in_ok-give_up.ensures.fails in
-    let p = err_from_is_err_and c.from_residual-in_err-progress.result c.from_residual-in_err-progress.ensures.1 in
-    rw (p.1, p.2)
+    let (fails, no_link, no_fault) = c.in_ok-give_up.ensures.fails in
+    let (_, result_is, error_is) = err_from_is_err_and c.from_residual-in_err-progress.result c.from_residual-in_err-progress.ensures.1 in
+    rw (result_is, error_is)
     (inl (steps_after (g.T.Turns.cause (g.T.Turns.setting c.args.turns.now) Refusal.Unasked) (g.T.Turns.seen c.args.turns.now) (g.T.Turns.seen c.give_up.new.turns) (g.T.Turns.seen c.go_on-2.new.turns) c.args.moment c.give_up.ensures.seen
-    c.args.self.now c.give_up.new.self c.go_on-2.new.self c.in-Some.kind _ _ _ _ _ was fails.0 fails.1 fails.2 (rw c.give_up.ensures.setting at (rw c.give_up.ensures.pass at c.in_err-progress.ensures.works)) refl))
+    c.args.self.now c.give_up.new.self c.go_on-2.new.self c.in-Some.kind _ _ _ _ _ was fails no_link no_fault (rw c.give_up.ensures.setting at (rw c.give_up.ensures.pass at c.in_err-progress.ensures.works)) refl))
 
 pub returns-clause-steps : goal.returns-clause-steps
 returns-clause-steps g c =
     let was = ap (λ (h : HostState). h.fault) (sym c.self.view_is) ∙ c.in-Some.is in
-    let fails = c.in_ok-give_up.ensures.fails in
+    let (fails, no_link, no_fault) = c.in_ok-give_up.ensures.fails in
     inl (steps_after (g.T.Turns.cause (g.T.Turns.setting c.args.turns.now) Refusal.Unasked) (g.T.Turns.seen c.args.turns.now) (g.T.Turns.seen c.give_up.new.turns) (g.T.Turns.seen c.go_on-2.new.turns) c.args.moment c.give_up.ensures.seen
-    c.args.self.now c.give_up.new.self c.go_on-2.new.self c.in-Some.kind _ _ _ (Ok c.in_ok-progress.progress) _ was fails.0 fails.1 fails.2 (rw c.give_up.ensures.setting at (rw c.give_up.ensures.pass at c.in_ok-progress.ensures.works)) c.after_fault.ensures)
+    c.args.self.now c.give_up.new.self c.go_on-2.new.self c.in-Some.kind _ _ _ (Ok c.in_ok-progress.progress) _ was fails no_link no_fault (rw c.give_up.ensures.setting at (rw c.give_up.ensures.pass at c.in_ok-progress.ensures.works)) c.after_fault.ensures)
 
 pub returns-clause-seen : goal.returns-clause-seen
 returns-clause-seen g c = starts_then (g.T.Turns.seen c.args.turns.now) (g.T.Turns.seen c.give_up.new.turns) (g.T.Turns.seen c.go_on-2.new.turns) c.give_up.ensures.seen c.go_on-2.ensures.seen

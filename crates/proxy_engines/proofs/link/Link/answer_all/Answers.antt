@@ -8,28 +8,28 @@ loop-init g c = (stays_on _ _ _ _ _ refl, c.requires.whole, refl, refl, refl, re
 
 pub loop-preserved : goal.loop-preserved
 loop-preserved g c =
-    let kept = c.loop.invariant in (
-      told_moved _ _ _ _ _ _ _ _ _ _ _ kept.0 (rw kept.5 at (rw c.in-Moved.is at c.in_ok-fault.ensures.goes)),
+    let (goes, _, reads, writes, _, pass, setting, seen) = c.loop.invariant in (
+      told_moved _ _ _ _ _ _ _ _ _ _ _ goes (rw pass at (rw c.in-Moved.is at c.in_ok-fault.ensures.goes)),
       c.in_ok-fault.ensures.moved c.in-Moved.is,
-      c.answer_next.ensures.reads ∙ kept.2,
-      c.answer_next.ensures.writes ∙ kept.3,
+      c.answer_next.ensures.reads ∙ reads,
+      c.answer_next.ensures.writes ∙ writes,
       refl,
-      c.answer_next.ensures.pass ∙ kept.5,
-      c.answer_next.ensures.setting ∙ kept.6,
-      starts_then _ _ _ kept.7 c.answer_next.ensures.seen,
+      c.answer_next.ensures.pass ∙ pass,
+      c.answer_next.ensures.setting ∙ setting,
+      starts_then _ _ _ seen c.answer_next.ensures.seen,
     )
 
 pub returns-in_err-fault-clause-goes : goal.returns-in_err-fault-clause-goes
 returns-in_err-fault-clause-goes g c =
-    let kept = c.loop.invariant in
-    moves-err _ c.from_residual.result c.from_residual.ensures.0 (told_both _ _ _ _ _ _ _ _ _ _ _ _ kept.0 (rw kept.5 at c.answer_next.ensures.goes))
+    let (goes, _, _, _, _, pass, _) = c.loop.invariant in
+    moves-err _ c.from_residual.result c.from_residual.ensures.0 (told_both _ _ _ _ _ _ _ _ _ _ _ _ goes (rw pass at c.answer_next.ensures.goes))
 
 pub returns-in_default-clause-goes : goal.returns-in_default-clause-goes
 returns-in_default-clause-goes g c =
-    let kept = c.loop.invariant in
-    as_fault _ c.in_ok-fault.fault c.in_default.not-Still c.in_default.not-Moved (told_both _ _ _ _ _ _ _ _ _ _ _ _ kept.0 (rw kept.5 at c.answer_next.ensures.goes))
+    let (goes, _, _, _, _, pass, _) = c.loop.invariant in
+    as_fault _ c.in_ok-fault.fault c.in_default.not-Still c.in_default.not-Moved (told_both _ _ _ _ _ _ _ _ _ _ _ _ goes (rw pass at c.answer_next.ensures.goes))
 
 pub returns-in-Still-clause-goes : goal.returns-in-Still-clause-goes
 returns-in-Still-clause-goes g c =
-    let kept = c.loop.invariant in
-    told_still _ _ _ _ _ _ _ _ _ _ _ kept.0 (rw kept.5 at (rw c.in-Still.is at c.in_ok-fault.ensures.goes))
+    let (goes, _, _, _, _, pass, _) = c.loop.invariant in
+    told_still _ _ _ _ _ _ _ _ _ _ _ goes (rw pass at (rw c.in-Still.is at c.in_ok-fault.ensures.goes))

@@ -7,10 +7,10 @@ use Rattle.proxy_engines.proofs.link.Link.write.Goals.{in-Moved, in-Paused, in-E
 
 pub returns-clause-goes : goal.returns-clause-goes
 returns-clause-goes g c = λ H m.
-    let sent = c.write_to.ensures.bytes in
-    rw (sent.4, ← c.self.view_is)
+    let (gave, rest, held, pending, line_is, moved) = c.write_to.ensures.bytes in
+    rw (line_is, ← c.self.view_is)
     (elim c.match-write_to.branch [
-      | in-Moved w ↦ rw w.result-is (wrote_on c.args.line.now _ _ sent.0 sent.1 H m true (rw w.in-Moved.is at sent.5) refl refl sent.2 sent.3)
-      | in-Paused w ↦ rw w.result-is (wrote_on c.args.line.now _ _ sent.0 sent.1 H m false (rw w.in-Paused.is at sent.5) refl refl sent.2 sent.3)
-      | in-End w ↦ as-none _ _ (ap told_by_outcome w.result-is) (_, wrote_on c.args.line.now _ _ sent.0 sent.1 H m _ sent.5 refl refl sent.2 sent.3)
+      | in-Moved w ↦ rw w.result-is (wrote_on c.args.line.now _ _ gave rest H m true (rw w.in-Moved.is at moved) refl refl held pending)
+      | in-Paused w ↦ rw w.result-is (wrote_on c.args.line.now _ _ gave rest H m false (rw w.in-Paused.is at moved) refl refl held pending)
+      | in-End w ↦ as-none _ _ (ap told_by_outcome w.result-is) (_, wrote_on c.args.line.now _ _ gave rest H m _ moved refl refl held pending)
     ])

@@ -8,26 +8,26 @@ loop-init g c = ((false, same_goes c.args.self.now.engine _ _ refl), refl, refl,
 
 pub returns-in_err-step-clause-goes : goal.returns-in_err-step-clause-goes
 returns-in_err-step-clause-goes g c =
-    let kept = c.loop.invariant in goes_told _ _ _ _ _ _ _ kept.0 (rw kept.1 at c.step.ensures.goes)
+    let (goes, pass, _) = c.loop.invariant in goes_told _ _ _ _ _ _ _ goes (rw pass at c.step.ensures.goes)
 
 pub returns-in-Ended-clause-goes : goal.returns-in-Ended-clause-goes
 returns-in-Ended-clause-goes g c =
-    let kept = c.loop.invariant in goes_told _ _ _ _ _ _ _ kept.0 (rw kept.1 at c.step.ensures.goes)
+    let (goes, pass, _) = c.loop.invariant in goes_told _ _ _ _ _ _ _ goes (rw pass at c.step.ensures.goes)
 
 pub loop-preserved-in-Idle : goal.loop-preserved-in-Idle
 loop-preserved-in-Idle g c =
-    let kept = c.loop.invariant in (
-      goes_told _ _ _ _ _ _ _ kept.0 (rw kept.1 at c.step.ensures.goes),
-      c.step.ensures.pass ∙ kept.1,
-      c.step.ensures.setting ∙ kept.2,
-      starts_then _ _ _ kept.3 c.step.ensures.seen,
+    let (goes, pass, setting, seen) = c.loop.invariant in (
+      goes_told _ _ _ _ _ _ _ goes (rw pass at c.step.ensures.goes),
+      c.step.ensures.pass ∙ pass,
+      c.step.ensures.setting ∙ setting,
+      starts_then _ _ _ seen c.step.ensures.seen,
     )
 
 pub loop-preserved : goal.loop-preserved
 loop-preserved g c =
-    let kept = c.loop.invariant in (
-      goes_told _ _ _ _ _ _ _ kept.0 (rw kept.1 at c.step.ensures.goes),
-      c.step.ensures.pass ∙ kept.1,
-      c.step.ensures.setting ∙ kept.2,
-      starts_then _ _ _ kept.3 c.step.ensures.seen,
+    let (goes, pass, setting, seen) = c.loop.invariant in (
+      goes_told _ _ _ _ _ _ _ goes (rw pass at c.step.ensures.goes),
+      c.step.ensures.pass ∙ pass,
+      c.step.ensures.setting ∙ setting,
+      starts_then _ _ _ seen c.step.ensures.seen,
     )
