@@ -79,13 +79,13 @@ mutual
   read_values_are_plain most left b (bulk s) g = (refl, g.1.within)
   read_values_are_plain most left b null_bulk g = (refl, tt)
   read_values_are_plain most zero b (list ts) g = absurd g
-  read_values_are_plain most (suc left) b (list ts) (digits, rest, number, is, inside) = let q = members_are_plain most left rest ts inside in (q.0, (number.within, q.1))
+  read_values_are_plain most (suc left) b (list ts) (_, rest, number, _, inside) = let q = members_are_plain most left rest ts inside in (q.0, (number.within, q.1))
   read_values_are_plain most zero b null_list g = absurd g
   read_values_are_plain most (suc left) b null_list g = (refl, tt)
 
   members_are_plain : (most left : ℕ) (b : List ℕ) (ts : Trees) → AreTexts most left b ts → (are_plain_trees ts ≡ true) × AreWithin most left ts
   members_are_plain most left b no_trees g = (refl, tt)
-  members_are_plain most left b (tree t ts) (front, back, split, t_text, others) =
+  members_are_plain most left b (tree t ts) (front, back, _, t_text, others) =
       let p = read_values_are_plain most left front t t_text in
       let q = members_are_plain most left back ts others in
       (rw (p.0, q.0) refl, (p.1, q.1))
