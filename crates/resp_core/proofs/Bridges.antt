@@ -36,11 +36,11 @@ none_too_long most held e h = first_unfinished_long most held (seen_of held) (dr
 pub gives_value : (most : ℕ) (held : List ℕ) (p : Progress) (t : Tree) → Finds most held p t → p.came ≤ max_text → IsFirstValue most held t p.came
 gives_value most held p t f few =
     let e : value_at most max_depth f.taken ≡ found t [] = ap (value_at most max_depth) (sym (append-nil f.taken)) ∙ f.same [] in
-    let q = (value-reads most max_depth).sound f.taken [] t e in
-    let whole : f.taken ≡ q.0 = q.1 ∙ append-nil q.0 in
+    let (x, split, x_text) = (value-reads most max_depth).sound f.taken [] t e in
+    let whole : f.taken ≡ x = split ∙ append-nil x in
     record {
       inside = omega (arith, ap length f.split, length-append f.taken p.pending.items, f.came);
-      text = subst (λ (z : List ℕ). IsText most max_depth z t) (sym (ap (take p.came) f.split ∙ take_at f.taken p.pending.items p.came f.came ∙ whole)) q.2;
+      text = subst (λ (z : List ℕ). IsText most max_depth z t) (sym (ap (take p.came) f.split ∙ take_at f.taken p.pending.items p.came f.came ∙ whole)) x_text;
       few = few;
     }
 
@@ -103,12 +103,12 @@ short_payload n b less = rw (lt-ltb (length b) n less) refl
 
 pub none_while_short : (most : ℕ) (held : List ℕ) (p : Progress) → IsGood most p → length p.pending.items < p.needed → Reads most held p → IsUnfinished most held
 none_while_short most held p good less r =
-    let d = payload_is_due p.next (length p.pending.items) (omega (arith, less, good.needed.0)) in
-    let none : p.done ≡ None = done_none p.done p.next d.0 good.done d.1 in
+    let (n, due, short) = payload_is_due p.next (length p.pending.items) (omega (arith, less, good.needed.0)) in
+    let none : p.done ≡ None = done_none p.done p.next n good.done due in
     let v = length p.pending.items in
     let all : p.pending.items ≡ take v p.pending.items = sym (take_all v p.pending.items (omega arith)) in
     none_yet most held
-    (payload_unfinished most d.0 v held p p.pending.items none d.1 all (omega (arith, good.came)) (omega (arith, less, good.needed.1)) (short_payload d.0 p.pending.items d.2) r)
+    (payload_unfinished most n v held p p.pending.items none due all (omega (arith, good.came)) (omega (arith, less, good.needed.1)) (short_payload n p.pending.items short) r)
     (omega (arith, held_is most held p r, less, good.needed.1))
 
 -- bytes that are less than a whole value are read as such
@@ -117,13 +117,14 @@ unfinished_is most held u = by (value_at most max_depth held) refl
   where
     by : (o : Outcome Tree) → value_at most max_depth held ≡ o → value_at most max_depth held ≡ unfinished
     by (found t y) e =
-        let q = (value-reads most max_depth).sound held y t e in
-        absurd (u.not_whole (t, q.0, y, q.1, q.2, omega (arith, ap length q.1, length-append q.0 y, u.few)))
+        let (x, split, text) = (value-reads most max_depth).sound held y t e in
+        absurd (u.not_whole (t, x, y, split, text, omega (arith, ap length split, length-append x y, u.few)))
     by unfinished e = e
     by (refused w rest) e =
-        let whole = (value-reads most max_depth).again (held ++ u.begins.0) [] u.begins.1 u.begins.2 in
-        let stays = (value-reads most max_depth).stays held u.begins.0 rest w e in
-        let clash : refused w (rest ++ u.begins.0) ≡ found u.begins.1 [] = sym stays ∙ sym (ap (value_at most max_depth) (append-nil (held ++ u.begins.0))) ∙ whole in
+        let (more, t, text) = u.begins in
+        let whole = (value-reads most max_depth).again (held ++ more) [] t text in
+        let stays = (value-reads most max_depth).stays held more rest w e in
+        let clash : refused w (rest ++ more) ≡ found t [] = sym stays ∙ sym (ap (value_at most max_depth) (append-nil (held ++ more))) ∙ whole in
         cc
 
 -- whether they are depends on how far a reader has come in them alone

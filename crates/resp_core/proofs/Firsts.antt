@@ -47,12 +47,12 @@ module _ (most : ℕ) where
     -- a value that is short enough
     pub first_found : (t : Tree) (rest : List ℕ) → value_at most max_depth seen ≡ found t rest → length seen - length rest ≤ max_text → IsFirstValue most held t (length seen - length rest)
     first_found t rest e h =
-        let q = law.sound seen rest t e in
-        let len : length q.0 ≡ length seen - length rest = omega (arith, ap length q.1, length-append q.0 rest) in
-        let whole : held ≡ q.0 ++ (rest ++ after) = split ∙ ap (λ z. z ++ after) q.1 ∙ append_assoc q.0 rest after in
+        let (x, seen_is, x_text) = law.sound seen rest t e in
+        let len : length x ≡ length seen - length rest = omega (arith, ap length seen_is, length-append x rest) in
+        let whole : held ≡ x ++ (rest ++ after) = split ∙ ap (λ z. z ++ after) seen_is ∙ append_assoc x rest after in
         record {
-          inside = omega (arith, ap length whole, length-append q.0 (rest ++ after));
-          text = subst (λ (z : List ℕ). IsText most max_depth z t) (sym (ap (take (length seen - length rest)) whole ∙ take_at q.0 (rest ++ after) _ len)) q.2;
+          inside = omega (arith, ap length whole, length-append x (rest ++ after));
+          text = subst (λ (z : List ℕ). IsText most max_depth z t) (sym (ap (take (length seen - length rest)) whole ∙ take_at x (rest ++ after) _ len)) x_text;
           few = h;
         }
 
@@ -83,27 +83,27 @@ module _ (most : ℕ) where
 
     pub first_too_long : (t : Tree) (rest : List ℕ) → value_at most max_depth seen ≡ found t rest → length seen ≤ max_text + 1 → max_text < length seen - length rest → IsFault most held max_text 106
     first_too_long t rest e small h =
-        let q = law.sound seen rest t e in
-        let len = ap length q.1 in
-        let nil : rest ≡ [] = nil_of rest (omega (arith, len, length-append q.0 rest)) in
-        too_long [] t (subst (λ (w : List ℕ). IsText most max_depth w t) (sym (append-nil seen ∙ q.1 ∙ ap (λ w. q.0 ++ w) nil ∙ append-nil q.0)) q.2) (λ w left f. cc) (omega arith)
-        (λ w.
-        let f = whole_is_found w.0 w.1 w.2 w.3 w.4 (omega (arith, w.5)) in
-        let g : found t rest ≡ found w.0 f.0 = sym e ∙ f.2 in
-        let z_is : rest ≡ f.0 = cc in
-        omega (arith, w.5, ap length f.1, length-append w.1 f.0, ap length (sym z_is ∙ nil)))
+        let (x, seen_is, x_text) = law.sound seen rest t e in
+        let len = ap length seen_is in
+        let nil : rest ≡ [] = nil_of rest (omega (arith, len, length-append x rest)) in
+        too_long [] t (subst (λ (w : List ℕ). IsText most max_depth w t) (sym (append-nil seen ∙ seen_is ∙ ap (λ w. x ++ w) nil ∙ append-nil x)) x_text) (λ w left f. cc) (omega arith)
+        (λ (u, front, back, is, text, few).
+        let (z, front_is, finds) = whole_is_found u front back is text (omega (arith, few)) in
+        let g : found t rest ≡ found u z = sym e ∙ finds in
+        let z_is : rest ≡ z = cc in
+        omega (arith, few, ap length front_is, length-append front z, ap length (sym z_is ∙ nil)))
       where
         nil_of : (xs : List ℕ) → length xs ≡ 0 → xs ≡ []
         nil_of [] p = refl
         nil_of (c ∷ cs) p = absurd (omega arith)
 
     not_whole_before : value_at most max_depth seen ≡ unfinished → max_text ≤ length seen → HasWhole most held → ⊥
-    not_whole_before e h w = let f = whole_is_found w.0 w.1 w.2 w.3 w.4 (omega (arith, w.5)) in let g = f.2 in cc
+    not_whole_before e h (t, x, y, is, text, few) = let (z, _, finds) = whole_is_found t x y is text (omega (arith, few)) in cc
 
     pub first_unfinished_long : value_at most max_depth seen ≡ unfinished → length seen ≡ max_text + 1 → IsFault most held max_text 106
     first_unfinished_long e h =
-        let q = law.opens seen e in
-        too_long q.0 q.1 q.2 (λ w left f. cc) h (not_whole_before e (omega arith))
+        let (more, t, text) = law.opens seen e in
+        too_long more t text (λ w left f. cc) h (not_whole_before e (omega arith))
 
     -- a refused byte, by the number that it is told
     refused_by : (r : Refusal) (rest : List ℕ) (number : ℕ) → value_at most max_depth seen ≡ refused r rest → length seen ≤ max_text + 1 → ((q : IsFirst (InValue most max_depth) (value_at most max_depth) seen rest r) → length q.before ≡ length seen - length rest → IsTold most q.before q.byte number) → IsFault most held (length seen - length rest) number
@@ -120,12 +120,12 @@ module _ (most : ℕ) where
             place_is = omega (arith, len, length-append q.before rest);
             fits = law.opens q.before q.fits;
             few = omega (arith, len, length-append q.before rest, rest_len);
-            fails = inr (λ w. stays_refused r (q.before ++ q.byte ∷ []) (q.byte ∷ []) q.fails w.0 w.1 w.2);
+            fails = inr (λ (more, t, text). stays_refused r (q.before ++ q.byte ∷ []) (q.byte ∷ []) q.fails more t text);
           };
           told = told q (omega (arith, len, length-append q.before rest));
-          not_whole = λ w.
+          not_whole = λ (t, x, y, is, text, _).
               let f : value_at most max_depth held ≡ refused r (rest ++ after) = ap (value_at most max_depth) split ∙ law.stays seen after rest r e in
-              let g : value_at most max_depth held ≡ found w.0 w.2 = ap (value_at most max_depth) w.3 ∙ law.again w.1 w.2 w.0 w.4 in
+              let g : value_at most max_depth held ≡ found t y = ap (value_at most max_depth) is ∙ law.again x y t text in
               cc;
         }
       where
@@ -154,5 +154,5 @@ module _ (most : ℕ) where
   first_unfinished held e h = record {
     begins = law.opens held e;
     few = h;
-    not_whole = λ w. let g : value_at most max_depth held ≡ found w.0 w.2 = ap (value_at most max_depth) w.3 ∙ law.again w.1 w.2 w.0 w.4 in cc;
+    not_whole = λ (t, x, y, is, text, _). let g : value_at most max_depth held ≡ found t y = ap (value_at most max_depth) is ∙ law.again x y t text in cc;
   }

@@ -99,17 +99,17 @@ fits_leaf came c w (inr (apart, inr (nor, inr (neither, inr (u, x, y, e, f, g)))
 -- in a member, behind whole ones
 texts_more : (most left : ℕ) (x y : List ℕ) (ts : Trees) (t : Tree) → AreTexts most left x ts → IsText most left y t → (us : Trees) × AreTexts most left (x ++ y) us × (length (members us) ≡ suc (length (members ts)))
 texts_more most left x y no_trees t g h = (tree t no_trees, (y, [], ap (λ z. z ++ y) g ∙ sym (append-nil y), h, refl), refl)
-texts_more most left x y (tree u ts) t g h =
-    let q = texts_more most left g.1 y ts t g.4 h in
-    (tree u q.0, (g.0, g.1 ++ y, ap (λ z. z ++ y) g.2 ∙ append_assoc g.0 g.1 y, g.3, q.1), ap suc q.2)
+texts_more most left x y (tree u ts) t (front, back, split, text, others) h =
+    let (us, texts, len) = texts_more most left back y ts t others h in
+    (tree u us, (front, back ++ y, ap (λ z. z ++ y) split ∙ append_assoc front back y, text, texts), ap suc len)
 
 module _ (most left : ℕ) (digits came : List ℕ) (c : ℕ) (w : Refusal) (n : ℕ) (len : IsLength most digits n) (inner : (part : List ℕ) → InValue most left part c w → RefusedInValue most left part c (refusal_number w)) where
   fits_many : (m : ℕ) (front part : List ℕ) (ts : Trees) → AreTexts most left front ts → length (members ts) + m ≡ n → came ≡ line 42 digits ++ front ++ part → InMany (IsText most left) (InValue most left) m part c w → RefusedInValue most (suc left) came c (refusal_number w)
   fits_many zero front part ts g l e f = absurd f
   fits_many (suc m) front part ts g l e (inl f) = inr (inr (digits, front, part, n, ts, len, g, omega (arith, l), e, inner part f))
   fits_many (suc m) front part ts g l e (inr (t, x, y, f, h, k)) =
-      let q = texts_more most left front x ts t g h in
-      fits_many m (front ++ x) y q.0 q.1 (omega (arith, l, q.2)) (e ∙ ap (λ z. line 42 digits ++ front ++ z) f ∙ append_assoc' x y) k
+      let (us, texts, more_len) = texts_more most left front x ts t g h in
+      fits_many m (front ++ x) y us texts (omega (arith, l, more_len)) (e ∙ ap (λ z. line 42 digits ++ front ++ z) f ∙ append_assoc' x y) k
     where
       append_assoc' : (x y : List ℕ) → line 42 digits ++ front ++ (x ++ y) ≡ line 42 digits ++ (front ++ x) ++ y
       append_assoc' x y = append_assoc (line 42 digits) front (x ++ y) ∙ ap (λ z. line 42 digits ++ z) (sym (append_assoc front x y)) ∙ sym (append_assoc (line 42 digits) (front ++ x) y)
@@ -124,7 +124,7 @@ fits_members most left part x y came c w (Some n) inner e f (inr (m, (digits, g,
 
 pub fits_value : (most left : ℕ) (came : List ℕ) (c : ℕ) (w : Refusal) → InValue most left came c w → RefusedInValue most left came c (refusal_number w)
 fits_value most zero came c w f =
-    ⊎_elim (λ g. inl g) (λ g. inr (g.0, g.1, ap refusal_number g.2)) (fits_leaf came c w f)
+    ⊎_elim (λ g. inl g) (λ (nil, star, w_is). inr (nil, star, ap refusal_number w_is)) (fits_leaf came c w f)
 fits_value most (suc left) came c w (inl (z, e, inl f)) = inr (inl (z, e, fits_length most z c w f))
 fits_value most (suc left) came c w (inl (z, e, inr (o, x, y, f, g, h))) =
     fits_members most left z x y came c w o (λ part k. fits_value most left part c w k) e f g h

@@ -76,7 +76,7 @@ head_goes_on most p q h next v k none is opens none' is' few g y =
 
 -- what a reader of a part finds, it finds whatever follows
 pub found_on : {A : Type 0} (G : List ℕ → A → Type 0) (N : List ℕ → ℕ → Refusal → Type 0) (read : List ℕ → Outcome A) → IsReader G N read → (b rest : List ℕ) (a : A) → read b ≡ found a rest → (x : List ℕ) × (b ≡ x ++ rest) × G x a × ((y : List ℕ) → read (x ++ y) ≡ found a y)
-found_on G N read law b rest a e = let q = law.sound b rest a e in (q.0, q.1, q.2, (λ y. law.again q.0 y a q.2))
+found_on G N read law b rest a e = let (x, split, text) = law.sound b rest a e in (x, split, text, (λ y. law.again x y a text))
 
 -- a payload that is found, and its line end
 pub record IsCut (n : ℕ) (b rest s : List ℕ) : Type 0 where
@@ -85,13 +85,13 @@ pub record IsCut (n : ℕ) (b rest s : List ℕ) : Type 0 where
 
 pub payload_cut : (n : ℕ) (b rest s : List ℕ) → payload_at (Some n) b ≡ found (bulk s) rest → IsCut n b rest s
 payload_cut n b rest s e =
-    let q = (payload-reads (Some n)).sound b rest (bulk s) e in
-    let g = q.2 in
-    let s_is : s ≡ g.0 = cc in
-    let x_is : q.0 ≡ s ++ line_end = g.3 ∙ ap (λ z. z ++ g.2) (g.4.0 ∙ sym s_is) ∙ ap (λ z. s ++ z) g.5.1 in
+    let (x, split, payload) = (payload-reads (Some n)).sound b rest (bulk s) e in
+    let (bytes, _, back, x_split, (front_is, _), (_, back_is, same_bulk)) = payload in
+    let s_is : s ≡ bytes = cc in
+    let x_is : x ≡ s ++ line_end = x_split ∙ ap (λ z. z ++ back) (front_is ∙ sym s_is) ∙ ap (λ z. s ++ z) back_is in
     record {
-      parts = q.1 ∙ ap (λ z. z ++ rest) x_is;
-      same = λ y. ap (λ z. payload_at (Some n) (z ++ y)) (sym x_is) ∙ (payload-reads (Some n)).again q.0 y (bulk s) q.2;
+      parts = split ∙ ap (λ z. z ++ rest) x_is;
+      same = λ y. ap (λ z. payload_at (Some n) (z ++ y)) (sym x_is) ∙ (payload-reads (Some n)).again x y (bulk s) payload;
     }
 
 -- what is refused stands at the end

@@ -33,7 +33,7 @@ module _ {A : Type 0} (read : List ℕ → Outcome A) (c m : ℕ) where
     where
       by : (o : Outcome A) → Judged other came c m o → Judged read (front ++ came) c m o
       by (found a rest) h = h
-      by unfinished h = (h.0, f ∙ h.1, h.2)
+      by unfinished (w, fails, least) = (w, f ∙ fails, least)
       by (refused w rest) h = tt
 
   pub behind_judged : (behind : List ℕ → Outcome A) (front came : List ℕ) → ((xs : List ℕ) → read (front ++ xs) ≡ behind xs) → IsJudged behind came c m → IsJudged read (front ++ came) c m
@@ -45,7 +45,7 @@ then_judged read s came c m h = by (read came) h
   where
     by : (o : Outcome _) → Judged read came c m o → Judged (λ b. and_then (read b) s) came c m (and_then o s)
     by (found a rest) h = absurd h
-    by unfinished h = (h.0, ap (λ o. and_then o s) h.1, h.2)
+    by unfinished (w, fails, least) = (w, ap (λ o. and_then o s) fails, least)
     by (refused w rest) h = tt
 
 -- the bytes that are due
@@ -75,8 +75,8 @@ pub digits_judged : (d : Digits) (ds : List ℕ) (c m : ℕ) → AllByRecursion 
 digits_judged d ds c m all f =
     elim (passed d 0 0 ds (omega arith) all) [
       | passes l q ↦
-          let g = f (0 + length ds) (number_after 0 ds) l (omega arith) refl in
-          begun_judged (digits_at d 0 0) c m ds g.0 (ap (digits_at d 0 0) (sym (append-nil ds)) ∙ q [] ∙ digits_at_nil d _ _) (q (c ∷ []) ∙ g.1) g.2
+          let (w, fails, least) = f (0 + length ds) (number_after 0 ds) l (omega arith) refl in
+          begun_judged (digits_at d 0 0) c m ds w (ap (digits_at d 0 0) (sym (append-nil ds)) ∙ q [] ∙ digits_at_nil d _ _) (q (c ∷ []) ∙ fails) least
       | stopped w rest q ↦ refused_judged (digits_at d 0 0) c m ds (rest ++ []) w (ap (digits_at d 0 0) (sym (append-nil ds)) ∙ q [])
     ]
 

@@ -217,8 +217,8 @@ line_judged : (bs : List ℕ) (c m : ℕ) → AllByRecursion IsLineByte bs → R
 line_judged bs c m all r =
     elim (line_passed [] bs (omega arith) all) [
       | passes q ↦
-          let g = line_stops bs c m r in
-          begun_judged (text_at []) c m bs g.0 (ap (text_at []) (sym (append-nil bs)) ∙ q [] ∙ text_at_nil bs) (q (c ∷ []) ∙ g.1) g.2
+          let (w, fails, least) = line_stops bs c m r in
+          begun_judged (text_at []) c m bs w (ap (text_at []) (sym (append-nil bs)) ∙ q [] ∙ text_at_nil bs) (q (c ∷ []) ∙ fails) least
       | stopped w rest q ↦ refused_judged (text_at []) c m bs (rest ++ []) w (ap (text_at []) (sym (append-nil bs)) ∙ q [])
     ]
 
@@ -366,11 +366,11 @@ many_judged most left zero front part ts c m g l h = absurd (omega (arith, l))
 many_judged most left (suc n) front part no_trees c m g l h =
     subst (λ (z : List ℕ). IsJudged (many_at (value_at most left) (suc n)) (z ++ part) c m) (sym g)
     (behind_judged (many_at (value_at most left) (suc n)) c m _ [] part (many_some most left n) (then_judged (value_at most left) (λ a rest. and_then (many_at (value_at most left) n rest) (λ others rest. found (a ∷ others) rest)) part c m h))
-many_judged most left (suc n) front part (tree t ts) c m g l h =
-    subst (λ (z : List ℕ). IsJudged (many_at (value_at most left) (suc n)) z c m) (sym (ap (λ z. z ++ part) g.2 ∙ append_assoc g.0 g.1 part))
-    (behind_judged (many_at (value_at most left) (suc n)) c m (λ rest. and_then (many_at (value_at most left) n rest) (λ others rest. found (t ∷ others) rest)) g.0 (g.1 ++ part)
-    (λ xs. many_some most left n (g.0 ++ xs) ∙ ap (λ o. and_then o (λ a rest. and_then (many_at (value_at most left) n rest) (λ others rest. found (a ∷ others) rest))) ((value-reads most left).again g.0 xs t g.3))
-    (then_judged (many_at (value_at most left) n) (λ others rest. found (t ∷ others) rest) (g.1 ++ part) c m (many_judged most left n g.1 part ts c m g.4 (omega (arith, l)) h)))
+many_judged most left (suc n) front part (tree t ts) c m (x, y, split, text, others) l h =
+    subst (λ (z : List ℕ). IsJudged (many_at (value_at most left) (suc n)) z c m) (sym (ap (λ z. z ++ part) split ∙ append_assoc x y part))
+    (behind_judged (many_at (value_at most left) (suc n)) c m (λ rest. and_then (many_at (value_at most left) n rest) (λ others rest. found (t ∷ others) rest)) x (y ++ part)
+    (λ xs. many_some most left n (x ++ xs) ∙ ap (λ o. and_then o (λ a rest. and_then (many_at (value_at most left) n rest) (λ others rest. found (a ∷ others) rest))) ((value-reads most left).again x xs t text))
+    (then_judged (many_at (value_at most left) n) (λ others rest. found (t ∷ others) rest) (y ++ part) c m (many_judged most left n y part ts c m others (omega (arith, l)) h)))
 
 members_of : (most left n : ℕ) (digits xs : List ℕ) → IsLength most digits n → value_at most (suc left) (line 42 digits ++ xs) ≡ and_then (many_at (value_at most left) n xs) (λ ts rest. found (list (trees_of ts)) rest)
 unfolding members_at

@@ -25,10 +25,10 @@ module _ (most : ℕ) (came : List ℕ) (c : ℕ) where
   -- and by no higher one
   at_most : (m : ℕ) (w : Refusal) → RefusedInValue most max_depth came c m → value_at most max_depth came ≡ unfinished → value_at most max_depth (came ++ c ∷ []) ≡ refused w (c ∷ []) → refusal_number w ≤ m
   at_most m w r e f =
-      let h = subst (λ (o : Outcome Tree). Judged (value_at most max_depth) came c m o) e (value_judged most max_depth came c m r) in
-      let g : refused h.0 (c ∷ []) ≡ refused w (c ∷ []) = sym h.1 ∙ f in
-      let w_is : h.0 ≡ w = cc in
-      subst (λ (z : Refusal). refusal_number z ≤ m) w_is h.2
+      let (v, fails, least) = subst (λ (o : Outcome Tree). Judged (value_at most max_depth) came c m o) e (value_judged most max_depth came c m r) in
+      let g : refused v (c ∷ []) ≡ refused w (c ∷ []) = sym fails ∙ f in
+      let w_is : v ≡ w = cc in
+      subst (λ (z : Refusal). refusal_number z ≤ m) w_is least
 
   pub told_by : (w : Refusal) → value_at most max_depth came ≡ unfinished → value_at most max_depth (came ++ c ∷ []) ≡ refused w (c ∷ []) → InValue most max_depth came c w → (length came ≡ max_text → refusal_number w ≤ 106) → IsTold most came c (refusal_number w)
   told_by w e f place l = record {
@@ -46,7 +46,7 @@ module _ (most : ℕ) (came : List ℕ) (c : ℕ) where
   pub told_long : ((w : Refusal) (rest : List ℕ) → value_at most max_depth (came ++ c ∷ []) ≡ refused w rest → ⊥) → length came ≡ max_text → IsTold most came c 106
   told_long well l = record {
     fits = inr (l, refl);
-    lowest = λ m. ⊎_elim (λ r. let q = refused_there m r in absurd (well q.0 q.1 q.2)) (λ h. omega (arith, h.1));
+    lowest = λ m. ⊎_elim (λ r. let (w, rest, fails) = refused_there m r in absurd (well w rest fails)) (λ h. omega (arith, h.1));
   }
 
 pub cases_deep : (w : Refusal) → (w ≡ TooDeep) ⊎ (w ≢ TooDeep)

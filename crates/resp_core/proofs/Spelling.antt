@@ -41,20 +41,20 @@ mutual
   pub spelling_is_shortest : SpellingIsShortest
   spelling_is_shortest most left b (simple s) g = omega (arith, ap length g.1)
   spelling_is_shortest most left b (fault s) g = omega (arith, ap length g.1)
-  spelling_is_shortest most left b (whole n) g = omega (arith, ap length g.2, length_line-le 58 (signed_decimal n) g.0 (length_integer-le g.0 n g.1))
-  spelling_is_shortest most left b (bulk s) g =
-      omega (arith, ap length g.2, length_line-le 36 (decimal (length s)) g.0 (length_number-le max_bulk g.0 (length s) g.1), length-append (line 36 (decimal (length s))) s, length-append (line 36 (decimal (length s)) ++ s) line_end, length-append (line 36 g.0) s, length-append (line 36 g.0 ++ s) line_end)
+  spelling_is_shortest most left b (whole n) (bytes, number, is) = omega (arith, ap length is, length_line-le 58 (signed_decimal n) bytes (length_integer-le bytes n number))
+  spelling_is_shortest most left b (bulk s) (digits, number, is) =
+      omega (arith, ap length is, length_line-le 36 (decimal (length s)) digits (length_number-le max_bulk digits (length s) number), length-append (line 36 (decimal (length s))) s, length-append (line 36 (decimal (length s)) ++ s) line_end, length-append (line 36 digits) s, length-append (line 36 digits ++ s) line_end)
   spelling_is_shortest most left b null_bulk g = omega (arith, ap length g)
   spelling_is_shortest most zero b (list ts) g = absurd g
-  spelling_is_shortest most (suc left) b (list ts) g =
-      omega (arith, ap length g.3, length_line-le 42 (decimal (length (members ts))) g.0 (length_number-le most g.0 (length (members ts)) g.2), length-append (line 42 (decimal (length (members ts)))) (texts ts), length-append (line 42 g.0) g.1, spellings_are_shortest most left g.1 ts g.4)
+  spelling_is_shortest most (suc left) b (list ts) (digits, rest, number, is, inside) =
+      omega (arith, ap length is, length_line-le 42 (decimal (length (members ts))) digits (length_number-le most digits (length (members ts)) number), length-append (line 42 (decimal (length (members ts)))) (texts ts), length-append (line 42 digits) rest, spellings_are_shortest most left rest ts inside)
   spelling_is_shortest most zero b null_list g = absurd g
   spelling_is_shortest most (suc left) b null_list g = omega (arith, ap length g)
 
   spellings_are_shortest : (most left : ℕ) (b : List ℕ) (ts : Trees) → AreTexts most left b ts → length (texts ts) ≤ length b
   spellings_are_shortest most left b no_trees g = omega arith
-  spellings_are_shortest most left b (tree t ts) g =
-      omega (arith, ap length g.2, length-append g.0 g.1, length-append (text t) (texts ts), spelling_is_shortest most left g.0 t g.3, spellings_are_shortest most left g.1 ts g.4)
+  spellings_are_shortest most left b (tree t ts) (front, back, split, t_text, others) =
+      omega (arith, ap length split, length-append front back, length-append (text t) (texts ts), spelling_is_shortest most left front t t_text, spellings_are_shortest most left back ts others)
 
 plain_line : (s : List ℕ) → AllByRecursion (λ b. (b ≢ 13) × (b ≢ 10)) s → list_all is_text_byte s ≡ true
 plain_line [] all = refl
@@ -79,13 +79,13 @@ mutual
   read_values_are_plain most left b (bulk s) g = (refl, g.1.within)
   read_values_are_plain most left b null_bulk g = (refl, tt)
   read_values_are_plain most zero b (list ts) g = absurd g
-  read_values_are_plain most (suc left) b (list ts) g = let q = members_are_plain most left g.1 ts g.4 in (q.0, (g.2.within, q.1))
+  read_values_are_plain most (suc left) b (list ts) (_, rest, number, _, inside) = let q = members_are_plain most left rest ts inside in (q.0, (number.within, q.1))
   read_values_are_plain most zero b null_list g = absurd g
   read_values_are_plain most (suc left) b null_list g = (refl, tt)
 
   members_are_plain : (most left : ℕ) (b : List ℕ) (ts : Trees) → AreTexts most left b ts → (are_plain_trees ts ≡ true) × AreWithin most left ts
   members_are_plain most left b no_trees g = (refl, tt)
-  members_are_plain most left b (tree t ts) g =
-      let p = read_values_are_plain most left g.0 t g.3 in
-      let q = members_are_plain most left g.1 ts g.4 in
+  members_are_plain most left b (tree t ts) (front, back, _, t_text, others) =
+      let p = read_values_are_plain most left front t t_text in
+      let q = members_are_plain most left back ts others in
       (rw (p.0, q.0) refl, (p.1, q.1))

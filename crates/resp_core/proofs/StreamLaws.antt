@@ -76,18 +76,21 @@ held_by n most b l (begun f) = ([], b, refl, inl f)
 held_by n most b l (fault place number f) = ([], b, refl, inr (place, number, f))
 held_by zero most b l (whole t len f) = absurd (omega (arith, f.inside, text_nonempty most max_depth (take len b) t f.text, length-take len b))
 held_by (suc n) most b l (whole t len f) =
-    let q = held_by n most (drop len b) (omega (arith, f.inside, l, text_nonempty most max_depth (take len b) t f.text, length-take len b, length-drop len b)) (stood most (drop len b)) in
-    (t ∷ q.0, q.1, (take len b, drop len b, sym (take-append-drop len b), f.text, omega (arith, length-take len b, f.few), q.2), q.3)
+    let (ts, rest, splits, end) = held_by n most (drop len b) (omega (arith, f.inside, l, text_nonempty most max_depth (take len b) t f.text, length-take len b, length-drop len b)) (stood most (drop len b)) in
+    (t ∷ ts, rest, (take len b, drop len b, sym (take-append-drop len b), f.text, omega (arith, length-take len b, f.few), splits), end)
 
 pub each_stream_holds : EachStreamHolds
 each_stream_holds most b =
-    let q = held_by (length b) most b (omega arith) (stood most b) in
-    ⊎_elim (λ f. (q.0, false, no_refusal_of most b q.1 q.0 q.2 f)) (λ f. (q.0, true, (_, f.1, refusal_of_fault most b q.1 q.0 f.0 f.1 q.2 f.2))) q.3
+    let (ts, rest, splits, end) = held_by (length b) most b (omega arith) (stood most b) in
+    elim end [
+      | inl f ↦ (ts, false, no_refusal_of most b rest ts splits f)
+      | inr (place, number, f) ↦ (ts, true, (_, number, refusal_of_fault most b rest ts place number splits f))
+    ]
 
 -- nothing whole stands in front of what is left of a stream
 none_whole : (most : ℕ) (b : List ℕ) (ts : List Tree) (rest : List ℕ) → AreValues most b ts rest → HasWhole most rest → ⊥
-none_whole most b ts rest g w =
-    omega (arith, g.longest (ts ++ w.0 ∷ []) w.2 (splits_more most b rest w.1 w.2 ts w.0 g.splits w.3 w.4 w.5), ap length w.3, length-append w.1 w.2, text_nonempty most max_depth w.1 w.0 w.4)
+none_whole most b ts rest g (t, x, y, is, text, few) =
+    omega (arith, g.longest (ts ++ t ∷ []) y (splits_more most b rest x y ts t g.splits is text few), ap length is, length-append x y, text_nonempty most max_depth x t text)
 
 -- a text whose front is the refused byte and what stands before it
 no_text_over : (most : ℕ) (rest : List ℕ) (place : ℕ) → IsRefusedAt most rest place → (x y : List ℕ) (t : Tree) → (more : List ℕ) → rest ++ more ≡ x ++ y → IsText most max_depth x t → length x ≤ max_text → place < length x → ⊥
@@ -100,7 +103,7 @@ no_text_over most rest place f x y t more e g few l =
 pub refusal_stays : RefusalStays
 refusal_stays most b more ts offset number h = record {
   rest = h.rest ++ more;
-  values = are_values most (b ++ more) (h.rest ++ more) ts (splits_fed most b h.rest more ts h.values.splits) (λ w. ⊎_elim (λ l. short w.0 w.1 w.2 w.3 w.4 w.5 l) (λ l. no_text_over most h.rest h.place h.refused w.1 w.2 w.0 more w.3 w.4 w.5 l) (le_or_lt (length w.1) h.place));
+  values = are_values most (b ++ more) (h.rest ++ more) ts (splits_fed most b h.rest more ts h.values.splits) (λ (t, x, y, is, text, few). ⊎_elim (λ l. short t x y is text few l) (λ l. no_text_over most h.rest h.place h.refused x y t more is text few l) (le_or_lt (length x) h.place));
   place = h.place;
   refused = record {
     before = h.refused.before;
@@ -140,15 +143,15 @@ one_refused_byte most rest m n f g =
 -- the same values leave the same bytes
 same_rest : (most : ℕ) (b : List ℕ) (ts : List Tree) (rest left : List ℕ) → Splits most b ts rest → Splits most b ts left → rest ≡ left
 same_rest most b [] rest left g h = sym g ∙ h
-same_rest most b (t ∷ ts) rest left g h =
+same_rest most b (t ∷ ts) rest left (x, y, is, text, _, others) (x', y', is', text', _, others') =
     let law = value-reads most max_depth in
-    let e : found t g.1 ≡ found t h.1 = sym (law.again g.0 g.1 t g.3) ∙ ap (value_at most max_depth) (sym g.2 ∙ h.2) ∙ law.again h.0 h.1 t h.3 in
-    let rest_is : g.1 ≡ h.1 = cc in
-    same_rest most g.1 ts rest left g.5 (subst (λ (z : List ℕ). Splits most z ts left) (sym rest_is) h.5)
+    let e : found t y ≡ found t y' = sym (law.again x y t text) ∙ ap (value_at most max_depth) (sym is ∙ is') ∙ law.again x' y' t text' in
+    let y_is : y ≡ y' = cc in
+    same_rest most y ts rest left others (subst (λ (z : List ℕ). Splits most z ts left) (sym y_is) others')
 
 -- the values of a stream that is refused, or is not
 values_of : (most : ℕ) (b : List ℕ) (ts : List Tree) (refused : Bool) → Holds most b ts refused → (rest : List ℕ) × AreValues most b ts rest
-values_of most b ts true h = (h.2.rest, h.2.values)
+values_of most b ts true (_, _, h) = (h.rest, h.values)
 values_of most b ts false h = (h.rest, h.values)
 
 -- each of two lists begins with the other
@@ -188,9 +191,9 @@ pub one_refusal : OneRefusal
 one_refusal most b ts us offset other number another g h =
     let e = same_values most b ts us g.rest h.rest g.values h.values in
     let rest_is : g.rest ≡ h.rest = same_rest most b us g.rest h.rest (subst (λ (z : List Tree). Splits most b z g.rest) e g.values.splits) h.values.splits in
-    let q = same_place most g.rest h.rest g.place h.place rest_is g.refused h.refused in
-    let told : IsTold most h.refused.before h.refused.byte number = subst (λ (z : List ℕ). IsTold most z h.refused.byte number) q.1 (subst (λ (z : ℕ). IsTold most g.refused.before z number) q.2 g.told) in
-    (omega (arith, g.offset_is, h.offset_is, q.0, ap length rest_is), one_number most h.refused.before h.refused.byte number another told h.told)
+    let (place_is, before_is, byte_is) = same_place most g.rest h.rest g.place h.place rest_is g.refused h.refused in
+    let told : IsTold most h.refused.before h.refused.byte number = subst (λ (z : List ℕ). IsTold most z h.refused.byte number) before_is (subst (λ (z : ℕ). IsTold most g.refused.before z number) byte_is g.told) in
+    (omega (arith, g.offset_is, h.offset_is, place_is, ap length rest_is), one_number most h.refused.before h.refused.byte number another told h.told)
 
 pub one_holding : OneHolding
 one_holding most b ts us r s g h =
@@ -201,8 +204,8 @@ one_holding most b ts us r s g h =
     by : (r s : Bool) → Holds most b ts r → Holds most b us s → r ≡ s
     by true true g h = refl
     by false false g h = refl
-    by false true g h = absurd (not_both most b ts us h.0 h.1 g h.2)
-    by true false g h = absurd (not_both most b us ts g.0 g.1 h g.2)
+    by false true g (offset, number, h) = absurd (not_both most b ts us offset number g h)
+    by true false (offset, number, g) h = absurd (not_both most b us ts offset number h g)
 
 pub values_stay : ValuesStay
 values_stay most b more rest ts us r g h =

@@ -13,27 +13,27 @@ module _ (most : ℕ) where
   -- more bytes behind
   pub splits_fed : (b rest x : List ℕ) (ts : List Tree) → Splits most b ts rest → Splits most (b ++ x) ts (rest ++ x)
   splits_fed b rest x [] g = ap (λ z. z ++ x) g
-  splits_fed b rest x (t ∷ ts) g = (g.0, g.1 ++ x, ap (λ z. z ++ x) g.2 ∙ append_assoc g.0 g.1 x, g.3, g.4, splits_fed g.1 rest x ts g.5)
+  splits_fed b rest x (t ∷ ts) (front, back, split, text, few, others) = (front, back ++ x, ap (λ z. z ++ x) split ∙ append_assoc front back x, text, few, splits_fed back rest x ts others)
 
   -- one value more
   pub splits_more : (b rest x y : List ℕ) (ts : List Tree) (t : Tree) → Splits most b ts rest → rest ≡ x ++ y → IsText most max_depth x t → length x ≤ max_text → Splits most b (ts ++ t ∷ []) y
   splits_more b rest x y [] t g e f h = (x, y, g ∙ e, f, h, refl)
-  splits_more b rest x y (u ∷ us) t g e f h = (g.0, g.1, g.2, g.3, g.4, splits_more g.1 rest x y us t g.5 e f h)
+  splits_more b rest x y (u ∷ us) t (front, back, split, text, few, others) e f h = (front, back, split, text, few, splits_more back rest x y us t others e f h)
 
   pub splits_shorter : (b rest : List ℕ) (ts : List Tree) → Splits most b ts rest → length rest ≤ length b
   splits_shorter b rest [] g = omega (arith, ap length g)
-  splits_shorter b rest (t ∷ ts) g = omega (arith, ap length g.2, length-append g.0 g.1, splits_shorter g.1 rest ts g.5)
+  splits_shorter b rest (t ∷ ts) (front, back, split, _, _, others) = omega (arith, ap length split, length-append front back, splits_shorter back rest ts others)
 
   -- of two readings of one stream the one leaves no more, or could go on
   splits_compared : (b r s : List ℕ) (ts us : List Tree) → Splits most b ts r → Splits most b us s → (length r ≤ length s) ⊎ HasWhole most r
   splits_compared b r s [] [] g h = inl (omega (arith, ap length g, ap length h))
-  splits_compared b r s [] (u ∷ us) g h = inr (u, h.0, h.1, sym g ∙ h.2, h.3, h.4)
+  splits_compared b r s [] (u ∷ us) g (front, back, split, text, few, _) = inr (u, front, back, sym g ∙ split, text, few)
   splits_compared b r s (t ∷ ts) [] g h = inl (omega (arith, splits_shorter b r (t ∷ ts) g, ap length h))
-  splits_compared b r s (t ∷ ts) (u ∷ us) g h =
+  splits_compared b r s (t ∷ ts) (u ∷ us) (x, y, split, text, _, others) (x', y', split', text', _, others') =
       let law = value-reads most max_depth in
-      let e : found t g.1 ≡ found u h.1 = sym (law.again g.0 g.1 t g.3) ∙ ap (value_at most max_depth) (sym g.2 ∙ h.2) ∙ law.again h.0 h.1 u h.3 in
-      let rest_is : g.1 ≡ h.1 = cc in
-      splits_compared g.1 r s ts us g.5 (subst (λ (z : List ℕ). Splits most z us s) (sym rest_is) h.5)
+      let e : found t y ≡ found u y' = sym (law.again x y t text) ∙ ap (value_at most max_depth) (sym split ∙ split') ∙ law.again x' y' u text' in
+      let y_is : y ≡ y' = cc in
+      splits_compared y r s ts us others (subst (λ (z : List ℕ). Splits most z us s) (sym y_is) others')
 
   pub are_values : (b rest : List ℕ) (ts : List Tree) → Splits most b ts rest → (HasWhole most rest → ⊥) → AreValues most b ts rest
   are_values b rest ts g hasnt = record {
@@ -59,7 +59,8 @@ no_refusal_of most b held ts g f = record {
   where
     goes_on : (x : List ℕ) (c : ℕ) (y : List ℕ) → held ≡ x ++ c ∷ y → Begins most (x ++ c ∷ [])
     goes_on x c y e =
-        (y ++ f.begins.0, f.begins.1, subst (λ (z : List ℕ). IsText most max_depth z f.begins.1) (ap (λ z. z ++ f.begins.0) e ∙ append_assoc x (c ∷ y) f.begins.0 ∙ sym (append_assoc x (c ∷ []) (y ++ f.begins.0))) f.begins.2)
+        let (more, t, text) = f.begins in
+        (y ++ more, t, subst (λ (z : List ℕ). IsText most max_depth z t) (ap (λ z. z ++ more) e ∙ append_assoc x (c ∷ y) more ∙ sym (append_assoc x (c ∷ []) (y ++ more))) text)
 
 -- a stream in which a byte is refused
 pub refusal_of_fault : (most : ℕ) (b held : List ℕ) (ts : List Tree) (place number : ℕ) → Splits most b ts held → IsFault most held place number → HasRefusal most b ts (told_offset (length b - length held + place)) number
@@ -75,14 +76,14 @@ refusal_of_fault most b held ts place number g f = record {
 -- of two readings of one stream the one that leaves less goes on from the other
 begins_with : (most : ℕ) (b : List ℕ) (ts us : List Tree) (rest left : List ℕ) → Splits most b ts rest → Splits most b us left → length rest ≤ length left → (more : List Tree) × (ts ≡ us ++ more)
 begins_with most b ts [] rest left g h l = (ts, refl)
-begins_with most b [] (u ∷ us) rest left g h l =
-    absurd (omega (arith, ap length g, ap length h.2, length-append h.0 h.1, splits_shorter most h.1 left us h.5, text_nonempty most max_depth h.0 u h.3))
-begins_with most b (t ∷ ts) (u ∷ us) rest left g h l =
+begins_with most b [] (u ∷ us) rest left g (front, back, split, text, _, others) l =
+    absurd (omega (arith, ap length g, ap length split, length-append front back, splits_shorter most back left us others, text_nonempty most max_depth front u text))
+begins_with most b (t ∷ ts) (u ∷ us) rest left (x, y, split, text, _, others) (x', y', split', text', _, others') l =
     let law = value-reads most max_depth in
-    let e : found t g.1 ≡ found u h.1 = sym (law.again g.0 g.1 t g.3) ∙ ap (value_at most max_depth) (sym g.2 ∙ h.2) ∙ law.again h.0 h.1 u h.3 in
-    let rest_is : g.1 ≡ h.1 = cc in
+    let e : found t y ≡ found u y' = sym (law.again x y t text) ∙ ap (value_at most max_depth) (sym split ∙ split') ∙ law.again x' y' u text' in
+    let y_is : y ≡ y' = cc in
     let t_is : t ≡ u = cc in
-    let q = begins_with most g.1 ts us rest left g.5 (subst (λ (z : List ℕ). Splits most z us left) (sym rest_is) h.5) l in
+    let q = begins_with most y ts us rest left others (subst (λ (z : List ℕ). Splits most z us left) (sym y_is) others') l in
     (q.0, ap (λ z. z ∷ ts) t_is ∙ ap (λ z. u ∷ z) q.1)
 
 pub one_reading : OneReading

@@ -24,11 +24,11 @@ pub record IsLineCut (b rest s : List ℕ) : Type 0 where
 
 pub line_cut : (b rest s : List ℕ) → text_at [] b ≡ found s rest → IsLineCut b rest s
 line_cut b rest s e =
-    let q = text-reads.sound b rest s e in
-    let x_is : q.0 ≡ s ++ line_end = q.2.1 in
+    let (x, split, text) = text-reads.sound b rest s e in
+    let x_is : x ≡ s ++ line_end = text.1 in
     record {
-      parts = q.1 ∙ ap (λ z. z ++ rest) x_is;
-      same = λ y. ap (λ z. text_at [] (z ++ y)) (sym x_is) ∙ text-reads.again q.0 y s q.2;
+      parts = split ∙ ap (λ z. z ++ rest) x_is;
+      same = λ y. ap (λ z. text_at [] (z ++ y)) (sym x_is) ∙ text-reads.again x y s text;
     }
 
 pub cuts_line_at : (v : ℕ) (b items rest s : List ℕ) → b ≡ take v items → v ≤ length items → text_at [] b ≡ found s rest → CutsAt items rest s v

@@ -23,10 +23,10 @@ turn-requires-clause-good c = c.put_done.ensures.good c.args.most c.loop-value.i
 
 pub returns-in_err-turn-clause-halts : goal.returns-in_err-turn-clause-halts
 returns-in_err-turn-clause-halts c =
-    let p = err_from_is_err_and c.from_residual.result c.from_residual.ensures.1 in
+    let (_, is_err, same_error) = err_from_is_err_and c.from_residual.result c.from_residual.ensures.1 in
     let i = c.loop-value.invariant in
     let e = rw c.in-Ok-None.field-0-is at c.in-Ok-None.ensures in
-    rw (p.1, p.2) (
+    rw (is_err, same_error) (
       (λ held r. c.turn.ensures.reads held (e.reads c.args.most i.good held (i.reads held r))),
       (λ held r. c.in_err-turn.ensures.halts held (e.reads c.args.most i.good held (i.reads held r))),
     )
