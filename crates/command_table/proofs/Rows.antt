@@ -30,7 +30,7 @@ found_is p (x ∷ rs) r e =
       | inl f ↦
           let g : Some x ≡ Some r = rw f at e in
           let is : x ≡ r = cc in ((0, omega arith, is), subst (λ (z : Row). p z ≡ true) is f)
-      | inr f ↦ let (h, g) = found_is p rs r (rw f at e) in ((suc h.0, omega (arith, h.1), h.2), g)
+      | inr f ↦ let ((k, within, is), passes) = found_is p rs r (rw f at e) in ((suc k, omega (arith, within), is), passes)
     ]
 
 -- where a search finds nothing, nothing passes
@@ -60,7 +60,7 @@ pub names_are_lower_case : NamesAreLowerCase
 names_are_lower_case k r l = lower_name k r l
 
 lower_in : (r : Row) → Contains rows r → str_to_ascii_lowercase r.name ≡ r.name
-lower_in r h = subst (λ (z : Row). str_to_ascii_lowercase z.name ≡ z.name) h.2 (lower_name h.0 r h.1)
+lower_in r (k, within, is) = subst (λ (z : Row). str_to_ascii_lowercase z.name ≡ z.name) is (lower_name k r within)
 
 -- a name that passes the test of a row's is that row's name, in lower case
 named_as : (name : List ℕ) (r : Row) → Contains rows r → is_name name r.name ≡ true → str_to_ascii_lowercase name ≡ r.name
@@ -109,14 +109,15 @@ names_are_distinct j k r lj lk e =
 
 -- rows of the same name are one
 one_row : (r s : Row) → Contains rows r → Contains rows s → r.name ≡ s.name → r ≡ s
-one_row r s h g e =
-    let at : get_or rows g.0 r ≡ s = get_or_default rows g.0 r s g.1 ∙ g.2 in
-    let same : h.0 ≡ g.0 = names_are_distinct h.0 g.0 r h.1 g.1 (ap (λ z. z.name) h.2 ∙ e ∙ sym (ap (λ z. z.name) at)) in
-    sym h.2 ∙ ap (λ z. get_or rows z r) same ∙ at
+one_row r s (j, j_within, j_is) (k, k_within, k_is) e =
+    let at : get_or rows k r ≡ s = get_or_default rows k r s k_within ∙ k_is in
+    let same : j ≡ k = names_are_distinct j k r j_within k_within (ap (λ z. z.name) j_is ∙ e ∙ sym (ap (λ z. z.name) at)) in
+    sym j_is ∙ ap (λ z. get_or rows z r) same ∙ at
 
 found_row : (o : Option Row) (r : Row) (name : List ℕ) → row_named name ≡ o → Contains rows r → str_to_ascii_lowercase name ≡ r.name → o ≡ Some r
 found_row None r name e h f =
-    let none : is_name name r.name ≡ false = subst (λ (z : Row). is_name name z.name ≡ false) h.2 (none_passes (λ z. is_name name z.name) rows e h.0 r h.1) in
+    let (k, within, is) = h in
+    let none : is_name name r.name ≡ false = subst (λ (z : Row). is_name name z.name ≡ false) is (none_passes (λ z. is_name name z.name) rows e k r within) in
     let both : false ≡ true = sym none ∙ passes_as name r h f in absurd cc
 found_row (Some s) r name e h f =
     let (g, p) = found_stands_in_table s name e in ap Some (one_row s r g h (sym p ∙ f))

@@ -16,7 +16,7 @@ pub no_difference : (R P : Rules) → first_difference R P ≡ None → R ≡ P
 no_difference R P e =
     let s = R.settings in
     let t = P.settings in
-    let (hosts_pass, tags_pass, interval_passes, base_passes, longest_passes, percent_passes, consecutive_passes, success_passes, volume_passes, factor_passes, panic_passes, _) = all_pass ((Hosts, R.hosts == P.hosts) ∷ settings_comparisons s t) e in
+    let (hosts_pass, (tags_pass, (interval_passes, (base_passes, (longest_passes, (percent_passes, (consecutive_passes, (success_passes, (volume_passes, (factor_passes, (panic_passes, _))))))))))) = all_pass ((Hosts, R.hosts == P.hosts) ∷ settings_comparisons s t) e in
     let hosts = eqb-true R.hosts P.hosts hosts_pass in
     let tags = same_if s.tags t.tags tags_pass in
     let interval = eqb-true s.interval_ms t.interval_ms interval_passes in

@@ -25,7 +25,7 @@ within low high n e = let parts = and_parts (nat_le low n) (nat_le n high) e in 
 pub in_range : (R : Rules) → first_fault R ≡ None → IsInRange R
 in_range R e =
     let s = R.settings in
-    let (hosts_pass, _, base_passes, longest_passes, percent_passes, consecutive_passes, _, volume_passes, factor_passes, panic_passes, _) = all_pass (field_tests R) e in
+    let (hosts_pass, (_, (base_passes, (longest_passes, (percent_passes, (consecutive_passes, (_, (volume_passes, (factor_passes, (panic_passes, _)))))))))) = all_pass (field_tests R) e in
     let hosts = within 1 MAX_HOSTS R.hosts hosts_pass in
     let base = within 1 3600000 s.base_ms base_passes in
     let longest = within s.base_ms 86400000 s.max_ms longest_passes in

@@ -51,12 +51,12 @@ pub first_usable-IsLeast : (pairs : List (ℕ × ℕ)) (usable : List Bool) (i :
 first_usable-IsLeast pairs usable i in_order within out on = record {
   kind = record { member = Contains-get_or pairs i (0, 0) within; host_usable = on };
   first = λ pair is.
-      let at = is.member.0 in
-      let there : get_or pairs at (0, 0) ≡ pair = get_or_default pairs at (0, 0) pair is.member.1 ∙ is.member.2 in
+      let (at, at_within, at_is) = is.member in
+      let there : get_or pairs at (0, 0) ≡ pair = get_or_default pairs at (0, 0) pair at_within ∙ at_is in
       subst (IsAtOrBefore (get_or pairs i (0, 0))) there (elim (cases_order i at) [
         | inl same ↦ subst (λ k. IsAtOrBefore (get_or pairs i (0, 0)) (get_or pairs k (0, 0))) same (IsAtOrBefore-refl (get_or pairs i (0, 0)))
         | inr apart ↦ elim apart [
-          | inl before ↦ IsBefore-IsAtOrBefore _ _ (in_order i at (0, 0) before is.member.1)
+          | inl before ↦ IsBefore-IsAtOrBefore _ _ (in_order i at (0, 0) before at_within)
           | inr after ↦ absurd (both_ways _ (out at after) (subst (λ (p : ℕ × ℕ). is_usable usable p.1 ≡ true) (sym there) is.host_usable))
         ]
       ]);
@@ -64,8 +64,9 @@ first_usable-IsLeast pairs usable i in_order within out on = record {
 
 pub none_usable : (pairs : List (ℕ × ℕ)) (usable : List Bool) → ((k : ℕ) → k < length pairs → is_usable usable (get_or pairs k (0, 0)).1 ≡ false) → HasNone (IsUsablePair pairs usable)
 none_usable pairs usable out pair is =
-    let there : get_or pairs is.member.0 (0, 0) ≡ pair = get_or_default pairs is.member.0 (0, 0) pair is.member.1 ∙ is.member.2 in
-    both_ways _ (out is.member.0 is.member.1) (subst (λ (p : ℕ × ℕ). is_usable usable p.1 ≡ true) (sym there) is.host_usable)
+    let (at, at_within, at_is) = is.member in
+    let there : get_or pairs at (0, 0) ≡ pair = get_or_default pairs at (0, 0) pair at_within ∙ at_is in
+    both_ways _ (out at at_within) (subst (λ (p : ℕ × ℕ). is_usable usable p.1 ≡ true) (sym there) is.host_usable)
 
 -- ---- a part of them
 
@@ -101,17 +102,16 @@ pub from_place : (pairs : List (ℕ × ℕ)) (point place : ℕ) (usable : List 
 from_place pairs point place usable least parts is =
     IsLeastIfAny-same (IsUsablePair (drop place pairs) usable) (IsUsablePairFrom pairs point usable)
     (λ pair u.
-    let k = u.member.0 in
-    let within : place + k < length pairs = omega (arith, u.member.1, length-drop place pairs) in
-    let there : get_or pairs (place + k) pair ≡ pair = sym (get_or-drop place pairs k pair) ∙ u.member.2 in
+    let (k, k_within, k_is) = u.member in
+    let within : place + k < length pairs = omega (arith, k_within, length-drop place pairs) in
+    let there : get_or pairs (place + k) pair ≡ pair = sym (get_or-drop place pairs k pair) ∙ k_is in
     let above : point ≤ pair.0 = subst (λ (p : ℕ × ℕ). point ≤ p.0) there (parts.1 (place + k) pair (omega arith) within) in
     record { at_or_above = above; usable_pair = record { member = (place + k, within, there); host_usable = u.host_usable } })
     (λ pair u.
-    let k = u.usable_pair.member.0 in
-    let within = u.usable_pair.member.1 in
+    let (k, within, k_is) = u.usable_pair.member in
     elim (cases_lt k place) [
       | inl before ↦
-          let less : pair.0 < point = subst (λ (p : ℕ × ℕ). p.0 < point) u.usable_pair.member.2 (parts.0 k pair (omega arith) before) in
+          let less : pair.0 < point = subst (λ (p : ℕ × ℕ). p.0 < point) k_is (parts.0 k pair (omega arith) before) in
           absurd (omega (arith, less, u.at_or_above))
       | inr from ↦
           let e : place + (k - place) ≡ k = omega arith in
@@ -119,7 +119,7 @@ from_place pairs point place usable least parts is =
             member = (
               k - place,
               omega (arith, within, length-drop place pairs),
-              get_or-drop place pairs (k - place) pair ∙ ap (λ i. get_or pairs i pair) e ∙ u.usable_pair.member.2,
+              get_or-drop place pairs (k - place) pair ∙ ap (λ i. get_or pairs i pair) e ∙ k_is,
             );
             host_usable = u.usable_pair.host_usable;
           }

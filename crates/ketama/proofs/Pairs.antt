@@ -71,8 +71,8 @@ host_pairs-cases name host (suc n) pair is = elim (Contains-append_cases (host_p
       let p = host_pairs-cases name host n pair earlier in
       record { k = p.k; j = p.j; digest = omega arith; place = p.place; point = p.point; owner = p.owner }
   | inr last ↦
-      let p = digest_pairs-cases (md5 (label_of name n)) host pair last in
-      record { k = n; j = p.0; digest = omega arith; place = p.1; point = p.2; owner = p.3 }
+      let (j, place, point, owner) = digest_pairs-cases (md5 (label_of name n)) host pair last in
+      record { k = n; j = j; digest = omega arith; place = place; point = point; owner = owner }
 ]
 
 ring_pairs-has : (names : List (List ℕ)) (counts : List ℕ) (n point host : ℕ) → host < n → IsPointOf (get_or names host []) (get_or counts host 0) point → Contains (ring_pairs names counts n) (point, host)
@@ -121,5 +121,5 @@ IsKetamaPair-in_range names counts pairs same = λ k d within.
 pub no_bad_point : (hosts : ℕ) (points pairs : List (ℕ × ℕ)) → ¬ HasBadPoint hosts points → ((pair : ℕ × ℕ) → Contains pairs pair → Contains points pair) → All (λ pair. pair.1 < hosts) pairs
 no_bad_point hosts points pairs good of_them k d within = elim (cases_lt (get_or pairs k d).1 hosts) [
   | inl below ↦ below
-  | inr above ↦ let there = of_them (get_or pairs k d) (Contains-get_or pairs k d within) in absurd (good (there.0, get_or pairs k d, there.1, there.2, above))
+  | inr above ↦ let (at, at_within, is) = of_them (get_or pairs k d) (Contains-get_or pairs k d within) in absurd (good (at, get_or pairs k d, at_within, is, above))
 ]

@@ -47,14 +47,13 @@ after_first-absent byte (x ∷ xs) absent =
 -- what `position` finds
 pub IsSplitAt-position : (byte i : ℕ) (xs : List ℕ) → position (λ b. eqb b byte) xs ≡ Some i → IsSplitAt byte xs (take i xs) (drop (i + 1) xs)
 IsSplitAt-position byte i xs found =
-    let there = position-Some (λ b. eqb b byte) xs i byte found in
-    let in_list : i < length xs = there.0 in
-    let at : get_or xs i byte ≡ byte = eqb-true (get_or xs i byte) byte there.1 in
+    let (in_list, passes, none_before) = position-Some (λ b. eqb b byte) xs i byte found in
+    let at : get_or xs i byte ≡ byte = eqb-true (get_or xs i byte) byte passes in
     record {
       parts = sym (take-append-drop i xs) ∙ ap (λ rest. take i xs ++ rest) (drop_more xs i byte in_list ∙ ap (λ b. b ∷ drop (i + 1) xs) at);
       first = λ (k, lt, e).
           let below : k < i = omega (arith, length-take i xs) in
-          eqb-false (get_or xs k byte) byte (there.2 k below) (sym (get_or-take i xs k byte below) ∙ e);
+          eqb-false (get_or xs k byte) byte (none_before k below) (sym (get_or-take i xs k byte below) ∙ e);
     }
 
 absent-counted : (byte : ℕ) (xs : List ℕ) → length xs ≤ position_or_len (λ b. eqb b byte) xs → ¬ Contains xs byte

@@ -9,7 +9,7 @@ pub list_any-true : {X : Type 0} (test : X → Bool) (xs : List X) → list_any 
 list_any-true test [] e = absurd cc
 list_any-true test (y ∷ xs) e = elim (or_cases (test y) (list_any test xs) e) [
   | inl here ↦ (y, Contains-first y xs, here)
-  | inr more ↦ let a = list_any-true test xs more in (a.0, Contains-later y xs a.0 a.1, a.2)
+  | inr more ↦ let (x, is_in, passes) = list_any-true test xs more in (x, Contains-later y xs x is_in, passes)
 ]
 
 -- where a member passes, one does

@@ -22,13 +22,13 @@ only_one x y (suc k) l e = absurd (omega (arith, l))
 -- a member is the first item or one of the others
 pub Contains-cases : {X : Type 0} (x : X) (xs : List X) (y : X) → Contains (x ∷ xs) y → (x ≡ y) ⊎ Contains xs y
 Contains-cases x xs y h = elim (Contains-append_cases (x ∷ []) xs y h) [
-  | inl one ↦ inl (only_one x y one.0 one.1 one.2)
+  | inl one ↦ let (k, within, is) = one in inl (only_one x y k within is)
   | inr more ↦ inr more
 ]
 
 -- the place of a member
 pub slice_get-member : {X : Type 0} (xs : List X) (x : X) → Contains xs x → (k : ℕ) × (slice_get xs k ≡ Some x)
-slice_get-member xs x h = (h.0, slice_get-get_or xs h.0 x h.1 ∙ ap Some h.2)
+slice_get-member xs x (k, within, is) = (k, slice_get-get_or xs k x within ∙ ap Some is)
 
 -- what stands behind the first items is a member
 pub Contains-drop : {X : Type 0} (n : ℕ) (xs : List X) (x : X) → Contains (drop n xs) x → Contains xs x

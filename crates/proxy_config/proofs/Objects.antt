@@ -35,14 +35,14 @@ as_long f [] = refl
 as_long f (x ∷ xs) = ap suc (as_long f xs)
 
 any_given : (ns : List (String Global)) → Any (λ n. IsUnknown (string_bytes n)) ns → Any IsUnknown (map string_bytes ns)
-any_given ns h = (h.0, string_bytes h.1, omega (arith, as_long string_bytes ns, h.2), at_place string_bytes ns h.0 h.1 ∙ ap string_bytes h.3, h.4)
+any_given ns (k, name, within, is, unknown) = (k, string_bytes name, omega (arith, as_long string_bytes ns, within), at_place string_bytes ns k name ∙ ap string_bytes is, unknown)
 
 any_name : (ns : List (String Global)) → Any IsUnknown (map string_bytes ns) → Any (λ n. IsUnknown (string_bytes n)) ns
-any_name ns h =
-    let within : h.0 < length ns = omega (arith, as_long string_bytes ns, h.2) in
-    Any-from_place (λ n. IsUnknown (string_bytes n)) ns h.0 within (λ d.
-    let e : string_bytes (get_or ns h.0 d) ≡ h.1 = sym (at_place string_bytes ns h.0 d) ∙ get_or_default (map string_bytes ns) h.0 (string_bytes d) h.1 h.2 ∙ h.3 in
-    rw e h.4)
+any_name ns (k, key, k_within, is, unknown) =
+    let within : k < length ns = omega (arith, as_long string_bytes ns, k_within) in
+    Any-from_place (λ n. IsUnknown (string_bytes n)) ns k within (λ d.
+    let e : string_bytes (get_or ns k d) ≡ key = sym (at_place string_bytes ns k d) ∙ get_or_default (map string_bytes ns) k (string_bytes d) key k_within ∙ is in
+    rw e unknown)
 
 pub unknown_given : (es : List (String Global × Value)) → Any (λ n. IsUnknown (string_bytes n)) (keys_of es) → HasUnknownKey (members_view es)
 unknown_given es h = rw (keys_seen es) (any_given (keys_of es) h)

@@ -23,9 +23,9 @@ module _ {E A C : Type 0} (g h : Standing E A) (c : C) (j : ℕ) (on : Carries g
     last_served = let a = f.last_served in let b = on.serving in omega arith;
     last_drawn = let a = f.last_drawn in let b = on.drawn in omega arith;
     last_enrolled = let a = f.last_enrolled in let b = on.enrolled in omega arith;
-    ticket = λ t is. let held = f.ticket t is in let kept = on.ticket t held.0 held.1 held.2 in let m = on.drawn in let l : t < g.drawn = held.1 in (kept.0, omega arith, kept.1);
-    inside = λ is. let was = f.inside is in let kept = on.inside was.1 in (was.0 ∙ ap Some kept.0, kept.1, was.2 ∙ kept.2);
-    number = λ n is. let had = f.number n is in let kept = on.number n had.0 had.1 in let m = on.enrolled in let l : n < g.enrolled = had.0 in (omega arith, kept.0, kept.1 ∙ had.2);
+    ticket = λ t is. let (waits, drawn, holds) = f.ticket t is in let (waits', holds') = on.ticket t waits drawn holds in let m = on.drawn in (waits', omega (arith, m, drawn), holds');
+    inside = λ is. let (is_served, in_seat, has_seen) = f.inside is in let (same, stays, same_journal) = on.inside in_seat in (is_served ∙ ap Some same, stays, has_seen ∙ same_journal);
+    number = λ n is. let (given_out, owns, own_steps) = f.number n is in let (owns', same_steps) = on.number n given_out owns in let m = on.enrolled in (omega (arith, m, given_out), owns', same_steps ∙ own_steps);
     spare = f.spare;
     seen = subst (λ l. StartsWith l k.seen) (sym on.more.1) (starts_longer g.journal k.seen on.more.0 f.seen);
     setting = f.setting;
@@ -33,7 +33,7 @@ module _ {E A C : Type 0} (g h : Standing E A) (c : C) (j : ℕ) (on : Carries g
 
   pub other_agrees_on : (k : Knowledge E A C) (o : Option (Knowledge E A C)) → OtherAgrees g c j k o → OtherAgrees h c j k o
   other_agrees_on k None b = tt
-  other_agrees_on k (Some l) b = (agrees_on l b.0, b.1, b.2, b.3)
+  other_agrees_on k (Some l) (agrees, no_ticket, outside, apart) = (agrees_on l agrees, no_ticket, outside, apart)
 
   pub view_agrees_on : (v : View E A C) → ViewAgrees g c j v → ViewAgrees h c j v
   view_agrees_on v a = (agrees_on v.own a.0, other_agrees_on v.own v.other a.1)

@@ -19,14 +19,13 @@ module _ {S E A C : Type 0} (journal : S → List (ℕ × E × A)) (setting : S 
   meets : (s : Whole S E A C) (r : Rule s) (id : ℕ) (k l : Knowledge E A C) (d : C) (n m : ℕ) → k.setting ≡ Some d → k.number ≡ Some n → l.number ≡ Some m → ViewAgrees r.standing c id (record { own = k; other = Some l })
       → Meets (legal d) n k.seen m l.seen
   meets s r id k l d n m has_setting numbered numbered' known =
-      let f = known.0 in
-      let f' = known.1.0 in
+      let (f, (f', _, _, numbers_differ)) = known in
       let is_legal = subst (λ (e : C). legal e r.standing.journal) (sym (f.setting d has_setting)) r.is_legal in
-      let own = (f.number n numbered).2 in
-      let own' = (f'.number m numbered').2 in
+      let (_, _, own) = f.number n numbered in
+      let (_, _, own') = f'.number m numbered' in
       ⊎_elim
       (λ (z : StartsWith k.seen l.seen). record {
-        numbers_differ = known.1.3 n m numbered numbered';
+        numbers_differ = numbers_differ n m numbered numbered';
         longer = k.seen;
         one_begins = inl (refl, z);
         is_legal = legal_before d k.seen f.seen.0 (subst (legal d) f.seen.1 is_legal);
@@ -34,7 +33,7 @@ module _ {S E A C : Type 0} (journal : S → List (ℕ × E × A)) (setting : S 
         of_second = ap (steps_of m) z.1 ∙ steps_of-between m l.seen z.0 f.seen.0 (ap (steps_of m) (sym (f.seen.1 ∙ ap (λ l. l ++ f.seen.0) z.1)) ∙ own');
       })
       (λ (z : StartsWith l.seen k.seen). record {
-        numbers_differ = known.1.3 n m numbered numbered';
+        numbers_differ = numbers_differ n m numbered numbered';
         longer = l.seen;
         one_begins = inr (refl, z);
         is_legal = legal_before d l.seen f'.seen.0 (subst (legal d) f'.seen.1 is_legal);

@@ -33,7 +33,7 @@ module _ {S E A C : Type 0} (journal : S → List (ℕ × E × A)) (setting : S 
     has_setting = λ d h. is ∙ sym (f.setting d h);
     is_legal = λ d h. subst (λ (z : C × List (ℕ × E × A)). legal z.0 z.1) (λ i. (sym (f.setting d h) i, sym same i)) r.is_legal;
     begins = subst (λ l. StartsWith l k.seen) (sym same) f.seen;
-    own = λ n h. ap (steps_of n) same ∙ (f.number n h).2;
+    own = λ n h. let (_, _, own_steps) = f.number n h in ap (steps_of n) same ∙ own_steps;
   }
 
   -- `drawn` may rise to d, and the place goes inside with the ticket that is served
@@ -42,7 +42,7 @@ module _ {S E A C : Type 0} (journal : S → List (ℕ × E × A)) (setting : S 
       → ((j t : ℕ) → t < r.standing.drawn → r.standing.holder_of t ≡ j → holder_of t ≡ j)
       → (r.standing.inside ≡ none) → (home : AtHome s r)
       → Agrees (record r.standing { drawn = d; inside = some id; holder_of = holder_of }) c id l → l.inside ≡ true
-      → Rule (stepped s i m id held (view_of l) (takes 0 (Some home.0)))
+      → Rule (stepped s i m id held (view_of l) (takes 0 (Some home.state)))
   goes_inside s r i id d m holder_of k l held at is more same nobody home mine in_now =
       let g = r.standing in
       let h : Standing E A = record g { drawn = d; inside = some id; holder_of = holder_of } in
@@ -61,7 +61,7 @@ module _ {S E A C : Type 0} (journal : S → List (ℕ × E × A)) (setting : S 
         few = r.few;
         is_legal = r.is_legal;
         passes = r.passes;
-        placed = (view_of l, ap (λ (homes : List (maybe.Option (Option S))). set homes 0 none) home.1, set_here s.views id (view_of l) (within s.views id (view_of k) at), in_now);
+        placed = (view_of l, ap (λ (homes : List (maybe.Option (Option S))). set homes 0 none) home.at_home, set_here s.views id (view_of l) (within s.views id (view_of k) at), in_now);
         each_view = each_after (ViewAgrees h c) s.views id (view_of l) (mine, tt) (λ j v _ there. view_agrees_on g h c j (carries j) v (r.each_view j v there));
       }
 
@@ -76,27 +76,28 @@ module _ {S E A C : Type 0} (journal : S → List (ℕ × E × A)) (setting : S 
       let found = serving_at journal setting legal c s r in
       goes_at journal setting legal c s id 1 held then (λ n. n) g.serving found (dite (ℕ_discrete t g.serving)
       (λ mine.
-      let nobody : (j : ℕ) → g.inside ≡ some j → ⊥ = λ j is. let its = inside_ticket journal setting legal c s r j is in
-      let me : j ≡ id = sym its.1 ∙ ap g.holder_of (sym mine) ∙ (f.ticket t has).2 in
-      not_inside (sym outside ∙ its.2 (view_of k) (ap (get_elem? s.views) me ∙ at)) in
-      let home = home_if journal setting g.journal c s.homes s.views g.inside nobody r.placed in
-      let (_, x, at_home) = home in
+      let nobody : (j : ℕ) → g.inside ≡ some j → ⊥ = λ j is. let (_, holds, in_now) = inside_ticket journal setting legal c s r j is in
+      let (_, _, holds') = f.ticket t has in
+      let me : j ≡ id = sym holds ∙ ap g.holder_of (sym mine) ∙ holds' in
+      not_inside (sym outside ∙ in_now (view_of k) (ap (get_elem? s.views) me ∙ at)) in
+      let (none_inside, home) = home_if journal setting g.journal c s.homes s.views g.inside nobody r.placed in
+      let x = home.state in
       let u : Knowledge E A C = record l { inside = true; seen = journal x } in (
         view_of u,
         takes 0 (Some x),
-        ap (λ (homes : List (maybe.Option (Option S))). get_elem? homes 0) at_home,
-        goes_inside s r 1 id g.drawn g.serving g.holder_of k u held at (ap (λ (words : List ℕ). set words 1 g.serving) r.words) (le_refl g.drawn) (λ j n _ its. its) home.0 home.1 (record {
+        ap (λ (homes : List (maybe.Option (Option S))). get_elem? homes 0) home.at_home,
+        goes_inside s r 1 id g.drawn g.serving g.holder_of k u held at (ap (λ (words : List ℕ). set words 1 g.serving) r.words) (le_refl g.drawn) (λ j n _ its. its) none_inside home (record {
           last_served = le_refl g.serving;
           last_drawn = f.last_drawn;
           last_enrolled = f.last_enrolled;
           ticket = f.ticket;
-          inside = λ _. (has ∙ ap Some mine, refl, home.1.2);
-          number = λ n is. let its = f.number n is in (its.0, its.1, ap (steps_of n) (sym home.1.2));
+          inside = λ _. (has ∙ ap Some mine, refl, home.has_journal);
+          number = λ n is. let its = f.number n is in (its.0, its.1, ap (steps_of n) (sym home.has_journal));
           spare = f.spare;
-          seen = subst (λ l. StartsWith g.journal l) (sym home.1.2) (starts_itself g.journal);
+          seen = subst (λ l. StartsWith g.journal l) (sym home.has_journal) (starts_itself g.journal);
           setting = f.setting;
         }) refl,
-        ((λ _. (x, refl, goes_on s r id k x f home.1.2 home.1.3)), λ apart. absurd (apart (has ∙ ap Some mine))),
+        ((λ _. (x, refl, goes_on s r id k x f home.has_journal home.has_setting)), λ apart. absurd (apart (has ∙ ap Some mine))),
       ))
       (λ other. (view_of l, keeps, tt, stays journal setting legal c s r 1 id g.serving (view_of k) (view_of l) held found at (λ i. i) (serving_is_read g c id k f, tt), ((λ is. absurd (other (same_number t g.serving (sym has ∙ is)))), λ _. refl))))
 
@@ -113,26 +114,26 @@ module _ {S E A C : Type 0} (journal : S → List (ℕ × E × A)) (setting : S 
       goes_at journal setting legal c s id 0 held then (λ n. either (eqb n old) new n) g.drawn found (goes_if journal setting legal c s id 0 held then g.drawn old new
       (λ is.
       let nobody : (j : ℕ) → g.inside ≡ some j → ⊥ = λ j its. let l = (inside_ticket journal setting legal c s r j its).0 in omega arith in
-      let home = home_if journal setting g.journal c s.homes s.views g.inside nobody r.placed in
-      let (_, x, at_home) = home in
+      let (none_inside, home) = home_if journal setting g.journal c s.homes s.views g.inside nobody r.placed in
+      let x = home.state in
       let u : Knowledge E A C = after_entry k old (journal x) in
       let holder_of : ℕ → ℕ = given old id g.holder_of in
       let now : old ≡ g.serving = omega arith in (
         view_of u,
         takes 0 (Some x),
-        ap (λ (homes : List (maybe.Option (Option S))). get_elem? homes 0) at_home,
-        goes_inside s r 0 id new new holder_of k u held at (ap (λ (words : List ℕ). set words 0 new) r.words) (omega arith) (λ j t l its. given-else old id t g.holder_of (λ q. omega arith) ∙ its) home.0 home.1 (record {
+        ap (λ (homes : List (maybe.Option (Option S))). get_elem? homes 0) home.at_home,
+        goes_inside s r 0 id new new holder_of k u held at (ap (λ (words : List ℕ). set words 0 new) r.words) (omega arith) (λ j t l its. given-else old id t g.holder_of (λ q. omega arith) ∙ its) none_inside home (record {
           last_served = f.last_served;
           last_drawn = let a = f.last_drawn in omega arith;
           last_enrolled = f.last_enrolled;
           ticket = λ t is'. let q : old ≡ t = same_number old t is' in (omega arith, omega arith, ap holder_of (sym q) ∙ given-here old id g.holder_of);
-          inside = λ _. (ap Some now, refl, home.1.2);
-          number = λ m is'. let its = f.number m is' in (its.0, its.1, ap (steps_of m) (sym home.1.2));
+          inside = λ _. (ap Some now, refl, home.has_journal);
+          number = λ m is'. let its = f.number m is' in (its.0, its.1, ap (steps_of m) (sym home.has_journal));
           spare = λ is'. absurd (not_none (sym is' ∙ numbered));
-          seen = subst (λ l. StartsWith g.journal l) (sym home.1.2) (starts_itself g.journal);
+          seen = subst (λ l. StartsWith g.journal l) (sym home.has_journal) (starts_itself g.journal);
           setting = f.setting;
         }) refl,
-        ((λ _. (x, refl, goes_on s r id k x f home.1.2 home.1.3)), λ apart. absurd (apart is)),
+        ((λ _. (x, refl, goes_on s r id k x f home.has_journal home.has_setting)), λ apart. absurd (apart is)),
       ))
       (λ apart. let w : View E A C = view_of (record k { last_drawn = g.drawn }) in
       (w, keeps, tt, stays journal setting legal c s r 0 id g.drawn (view_of k) w held found at (λ i. i) (drawn_is_read g c id k f, tt), ((λ is. absurd (apart is)), λ _. (omega arith, refl)))))

@@ -20,12 +20,12 @@ module _ {E A : Type 0} where
   AtMostOneOf n more = (more ≡ []) ⊎ ((event : E) × (answer : A) × (more ≡ (n, event, answer) ∷ []))
 
   no_other : (n m : ℕ) (more : List (ℕ × E × A)) → AtMostOneOf n more → m ≢ n → steps_of m more ≡ []
-  no_other n m more one apart = ⊎_elim (λ (z : more ≡ []). ap (steps_of m) z) (λ (z : (event : E) × (answer : A) × (more ≡ (n, event, answer) ∷ [])). ap (steps_of m) z.2 ∙ steps_of-other m n z.0 z.1 apart) one
+  no_other n m more one apart = ⊎_elim (λ (z : more ≡ []). ap (steps_of m) z) (λ (z : (event : E) × (answer : A) × (more ≡ (n, event, answer) ∷ [])). let (event, answer, is) = z in ap (steps_of m) is ∙ steps_of-other m n event answer apart) one
 
   passes_below-one : (n enrolled : ℕ) (more : List (ℕ × E × A)) → n < enrolled → AtMostOneOf n more → PassesBelow enrolled more
   passes_below-one n enrolled more low one = ⊎_elim
       (λ (z : more ≡ []). subst (PassesBelow enrolled) (sym z) tt)
-      (λ (z : (event : E) × (answer : A) × (more ≡ (n, event, answer) ∷ [])). subst (PassesBelow enrolled) (sym z.2) (low, tt)) one
+      (λ (z : (event : E) × (answer : A) × (more ≡ (n, event, answer) ∷ [])). let (_, _, is) = z in subst (PassesBelow enrolled) (sym is) (low, tt)) one
 
 module _ {S E A C : Type 0} (journal : S → List (ℕ × E × A)) (setting : S → C) (legal : C → List (ℕ × E × A) → Type 0) (c : C) where
   abbrev Rule : Whole S E A C → Type 0
@@ -41,20 +41,20 @@ module _ {S E A C : Type 0} (journal : S → List (ℕ × E × A)) (setting : S 
   serves_next-own slots id n t new k x more held up has in_now numbered longer ok same one s r len at small =
       let g = r.standing in
       let f = (r.each_view id (view_of k) at).0 in
-      let i = f.inside in_now in
-      let now : t ≡ g.serving = same_number t g.serving (sym has ∙ i.0) in
+      let (is_served, in_seat, has_seen) = f.inside in_now in
+      let now : t ≡ g.serving = same_number t g.serving (sym has ∙ is_served) in
       let number = f.number n numbered in
-      let ticket = f.ticket t has in
-      let grown : journal x ≡ g.journal ++ more = longer ∙ ap (λ l. l ++ more) i.2 in
+      let (_, drawn, holds) = f.ticket t has in
+      let grown : journal x ≡ g.journal ++ more = longer ∙ ap (λ l. l ++ more) has_seen in
       let w : View E A C = view_of (after_exit k new (journal x)) in
-      let out : s.homes ≡ none ∷ [] = (subst (StateIsPlaced journal setting g.journal c s.homes s.views) i.1 r.placed).1 in
+      let out : s.homes ≡ none ∷ [] = (subst (StateIsPlaced journal setting g.journal c s.homes s.views) in_seat r.placed).1 in
       let h : Standing E A = record g { serving = new; journal = journal x; inside = none } in
       let carries : (j : ℕ) → j ≢ id → Carries g h j = λ j apart. record {
         drawn = le_refl g.drawn;
         serving = omega arith;
         enrolled = le_refl g.enrolled;
-        ticket = λ m a b its. let other : m ≢ t = λ q. apart (sym its ∙ ap g.holder_of q ∙ ticket.2) in (omega arith, its);
-        inside = λ its. absurd (apart (some-injective j id (sym its ∙ i.1)));
+        ticket = λ m a b its. let other : m ≢ t = λ q. apart (sym its ∙ ap g.holder_of q ∙ holds) in (omega arith, its);
+        inside = λ its. absurd (apart (some-injective j id (sym its ∙ in_seat)));
         number = λ m l its. let other : m ≢ n = λ q. apart (sym its ∙ ap g.owner_of q ∙ number.1) in
             (its, ap (steps_of m) grown ∙ steps_of-append m g.journal more ∙ ap (λ l. steps_of m g.journal ++ l) (no_other n m more one other) ∙ append-nil (steps_of m g.journal));
         more = (more, grown);
@@ -76,11 +76,11 @@ module _ {S E A C : Type 0} (journal : S → List (ℕ × E × A)) (setting : S 
         record {
           standing = h;
           words = ap (λ (words : List ℕ). set words 1 new) r.words;
-          behind = let l : t < g.drawn = ticket.1 in omega arith;
+          behind = omega (arith, drawn);
           few = r.few;
           is_legal = ⊎_elim
               (λ (z : more ≡ []). subst (legal c) (sym (grown ∙ ap (λ l. g.journal ++ l) z ∙ append-nil g.journal)) r.is_legal)
-              (λ (z : (event : E) × (answer : A) × (more ≡ (n, event, answer) ∷ [])). ok z.0 z.1 z.2) one;
+              (λ (z : (event : E) × (answer : A) × (more ≡ (n, event, answer) ∷ [])). let (event, answer, is) = z in ok event answer is) one;
           passes = subst (PassesBelow g.enrolled) (sym grown) (passes_below-append g.enrolled g.journal more r.passes (passes_below-one n g.enrolled more number.0 one));
           placed = (x, ap (λ (homes : List (maybe.Option (Option S))). set homes 0 (some (Some x))) out, refl, same);
           each_view = each_after (ViewAgrees h c) s.views id w (mine, tt) (λ j v apart there. view_agrees_on g h c j (carries j apart) v (r.each_view j v there));

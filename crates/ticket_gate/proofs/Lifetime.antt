@@ -56,18 +56,19 @@ module _ {S E A C : Type 0} (journal : S → List (ℕ × E × A)) (setting : S 
   pub closes : (id : ℕ) (v : View E A C) (words : List ℕ) (slots : List (Option S)) → Final (Seen (GateRule journal setting legal c) id v) words slots → (n m : ℕ) → get_elem? words 0 ≡ some n → get_elem? words 1 ≡ some m → n ≡ m
       → (x : S) → get_elem? slots 0 ≡ some (Some x) → (k : ℕ) → v.own.number ≡ Some k → Closes journal setting legal c k v.own.seen x
   closes id v words slots last n m first second same x is k numbered =
-      let (s, r, its_place, words_are) = last in
+      let (s, (r, its_place), words_are, _, stays) = last in
       let g = r.standing in
       let f = (r.each_view id v its_place).0 in
       let d : g.drawn ≡ n = some-injective g.drawn n (ap (λ (l : List ℕ). get_elem? l 0) (sym r.words ∙ words_are) ∙ first) in
       let e : g.serving ≡ m = some-injective g.serving m (ap (λ (l : List ℕ). get_elem? l 1) (sym r.words ∙ words_are) ∙ second) in
       let nobody : (j : ℕ) → g.inside ≡ some j → ⊥ = λ j its. let l = (inside_ticket journal setting legal c s r j its).0 in omega arith in
       let home = (home_if journal setting g.journal c s.homes s.views g.inside nobody r.placed).1 in
-      let there : get_elem? slots 0 ≡ some (Some home.0) = last.4 0 (Some home.0) (ap (λ (homes : List (maybe.Option (Option S))). get_elem? homes 0) home.1) in
-      let it : x ≡ home.0 = ap (λ o. unwrap_or o x) (some-injective (Some x) (Some home.0) (sym is ∙ there)) in
-      let log : journal x ≡ g.journal = ap journal it ∙ home.2 in
+      let there : get_elem? slots 0 ≡ some (Some home.state) = stays 0 (Some home.state) (ap (λ (homes : List (maybe.Option (Option S))). get_elem? homes 0) home.at_home) in
+      let it : x ≡ home.state = ap (λ o. unwrap_or o x) (some-injective (Some x) (Some home.state) (sym is ∙ there)) in
+      let log : journal x ≡ g.journal = ap journal it ∙ home.has_journal in
+      let (_, _, own_steps) = f.number k numbered in
       record {
-        has_setting = ap setting it ∙ home.3;
+        has_setting = ap setting it ∙ home.has_setting;
         is_legal = subst (legal c) (sym log) r.is_legal;
-        grows = record { begins = subst (λ l. StartsWith l v.own.seen) (sym log) f.seen; own = ap (steps_of k) log ∙ (f.number k numbered).2 };
+        grows = record { begins = subst (λ l. StartsWith l v.own.seen) (sym log) f.seen; own = ap (steps_of k) log ∙ own_steps };
       }

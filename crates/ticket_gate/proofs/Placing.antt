@@ -16,32 +16,35 @@ module _ {S E A C : Type 0} (journal : S → List (ℕ × E × A)) (setting : S 
   pub placed-set : (log : List (ℕ × E × A)) (c : C) (homes : List (maybe.Option (Option S))) (views : List (View E A C)) (id : ℕ) (v w : View E A C) (inside : maybe.Option ℕ) → get_elem? views id ≡ some v → (v.own.inside ≡ true → w.own.inside ≡ true)
       → StateIsPlaced journal setting log c homes views inside → StateIsPlaced journal setting log c homes (set views id w) inside
   placed-set log c homes views id v w maybe.none at stays p = p
-  placed-set log c homes views id v w (maybe.some j) at stays p = dite (ℕ_discrete j id)
-      (λ is. let same : p.0 ≡ v = some-injective p.0 v (sym p.2 ∙ ap (get_elem? views) is ∙ at) in
-      (w, p.1, ap (get_elem? (set views id w)) is ∙ set_here views id w (within views id v at), stays (ap (λ (u : View E A C). u.own.inside) (sym same) ∙ p.3)))
-      (λ apart. (p.0, p.1, set_else views id j w apart ∙ p.2, p.3))
+  placed-set log c homes views id v w (maybe.some j) at stays (x, out, seated, in_now) = dite (ℕ_discrete j id)
+      (λ is. let same : x ≡ v = some-injective x v (sym seated ∙ ap (get_elem? views) is ∙ at) in
+      (w, out, ap (get_elem? (set views id w)) is ∙ set_here views id w (within views id v at), stays (ap (λ (u : View E A C). u.own.inside) (sym same) ∙ in_now)))
+      (λ apart. (x, out, set_else views id j w apart ∙ seated, in_now))
 
   -- there may be one more seat
   pub placed-more : (log : List (ℕ × E × A)) (c : C) (homes : List (maybe.Option (Option S))) (views : List (View E A C)) (w : View E A C) (inside : maybe.Option ℕ)
       → StateIsPlaced journal setting log c homes views inside → StateIsPlaced journal setting log c homes (views ++ w ∷ []) inside
   placed-more log c homes views w maybe.none p = p
-  placed-more log c homes views w (maybe.some j) p = (p.0, p.1, at_longer views (w ∷ []) j p.0 p.2, p.3)
+  placed-more log c homes views w (maybe.some j) (v, out, seated, in_now) = (v, out, at_longer views (w ∷ []) j v seated, in_now)
 
   -- the state is in the slot, with this journal and this setting
-  abbrev pub IsHome : List (ℕ × E × A) → C → List (maybe.Option (Option S)) → Type 0
-  IsHome log c homes = (x : S) × (homes ≡ some (Some x) ∷ []) × (journal x ≡ log) × (setting x ≡ c)
+  pub record IsHome (log : List (ℕ × E × A)) (c : C) (homes : List (maybe.Option (Option S))) : Type 0 where
+    pub state : S
+    pub at_home : homes ≡ some (Some state) ∷ []
+    pub has_journal : journal state ≡ log
+    pub has_setting : setting state ≡ c
 
   -- so it is where no seat is inside
   pub home_if : (log : List (ℕ × E × A)) (c : C) (homes : List (maybe.Option (Option S))) (views : List (View E A C)) (inside : maybe.Option ℕ) → ((j : ℕ) → inside ≡ some j → ⊥) → StateIsPlaced journal setting log c homes views inside
       → (inside ≡ none) × IsHome log c homes
-  home_if log c homes views maybe.none nobody p = (refl, p)
+  home_if log c homes views maybe.none nobody (x, home, same, is) = (refl, record { state = x; at_home = home; has_journal = same; has_setting = is })
   home_if log c homes views (maybe.some j) nobody p = absurd (nobody j refl)
 
   -- the seat that is inside has the ticket that is served
   pub inside_ticket : (legal : C → List (ℕ × E × A) → Type 0) (c : C) (s : State (Option S) (View E A C)) (r : GateRule journal setting legal c s) (j : ℕ) → r.standing.inside ≡ some j
       → (r.standing.serving < r.standing.drawn) × (r.standing.holder_of r.standing.serving ≡ j) × ((v : View E A C) → get_elem? s.views j ≡ some v → v.own.inside ≡ true)
   inside_ticket legal c s r j is =
-      let p = subst (StateIsPlaced journal setting r.standing.journal c s.homes s.views) is r.placed in
-      let a = (r.each_view j p.0 p.2).0 in
-      let t = a.ticket r.standing.serving (a.inside p.3).0 in
-      (t.1, t.2, λ v at. ap (λ (u : View E A C). u.own.inside) (some-injective v p.0 (sym at ∙ p.2)) ∙ p.3)
+      let (w, _, seated, in_now) = subst (StateIsPlaced journal setting r.standing.journal c s.homes s.views) is r.placed in
+      let f = (r.each_view j w seated).0 in
+      let (_, drawn, holds) = f.ticket r.standing.serving (f.inside in_now).0 in
+      (drawn, holds, λ v at. ap (λ (u : View E A C). u.own.inside) (some-injective v w (sym at ∙ seated)) ∙ in_now)

@@ -19,10 +19,10 @@ module _ {S E A C : Type 0} (journal : S → List (ℕ × E × A)) (setting : S 
 
   -- what the rule says of each place
   agrees : (j : ℕ) (k : Knowledge E A C) → IsAt s j k → Agrees g c j k
-  agrees j k at = ⊎_elim
-      (λ (own : at.0.own ≡ k). subst (Agrees g c j) own (r.each_view j at.0 at.1).0)
-      (λ (other : at.0.other ≡ Some k). (second_agrees j at.0.own k at.0.other other (r.each_view j at.0 at.1).1).0)
-      at.2
+  agrees j k (v, seated, knows) = ⊎_elim
+      (λ (own : v.own ≡ k). subst (Agrees g c j) own (r.each_view j v seated).0)
+      (λ (other : v.other ≡ Some k). (second_agrees j v.own k v.other other (r.each_view j v seated).1).0)
+      knows
 
   in_or_out : (b : Bool) → (b ≡ true → ⊥) → b ≡ false
   in_or_out true never = absurd (never refl)
@@ -35,19 +35,19 @@ module _ {S E A C : Type 0} (journal : S → List (ℕ × E × A)) (setting : S 
   out_if_inside j k at is = (subst (StateIsPlaced journal setting g.journal c s.homes s.views) ((agrees j k at).inside is).1 r.placed).1
 
   inside_if_out : (inside : maybe.Option ℕ) → StateIsPlaced journal setting g.journal c s.homes s.views inside → IsOut s → (j : ℕ) × (k : Knowledge E A C) × IsAt s j k × (k.inside ≡ true)
-  inside_if_out maybe.none p out = absurd (not_home p.0 p.1 out)
-  inside_if_out (maybe.some j) p out = (j, p.0.own, (p.0, p.2, inl refl), p.3)
+  inside_if_out maybe.none (x, home, _, _) out = absurd (not_home x home out)
+  inside_if_out (maybe.some j) (v, _, seated, in_now) out = (j, v.own, (v, seated, inl refl), in_now)
 
   home_if_nobody : (inside : maybe.Option ℕ) → StateIsPlaced journal setting g.journal c s.homes s.views inside → ((j : ℕ) (k : Knowledge E A C) → IsAt s j k → k.inside ≡ false) → (x : S) × HasState s x
-  home_if_nobody maybe.none p never = (p.0, p.1)
-  home_if_nobody (maybe.some j) p never = absurd (not_inside (sym (never j p.0.own (p.0, p.2, inl refl)) ∙ p.3))
+  home_if_nobody maybe.none (x, home, _, _) never = (x, home)
+  home_if_nobody (maybe.some j) (v, _, seated, in_now) never = absurd (not_inside (sym (never j v.own (v, seated, inl refl)) ∙ in_now))
 
   nobody_if_home : (x : S) → HasState s x → (j : ℕ) (k : Knowledge E A C) → IsAt s j k → k.inside ≡ false
   nobody_if_home x home j k at = in_or_out k.inside (λ is. not_home x home (out_if_inside j k at is))
 
   -- the state at home has the journal
   journal_at_home : (inside : maybe.Option ℕ) → StateIsPlaced journal setting g.journal c s.homes s.views inside → (x : S) → HasState s x → (journal x ≡ g.journal) × (setting x ≡ c)
-  journal_at_home maybe.none p x home = let same : x ≡ p.0 = (let e : maybe.some (Some x) ∷ [] ≡ maybe.some (Some p.0) ∷ [] = sym home ∙ p.1 in cc) in (ap journal same ∙ p.2, ap setting same ∙ p.3)
+  journal_at_home maybe.none (y, home', has_journal, has_setting) x home = let same : x ≡ y = (let e : maybe.some (Some x) ∷ [] ≡ maybe.some (Some y) ∷ [] = sym home ∙ home' in cc) in (ap journal same ∙ has_journal, ap setting same ∙ has_setting)
   journal_at_home (maybe.some j) p x home = absurd (not_home x home p.1)
 
   second_of_two : (j : ℕ) (v : View E A C) (l : Knowledge E A C) → get_elem? s.views j ≡ maybe.some v → v.other ≡ Some l → OtherAgrees g c j v.own (Some l)
@@ -68,29 +68,32 @@ module _ {S E A C : Type 0} (journal : S → List (ℕ × E × A)) (setting : S 
       last_enrolled = λ j k at. (agrees j k at).last_enrolled;
     };
     tickets = record {
-      waiting = λ j t k at is. let its = (agrees j k at).ticket t is in (its.0, its.1);
-      differ = λ i j t k l at there is is'. sym ((agrees i k at).ticket t is).2 ∙ ((agrees j l there).ticket t is').2;
+      waiting = λ j t k at is. let (waits, drawn, _) = (agrees j k at).ticket t is in (waits, drawn);
+      differ = λ i j t k l at there is is'.
+          let (_, _, holds) = (agrees i k at).ticket t is in
+          let (_, _, holds') = (agrees j l there).ticket t is' in
+          sym holds ∙ holds';
       second = λ j v l at is. (second_of_two j v l at is).1;
     };
     inside = record {
       one = λ i j k l at there is is'. some-injective i j (sym ((agrees i k at).inside is).1 ∙ ((agrees j l there).inside is').1);
       served = λ j k at is. ((agrees j k at).inside is).0;
-      out = ((λ some_inside. out_if_inside some_inside.0 some_inside.1 some_inside.2 some_inside.3), inside_if_out g.inside r.placed);
+      out = ((λ (j, k, at, in_now). out_if_inside j k at in_now), inside_if_out g.inside r.placed);
       home = (home_if_nobody g.inside r.placed, (λ home. nobody_if_home home.0 home.1));
     };
     numbers = record {
       given_out = λ j n k at is. ((agrees j k at).number n is).0;
       differ = λ i j n k l at there is is'. sym ((agrees i k at).number n is).1 ∙ ((agrees j l there).number n is').1;
-      differ_in_one = λ j n m v l at is numbered numbered'. (second_of_two j v l at is).3 n m numbered numbered';
+      differ_in_one = λ j n m v l at is numbered numbered'. let (_, _, _, apart) = second_of_two j v l at is in apart n m numbered numbered';
       spare = λ j k at is. (agrees j k at).spare is;
     };
     journals = record {
       at_home = journal_at_home g.inside r.placed;
-      inside = λ j k at is. ((agrees j k at).inside is).2;
+      inside = λ j k at is. let (_, _, has_seen) = (agrees j k at).inside is in has_seen;
       is_legal = r.is_legal;
       passes = r.passes;
       seen = λ j k at. (agrees j k at).seen;
-      own = λ j n k at is. ((agrees j k at).number n is).2;
+      own = λ j n k at is. let (_, _, own_steps) = (agrees j k at).number n is in own_steps;
       one_setting = λ j k d at is. (agrees j k at).setting d is;
     };
   }

@@ -26,7 +26,7 @@ module _ {E A C : Type 0} (g : Standing E A) (c : C) where
     last_enrolled = f.last_enrolled;
     ticket = λ t is. absurd (not_none (sym no_ticket ∙ is));
     inside = λ is. absurd (not_inside (sym outside ∙ is));
-    number = λ n is. let its = f.number n is in (its.0, to n is its.1, its.2);
+    number = λ n is. let (given_out, owns, own_steps) = f.number n is in (given_out, to n is owns, own_steps);
     spare = f.spare;
     seen = f.seen;
     setting = f.setting;
@@ -118,10 +118,7 @@ module _ {S E A C : Type 0} (journal : S → List (ℕ × E × A)) (setting : S 
   parts_passes-own id n m k l numbered numbered' no_ticket outside s r at =
       let g = r.standing in
       let v : View E A C = record { own = k; other = Some l } in
-      let known = r.each_view id v at in
-      let f = known.0 in
-      let b = known.1 in
-      let f' = b.0 in
+      let (f, (f', no_ticket', outside', numbers_differ)) = r.each_view id v at in
       let last : ℕ = length (set s.views id (view_of k)) in
       let owner_of : ℕ → ℕ = given m last g.owner_of in
       let h : Standing E A = record g { owner_of = owner_of } in
@@ -135,10 +132,10 @@ module _ {S E A C : Type 0} (journal : S → List (ℕ × E × A)) (setting : S 
         placed = placed-more journal setting g.journal c s.homes (set s.views id (view_of k)) (view_of l) g.inside (placed-set journal setting g.journal c s.homes s.views id v (view_of k) g.inside at (λ i. i) r.placed);
         each_view = λ j u e. ⊎_elim
             (λ was. each_after (ViewAgrees h c) s.views id (view_of k)
-            (agrees_at g c owner_of id id k no_ticket outside (λ i is its. given-else m last i g.owner_of (λ same. b.3 i m is numbered' same) ∙ its) f, tt)
+            (agrees_at g c owner_of id id k no_ticket outside (λ i is its. given-else m last i g.owner_of (λ same. numbers_differ i m is numbered' same) ∙ its) f, tt)
             (λ i y away there. view_agrees_on g h c i (carries i away) y (r.each_view i y there)) j u was)
             (λ (z : (j ≡ last) × (view_of l ≡ u)). subst (λ (y : ℕ × View E A C). ViewAgrees h c y.0 y.1) (λ i. (sym z.0 i, z.1 i))
-            (agrees_at g c owner_of id last l b.1 b.2 (λ i is its. ap owner_of (same_number i m (sym is ∙ numbered')) ∙ given-here m last g.owner_of) f', tt))
+            (agrees_at g c owner_of id last l no_ticket' outside' (λ i is its. ap owner_of (same_number i m (sym is ∙ numbered')) ∙ given-here m last g.owner_of) f', tt))
             (at_more (set s.views id (view_of k)) (view_of l) u j e);
       }
 

@@ -12,10 +12,14 @@ last_or_before {X} (z ∷ zs) x (b ∷ bs) after y e =
     let tails : zs ++ x ∷ [] ≡ bs ++ y ∷ after = cc in
     ⊎_elim (λ (h : (bs ≡ zs) × (y ≡ x)). inl (let same = h.0 in cc, h.1)) (λ (h : (rest : List X) × (zs ≡ bs ++ y ∷ rest)). inr (h.0, let same = h.1 in cc)) (last_or_before zs x bs after y tails)
 
-pub totals-push : (limit : ℕ) (journal : List (ℕ × ℕ × ℕ)) (step : ℕ × ℕ × ℕ) → step.2 ≡ amount_sum journal + step.1 → step.2 ≤ limit → AreTotals limit journal → AreTotals limit (journal ++ step ∷ [])
+-- the total of a step
+abbrev total_of : ℕ × ℕ × ℕ → ℕ
+total_of (_, _, total) = total
+
+pub totals-push : (limit : ℕ) (journal : List (ℕ × ℕ × ℕ)) (step : ℕ × ℕ × ℕ) → total_of step ≡ amount_sum journal + step.1 → total_of step ≤ limit → AreTotals limit journal → AreTotals limit (journal ++ step ∷ [])
 totals-push limit journal step total within totals = record {
   each_total = λ before after s is. ⊎_elim
-      (λ (h : (before ≡ journal) × (s ≡ step)). let a = h.0 in let b = h.1 in (ap (λ (z : ℕ × ℕ × ℕ). z.2) b ∙ total ∙ ap (λ n. n + step.1) (ap amount_sum (sym a)) ∙ ap (λ n. amount_sum before + n) (ap (λ (z : ℕ × ℕ × ℕ). z.1) (sym b)), let e : s.2 ≡ step.2 = ap (λ (z : ℕ × ℕ × ℕ). z.2) b in omega arith))
+      (λ (h : (before ≡ journal) × (s ≡ step)). let a = h.0 in let b = h.1 in (ap total_of b ∙ total ∙ ap (λ n. n + step.1) (ap amount_sum (sym a)) ∙ ap (λ n. amount_sum before + n) (ap (λ (z : ℕ × ℕ × ℕ). z.1) (sym b)), let e : total_of s ≡ total_of step = ap total_of b in omega arith))
       (λ (h : (rest : List (ℕ × ℕ × ℕ)) × (journal ≡ before ++ s ∷ rest)). totals.each_total before h.0 s h.1)
       (last_or_before journal step before after s is);
 }

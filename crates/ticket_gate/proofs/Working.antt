@@ -53,11 +53,11 @@ module _ {S E A C R : Type 0} (journal : S → List (ℕ × E × A)) (setting : 
     λ c is. let its = known c is in
         subst (λ (z : C × List (ℕ × E × A)). legal z.0 z.1) (λ i. (its.0 i, sym now i)) (keeps (subst (λ (d : C). legal d (journal x)) (sym its.0) its.1)),
   )
-  outcome_seen (Err why) k seen was now grown keeps refused known = (
-    now ∙ refused.0 ∙ sym was,
-    refused.1,
+  outcome_seen (Err why) k seen was now grown keeps (stays, same_event, caused) known = (
+    now ∙ stays ∙ sym was,
+    same_event,
     λ c is. let its = known c is in
-        subst (λ (z : C × List (ℕ × E × A)). cause z.0 why.0 event z.1) (λ i. (its.0 i, (sym refused.0 ∙ sym now) i)) refused.2,
+        subst (λ (z : C × List (ℕ × E × A)). cause z.0 why.0 event z.1) (λ i. (its.0 i, (sym stays ∙ sym now) i)) caused,
   )
 
   pub has_made_turn : (k : Knowledge E A C) (t : ℕ) (outcome : Result A (R × E)) (me : SeatState S E A C) (seat : Seat (Option S) (View E A C)) → me ≡ (view_of k, (0, Some y) ∷ [])

@@ -13,7 +13,7 @@ amount_sum journal = sum_by (λ step. step.1) journal
 
 -- the total of each step is the sum of all amounts up to its own, and within the limit
 pub record AreTotals (limit : ℕ) (journal : List (ℕ × ℕ × ℕ)) : Type 0 where
-  pub each_total : (before after : List (ℕ × ℕ × ℕ)) (step : ℕ × ℕ × ℕ) → journal ≡ before ++ step ∷ after → (step.2 ≡ amount_sum before + step.1) × (step.2 ≤ limit)
+  pub each_total : (before after : List (ℕ × ℕ × ℕ)) (step : ℕ × ℕ × ℕ) → journal ≡ before ++ step ∷ after → let (_, amount, total) = step in (total ≡ amount_sum before + amount) × (total ≤ limit)
 
 -- an empty journal has no step
 pub nothing_in_empty : {X : Type 0} (before after : List X) (x : X) → [] ≡ before ++ x ∷ after → ⊥

@@ -9,12 +9,12 @@ item_behind : (sent rest : List (Option Owner)) (owner : Option Owner) (count : 
 item_behind [] rest owner zero e = absurd cc
 item_behind [] rest owner (suc count) e = absurd cc
 item_behind (x ∷ sent) rest owner zero e = (ap Some cc, cc, omega arith)
-item_behind (x ∷ sent) rest owner (suc count) e = let f = item_behind sent rest owner count e in (f.0, f.1, omega (arith, f.2))
+item_behind (x ∷ sent) rest owner (suc count) e = let (is_next, others, within) = item_behind sent rest owner count e in (is_next, others, omega (arith, within))
 
 pub sent_answered : (p q : PipeState) (sent : List (Option Owner)) (count : ℕ) (owner : Option Owner) → HasSent p sent count → p.flying ≡ owner ∷ q.flying → (slice_get sent count ≡ Some owner) × HasSent q sent (count + 1)
 sent_answered p q sent count owner h e =
-    let f = item_behind sent q.flying owner count (sym h.flying ∙ e) in
-    (f.0, record { some = omega (arith, f.2); flying = rw add-one (sym f.1) })
+    let (is_next, others, within) = item_behind sent q.flying owner count (sym h.flying ∙ e) in
+    (is_next, record { some = omega (arith, within); flying = rw add-one (sym others) })
 
 pub sent_forgotten : (p q : PipeState) (conn : ℕ) (sent : List (Option Owner)) (count : ℕ) → HasSent p sent count → q.flying ≡ map (forgotten_owner conn) p.flying → HasSent q (map (forgotten_owner conn) sent) count
 sent_forgotten p q conn sent count h e = record {

@@ -25,12 +25,12 @@ loop-i-preserved c =
           let trips = sym c.trips.ensures ∙ w.if-trips.true in
           let may = w.may_eject-may.ensures ∙ ap (may_eject R) inv.out in
           let new = w.tripped.ensures ∙ turn_yes R c.args.now tripping first xs i w.may_eject-may.result _ trips may here in
-          let done = turned R c.args.now tripping first xs i true trips (sym w.if-may.true ∙ may) in
+          let (is_ejected, is_kept, out_after) = turned R c.args.now tripping first xs i true trips (sym w.if-may.true ∙ may) in
           record {
             hosts = w.hosts-is ∙ ap (λ s. set c.loop-i.hosts i s) new ∙ placed;
-            out = omega (arith, w.out-is, inv.out, done.2);
-            ejected = omega (arith, w.ejected-is, inv.ejected, count_by-range_more (is_ejected_at R tripping first) i true done.0);
-            kept = omega (arith, w.kept-is, inv.kept, count_by-range_more (is_kept_at R tripping first) i false done.1);
+            out = omega (arith, w.out-is, inv.out, out_after);
+            ejected = omega (arith, w.ejected-is, inv.ejected, count_by-range_more (is_ejected_at R tripping first) i true is_ejected);
+            kept = omega (arith, w.kept-is, inv.kept, count_by-range_more (is_kept_at R tripping first) i false is_kept);
             few_out = omega (arith, w.out-is, inv.few_out);
             few_ejected = omega (arith, w.ejected-is, inv.few_ejected);
             few_kept = omega (arith, w.kept-is, inv.few_kept);
@@ -39,24 +39,24 @@ loop-i-preserved c =
           let trips = sym c.trips.ensures ∙ w.if-trips.true in
           let may = w.may_eject-may.ensures ∙ ap (may_eject R) inv.out in
           let new = w.tripped.ensures ∙ turn_yes R c.args.now tripping first xs i w.may_eject-may.result _ trips may here in
-          let done = turned R c.args.now tripping first xs i false trips (sym w.if-may.false ∙ may) in
+          let (is_ejected, is_kept, out_after) = turned R c.args.now tripping first xs i false trips (sym w.if-may.false ∙ may) in
           record {
             hosts = w.hosts-is ∙ ap (λ s. set c.loop-i.hosts i s) new ∙ placed;
-            out = omega (arith, w.out-is, inv.out, done.2);
-            ejected = omega (arith, w.ejected-is, inv.ejected, count_by-range_more (is_ejected_at R tripping first) i false done.0);
-            kept = omega (arith, w.kept-is, inv.kept, count_by-range_more (is_kept_at R tripping first) i true done.1);
+            out = omega (arith, w.out-is, inv.out, out_after);
+            ejected = omega (arith, w.ejected-is, inv.ejected, count_by-range_more (is_ejected_at R tripping first) i false is_ejected);
+            kept = omega (arith, w.kept-is, inv.kept, count_by-range_more (is_kept_at R tripping first) i true is_kept);
             few_out = omega (arith, w.out-is, inv.few_out);
             few_ejected = omega (arith, w.ejected-is, inv.few_ejected);
             few_kept = omega (arith, w.kept-is, inv.few_kept);
           }
       | else-trips w ↦
           let stays = sym c.trips.ensures ∙ w.if-trips.false in
-          let done = not_turned R c.args.now tripping first xs i stays in
+          let (is_ejected, is_kept, out_after) = not_turned R c.args.now tripping first xs i stays in
           record {
             hosts = w.hosts-is ∙ inv.hosts ∙ made_to-same turn xs i fresh_host within (turn_no R c.args.now tripping first xs i stays);
-            out = omega (arith, w.out-is, inv.out, done.2);
-            ejected = omega (arith, w.ejected-is, inv.ejected, count_by-range_more (is_ejected_at R tripping first) i false done.0);
-            kept = omega (arith, w.kept-is, inv.kept, count_by-range_more (is_kept_at R tripping first) i false done.1);
+            out = omega (arith, w.out-is, inv.out, out_after);
+            ejected = omega (arith, w.ejected-is, inv.ejected, count_by-range_more (is_ejected_at R tripping first) i false is_ejected);
+            kept = omega (arith, w.kept-is, inv.kept, count_by-range_more (is_kept_at R tripping first) i false is_kept);
             few_out = omega (arith, w.out-is, inv.few_out);
             few_ejected = omega (arith, w.ejected-is, inv.few_ejected);
             few_kept = omega (arith, w.kept-is, inv.few_kept);

@@ -10,11 +10,9 @@ returns-then-has_name c = (
   λ pairs.
       let hosts = c.args.hosts.now in
       let j = c.loop-j.j in
-      let found = c.has_name.ensures.0 c.if-has_name.true in
-      let x = found.0 in
-      let h = found.1 in
-      let within : x < j = omega (arith, length-take-le j hosts (omega arith), found.2) in
-      let e : get_or hosts x h ≡ h = sym (get_or-take j hosts x h within) ∙ found.3 in
+      let (x, h, x_within, x_is, same_name) = c.has_name.ensures.0 c.if-has_name.true in
+      let within : x < j = omega (arith, length-take-le j hosts (omega arith), x_within) in
+      let e : get_or hosts x h ≡ h = sym (get_or-take j hosts x h within) ∙ x_is in
       let f : get_or hosts j h ≡ c.index-hosts-j.result = get_or-within hosts j h c.index-hosts-j.result (omega arith) ∙ sym c.index-hosts-j.is in
-      absurd (pairs x j h within (omega arith) (ap (λ (y : Host). y.name) e ∙ found.4 ∙ ap (λ (y : Host). y.name) (sym f))),
+      absurd (pairs x j h within (omega arith) (ap (λ (y : Host). y.name) e ∙ same_name ∙ ap (λ (y : Host). y.name) (sym f))),
 )

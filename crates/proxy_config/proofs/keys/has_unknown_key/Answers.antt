@@ -12,6 +12,6 @@ pub returns : goal.returns
 returns c =
     let r = cases_from_any _ _ _ (λ name. IsUnknown (string_bytes name)) (λ name. IsUnknown (string_bytes name) → ⊥) c.any.ensures.ran
     (YieldsList-from_rest (keys c.args.members.now) c.keys.ensures.rest) (λ y b k. search (rules, tests)) (λ y b k. search (rules, tests)) in (
-      λ t. let w = MatchBool-at_true _ _ t r in Any-from_place (λ name. IsUnknown (string_bytes name)) (keys c.args.members.now) w.0 w.1 w.2,
-      λ h. true_from_Any (λ name. IsUnknown (string_bytes name)) (λ name. IsUnknown (string_bytes name) → ⊥) _ _ (λ y p q. q p) r h.1 (h.0, h.2, h.3) h.4,
+      λ t. let (k, within, unknown) = MatchBool-at_true _ _ t r in Any-from_place (λ name. IsUnknown (string_bytes name)) (keys c.args.members.now) k within unknown,
+      λ (k, name, within, is, unknown). true_from_Any (λ name. IsUnknown (string_bytes name)) (λ name. IsUnknown (string_bytes name) → ⊥) _ _ (λ y p q. q p) r name (k, within, is) unknown,
     )

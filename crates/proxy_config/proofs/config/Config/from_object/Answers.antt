@@ -91,7 +91,8 @@ returns-in_err-max_ms-clause-refused c =
     let v : Values = record { listen = c.in_ok-listen.listen; hosts = c.in_ok-hosts.hosts.items; weights = c.in_ok-weights.weights.items; workers = c.in_ok-workers.workers; reply_ms = c.in_ok-reply_ms.reply_ms; tags = c.in_ok-tags.tags; interval_ms = c.in_ok-interval_ms.interval_ms; base_ms = c.in_ok-base_ms.base_ms; max_ms = 0; max_percent = 0; consecutive = 0; success_hosts = 0; request_volume = 0; factor = 0; panic_percent = 0 } in
     let w_fit : Fits Weights (get (name_of Weights) file) v = rw (← c.deref.ensures.value) (c.in_ok-weights.ensures.ok) in
     let t : MemoryOr (IsFaultOf file) e = told file MaxMs e c.in_err-max_ms.ensures.fault (first_fault file (Listen ∷ Hosts ∷ Weights ∷ Workers ∷ ReplyMs ∷ Tags ∷ IntervalMs ∷ BaseMs ∷ []) MaxMs (MaxPercent ∷ Consecutive ∷ SuccessHosts ∷ RequestVolume ∷ Factor ∷ PanicPercent ∷ []) v refl (c.in_ok-listen.ensures.ok, (c.in_ok-hosts.ensures.ok, (w_fit, (c.in_ok-workers.ensures.ok, (c.in_ok-reply_ms.ensures.ok, (c.in_ok-tags.ensures.ok, (c.in_ok-interval_ms.ensures.ok, (c.in_ok-base_ms.ensures.ok, tt)))))))) (λ w fit f.
-    let same = one_number 30000 1 3600000 (get (name_of BaseMs) file) w.base_ms v.base_ms fit.1.1.1.1.1.1.1.0 c.in_ok-base_ms.ensures.ok in
+    let (_, (_, (_, (_, (_, (_, (_, (base_fits, _)))))))) = fit in
+    let same = one_number 30000 1 3600000 (get (name_of BaseMs) file) w.base_ms v.base_ms base_fits c.in_ok-base_ms.ensures.ok in
     c.in_err-max_ms.ensures.none w.max_ms (rw c.max.ensures (subst (λ b. IsNumberOr (max b 300000) b 86400000 (get (name_of MaxMs) file) w.max_ms) same f)))) in
     search (rules, t)
 

@@ -2,7 +2,8 @@ use Rattle.std.proofs.Common.{◌≡◌, Some, ◌∙◌, ap}
 use Rattle.std.proofs.lemmas.Result.{IfOk-weaker, IfErr-weaker}
 use Rattle.serde_json.specs.Data.{object}
 use Rattle.serde_json.specs.View.{view, members_view}
-use Rattle.proxy_config.specs.File.{IsObject, HasUnknownKey}
+use Rattle.proxy_config.specs.File.{IsObject, HasUnknownKey, AllFit}
+use Rattle.proxy_config.specs.Table.{keys}
 use Rattle.proxy_config.specs.Values.{values_of}
 use Rattle.proxy_config.proofs.Objects.{is_object, unknown_given, unknown_name, told_unknown, read_settings, refuses}
 use Rattle.proxy_config.proofs.RingParts.{ring_parts}
@@ -32,4 +33,8 @@ returns-clause-refused c =
     IfErr-weaker _ _ _ (λ e refused. refuses c.args.bytes.now (members_view es) (view c.in-Ok.file) e is known o refused) c.from_object.ensures.refused
 
 pub returns-clause-parts : goal.returns-clause-parts
-returns-clause-parts c = IfOk-weaker _ _ _ (λ config fit. let (_, hosts_fit, weights_fit, _) = fit in ring_parts _ _ _ _ hosts_fit weights_fit) c.from_object.ensures.ok
+returns-clause-parts c =
+    IfOk-weaker _ _ _ (λ config fit.
+    let all_fit : AllFit keys (view c.in-Ok.file) (values_of config) = fit in
+    let (_, (hosts_fit, (weights_fit, _))) = all_fit in
+    ring_parts _ _ _ _ hosts_fit weights_fit) c.from_object.ensures.ok

@@ -11,8 +11,8 @@ load-ticket-requires g c =
 
 pub compare_exchange-requires : goal.compare_exchange-requires
 compare_exchange-requires g c =
-    let i = c.loop.invariant in
-    let h = c.load-ticket.ensures.2 in
+    let (_, at_rest, same) = c.loop.invariant in
+    let (_, _, h) = c.load-ticket.ensures in
     let o = own_after c.loop.seat.me c.load-ticket.new.seat.me _ h in
-    let n = c.requires.2 in
-    (search rules, search rules, draws_ticket _ _ _ _ _ _ _ _ n.0 _ (alone_after _ _ _ i.1.alone h) refl (ap (λ p. p.number) o ∙ (i.2.number ∙ n.1)) (ap (λ p. p.inside) o ∙ i.1.outside))
+    let (_, _, (n, numbered)) = c.requires in
+    (search rules, search rules, draws_ticket _ _ _ _ _ _ _ _ n _ (alone_after _ _ _ at_rest.alone h) refl (ap (λ p. p.number) o ∙ (same.number ∙ numbered)) (ap (λ p. p.inside) o ∙ at_rest.outside))

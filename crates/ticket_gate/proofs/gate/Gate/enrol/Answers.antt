@@ -11,7 +11,7 @@ load-number-requires g c =
 
 pub compare_exchange-found-requires : goal.compare_exchange-found-requires
 compare_exchange-found-requires g c =
-    let i = c.loop.invariant in
-    let h = c.load-number.ensures.2.0 in
+    let (_, at_rest, (no_number, _), _) = c.loop.invariant in
+    let (_, _, (h, _)) = c.load-number.ensures in
     let o = own_after c.loop.seat.me c.load-number.new.seat.me _ h in
-    (search rules, search rules, takes_number _ _ _ _ _ _ _ _ _ (alone_after _ _ _ i.1.alone h) refl (search rules) (ap (λ p. p.number) o ∙ i.2.0) (ap (λ p. p.inside) o ∙ i.1.outside))
+    (search rules, search rules, takes_number _ _ _ _ _ _ _ _ _ (alone_after _ _ _ at_rest.alone h) refl (search rules) (ap (λ p. p.number) o ∙ no_number) (ap (λ p. p.inside) o ∙ at_rest.outside))

@@ -10,8 +10,8 @@ load-served-requires g c = let i = c.requires.1 in (search rules, search rules, 
 
 pub compare_exchange-drawn-requires : goal.compare_exchange-drawn-requires
 compare_exchange-drawn-requires g c =
-    let i = c.requires.1 in
-    let h = c.load-served.ensures.2.1 (λ is. not_none (sym i.no_ticket ∙ is)) in
-    let n = c.requires.2 in
+    let (_, i, (n, numbered)) = c.requires in
+    let (_, _, (_, told)) = c.load-served.ensures in
+    let h = told (λ is. not_none (sym i.no_ticket ∙ is)) in
     let o = own_after c.args.seat.now.me c.load-served.new.seat.me _ h in
-    (search rules, search rules, enters_at_once _ _ _ _ _ _ _ _ n.0 _ (alone_after _ _ _ i.alone h) refl (ap (λ p. p.last_served) o) (ap (λ p. p.number) o ∙ n.1) (ap (λ p. p.inside) o ∙ i.outside))
+    (search rules, search rules, enters_at_once _ _ _ _ _ _ _ _ n _ (alone_after _ _ _ i.alone h) refl (ap (λ p. p.last_served) o) (ap (λ p. p.number) o ∙ numbered) (ap (λ p. p.inside) o ∙ i.outside))

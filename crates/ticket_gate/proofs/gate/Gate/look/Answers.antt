@@ -14,15 +14,17 @@ store-requires g c =
     let i = c.requires.inside in
     let p = c.args.seat.now.me.0.own in
     let x = c.unwrap-state.result in
+    let (_, _, held, out) = c.exchange.ensures in
+    let (_, _, _, back) = c.exchange-2.ensures in
     let d = R.setting c.self.inside.table.shared.key.0.value in
-    let same : x ≡ i.state = taken c.args.seat.now.me.1 i.state x c.exchange.result (ap (λ m. m.1) i.me) c.exchange.ensures.2 c.unwrap-state.ensures in
+    let same : x ≡ i.state = taken c.args.seat.now.me.1 i.state x c.exchange.result (ap (λ m. m.1) i.me) held c.unwrap-state.ensures in
     let given = c.requires.setting ∙ ap Some (sym (ap (λ a. a.setting) c.self.view_is)) in
-    let n = c.requires.number in (
+    let (n, numbered) = c.requires.number in (
       search rules,
       search rules,
-      serves_next R.journal R.setting R.legal d _ _ n.0 c.args.ticket _ c.exchange-2.new.seat.me p x []
-          (put_back c.args.seat.now.me c.exchange.new.seat.me c.exchange-2.new.seat.me p i.state x i.me c.exchange.ensures.3 c.exchange-2.ensures.3)
-          refl i.ticket i.inside n.1
+      serves_next R.journal R.setting R.legal d _ _ n c.args.ticket _ c.exchange-2.new.seat.me p x []
+          (put_back c.args.seat.now.me c.exchange.new.seat.me c.exchange-2.new.seat.me p i.state x i.me out back)
+          refl i.ticket i.inside numbered
           (ap R.journal same ∙ sym i.seen ∙ sym (append-nil p.seen))
           (λ e a one. absurd (cc))
           (ap R.setting same ∙ i.goes_on.has_setting d given) (inl refl),
@@ -34,17 +36,21 @@ returns-clause-seen g c =
     let i = c.requires.inside in
     let p = c.args.seat.now.me.0.own in
     let x = c.unwrap-state.result in
-    let same : x ≡ i.state = taken c.args.seat.now.me.1 i.state x c.exchange.result (ap (λ m. m.1) i.me) c.exchange.ensures.2 c.unwrap-state.ensures in
+    let (_, _, held, out) = c.exchange.ensures in
+    let (_, _, _, back) = c.exchange-2.ensures in
+    let (_, _, served) = c.store.ensures in
+    let same : x ≡ i.state = taken c.args.seat.now.me.1 i.state x c.exchange.result (ap (λ m. m.1) i.me) held c.unwrap-state.ensures in
     has_looked R.journal p c.args.ticket x c.exchange-2.new.seat.me c.store.new.seat
-    (put_back c.args.seat.now.me c.exchange.new.seat.me c.exchange-2.new.seat.me p i.state x i.me c.exchange.ensures.3 c.exchange-2.ensures.3)
-    c.store.ensures.2 (i.seen ∙ ap R.journal (sym same))
+    (put_back c.args.seat.now.me c.exchange.new.seat.me c.exchange-2.new.seat.me p i.state x i.me out back)
+    served (i.seen ∙ ap R.journal (sym same))
 
 pub returns-clause-sight : goal.returns-clause-sight
 returns-clause-sight g c =
     let R = g.S.Recorded in
     let i = c.requires.inside in
     let x = c.unwrap-state.result in
-    let same : x ≡ i.state = taken c.args.seat.now.me.1 i.state x c.exchange.result (ap (λ m. m.1) i.me) c.exchange.ensures.2 c.unwrap-state.ensures in
+    let (_, _, held, _) = c.exchange.ensures in
+    let same : x ≡ i.state = taken c.args.seat.now.me.1 i.state x c.exchange.result (ap (λ m. m.1) i.me) held c.unwrap-state.ensures in
     let s = ap R.setting same ∙ i.goes_on.has_setting c.args.self.now.setting c.requires.setting in
     let l = ap R.journal same ∙ sym i.seen in
     c.sight-sight.ensures ∙ (λ k. R.sight_of (s k) (l k))

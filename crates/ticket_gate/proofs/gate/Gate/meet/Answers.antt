@@ -19,8 +19,8 @@ pub split_seat-other-requires : goal.split_seat-other-requires
 split_seat-other-requires g c =
     let i = c.first.invariant in
     let j = c.second.invariant in
-    let e = c.join_seat.ensures.2 in
-    let h = c.load.ensures.2.0 in
+    let (_, _, e) = c.join_seat.ensures in
+    let (_, _, (h, _)) = c.load.ensures in
     let own = ap (λ m. m.0.own) h in
     let other = ap (λ m. m.0.other) h ∙ ap (λ m. m.0.other) e in (
       search rules,
@@ -34,11 +34,12 @@ pub returns-clause-meet : goal.returns-clause-meet
 returns-clause-meet g c =
     let i = c.first.invariant in
     let j = c.second.invariant in
-    let e = c.join_seat.ensures.2 in
+    let (_, _, e) = c.join_seat.ensures in
+    let (_, _, (_, meets)) = c.load.ensures in
     let P = Knowledge g.row.S-Event.Denot g.row.S-Answer.Denot g.row.S-Setting.Denot in
     let K = PassFacts g.row.S-Event.Denot g.row.S-Answer.Denot g.row.S-Setting.Denot in
     let own = ap (λ m. m.0.own) e in
     let setting = ap (λ p. p.setting) own ∙ ap (λ k. k.known.setting) c.first.view_is ∙ c.requires.0.1 in
-    let m = c.load.ensures.2.1 c.second.inside.seat.me.0.own c.args.self.now.setting c.first.inside.number c.second.inside.number (ap (λ m. m.0.other) e) setting (ap (λ p. p.number) own ∙ i.1) j.1 in
+    let m = meets c.second.inside.seat.me.0.own c.args.self.now.setting c.first.inside.number c.second.inside.number (ap (λ m. m.0.other) e) setting (ap (λ p. p.number) own ∙ i.1) j.1 in
     let m' = subst (λ (p : P). Meets (g.S.Recorded.legal c.args.self.now.setting) c.first.inside.number p.seen c.second.inside.number c.second.inside.seat.me.0.own.seen) own m in
     subst (λ (z : K × K). Meets (g.S.Recorded.legal c.args.self.now.setting) z.0.number z.0.known.seen z.1.number z.1.known.seen) (λ k. (c.first.view_is k, c.second.view_is k)) m'

@@ -15,20 +15,22 @@ store-requires g c =
     let x = c.unwrap-state.result in
     let y = c.turn-outcome.new.self in
     let t = c.turn-outcome.ensures in
+    let (_, _, held, out) = c.exchange.ensures in
+    let (_, _, _, back) = c.exchange-2.ensures in
     let d = R.setting c.self.inside.table.shared.key.0.value in
-    let same : x ≡ i.state = taken c.args.seat.now.me.1 i.state x c.exchange.result (ap (λ m. m.1) i.me) c.exchange.ensures.2 c.unwrap-state.ensures in
+    let same : x ≡ i.state = taken c.args.seat.now.me.1 i.state x c.exchange.result (ap (λ m. m.1) i.me) held c.unwrap-state.ensures in
     let given = c.requires.setting ∙ ap Some (sym (ap (λ a. a.setting) c.self.view_is)) in
     let is : R.setting x ≡ d = ap R.setting same ∙ i.goes_on.has_setting d given in
     let legal_x : R.legal (R.setting x) (R.journal x) = subst (λ k. R.legal k (R.journal x)) (sym is) (subst (R.legal d) (ap R.journal (sym same)) (i.goes_on.is_legal d given)) in
-    let w = adds R.journal R.setting R.legal R.cause x y c.args.number c.args.event c.turn-outcome.result t.answered t.legal t.refused legal_x in (
+    let (more, longer, stays_legal, at_most_one) = adds R.journal R.setting R.legal R.cause x y c.args.number c.args.event c.turn-outcome.result t.answered t.legal t.refused legal_x in (
       search rules,
       search rules,
-      serves_next R.journal R.setting R.legal d _ _ c.args.number c.args.ticket _ c.exchange-2.new.seat.me p y w.0
-          (put_back c.args.seat.now.me c.exchange.new.seat.me c.exchange-2.new.seat.me p i.state y i.me c.exchange.ensures.3 c.exchange-2.ensures.3)
+      serves_next R.journal R.setting R.legal d _ _ c.args.number c.args.ticket _ c.exchange-2.new.seat.me p y more
+          (put_back c.args.seat.now.me c.exchange.new.seat.me c.exchange-2.new.seat.me p i.state y i.me out back)
           refl i.ticket i.inside c.requires.number
-          (w.1 ∙ ap (λ l. l ++ w.0) (ap R.journal same ∙ sym i.seen))
-          (λ e a one. subst (λ k. R.legal k (R.journal y)) is (w.2 e a one))
-          (t.setting ∙ is) w.3,
+          (longer ∙ ap (λ l. l ++ more) (ap R.journal same ∙ sym i.seen))
+          (λ e a one. subst (λ k. R.legal k (R.journal y)) is (stays_legal e a one))
+          (t.setting ∙ is) at_most_one,
     )
 
 pub returns-clause-done : goal.returns-clause-done
@@ -39,8 +41,11 @@ returns-clause-done g c =
     let x = c.unwrap-state.result in
     let y = c.turn-outcome.new.self in
     let t = c.turn-outcome.ensures in
-    let same : x ≡ i.state = taken c.args.seat.now.me.1 i.state x c.exchange.result (ap (λ m. m.1) i.me) c.exchange.ensures.2 c.unwrap-state.ensures in
+    let (_, _, held, out) = c.exchange.ensures in
+    let (_, _, _, back) = c.exchange-2.ensures in
+    let (_, _, served) = c.store.ensures in
+    let same : x ≡ i.state = taken c.args.seat.now.me.1 i.state x c.exchange.result (ap (λ m. m.1) i.me) held c.unwrap-state.ensures in
     has_made_turn R.journal R.setting R.legal R.cause x y c.args.number c.args.event p c.args.ticket c.turn-outcome.result c.exchange-2.new.seat.me c.store.new.seat
-    (put_back c.args.seat.now.me c.exchange.new.seat.me c.exchange-2.new.seat.me p i.state y i.me c.exchange.ensures.3 c.exchange-2.ensures.3)
-    c.store.ensures.2 (i.seen ∙ ap R.journal (sym same)) t.answered t.legal t.refused
+    (put_back c.args.seat.now.me c.exchange.new.seat.me c.exchange-2.new.seat.me p i.state y i.me out back)
+    served (i.seen ∙ ap R.journal (sym same)) t.answered t.legal t.refused
     (λ d h. (ap R.setting same ∙ i.goes_on.has_setting d h, subst (R.legal d) (ap R.journal (sym same)) (i.goes_on.is_legal d h)))
