@@ -133,7 +133,7 @@ kept_accepts m conn request k e few =
     let S = setting_in m in
     let H = history_in m in
     let x = past S H in
-    let (_, _, left_some, _) = are_false (causes S x (Arrived conn request)) (kept_cause m conn request k e) in
+    let (_, (_, (left_some, _))) = are_false (causes S x (Arrived conn request)) (kept_cause m conn request k e) in
     record {
       connection = open_connection x conn;
       is_open = kept_connection m conn request k e;

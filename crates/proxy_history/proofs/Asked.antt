@@ -20,7 +20,7 @@ use Rattle.proxy_history.proofs.NoCause.{are_false, is_current}
 -- where a reply is accepted some part flies
 pub some_fly : (S : Setting) (x : Past) (host e t : ℕ) (value : Value) → own_cause S x (Answered host e value t) ≡ None → 0 < flying_count host x
 some_fly S x host e t value n =
-    let (_, _, _, some_flying, _) = are_false (causes S x (Answered host e value t)) n in
+    let (_, (_, (_, (some_flying, _)))) = are_false (causes S x (Answered host e value t)) n in
     let ne : flying_count host x ≡ 0 → ⊥ = eqb-false (flying_count host x) 0 some_flying in
     omega (arith, ne)
 

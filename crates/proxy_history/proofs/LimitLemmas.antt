@@ -137,7 +137,7 @@ left_by : (S : Setting) (x : Past) (c : ℕ) (event : Event) → own_cause S x e
     → AreLeft (if is_arrival c event then accepted_count c x.steps + 1 else accepted_count c x.steps) (if is_handing c event then handed_count c x.steps + 1 else handed_count c x.steps)
 left_by S x c (Arrived conn request) n a = elim (cases_Bool (conn == c)) [
   | inl t ↦
-      let (_, _, not_full, _) = are_false (causes S x (Arrived conn request)) n in
+      let (_, (_, (not_full, _))) = are_false (causes S x (Arrived conn request)) n in
       let free : commands_left conn x < max_unwritten = leb-false max_unwritten (commands_left conn x) not_full in
       let here : accepted_count c x.steps - handed_count c x.steps < max_unwritten = rw (eqb-true conn c t) at free in
       rw t (omega (arith, a.0), omega (arith, a.0, here))

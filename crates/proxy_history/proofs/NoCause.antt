@@ -24,5 +24,5 @@ are_false (r ∷ rs) e = let a = are_false_if r.0 r.1 (first_true rs) e in (a.0,
 -- a reply that is accepted is of the present epoch
 pub is_current : (S : Setting) (x : Past) (host e t : ℕ) (value : Value) → own_cause S x (Answered host e value t) ≡ None → e ≡ epoch host x.steps
 is_current S x host e t value n =
-    let (_, _, not_stale, _) = are_false (causes S x (Answered host e value t)) n in
+    let (_, (_, (not_stale, _))) = are_false (causes S x (Answered host e value t)) n in
     eqb-true e (epoch host x.steps) (not-false (e == epoch host x.steps) not_stale)
