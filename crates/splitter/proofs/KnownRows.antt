@@ -25,7 +25,7 @@ unfolding rows one_key_names
 good_rows = refl
 
 good_row : (r : Row) → Contains rows r → good_by r.kind r ≡ true
-good_row r h = subst (λ (z : Row). good_by z.kind z ≡ true) h.2 (list_all-get_or (λ z. good_by z.kind z) rows h.0 r good_rows h.1)
+good_row r (k, within, is) = subst (λ (z : Row). good_by z.kind z ≡ true) is (list_all-get_or (λ z. good_by z.kind z) rows k r good_rows within)
 
 good_kind : (k : Kind) (r : Row) → Contains rows r → r.kind ≡ k → good_by k r ≡ true
 good_kind k r h e = subst (λ (z : Kind). good_by z r ≡ true) e (good_row r h)

@@ -134,7 +134,7 @@ pub record Names (name w0 : List ℕ) : Type 0 where
 
 -- a key alone
 pub key_keeps : (w0 : List ℕ) (rest : Words) (name : List ℕ) → Names name w0 → (k : ℕ) (d : List ℕ) → k < length rest → Keeps (w0 ∷ rest) (name ∷ get_or rest k d ∷ [])
-key_keeps w0 rest name n k d l = λ h. let (_, first_within, rest_within) = h in (
+key_keeps w0 rest name n k d l = λ h. let (_, (first_within, rest_within)) = h in (
   (omega arith, (omega (arith, n.small, first_within), (word_within CLIENT_MEMBERS 7 rest k d rest_within l, tt))),
   key_text_short w0 rest name (get_or rest k d) (n.short first_within) (word_short rest k d l) (counted (w0 ∷ rest) h),
 )
@@ -151,7 +151,7 @@ abbrev pub IsPairIn : Words → List ℕ × List ℕ → Type 0
 IsPairIn ws p = (AreWithin CLIENT_MEMBERS 7 (trees_of (map bulk ws)) → (length p.0 ≤ max_bulk) × (length p.1 ≤ max_bulk)) × (word_len p.0 + word_len p.1 ≤ words_len ws)
 
 pair_further : (a b : List ℕ) (ws : Words) (p : List ℕ × List ℕ) → IsPairIn ws p → IsPairIn (a ∷ b ∷ ws) p
-pair_further a b ws p h = (λ g. let (_, _, rest_within) = g in h.0 rest_within, omega (arith, h.1, words_len-more a (b ∷ ws), words_len-more b ws))
+pair_further a b ws p h = (λ g. let (_, (_, rest_within)) = g in h.0 rest_within, omega (arith, h.1, words_len-more a (b ∷ ws), words_len-more b ws))
 
 pub pairs_in : (ws : Words) → All (IsPairIn ws) (pairs ws)
 pairs_in [] = all_none (IsPairIn [])
@@ -162,7 +162,7 @@ pairs_in (a ∷ b ∷ ws) =
 
 -- a key and its value
 pub pair_keeps : (w0 : List ℕ) (rest : Words) (name : List ℕ) (p : List ℕ × List ℕ) → Names name w0 → IsPairIn rest p → Keeps (w0 ∷ rest) (name ∷ p.0 ∷ p.1 ∷ [])
-pair_keeps w0 rest name p n g = λ h. let (_, first_within, rest_within) = h in (
+pair_keeps w0 rest name p n g = λ h. let (_, (first_within, rest_within)) = h in (
   (omega arith, (omega (arith, n.small, first_within), ((g.0 rest_within).0, ((g.0 rest_within).1, tt)))),
   pair_text_short w0 rest name p.0 p.1 (n.short first_within) g.1 (counted (w0 ∷ rest) h),
 )
@@ -291,9 +291,9 @@ parts_are_commands t how ps e =
 pub parts_keep_limits : PartsKeepLimits
 parts_keep_limits t how ps e within k d l =
     let (is, (some, all)) = planned t how ps e in
-    let h = all k d l in
-    let (keeps, short) = h.2 (subst (λ (z : Tree). IsWithin CLIENT_MEMBERS max_depth z) is within) in
-    (h.0, h.1, keeps, subst (λ (z : Tree). length (get_or ps k d).text ≤ length (text z)) (sym is) short)
+    let (words, is_part, limits) = all k d l in
+    let (keeps, short) = limits (subst (λ (z : Tree). IsWithin CLIENT_MEMBERS max_depth z) is within) in
+    (words, is_part, keeps, subst (λ (z : Tree). length (get_or ps k d).text ≤ length (text z)) (sym is) short)
 
 -- a command is plain
 pub plain_command : (ws : Words) → is_plain_tree (command_of ws) ≡ true

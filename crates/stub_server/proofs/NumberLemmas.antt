@@ -52,7 +52,7 @@ number_in-cases bytes =
 pub spelling-number_in : (bytes : List ℕ) (n : ℤ) → number_in bytes ≡ Some n → (bytes ≡ signed_decimal n) × (is_long n ≡ true)
 spelling-number_in bytes n e =
     elim (number_in-cases bytes) [
-      | inl f ↦ let q : Some f.0 ≡ Some n = sym f.1 ∙ e in let is : f.0 ≡ n = cc in (f.2 ∙ ap signed_decimal is, subst (λ (z : ℤ). is_long z ≡ true) is f.3)
+      | inl f ↦ let (m, read_as, spelled, long) = f in let q : Some m ≡ Some n = sym read_as ∙ e in let is : m ≡ n = cc in (spelled ∙ ap signed_decimal is, subst (λ (z : ℤ). is_long z ≡ true) is long)
       | inr f ↦ let q : None ≡ Some n = sym f ∙ e in absurd cc
     ]
 
@@ -60,6 +60,6 @@ spelling-number_in bytes n e =
 pub number_in-none : (bytes : List ℕ) → ((n : ℤ) → bytes ≡ signed_decimal n → is_long n ≡ true → ⊥) → number_in bytes ≡ None
 number_in-none bytes h =
     elim (number_in-cases bytes) [
-      | inl f ↦ absurd (h f.0 f.2 f.3)
+      | inl f ↦ let (m, _, spelled, long) = f in absurd (h m spelled long)
       | inr f ↦ f
     ]

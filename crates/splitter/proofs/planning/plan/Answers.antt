@@ -8,5 +8,5 @@ use Rattle.splitter.proofs.planning.plan.Goals as goal
 
 pub returns-in-Some-clause-plan : goal.returns-in-Some-clause-plan
 returns-in-Some-clause-plan c =
-    let f = rw c.in-Some.is at c.words.ensures.command in
-    subst (λ (z : Plan). IfOk c.plan_command.result (λ a. plan_in a ≡ z)) (sym (plan_of-command (tree_of c.in-Read.value) c.in-Some.words.now f.0 f.2) ∙ ap (λ z. plan_of (request_of z)) (sym c.in-Read.is)) c.plan_command.ensures.plan
+    let (is_command, _, is_array) = rw c.in-Some.is at c.words.ensures.command in
+    subst (λ (z : Plan). IfOk c.plan_command.result (λ a. plan_in a ≡ z)) (sym (plan_of-command (tree_of c.in-Read.value) c.in-Some.words.now is_command is_array) ∙ ap (λ z. plan_of (request_of z)) (sym c.in-Read.is)) c.plan_command.ensures.plan
