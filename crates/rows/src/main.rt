@@ -7,6 +7,7 @@
 
 mod again;
 mod parts;
+mod plain;
 mod proxies;
 mod script;
 mod series;

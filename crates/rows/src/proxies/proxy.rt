@@ -1,6 +1,6 @@
 //! What the core and the plain program have in common.
 
-use plain_history::Reference;
+use crate::plain::Reference;
 use proxy_core::{Answer, Core, Event, Refusal, Refused, Step};
 
 /// A proxy that takes events one after another, and keeps a step for each that it answered.

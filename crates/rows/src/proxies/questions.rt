@@ -1,9 +1,9 @@
 //! What is asked of the core beside events.
 
 use super::proxy::Proxy;
+use crate::plain::Reference;
 use crate::text::{first_word, number};
 use anyhow::{Result, bail};
-use plain_history::Reference;
 use proxy_core::Core;
 use proxy_stats::{Counts, HostCounts, counts};
 use std::alloc::Global;

@@ -4,8 +4,8 @@ use super::agreement::Answers;
 use super::outcome::outcome;
 use super::random::Numbers;
 use super::setting::Setting;
+use crate::plain::Reference;
 use anyhow::Result;
-use plain_history::Reference;
 use proxy_core::{Core, Event};
 use std::alloc::Global;
 

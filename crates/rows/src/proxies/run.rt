@@ -3,8 +3,8 @@
 use super::answers::{answer_text, refusal_text};
 use super::events::event_of;
 use super::outcome::outcome;
+use crate::plain::Reference;
 use anyhow::Result;
-use plain_history::Reference;
 use proxy_core::{Answer, Core, Event, Refusal};
 use std::alloc::Global;
 

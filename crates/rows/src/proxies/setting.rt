@@ -1,9 +1,9 @@
 //! On what a row's proxies stand: the ring and the settings.
 
+use crate::plain::Reference;
 use crate::text::number;
 use anyhow::{Result, bail};
 use ketama::{HostName, Ring, RingError};
-use plain_history::Reference;
 use proxy_core::{Core, Handover, Refusal, Settings};
 use std::alloc::Global;
 

@@ -1,0 +1,153 @@
+//! Why an event is refused.
+ghost use Rattle.std.specs.Prelude.{◌≡◌, ◌-◌, ℕ, [], List, Some, None, IfOk, true, false};
+ghost use Rattle.resp_core.specs.Value.{tree_of};
+ghost use Rattle.proxy_history.specs.Setting.{Setting, hosts};
+ghost use Rattle.proxy_history.specs.History.{is_open, accepted_count, handed_count};
+ghost use Rattle.proxy_history.specs.Cause.{own_cause, first_true, no_such_connection, finishing_cause, no_such_host, stale_cause};
+ghost use Rattle.rows.specs.Scan.{history_of, past_of_scan};
+ghost use Rattle.rows.specs.declared.plain.replay.Replay.{Replay};
+ghost use Rattle.proxy_history.specs.declared.event.Event.TheVariants.{Opened, Arrived, Finished, Taken, Answered, Failed, Swept, Handed, Closed};
+ghost use Rattle.proxy_history.specs.declared.event.Kind.{Kind};
+ghost use Rattle.splitter.specs.declared.request.Request.{Request};
+
+use super::pipe::{flying, waiting};
+use super::replay::Replay;
+use super::scan::{Turn, Wanted, has, times};
+use proxy_history::{MAX_CONNECTIONS, Refusal};
+use reply_queue::MAX_COMMANDS;
+use resp_core::Value;
+
+/// Whether the connection is open.
+pub(crate) fn is_open(steps: &[Turn], conn: u64) -> bool
+    ensures { result ≡ is_open conn (history_of steps.now) }
+{
+    conn < times(steps, Wanted::Opening) && !has(steps, Wanted::Closing(conn))
+}
+
+/// How many commands of the connection are accepted and not handed out.
+pub(crate) fn left(steps: &[Turn], conn: u64) -> u64
+    ensures { result
+        ≡ accepted_count conn (history_of steps.now) - handed_count conn (history_of steps.now) }
+{
+    times(steps, Wanted::Arrival(conn)).saturating_sub(times(steps, Wanted::Handing(conn)))
+}
+
+/// Why no connection is opened, if none is.
+pub(crate) fn opening_cause(steps: &[Turn]) -> Option<Refusal>
+    ensures { (S : Setting) (replay : Replay)
+        → result ≡ own_cause S (past_of_scan steps.now [] replay) Opened }
+{
+    let open = times(steps, Wanted::Opening).saturating_sub(times(steps, Wanted::AnyClosing));
+    if open >= MAX_CONNECTIONS as u64 {
+        return Some(Refusal::TooManyConnections);
+    }
+    None
+}
+
+/// Why a request isn't accepted, if it isn't.
+pub(crate) fn arrival_cause(steps: &[Turn], conn: u64) -> Option<Refusal>
+    ensures { (S : Setting) (replay : Replay) (request : Request)
+        → result ≡ own_cause S (past_of_scan steps.now [] replay) (Arrived conn request) }
+{
+    if !is_open(steps, conn) {
+        Some(Refusal::NoSuchConnection)
+    } else if has(steps, Wanted::Finishing(conn)) {
+        Some(Refusal::Finishing)
+    } else if left(steps, conn) >= MAX_COMMANDS as u64 {
+        Some(Refusal::Crowded)
+    } else {
+        None
+    }
+}
+
+/// Why a connection doesn't finish, if it doesn't.
+pub(crate) fn finish_cause(steps: &[Turn], conn: u64) -> Option<Refusal>
+    ensures { (S : Setting) (replay : Replay)
+        → result ≡ own_cause S (past_of_scan steps.now [] replay) (Finished conn) }
+{
+    if !is_open(steps, conn) {
+        Some(Refusal::NoSuchConnection)
+    } else if has(steps, Wanted::Finishing(conn)) {
+        Some(Refusal::Finishing)
+    } else {
+        None
+    }
+}
+
+/// Why no part is taken, if none is.
+pub(crate) fn take_cause(
+    host_count: usize,
+    steps: &[Turn],
+    replay: &Replay,
+    host: usize,
+) -> Option<Refusal>
+    ensures { (S : Setting) → hosts S ≡ host_count
+        → result ≡ own_cause S (past_of_scan steps.now [] replay.now) (Taken host) }
+{
+    if host >= host_count {
+        Some(Refusal::NoSuchHost)
+    } else if waiting(steps, replay, host) == 0 {
+        Some(Refusal::NothingWaiting)
+    } else {
+        None
+    }
+}
+
+/// Why a reply isn't taken, if it isn't.
+pub(crate) fn answer_cause(
+    host_count: usize,
+    steps: &[Turn],
+    replay: &Replay,
+    host: usize,
+    epoch: u64,
+    value: &Value,
+) -> Option<Refusal>
+    ensures { (S : Setting) (v : Value) (t : ℕ) → hosts S ≡ host_count
+        → tree_of v ≡ tree_of value.now
+        → result ≡ own_cause S (past_of_scan steps.now [] replay.now) (Answered host epoch v t) }
+{
+    let current = times(steps, Wanted::Fault(host));
+    if host >= host_count {
+        Some(Refusal::NoSuchHost)
+    } else if !value.is_plain() {
+        Some(Refusal::NotPlain)
+    } else if epoch != current {
+        Some(Refusal::Stale { current })
+    } else if flying(steps, replay, host) == 0 {
+        Some(Refusal::Unasked)
+    } else {
+        None
+    }
+}
+
+/// Why a fault isn't taken, if it isn't.
+pub(crate) fn fault_cause(
+    host_count: usize,
+    steps: &[Turn],
+    host: usize,
+    epoch: u64,
+) -> Option<Refusal>
+    ensures { (S : Setting) (replay : Replay) (kind : Kind) (t : ℕ) → hosts S ≡ host_count
+        → result ≡ own_cause S (past_of_scan steps.now [] replay) (Failed host epoch kind t) }
+{
+    let current = times(steps, Wanted::Fault(host));
+    if host >= host_count {
+        Some(Refusal::NoSuchHost)
+    } else if epoch != current {
+        Some(Refusal::Stale { current })
+    } else {
+        None
+    }
+}
+
+/// Why a connection isn't closed, if it isn't.
+pub(crate) fn close_cause(steps: &[Turn], conn: u64) -> Option<Refusal>
+    ensures { (S : Setting) (replay : Replay)
+        → result ≡ own_cause S (past_of_scan steps.now [] replay) (Closed conn) }
+{
+    if is_open(steps, conn) {
+        None
+    } else {
+        Some(Refusal::NoSuchConnection)
+    }
+}
