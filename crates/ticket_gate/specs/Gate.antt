@@ -37,7 +37,9 @@ module _ {E A C : Type 0} where
 
   -- it is the same pass: its gate, its number and its setting are as before
   abbrev pub IsSamePass : PassFacts E A C → PassFacts E A C → Type 0
-  IsSamePass before after = (after.gate ≡ before.gate) × (after.number ≡ before.number) × (after.known.setting ≡ before.known.setting)
+  IsSamePass before after =
+      (after.gate ≡ before.gate) × (after.number ≡ before.number)
+      × (after.known.setting ≡ before.known.setting)
 
 module _ {S E A C : Type 0} where
   -- what contracts see of a place without a number

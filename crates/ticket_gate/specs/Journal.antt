@@ -1,4 +1,5 @@
--- Journals: lists of steps. A step is the number of the pass that made it, the event and the answer.
+-- Journals: lists of steps. A step is the number of the pass that made it, the event and the
+-- answer.
 use Rattle.std.specs.Prelude.{◌≡◌, ◌≢◌, ◌⊎◌, ℕ, ◌<◌, ◌==◌, List, [], ◌∷◌, ◌++◌, filter}
 
 -- the steps of the pass n, in their order
@@ -14,8 +15,10 @@ abbrev pub PassesBelow : {E A : Type 0} → ℕ → List (ℕ × E × A) → Typ
 PassesBelow n [] = Unit {0}
 PassesBelow n (step ∷ steps) = (step.0 < n) × PassesBelow n steps
 
--- One turn of the pass n was answered: what it sees now is legal, begins with what it saw before, and ends with its step. Of its own steps that is the only new one.
-pub record AddsTurn {E A : Type 0} (legal : List (ℕ × E × A) → Type 0) (n : ℕ) (before : List (ℕ × E × A)) (event : E) (answer : A) (after : List (ℕ × E × A)) : Type 0 where
+-- One turn of the pass n was answered: what it sees now is legal, begins with what it saw before,
+-- and ends with its step. Of its own steps that is the only new one.
+pub record AddsTurn {E A : Type 0} (legal : List (ℕ × E × A) → Type 0) (n : ℕ)
+    (before : List (ℕ × E × A)) (event : E) (answer : A) (after : List (ℕ × E × A)) : Type 0 where
   pub between : List (ℕ × E × A)
   pub ends : after ≡ (before ++ between) ++ (n, event, answer) ∷ []
   pub own : steps_of n after ≡ steps_of n before ++ (n, event, answer) ∷ []
@@ -26,17 +29,23 @@ pub record GrowsByOthers {E A : Type 0} (n : ℕ) (before after : List (ℕ × E
   pub begins : StartsWith after before
   pub own : steps_of n after ≡ steps_of n before
 
--- Two passes compared: their numbers differ, and of the journals that they have seen one begins with the other. The longer one is legal, and holds of each pass the steps that the pass has seen.
-pub record Meets {E A : Type 0} (legal : List (ℕ × E × A) → Type 0) (n : ℕ) (first : List (ℕ × E × A)) (m : ℕ) (second : List (ℕ × E × A)) : Type 0 where
+-- Two passes compared: their numbers differ, and of the journals that they have seen one begins
+-- with the other. The longer one is legal, and holds of each pass the steps that the pass has seen.
+pub record Meets {E A : Type 0} (legal : List (ℕ × E × A) → Type 0) (n : ℕ)
+    (first : List (ℕ × E × A)) (m : ℕ) (second : List (ℕ × E × A)) : Type 0 where
   pub numbers_differ : n ≢ m
   pub longer : List (ℕ × E × A)
-  pub one_begins : ((longer ≡ first) × StartsWith longer second) ⊎ ((longer ≡ second) × StartsWith longer first)
+  pub one_begins : ((longer ≡ first) × StartsWith longer second)
+      ⊎ ((longer ≡ second) × StartsWith longer first)
   pub is_legal : legal longer
   pub of_first : steps_of n longer ≡ steps_of n first
   pub of_second : steps_of m longer ≡ steps_of m second
 
--- A state that a gate gave at its end: it has the gate's setting, its journal is legal, begins with what the closing pass has seen, and has no further step of it.
-pub record Closes {S E A C : Type 0} (journal : S → List (ℕ × E × A)) (setting : S → C) (legal : C → List (ℕ × E × A) → Type 0) (c : C) (n : ℕ) (seen : List (ℕ × E × A)) (state : S) : Type 0 where
+-- A state that a gate gave at its end: it has the gate's setting, its journal is legal, begins with
+-- what the closing pass has seen, and has no further step of it.
+pub record Closes {S E A C : Type 0} (journal : S → List (ℕ × E × A)) (setting : S → C)
+    (legal : C → List (ℕ × E × A) → Type 0) (c : C) (n : ℕ) (seen : List (ℕ × E × A))
+    (state : S) : Type 0 where
   pub has_setting : setting state ≡ c
   pub is_legal : legal c (journal state)
   pub grows : GrowsByOthers n seen (journal state)

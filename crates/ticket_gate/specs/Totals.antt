@@ -1,4 +1,5 @@
--- Journals of a running total. A step is the number of the pass, the amount and the total that it came to.
+-- Journals of a running total. A step is the number of the pass, the amount and the total that it
+-- came to.
 use Rattle.std.specs.Prelude.{◌≡◌, ℕ, ◌+◌, ◌≤◌, List, [], ◌∷◌, ◌++◌, map, sum_by}
 use Rattle.std.proofs.Common.{ap, ◌∙◌, append_assoc}
 use Rattle.ticket_gate.specs.declared.running_total.Addition.{Addition}
@@ -13,7 +14,9 @@ amount_sum journal = sum_by (λ step. step.1) journal
 
 -- the total of each step is the sum of all amounts up to its own, and within the limit
 pub record AreTotals (limit : ℕ) (journal : List (ℕ × ℕ × ℕ)) : Type 0 where
-  pub each_total : (before after : List (ℕ × ℕ × ℕ)) (step : ℕ × ℕ × ℕ) → journal ≡ before ++ step ∷ after → let (_, amount, total) = step in (total ≡ amount_sum before + amount) × (total ≤ limit)
+  pub each_total : (before after : List (ℕ × ℕ × ℕ)) (step : ℕ × ℕ × ℕ)
+      → journal ≡ before ++ step ∷ after
+      → let (_, amount, total) = step in (total ≡ amount_sum before + amount) × (total ≤ limit)
 
 -- an empty journal has no step
 pub nothing_in_empty : {X : Type 0} (before after : List X) (x : X) → [] ≡ before ++ x ∷ after → ⊥
@@ -22,8 +25,15 @@ nothing_in_empty (b ∷ bs) after x e = cc
 
 -- the totals of an empty journal are right
 pub totals_at_first : (limit : ℕ) → AreTotals limit []
-totals_at_first limit = record { each_total = λ before after step is. absurd (nothing_in_empty before after step is) }
+totals_at_first limit =
+    record { each_total = λ before after step is. absurd (nothing_in_empty before after step is) }
 
 -- the totals of a beginning are right where those of the whole are
-pub totals_before : (limit : ℕ) (journal more : List (ℕ × ℕ × ℕ)) → AreTotals limit (journal ++ more) → AreTotals limit journal
-totals_before limit journal more totals = record { each_total = λ before after step is. totals.each_total before (after ++ more) step (ap (λ l. l ++ more) is ∙ append_assoc before (step ∷ after) more) }
+pub totals_before : (limit : ℕ) (journal more : List (ℕ × ℕ × ℕ))
+    → AreTotals limit (journal ++ more) → AreTotals limit journal
+totals_before limit journal more totals =
+    record {
+      each_total = λ before after step is.
+          totals.each_total before (after ++ more) step
+          (ap (λ l. l ++ more) is ∙ append_assoc before (step ∷ after) more);
+    }

@@ -6,8 +6,10 @@ use Rattle.ticket_gate.specs.Journal.{steps_of}
 use Rattle.ticket_gate.specs.Refusal.{RefusedByState}
 use Rattle.ticket_gate.specs.Gate.{GateFacts, PassFacts}
 
-module _ {E A R : Type 0} (cause : R → E → List (ℕ × E × A) → Type 0) (spent : Type 0) (n : ℕ) (before : List (ℕ × E × A)) (event : E) (after : List (ℕ × E × A)) where
-  -- A turn of the pass n was refused, and the event comes back. It is never refused for being busy, and for want of tickets only where `spent` holds.
+module _ {E A R : Type 0} (cause : R → E → List (ℕ × E × A) → Type 0) (spent : Type 0) (n : ℕ)
+    (before : List (ℕ × E × A)) (event : E) (after : List (ℕ × E × A)) where
+  -- A turn of the pass n was refused, and the event comes back. It is never refused for being busy,
+  -- and for want of tickets only where `spent` holds.
   abbrev pub RefusesTurn : TurnRefusal R E → Type 0
   RefusesTurn (Busy served drawn back) = ⊥
   RefusesTurn (Spent back) = (back ≡ event) × (after ≡ before) × spent
@@ -32,6 +34,7 @@ abbrev pub alone_with : {S : Type 0} → S → ℕ → AloneFacts S
 alone_with state pass = record { state = state; pass = pass }
 
 -- the journal is legal, and all its steps are of this pass
-pub record IsUsedBy {S E A C : Type 0} (journal : S → List (ℕ × E × A)) (setting : S → C) (legal : C → List (ℕ × E × A) → Type 0) (state : S) (n : ℕ) : Type 0 where
+pub record IsUsedBy {S E A C : Type 0} (journal : S → List (ℕ × E × A)) (setting : S → C)
+    (legal : C → List (ℕ × E × A) → Type 0) (state : S) (n : ℕ) : Type 0 where
   pub is_legal : legal (setting state) (journal state)
   pub own : steps_of n (journal state) ≡ journal state

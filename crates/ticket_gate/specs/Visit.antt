@@ -17,18 +17,23 @@ pub record KeepsSeen {E A C : Type 0} (before after : Knowledge E A C) : Type 0 
 module _ {S E A C : Type 0} where
   -- a place at this gate, at rest and with a number
   abbrev pub MayEnter : TableId → Seat (Option S) (View E A C) → Type 0
-  MayEnter id seat = (seat.table_id ≡ id) × IsAtRest seat × ((n : ℕ) × (seat.me.0.own.number ≡ Some n))
+  MayEnter id seat =
+      (seat.table_id ≡ id) × IsAtRest seat × ((n : ℕ) × (seat.me.0.own.number ≡ Some n))
 
   -- a place that waits with the ticket t
-  pub record HoldsTicket (before : Knowledge E A C) (t : ℕ) (seat : Seat (Option S) (View E A C)) : Type 0 where
+  pub record HoldsTicket (before : Knowledge E A C) (t : ℕ)
+      (seat : Seat (Option S) (View E A C)) : Type 0 where
     pub alone : seat.me ≡ (view_of seat.me.0.own, [])
     pub ticket : seat.me.0.own.ticket ≡ Some t
     pub outside : seat.me.0.own.inside ≡ false
     pub keeps : KeepsSeen before seat.me.0.own
 
-  module _ (journal : S → List (ℕ × E × A)) (setting : S → C) (legal : C → List (ℕ × E × A) → Type 0) where
-    -- a place inside with the ticket t, and a state that goes on from what the place had seen before
-    pub record IsInside (before : Knowledge E A C) (t : ℕ) (seat : Seat (Option S) (View E A C)) : Type 0 where
+  module _ (journal : S → List (ℕ × E × A)) (setting : S → C)
+      (legal : C → List (ℕ × E × A) → Type 0) where
+    -- a place inside with the ticket t, and a state that goes on from what the place had seen
+    -- before
+    pub record IsInside (before : Knowledge E A C) (t : ℕ)
+        (seat : Seat (Option S) (View E A C)) : Type 0 where
       pub state : S
       pub me : seat.me ≡ (view_of seat.me.0.own, (0, Some state) ∷ [])
       pub ticket : seat.me.0.own.ticket ≡ Some t
@@ -38,12 +43,17 @@ module _ {S E A C : Type 0} where
       pub has_setting : seat.me.0.own.setting ≡ before.setting
       pub goes_on : GoesOnFrom journal setting legal before state
 
-  module _ {R : Type 0} (legal : C → List (ℕ × E × A) → Type 0) (cause : C → R → E → List (ℕ × E × A) → Type 0) where
-    -- A place that was inside has made its turn and is at rest again: what it had seen inside has grown by its step and is legal, or is as it was and the cause holds.
-    pub record HasMadeTurn (inside : Knowledge E A C) (n : ℕ) (event : E) (outcome : Result A (R × E)) (seat : Seat (Option S) (View E A C)) : Type 0 where
+  module _ {R : Type 0} (legal : C → List (ℕ × E × A) → Type 0)
+      (cause : C → R → E → List (ℕ × E × A) → Type 0) where
+    -- A place that was inside has made its turn and is at rest again: what it had seen inside has
+    -- grown by its step and is legal, or is as it was and the cause holds.
+    pub record HasMadeTurn (inside : Knowledge E A C) (n : ℕ) (event : E)
+        (outcome : Result A (R × E)) (seat : Seat (Option S) (View E A C)) : Type 0 where
       pub at_rest : IsAtRest seat
       pub number : seat.me.0.own.number ≡ inside.number
       pub has_setting : seat.me.0.own.setting ≡ inside.setting
       pub done : MatchResult outcome
-          (λ answer. (seat.me.0.own.seen ≡ inside.seen ++ (n, event, answer) ∷ []) × ((c : C) → inside.setting ≡ Some c → legal c seat.me.0.own.seen))
-          (λ refused. (seat.me.0.own.seen ≡ inside.seen) × (refused.1 ≡ event) × ((c : C) → inside.setting ≡ Some c → cause c refused.0 event seat.me.0.own.seen))
+          (λ answer. (seat.me.0.own.seen ≡ inside.seen ++ (n, event, answer) ∷ [])
+          × ((c : C) → inside.setting ≡ Some c → legal c seat.me.0.own.seen))
+          (λ refused. (seat.me.0.own.seen ≡ inside.seen) × (refused.1 ≡ event)
+          × ((c : C) → inside.setting ≡ Some c → cause c refused.0 event seat.me.0.own.seen))
