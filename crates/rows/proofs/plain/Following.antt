@@ -28,7 +28,7 @@ only_one t s (suc k) l e = absurd (omega (arith, l))
 in_history : (S : Setting) (H : History) → IsLegal S H → (s : Step) → Contains H s → HasHost (hosts S) s.event
 in_history S [] legal s h = absurd (omega (arith, h.1))
 in_history S (t ∷ before) legal s h = elim (Contains-append_cases (t ∷ []) before s h) [
-  | inl one ↦ subst (λ (z : Step). HasHost (hosts S) z.event) (only_one t s one.0 one.1 one.2) (HasHost-own_cause S (past S before) t.event legal.1.has_no_cause)
+  | inl (place, within, is) ↦ subst (λ (z : Step). HasHost (hosts S) z.event) (only_one t s place within is) (HasHost-own_cause S (past S before) t.event legal.1.has_no_cause)
   | inr earlier ↦ in_history S before legal.0 s earlier
 ]
 

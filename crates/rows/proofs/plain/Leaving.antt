@@ -32,8 +32,8 @@ unfolding rows one_key_names
 good_rows = refl
 
 quit_row : (r : Row) → Contains rows r → r.kind ≡ Quit → r.least ≡ 1
-quit_row r h e =
-    let good = subst (λ (z : Row). takes_one_word z.kind z ≡ true) h.2 (list_all-get_or (λ z. takes_one_word z.kind z) rows h.0 r good_rows h.1) in
+quit_row r (place, within, is) e =
+    let good = subst (λ (z : Row). takes_one_word z.kind z ≡ true) is (list_all-get_or (λ z. takes_one_word z.kind z) rows place r good_rows within) in
     eqb-true r.least 1 (subst (λ (z : Kind). takes_one_word z r ≡ true) e good)
 
 last_by : (kind : Kind) (r : Row) (words : Words) → is_last (plan_by kind r words) ≡ is_quit_kind kind

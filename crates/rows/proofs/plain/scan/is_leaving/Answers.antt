@@ -9,5 +9,5 @@ use Rattle.rows.proofs.plain.scan.is_leaving.Goals as goal
 
 pub returns-in-Some : goal.returns-in-Some
 returns-in-Some c =
-    let f = rw c.in-Some.is at c.words.ensures.command in
-    c.is_quit.ensures ∙ ap (λ z. is_quit_row (row_named z)) (c.as_slice.ensures ∙ c.word.ensures) ∙ command_leaves (tree_of c.in-Read.value) c.in-Some.words.now f.0 f.1 f.2 ∙ ap (λ z. is_last (plan_for z)) (sym c.in-Read.is)
+    let (some, within, are_words) = rw c.in-Some.is at c.words.ensures.command in
+    c.is_quit.ensures ∙ ap (λ z. is_quit_row (row_named z)) (c.as_slice.ensures ∙ c.word.ensures) ∙ command_leaves (tree_of c.in-Read.value) c.in-Some.words.now some within are_words ∙ ap (λ z. is_last (plan_for z)) (sym c.in-Read.is)
