@@ -53,7 +53,7 @@ works : (U : LineState → LinkState → Type 0) (old : LineState) (new : HostSt
     → WorksHost U old new k H H' m r → IsBeside H H'
 works U old new k H H' m r w =
     IsBeside-then H w.between H' (goes_on old w.last.line k w.last.link H w.between m w.moved w.goes)
-    (elim w.ends [ inl (_, _, same, _) ↦ same_steps w.between H' same | inr (kind, _, recorded, _) ↦ records w.last new w.between H' kind m recorded ])
+    (elim w.ends [ inl (_, _, same, _, _) ↦ same_steps w.between H' same | inr (kind, _, recorded, _, _) ↦ records w.last new w.between H' kind m recorded ])
 
 module _ (U : LineState → LinkState → Type 0) (old new : HostState) (H H' : History) (m : ℕ) (r : Result Progress EngineError) where
   steps : StepsHost U old new H H' m r → IsBeside H H'

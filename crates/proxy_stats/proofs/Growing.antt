@@ -98,7 +98,7 @@ pub counts_uncapped : (steps : List Step) (c : Counts) → length steps ≤ 2621
 counts_uncapped steps c many small swept is =
     let arrive : Few arrivals steps = λ k d w. let e = few_events (get_or steps k d).event in omega (arith, e.0) in
     let hand : Few handings steps = λ k d w. let e = few_events (get_or steps k d).event in omega (arith, e.1) in
-    let take_parts : Few takings steps = λ k d w. let (_, _, takes, _) = few_events (get_or steps k d).event in omega (arith, takes) in
+    let take_parts : Few takings steps = λ k d w. let (_, _, takes, _, _) = few_events (get_or steps k d).event in omega (arith, takes) in
     let reply : Few replies steps = λ k d w. let (_, _, _, replied, _) = few_events (get_or steps k d).event in omega (arith, replied) in
     let fail : Few failures steps = λ k d w. let (_, _, _, _, fails) = few_events (get_or steps k d).event in omega (arith, fails) in
     let lose : Few lost_parts steps = λ k d w. (small k d w).0 in

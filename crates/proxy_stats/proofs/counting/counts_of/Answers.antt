@@ -20,7 +20,7 @@ loop-i-preserved c =
             all_more (λ s. (ejected_hosts s < 2 ^ 32) × (kept_hosts s < 2 ^ 32)) steps i step within here c.loop-i.invariant.1 (w.add.ensures.ejected, w.add.ensures.kept),
           )
       | in_default w ↦ elim ((slice_get_cases steps i).1) [
-        | inl (_, _, is_some) ↦ absurd (let e = w.in_default.ensures in let f = is_some in cc)
+        | inl (_, _, is_some, _) ↦ absurd (let e = w.in_default.ensures in let f = is_some in cc)
         | inr z ↦ absurd (omega (arith, z.0, c.loop-i-test.true, c.len-i-end.ensures.steps))
       ]
     ]

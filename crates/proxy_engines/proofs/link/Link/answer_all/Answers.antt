@@ -21,15 +21,15 @@ loop-preserved g c =
 
 pub returns-in_err-fault-clause-goes : goal.returns-in_err-fault-clause-goes
 returns-in_err-fault-clause-goes g c =
-    let (goes, _, _, _, _, pass, _) = c.loop.invariant in
+    let (goes, _, _, _, _, pass, _, _) = c.loop.invariant in
     moves-err _ c.from_residual.result c.from_residual.ensures.0 (told_both _ _ _ _ _ _ _ _ _ _ _ _ goes (rw pass at c.answer_next.ensures.goes))
 
 pub returns-in_default-clause-goes : goal.returns-in_default-clause-goes
 returns-in_default-clause-goes g c =
-    let (goes, _, _, _, _, pass, _) = c.loop.invariant in
+    let (goes, _, _, _, _, pass, _, _) = c.loop.invariant in
     as_fault _ c.in_ok-fault.fault c.in_default.not-Still c.in_default.not-Moved (told_both _ _ _ _ _ _ _ _ _ _ _ _ goes (rw pass at c.answer_next.ensures.goes))
 
 pub returns-in-Still-clause-goes : goal.returns-in-Still-clause-goes
 returns-in-Still-clause-goes g c =
-    let (goes, _, _, _, _, pass, _) = c.loop.invariant in
+    let (goes, _, _, _, _, pass, _, _) = c.loop.invariant in
     told_still _ _ _ _ _ _ _ _ _ _ _ goes (rw pass at (rw c.in-Still.is at c.in_ok-fault.ensures.goes))

@@ -4,7 +4,7 @@ use Rattle.proxy_engines.proofs.outbox.Outbox.write_once.Goals as goal
 
 pub returns-in-Moved-clause-bytes : goal.returns-in-Moved-clause-bytes
 returns-in-Moved-clause-bytes g c =
-    let (some, within, appended) = c.in-Moved.ensures.told in (
+    let (some, within, appended, _) = c.in-Moved.ensures.told in (
       take c.in-Moved.n c.self.inside.pending,
       record {
         held = rw (← c.self.view_is) (rw c.as_slice.ensures at appended);

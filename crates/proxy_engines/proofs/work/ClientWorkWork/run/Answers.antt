@@ -8,11 +8,11 @@ loop-init g c = ((false, same_goes c.args.self.now.engine _ _ refl), refl, refl,
 
 pub returns-in_err-step-clause-goes : goal.returns-in_err-step-clause-goes
 returns-in_err-step-clause-goes g c =
-    let (goes, pass, _) = c.loop.invariant in goes_told _ _ _ _ _ _ _ goes (rw pass at c.step.ensures.goes)
+    let (goes, pass, _, _) = c.loop.invariant in goes_told _ _ _ _ _ _ _ goes (rw pass at c.step.ensures.goes)
 
 pub returns-in-Ended-clause-goes : goal.returns-in-Ended-clause-goes
 returns-in-Ended-clause-goes g c =
-    let (goes, pass, _) = c.loop.invariant in goes_told _ _ _ _ _ _ _ goes (rw pass at c.step.ensures.goes)
+    let (goes, pass, _, _) = c.loop.invariant in goes_told _ _ _ _ _ _ _ goes (rw pass at c.step.ensures.goes)
 
 pub loop-preserved-in-Idle : goal.loop-preserved-in-Idle
 loop-preserved-in-Idle g c =
