@@ -11,22 +11,26 @@ use std::alloc::Global;
 /// key), `cuts TEXT` (each beginning of the text but the whole), `nested N` (N arrays, one in the other, at a key), or
 /// `long N` (a text of N bytes at a key).
 pub(crate) fn act(alloc: Global, line: &str) -> Result<String> {
+    again!(told(alloc, line))
+}
+
+fn told(alloc: Global, line: &str) -> Result<String> {
     let (verb, rest) = first_word(line);
     match verb {
-        "check" => told_of(alloc, again!(unescaped(alloc, rest))?.as_slice()),
-        "values" => again!(many_values(alloc, rest)),
-        "cuts" => again!(beginnings(alloc, rest)),
-        "nested" => again!(nested(alloc, number(rest)?)),
-        "long" => again!(long(alloc, number(rest)?)),
+        "check" => told_of(alloc, unescaped(alloc, rest)?.as_slice()),
+        "values" => many_values(alloc, rest),
+        "cuts" => beginnings(alloc, rest),
+        "nested" => nested(alloc, number(rest)?),
+        "long" => long(alloc, number(rest)?),
         _ => bail!("a settings file takes no action {verb:?}"),
     }
 }
 
 // The line without its end, or the words of the fault.
 fn told_of(alloc: Global, bytes: &[u8]) -> Result<String> {
-    match again!(checked(alloc, bytes))? {
-        Ok(line) => again!(escaped(alloc, line.as_bytes())),
-        Err(words) => Ok(again!(format!(in alloc; "settings: {words}"))?),
+    match checked(alloc, bytes)? {
+        Ok(line) => escaped(alloc, line.as_bytes()),
+        Err(words) => Ok(format!(in alloc; "settings: {words}")?),
     }
 }
 

@@ -9,6 +9,7 @@ use reply_queue::QueueRefusal;
 use resp_core::RespError;
 use splitter::SplitError;
 use std::alloc::Global;
+use std::fmt::Display;
 use stub_server::StubError;
 use upstream_pipe::PipeRefusal;
 
@@ -17,11 +18,7 @@ macro_rules! messages {
         let mut text = String::new($alloc);
         $(
             let refusal = $refusal;
-            let number = refusal.number();
-            if !text.is_empty() {
-                text.push_str("; ")?;
-            }
-            write!(text, "{number} {refusal}")?;
+            put_message(&mut text, refusal.number(), &refusal)?;
         )+
         Ok(text)
     }};
@@ -29,17 +26,30 @@ macro_rules! messages {
 
 /// Gives the refusals of what the line names: `reader`, `ring`, `ejector`, `pipe`, `splitter`, `queue`, `journal`, `stub`.
 pub(crate) fn act(alloc: Global, line: &str) -> Result<String> {
-    match line {
-        "reader" => again!(of_reader(alloc)),
-        "ring" => again!(of_ring(alloc)),
-        "ejector" => again!(of_ejector(alloc)),
-        "pipe" => again!(of_pipe(alloc)),
-        "splitter" => again!(of_splitter(alloc)),
-        "queue" => again!(of_queue(alloc)),
-        "journal" => again!(of_journal(alloc)),
-        "stub" => again!(of_stub(alloc)),
-        _ => bail!("nothing named {line:?} refuses"),
+    again!(refusals_of(alloc, line))
+}
+
+fn refusals_of(alloc: Global, name: &str) -> Result<String> {
+    match name {
+        "reader" => of_reader(alloc),
+        "ring" => of_ring(alloc),
+        "ejector" => of_ejector(alloc),
+        "pipe" => of_pipe(alloc),
+        "splitter" => of_splitter(alloc),
+        "queue" => of_queue(alloc),
+        "journal" => of_journal(alloc),
+        "stub" => of_stub(alloc),
+        _ => bail!("nothing named {name:?} refuses"),
     }
+}
+
+// Appends a refusal's number and text behind others.
+fn put_message(text: &mut String, number: u16, refusal: &impl Display) -> Result<()> {
+    if !text.is_empty() {
+        text.push_str("; ")?;
+    }
+    write!(text, "{number} {refusal}")?;
+    Ok(())
 }
 
 fn of_reader(alloc: Global) -> Result<String> {

@@ -18,15 +18,21 @@ const SHOWN: usize = 8;
 /// Makes one action: `plan WORDS`, where `7*a` is seven words `a`; `value VALUE` or `broken`, the plan of that request;
 /// or `join HOW VALUES`.
 pub(crate) fn act(alloc: Global, line: &str) -> Result<String> {
+    again!(told(alloc, line))
+}
+
+fn told(alloc: Global, line: &str) -> Result<String> {
     let (verb, rest) = first_word(line);
-    let request = match verb {
-        "plan" => again!(command_of(alloc, rest))?,
-        "value" | "broken" => again!(request_of(alloc, line))?,
-        "join" => return joined(alloc, rest),
+    match verb {
+        "plan" => planned(alloc, &command_of(alloc, rest)?),
+        "value" | "broken" => planned(alloc, &request_of(alloc, line)?),
+        "join" => joined(alloc, rest),
         _ => bail!("plans take no action {verb:?}"),
-    };
-    let plan = again!(plan(alloc, &request))?;
-    again!(plan_text(alloc, &plan))
+    }
+}
+
+fn planned(alloc: Global, request: &Request) -> Result<String> {
+    plan_text(alloc, &plan(alloc, request)?)
 }
 
 // The command of these words.
@@ -95,10 +101,10 @@ fn put_part(text: &mut String, part: &PartPlan) -> Result<()> {
 fn joined(alloc: Global, words: &str) -> Result<String> {
     let (how, text) = first_word(words);
     let how = join_of(how)?;
-    let values = again!(values_of(alloc, text))?;
+    let values = values_of(alloc, text)?;
     if !may_join(how, values.len()) {
         bail!("no join of so many values");
     }
-    let value = again!(join(alloc, how, values.as_slice()))?;
-    again!(spelling(alloc, &value))
+    let value = join(alloc, how, values.as_slice())?;
+    spelling(alloc, &value)
 }

@@ -89,17 +89,22 @@ impl QueueSubject {
     fn set_all(&mut self, alloc: Global, words: &str) -> Result<String> {
         let (command, rest) = first_word(words);
         let (parts, text) = first_word(rest);
-        let command = number(command)?;
         let value = again!(value_of(alloc, text))?;
+        let given = self.give_all(alloc, number(command)?, number(parts)?, &value)?;
+        Ok(again!(format!(in alloc; "{given} set"))?)
+    }
+
+    // How many of the parts the value was given to.
+    fn give_all(&mut self, alloc: Global, command: u64, parts: u32, value: &Value) -> Result<u32> {
         let mut given = 0u32;
-        for part in (0..number(parts)?).rev() {
+        for part in (0..parts).rev() {
             let shared = again!(value.share(alloc))?;
             if self.queue.ready() || !self.give(command, part, shared) {
                 break;
             }
             given = given.saturating_add(1);
         }
-        Ok(again!(format!(in alloc; "{given} set"))?)
+        Ok(given)
     }
 
     fn drop_front(&mut self, alloc: Global) -> Result<String> {

@@ -42,18 +42,22 @@ impl ReaderSubject {
         match verb {
             "feed" => self.feed(alloc, rest),
             "next" => self.next(alloc),
+            _ => again!(self.told(alloc, verb, rest)),
+        }
+    }
+
+    // What leaves the row's reader as it is.
+    fn told(&self, alloc: Global, verb: &str, rest: &str) -> Result<String> {
+        match verb {
             "held" => {
                 let held = self.reader.held();
-                Ok(again!(format!(in alloc; "{held} bytes"))?)
+                Ok(format!(in alloc; "{held} bytes")?)
             }
             "read" => self.read(alloc, rest),
-            "measure" => measured(alloc, &again!(value_of(alloc, rest))?),
-            "simple" => measured(alloc, &Value::Simple(again!(line_of(alloc, rest))?)),
-            "error" => measured(alloc, &Value::Fault(again!(line_of(alloc, rest))?)),
-            "words" => {
-                let value = again!(value_of(alloc, rest))?;
-                again!(words_text(alloc, &value))
-            }
+            "measure" => measured(alloc, &value_of(alloc, rest)?),
+            "simple" => measured(alloc, &Value::Simple(line_of(alloc, rest)?)),
+            "error" => measured(alloc, &Value::Fault(line_of(alloc, rest)?)),
+            "words" => words_text(alloc, &value_of(alloc, rest)?),
             _ => bail!("a reader takes no action {verb:?}"),
         }
     }
@@ -77,21 +81,19 @@ impl ReaderSubject {
     // Reads a stream whole, in pieces of several lengths, and a short one cut in two at each place: all have to give the
     // same.
     fn read(&self, alloc: Global, words: &str) -> Result<String> {
-        let stream = again!(stream_of(alloc, words))?;
+        let stream = stream_of(alloc, words)?;
         let stream = stream.as_slice();
         let told = self.read_in_pieces(alloc, stream, stream.len())?;
         for length in piece_lengths(stream.len()) {
             let text = self.read_in_pieces(alloc, stream, *length)?;
             if told.as_str() != text.as_str() {
-                return Ok(again!(format!(in alloc;
-                    "DIFFER: {told}, in pieces of {length}: {text}"
-                ))?);
+                return Ok(format!(in alloc; "DIFFER: {told}, in pieces of {length}: {text}")?);
             }
         }
         for place in 0..places(stream.len()) {
             let text = self.read_cut_at(alloc, stream, place)?;
             if told.as_str() != text.as_str() {
-                return Ok(again!(format!(in alloc; "DIFFER: {told}, cut at {place}: {text}"))?);
+                return Ok(format!(in alloc; "DIFFER: {told}, cut at {place}: {text}")?);
             }
         }
         Ok(told)
@@ -103,7 +105,7 @@ impl ReaderSubject {
         for piece in stream.chunks(length.max(1)) {
             reading.take_piece(alloc, &mut reader, piece)?;
         }
-        again!(reading.text(alloc, stream))
+        reading.text(alloc, stream)
     }
 
     fn read_cut_at(&self, alloc: Global, stream: &[u8], place: usize) -> Result<String> {
@@ -112,7 +114,7 @@ impl ReaderSubject {
         let (front, back) = stream.split_at(place.min(stream.len()));
         reading.take_piece(alloc, &mut reader, front)?;
         reading.take_piece(alloc, &mut reader, back)?;
-        again!(reading.text(alloc, stream))
+        reading.text(alloc, stream)
     }
 }
 
@@ -171,9 +173,9 @@ impl Reading {
 
     // Writes a value that shares its bytes with this one.
     fn write(&mut self, alloc: Global, value: &Value) -> Result<()> {
-        let shared = again!(value.share(alloc))?;
+        let shared = value.share(alloc)?;
         if shared.is_plain() {
-            again!(put_text(alloc, &shared, &mut self.written))?;
+            put_text(alloc, &shared, &mut self.written)?;
         }
         Ok(())
     }
@@ -213,7 +215,7 @@ fn measured(alloc: Global, value: &Value) -> Result<String> {
         "not plain"
     };
     let length = value.text_len();
-    Ok(again!(format!(in alloc; "{kind}, {length} bytes"))?)
+    Ok(format!(in alloc; "{kind}, {length} bytes")?)
 }
 
 // The words of a command, each in quotes.

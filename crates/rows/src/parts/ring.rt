@@ -24,14 +24,19 @@ impl RingSubject {
     /// POINT:HOST,..`, `build NAME,.. WEIGHT,..`, `many HOSTS WEIGHT`, `owner POINT`, `owner POINT out HOST ..`, or
     /// `key KEY`, which tells the key's point and owner, and whether it stays where host 1 goes out.
     pub(crate) fn act(&mut self, alloc: Global, line: &str) -> Result<String> {
+        again!(self.told(alloc, line))
+    }
+
+    // An action that is made twice leaves what it leaves when it is made once.
+    fn told(&mut self, alloc: Global, line: &str) -> Result<String> {
         let (verb, rest) = first_word(line);
         match verb {
             "name" => name_text(alloc, rest),
             "point" => point_text(alloc, rest, false),
             "tagged" => point_text(alloc, rest, true),
-            "of_points" => self.keep(alloc, again!(ring_of_points(alloc, rest))?),
-            "build" => self.keep(alloc, again!(built_ring(alloc, rest))?),
-            "many" => self.keep(alloc, again!(equal_ring(alloc, rest))?),
+            "of_points" => self.keep(alloc, ring_of_points(alloc, rest)?),
+            "build" => self.keep(alloc, built_ring(alloc, rest)?),
+            "many" => self.keep(alloc, equal_ring(alloc, rest)?),
             "owner" => self.owner(alloc, rest),
             "key" => self.key(alloc, rest),
             _ => bail!("a ring takes no action {verb:?}"),
@@ -44,26 +49,26 @@ impl RingSubject {
             Ok(ring) => {
                 let (hosts, digests) = (ring.hosts(), ring.digests());
                 self.ring = Some(ring);
-                Ok(again!(format!(in alloc; "{hosts} hosts, {digests} digests"))?)
+                Ok(format!(in alloc; "{hosts} hosts, {digests} digests")?)
             }
-            Err(error) => again!(refusal_words(alloc, error.number(), &error)),
+            Err(error) => refusal_words(alloc, error.number(), &error),
         }
     }
 
     fn owner(&self, alloc: Global, words: &str) -> Result<String> {
         let (point, out) = first_word(words);
         let owner = self.owner_without(alloc, number(point)?, out)?;
-        again!(owner_text(alloc, owner))
+        owner_text(alloc, owner)
     }
 
     fn key(&self, alloc: Global, word: &str) -> Result<String> {
-        let key = again!(word_bytes(alloc, word))?;
+        let key = word_bytes(alloc, word)?;
         let point = point_of_key(key.as_slice(), false);
         let owner = self.owner_without(alloc, point, "")?;
         let left = self.owner_without(alloc, point, "out 1")?;
         let stays = if owner == left { "stays" } else { "moves" };
-        let host = again!(owner_text(alloc, owner))?;
-        Ok(again!(format!(in alloc; "{point}, host {host}, {stays} when host 1 goes out"))?)
+        let host = owner_text(alloc, owner)?;
+        Ok(format!(in alloc; "{point}, host {host}, {stays} when host 1 goes out")?)
     }
 
     // The owner of a point where these hosts are out.
@@ -71,7 +76,7 @@ impl RingSubject {
         let Some(ring) = &self.ring else {
             bail!("no ring is made");
         };
-        let mut usable = again!(vec![in alloc; true; ring.hosts()])?;
+        let mut usable = vec![in alloc; true; ring.hosts()]?;
         put_out(usable.as_mut_slice(), out)?;
         Ok(ring.owner(point, usable.as_slice()))
     }
@@ -96,10 +101,10 @@ fn owner_text(alloc: Global, owner: Option<usize>) -> Result<String> {
 }
 
 fn name_text(alloc: Global, word: &str) -> Result<String> {
-    let bytes = again!(word_bytes(alloc, word))?;
+    let bytes = word_bytes(alloc, word)?;
     match again!(HostName::read(alloc, bytes.as_slice())) {
-        Ok(name) => again!(escaped(alloc, name.as_bytes())),
-        Err(error) => again!(refusal_words(alloc, error.number(), &error)),
+        Ok(name) => escaped(alloc, name.as_bytes()),
+        Err(error) => refusal_words(alloc, error.number(), &error),
     }
 }
 
@@ -110,7 +115,7 @@ fn escaped(alloc: Global, bytes: &[u8]) -> Result<String> {
 }
 
 fn point_text(alloc: Global, word: &str, tags: bool) -> Result<String> {
-    let key = again!(word_bytes(alloc, word))?;
+    let key = word_bytes(alloc, word)?;
     let point = point_of_key(key.as_slice(), tags);
     shown(alloc, point)
 }

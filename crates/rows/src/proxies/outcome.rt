@@ -42,21 +42,24 @@ fn told<P: Proxy>(
     turn: &Result<Option<Answer>, Refusal>,
 ) -> Result<String> {
     let added = proxy.steps().saturating_sub(before);
-    match (turn, proxy.step(before)) {
-        (Err(cause), None) => refusal_text(alloc, *cause),
-        (Err(cause), Some(_)) => {
-            let mut text = refusal_text(alloc, *cause)?;
-            text.push_str(", but a step was added")?;
-            Ok(text)
-        }
-        (Ok(_), None) => Ok(String::from_str(alloc, "answered, but no step was added")?),
+    let (mut text, fault) = match (turn, proxy.step(before)) {
+        (Err(cause), None) => (refusal_text(alloc, *cause)?, ""),
+        (Err(cause), Some(_)) => (refusal_text(alloc, *cause)?, ", but a step was added"),
+        (Ok(_), None) => (
+            String::from_str(alloc, "answered")?,
+            ", but no step was added",
+        ),
         (Ok(answer), Some(step)) => {
             let answer = answer.as_ref().unwrap_or(&step.answer);
-            let mut text = answer_text(alloc, answer)?;
-            if added != 1 || step.pass != pass || step.answer != *answer {
-                text.push_str(", but its step is another")?;
-            }
-            Ok(text)
+            let is_its_step = added == 1 && step.pass == pass && step.answer == *answer;
+            let fault = if is_its_step {
+                ""
+            } else {
+                ", but its step is another"
+            };
+            (answer_text(alloc, answer)?, fault)
         }
-    }
+    };
+    text.push_str(fault)?;
+    Ok(text)
 }

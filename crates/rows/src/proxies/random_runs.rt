@@ -75,16 +75,24 @@ fn epochs(core: &Core) -> [u64; 3] {
 pub(crate) fn run_each(alloc: Global, seeds: u64, events: u64) -> Result<String> {
     let mut answered = 0usize;
     for seed in 1..=seeds {
-        let mut numbers = Numbers(0x9e37_79b9_7f4a_7c15 ^ (seed << 20));
-        let setting = Setting::of(alloc, numbers.settings())?;
-        let mut core = setting.core(alloc)?;
-        let mut plain = setting.plain(alloc)?;
-        let run = Randomly { numbers, events };
-        if let Some(text) = run.first_difference(alloc, &mut core, &mut plain)? {
-            return Ok(format!(in alloc; "seed {seed}, {text}")?);
+        match run_seed(alloc, seed, events)? {
+            Ok(steps) => answered = answered.saturating_add(steps),
+            Err(text) => return Ok(format!(in alloc; "seed {seed}, {text}")?),
         }
-        answered = answered.saturating_add(core.journal().len());
     }
     let all = seeds.saturating_mul(events);
     Ok(format!(in alloc; "{answered} of {all} answered, none differs")?)
+}
+
+// How many of a seed's events were answered, or the first whose answers differ.
+fn run_seed(alloc: Global, seed: u64, events: u64) -> Result<Result<usize, String>> {
+    let mut numbers = Numbers(0x9e37_79b9_7f4a_7c15 ^ (seed << 20));
+    let setting = Setting::of(alloc, numbers.settings())?;
+    let mut core = setting.core(alloc)?;
+    let mut plain = setting.plain(alloc)?;
+    let run = Randomly { numbers, events };
+    match run.first_difference(alloc, &mut core, &mut plain)? {
+        Some(text) => Ok(Err(text)),
+        None => Ok(Ok(core.journal().len())),
+    }
 }

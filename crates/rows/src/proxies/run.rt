@@ -3,6 +3,7 @@
 use super::answers::{answer_text, refusal_text};
 use super::events::event_of;
 use super::outcome::outcome;
+use crate::again::again;
 use crate::plain::Reference;
 use anyhow::Result;
 use proxy_core::{Answer, Core, Event, Refusal};
@@ -30,15 +31,16 @@ impl Run {
 
     /// Gives the events to the core in one call, again where there was no memory for it: the answers in words.
     pub(crate) fn on_core(&self, alloc: Global, core: &mut Core) -> Result<String> {
-        let answers = match core.run(self.pairs(alloc)?) {
-            Ok(answers) => answers,
-            Err(_) => core.run(self.pairs(alloc)?)?,
-        };
+        let answers = again!(self.taken_by(alloc, core))?;
         let mut text = String::new(alloc);
         for answer in &answers {
             put_answer(&mut text, one_text(alloc, answer)?.as_str())?;
         }
         Ok(text)
+    }
+
+    fn taken_by(&self, alloc: Global, core: &mut Core) -> Result<Vec<Result<Answer, Refusal>>> {
+        Ok(core.run(self.pairs(alloc)?)?)
     }
 
     fn pairs(&self, alloc: Global) -> Result<Vec<(u64, Event)>> {
