@@ -187,7 +187,11 @@ fn ten_pipelining_clients_connect_again(rt: HostRuntime) -> Result<(), Fail> {
 
 const PING: &[u8] = b"*1\r\n$4\r\nPING\r\n";
 
-// How many answers so many clients got, one after the other, each of which asks 60 times or until its connection ends.
+// So many commands a client sends at most. Its generation drains long before, also where the thread that looks at marks is
+// kept waiting.
+const PATIENCE: u32 = 20_000;
+
+// How many answers so many clients got, one after the other, each of which asks until its connection ends.
 fn patient_clients(rt: &HostRuntime, address: SocketAddr, count: u32) -> std::io::Result<u64> {
     answers_to_each(rt, address, PING, b"+PONG\r\n", count)
 }
@@ -201,7 +205,7 @@ fn answers_to_each(
 ) -> std::io::Result<u64> {
     let mut all = 0u64;
     for _ in 0..count {
-        let got = patient_client(rt, address, bytes, answer, 60)?;
+        let got = patient_client(rt, address, bytes, answer, PATIENCE)?;
         all = all.saturating_add(u64::from(got));
     }
     Ok(all)
