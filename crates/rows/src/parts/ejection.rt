@@ -10,6 +10,7 @@ use crate::text::{first_word, number};
 use anyhow::{Result, bail};
 use ejector::{EjectError, Ejector, Settings};
 use std::alloc::Global;
+use std::ops::RangeInclusive;
 
 /// The ejector that a row made last.
 #[derive(Drop)]
@@ -64,7 +65,7 @@ fn settings_of(fields: &str) -> Result<Settings> {
 
 // What the ejector answers: to `good HOSTS MOMENT`, `bad HOSTS MOMENT` (`HOSTS` is one or the first and the last),
 // `mixed HOST MOMENT` (a good and a bad result), `sweep MOMENT`, `marks SEED MARKS MOMENT`, `go_on` (another ejector takes
-// its place, made from its state), `is_out HOST`, `usable HOST`, `multiplier HOST`, `all_usable`, `in_panic`, `rules`.
+// its place, made from its state), or to what `seen` takes.
 fn told(alloc: Global, ejector: &mut Ejector, verb: &str, words: &str) -> Result<String> {
     match verb {
         "good" => results(alloc, ejector, true, words),
@@ -76,10 +77,7 @@ fn told(alloc: Global, ejector: &mut Ejector, verb: &str, words: &str) -> Result
             again!(tally.text(alloc))
         }
         "go_on" => go_on(alloc, ejector),
-        "all_usable" => all_usable(alloc, ejector),
-        "in_panic" => shown(alloc, ejector.in_panic()),
-        "rules" => again!(rules_text(alloc, ejector)),
-        _ => told_of(alloc, ejector, verb, number(words)?),
+        _ => again!(seen(alloc, ejector, verb, words)),
     }
 }
 
@@ -94,7 +92,17 @@ fn go_on(alloc: Global, ejector: &mut Ejector) -> Result<String> {
     }
 }
 
-fn told_of(alloc: Global, ejector: &Ejector, verb: &str, host: usize) -> Result<String> {
+// What leaves the ejector as it is: `is_out HOST`, `usable HOST`, `multiplier HOST`, `all_usable`, `in_panic`, `rules`.
+fn seen(alloc: Global, ejector: &Ejector, verb: &str, words: &str) -> Result<String> {
+    match verb {
+        "all_usable" => all_usable(alloc, ejector),
+        "in_panic" => shown(alloc, ejector.in_panic()),
+        "rules" => rules_text(alloc, ejector),
+        _ => seen_of(alloc, ejector, verb, number(words)?),
+    }
+}
+
+fn seen_of(alloc: Global, ejector: &Ejector, verb: &str, host: usize) -> Result<String> {
     if host >= ejector.rules().hosts {
         bail!("there is no host {host}");
     }
@@ -113,8 +121,18 @@ fn results(alloc: Global, ejector: &mut Ejector, ok: bool, words: &str) -> Resul
     let Some((first, last)) = hosts.split_once('-') else {
         return result(alloc, ejector, number(hosts)?, ok, moment);
     };
+    results_of(alloc, ejector, number(first)?..=number(last)?, ok, moment)
+}
+
+fn results_of(
+    alloc: Global,
+    ejector: &mut Ejector,
+    hosts: RangeInclusive<usize>,
+    ok: bool,
+    moment: u64,
+) -> Result<String> {
     let mut series = Series::new(alloc);
-    for host in number(first)?..=number(last)? {
+    for host in hosts {
         series.add(result(alloc, ejector, host, ok, moment)?)?;
     }
     series.text()
@@ -125,7 +143,7 @@ fn mixed(alloc: Global, ejector: &mut Ejector, words: &str) -> Result<String> {
     let (host, moment) = (number(host)?, number(moment)?);
     let good = result(alloc, ejector, host, true, moment)?;
     let bad = result(alloc, ejector, host, false, moment)?;
-    Ok(again!(format!(in alloc; "{good} {bad}"))?)
+    shown(alloc, format_args!("{good} {bad}"))
 }
 
 fn result(
@@ -148,16 +166,19 @@ fn sweep(alloc: Global, ejector: &mut Ejector, moment: u64) -> Result<String> {
     match again!(ejector.sweep(moment)) {
         Ok(swept) => {
             let (returned, ejected, kept) = (swept.returned, swept.ejected, swept.kept);
-            Ok(again!(format!(in alloc; "returned {returned}, ejected {ejected}, kept {kept}"))?)
+            shown(
+                alloc,
+                format_args!("returned {returned}, ejected {ejected}, kept {kept}"),
+            )
         }
         Err(error) => again!(error_text(alloc, error)),
     }
 }
 
 fn all_usable(alloc: Global, ejector: &Ejector) -> Result<String> {
-    let mut usable = again!(vec![in alloc; false; ejector.rules().hosts])?;
+    let mut usable = vec![in alloc; false; ejector.rules().hosts]?;
     ejector.all_usable(usable.as_mut_slice());
-    again!(listed(alloc, usable.as_slice()))
+    listed(alloc, usable.as_slice())
 }
 
 fn listed(alloc: Global, truths: &[bool]) -> Result<String> {

@@ -59,7 +59,10 @@ impl JournalSubject {
         match self.journal.get(at) {
             Some(step) => {
                 let (pass, event, answer) = (step.pass, step.event, step.answer);
-                Ok(again!(format!(in alloc; "pass {pass}, event {event}, answer {answer}"))?)
+                shown(
+                    alloc,
+                    format_args!("pass {pass}, event {event}, answer {answer}"),
+                )
             }
             None => shown(alloc, "None"),
         }

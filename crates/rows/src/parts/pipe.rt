@@ -42,10 +42,17 @@ impl PipeSubject {
                 let more = number(rest)?;
                 done(alloc, again!(self.pipe.room(more)))
             }
+            _ => again!(self.told(alloc, verb)),
+        }
+    }
+
+    // What leaves the pipe as it is.
+    fn told(&self, alloc: Global, verb: &str) -> Result<String> {
+        match verb {
             "epoch" => shown(alloc, self.pipe.epoch()),
             "waiting" => shown(alloc, self.pipe.waiting()),
             "flying" => shown(alloc, self.pipe.flying()),
-            "oldest" => again!(part_or_none(alloc, self.pipe.oldest())),
+            "oldest" => part_or_none(alloc, self.pipe.oldest()),
             _ => bail!("a pipe takes no action {verb:?}"),
         }
     }

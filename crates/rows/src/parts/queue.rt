@@ -91,7 +91,7 @@ impl QueueSubject {
         let (parts, text) = first_word(rest);
         let value = again!(value_of(alloc, text))?;
         let given = self.give_all(alloc, number(command)?, number(parts)?, &value)?;
-        Ok(again!(format!(in alloc; "{given} set"))?)
+        shown(alloc, format_args!("{given} set"))
     }
 
     // How many of the parts the value was given to.

@@ -1,6 +1,6 @@
 //! Rows of the host in memory.
 
-use super::answers::refusal_words;
+use super::answers::{refusal_words, shown};
 use super::spelling::spelling;
 use crate::again::again;
 use crate::text::first_word;
@@ -51,7 +51,7 @@ impl StubSubject {
         let acts = again!(acts_of(alloc, words))?;
         let count = acts.len();
         self.stub.script(acts);
-        Ok(again!(format!(in alloc; "{count} acts"))?)
+        shown(alloc, format_args!("{count} acts"))
     }
 
     fn serve(&mut self, alloc: Global, request: Request) -> Result<String> {
@@ -65,7 +65,7 @@ impl StubSubject {
             Ok(Response::Garbage) => "garbage",
             Err(refusal) => return again!(refusal_words(alloc, refusal.number(), &refusal)),
         };
-        Ok(again!(String::from_str(alloc, told))?)
+        shown(alloc, told)
     }
 }
 
