@@ -3,6 +3,10 @@ use Rattle.std.specs.Prelude.{◌⊎◌, ◌+◌, ◌<◌, ◌≤◌, ℕ, List,
 use Rattle.journal_core.specs.declared.journal.TheConstants.{MAX_STEPS, MAX_BYTES}
 use Rattle.journal_core.specs.declared.step.Step.{Step}
 
+-- the step of a pass: its number, the event and the answer
+abbrev pub step_by : {E A : Type 0} → ℕ → E → A → Step E A
+step_by pass event answer = record { pass = pass; event = event; answer = answer }
+
 -- the steps, the oldest first; the bytes of payload that they hold; and the bytes of the step for which room was made,
 -- where room was made and no step was added since
 pub record JournalState (E A : Type 0) : Type 0 where

@@ -19,7 +19,7 @@ use Rattle.proxy_history.specs.declared.event.Event.{Event}
 use Rattle.proxy_history.specs.declared.answer.Answer.{Answer}
 use Rattle.proxy_history.proofs.CallerLemmas as history
 use Rattle.proxy_engines.specs.Ends.{OutboxState, Sends, InboxState, Holds, HasGivenAll}
-use Rattle.proxy_engines.specs.Turned.{step_by}
+use Rattle.journal_core.specs.Journal.{step_by}
 use Rattle.proxy_engines.specs.Client.{Client, Carries, Goes, IsAllRead, IsAtStage, IsDone, IsFinished, IsLive, IsOver, NoneFinishes, asked_requests, waiting_requests}
 use Rattle.proxy_engines.specs.Moves.{has_moved, AsTold}
 use Rattle.proxy_engines.proofs.MoveLemmas.{has_moved-append}

@@ -1,11 +1,11 @@
 -- Why a link broke, over several moves.
 use Rattle.std.proofs.Common.{◌≡◌, ◌⊎◌, ◌∙◌, ◌≤◌, ◌-◌, ℕ, Bool, true, false, List, [], ◌∷◌, Option, Some, None, inl, inr, refl, sym, ap}
 use Rattle.std.specs.Prelude.{◌↔◌}
+use Rattle.proxy_history.specs.History.{Step}
 use Rattle.proxy_history.specs.declared.event.Kind.{Kind}
 use Rattle.proxy_engines.specs.Host.{LineState, LinkState, next_link}
 use Rattle.proxy_engines.specs.Faults.{IsCauseOf, IsLate, IfFault, is_fault, either}
 use Rattle.ticket_gate.specs.Journal.{StartsWith}
-use Rattle.proxy_history.specs.Seen.{SeenStep}
 use Rattle.proxy_history.specs.declared.event.Event.{Event}
 use Rattle.proxy_engines.specs.Turned.{HasHeld}
 use Rattle.proxy_engines.specs.declared.error.EngineError.{EngineError}
@@ -41,7 +41,7 @@ either_still Outcome.Moved q e = absurd cc
 either_still (Outcome.Fault kind error) q e = absurd cc
 
 -- what held of a list held of one between the first and a later one
-pub idle_then : (cause : Event → List SeenStep → Type 0) (event : Event) (A B : Type 0) (x y z : List SeenStep) → StartsWith y x → StartsWith z y → A ⊎ (B × cause event y) → A ⊎ (B × HasHeld cause event x z)
+pub idle_then : (cause : Event → List Step → Type 0) (event : Event) (A B : Type 0) (x y z : List Step) → StartsWith y x → StartsWith z y → A ⊎ (B × cause event y) → A ⊎ (B × HasHeld cause event x z)
 idle_then cause event A B x y z later last (inl a) = inl a
 idle_then cause event A B x y z later last (inr b) = inr (b.0, (y, later, last, b.1))
 

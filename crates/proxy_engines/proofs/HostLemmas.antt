@@ -1,14 +1,13 @@
 -- What a step of a host's engine does, put together.
 use Rattle.std.proofs.Common.{◌≡◌, ◌∙◌, arith, ℕ, Bool, true, List, ◌∷◌, Option, Some, None, Result, Ok, Err, ◌⊎◌, ◌≢◌, [], length, ◌==◌, sym, refl, inl, inr}
 use Rattle.std.specs.Prelude.{IfSome, IfOk, ◌↔◌, false}
-use Rattle.proxy_history.specs.History.{History}
+use Rattle.proxy_history.specs.History.{History, Step}
 use Rattle.proxy_history.specs.declared.event.Kind.{Kind}
 use Rattle.proxy_engines.specs.Host.{LineState, LinkState, GoesOn, FailsHost}
 use Rattle.proxy_engines.specs.HostStep.{HostState, IsAnswered, IsCausedOn, IsUnasked, Records, WorksHost, StepsHost, answer_of, after_fault}
 use Rattle.std.proofs.lemmas.Bool.{ne_eqb}
 use Rattle.ticket_gate.specs.Journal.{StartsWith}
 use Rattle.resp_core.specs.declared.value.Value.{Value}
-use Rattle.proxy_history.specs.Seen.{SeenStep}
 use Rattle.proxy_history.specs.declared.event.Event.{Event}
 use Rattle.proxy_engines.specs.Faults.{IsCauseOf}
 use Rattle.proxy_engines.proofs.FaultLemmas.{cause_later}
@@ -28,12 +27,12 @@ module _ (U : LineState → LinkState → Type 0) where
   works_fault l k last new kind error H I J m moved result goes fails link fault cause told = record { last = last; between = I; moved = moved; goes = goes; ends = inr (kind, error, record { fails = fails; link = link; fault = fault }, cause, told) }
 
 -- the cause of a fault, of the lists before and after it was recorded
-pub unasked_here : (C : Event → List SeenStep → Type 0) (x y z : List SeenStep) (m : ℕ) → StartsWith y x → StartsWith z y → (kind : Kind) (error : Option EngineError) (l : LineState) (j k : LinkState)
+pub unasked_here : (C : Event → List Step → Type 0) (x y z : List Step) (m : ℕ) → StartsWith y x → StartsWith z y → (kind : Kind) (error : Option EngineError) (l : LineState) (j k : LinkState)
     → IsCauseOf kind error l j k ((v : Value) × (k.next ≡ Some v) × C (Event.Answered l.host l.epoch v m) y) m → IsCauseOf kind error l j k (IsUnasked C x z m l k) m
 unasked_here C x y z m later last kind error l j k cause = cause_later l l j j k _ _ m refl refl refl (λ (value, next, unasked). (value, next, (y, later, last, unasked))) kind error cause
 
 -- the causes of faults over longer lists
-module _ (C : Event → List SeenStep → Type 0) (x y z : List SeenStep) (m : ℕ) (later : StartsWith y x) where
+module _ (C : Event → List Step → Type 0) (x y z : List Step) (m : ℕ) (later : StartsWith y x) where
   unasked_earlier : (l : LineState) (k : LinkState) → IsUnasked C y z m l k → IsUnasked C x z m l k
   unasked_earlier l k (value, next, (between, begins, ends, cause)) = (value, next, (between, starts_then x y between later begins, ends, cause))
 

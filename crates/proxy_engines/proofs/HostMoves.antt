@@ -24,7 +24,7 @@ use Rattle.proxy_history.specs.declared.event.Kind.{Kind}
 use Rattle.proxy_history.specs.declared.answer.Answer.{Answer}
 use Rattle.proxy_history.proofs.CallerLemmas as history
 use Rattle.proxy_engines.specs.Ends.{InboxState, Holds, HasGivenAll, refusal_requests}
-use Rattle.proxy_engines.specs.Turned.{step_by}
+use Rattle.journal_core.specs.Journal.{step_by}
 use Rattle.proxy_engines.specs.Host.{LineState, LinkState, IsOnLink, CarriesHost, GoesOn, FailsHost, ReadsOn, WritesOn, moments_by, moments_after, waiting_requests, next_link}
 use Rattle.proxy_engines.specs.Moves.{has_moved, AsTold}
 use Rattle.proxy_engines.specs.Faults.{either, told_by_outcome}

@@ -2,7 +2,7 @@
 use Rattle.std.proofs.Common.{◌≡◌, ◌⊎◌, List, [], append-nil, sym, inl, inr}
 use Rattle.std.specs.Prelude.{Result, Ok, Err, IfOk}
 use Rattle.ticket_gate.specs.Journal.{StartsWith}
-use Rattle.proxy_history.specs.Seen.{SeenStep}
+use Rattle.proxy_history.specs.History.{Step}
 use Rattle.proxy_history.specs.declared.event.Event.{Event}
 use Rattle.proxy_history.specs.declared.refusal.Refusal.{Refusal}
 use Rattle.proxy_engines.specs.Ends.{InboxState, HasGivenAll}
@@ -13,15 +13,15 @@ use Rattle.proxy_engines.specs.declared.error.EngineError.{EngineError}
 use Rattle.proxy_engines.proofs.HostMoves.{starts_then}
 
 -- what held between two lists held between two that stand further apart
-held_within : (C : Event → List SeenStep → Type 0) (event : Event) (w x y z : List SeenStep) → StartsWith x w → StartsWith z y → HasHeld C event x y → HasHeld C event w z
+held_within : (C : Event → List Step → Type 0) (event : Event) (w x y z : List Step) → StartsWith x w → StartsWith z y → HasHeld C event x y → HasHeld C event w z
 held_within C event w x y z first last (between, begins, ends, cause) =
     (between, starts_then w x between first begins, starts_then between y z ends last, cause)
 
 -- what holds now held between the list before and this one
-pub held_now : (C : Event → List SeenStep → Type 0) (event : Event) (x y : List SeenStep) → StartsWith y x → C event y → HasHeld C event x y
+pub held_now : (C : Event → List Step → Type 0) (event : Event) (x y : List Step) → StartsWith y x → C event y → HasHeld C event x y
 held_now C event x y later cause = (y, later, ([], sym (append-nil y)), cause)
 
-module _ (C : Refusal → Event → List SeenStep → Type 0) (e new : Client) (x y z : List SeenStep) (first : StartsWith y x) (last : StartsWith z y) (empty : e.outbox.pending ≡ []) where
+module _ (C : Refusal → Event → List Step → Type 0) (e new : Client) (x y z : List Step) (first : StartsWith y x) (last : StartsWith z y) (empty : e.outbox.pending ≡ []) where
   nothing_later : HandsNothing C e x y → HandsNothing C e x z
   nothing_later (inl all) = inl all
   nothing_later (inr n) = inr (n.0, held_within (C (Refusal.NotReady n.0)) (Event.Handed e.conn) x x y z ([], sym (append-nil x)) last n.1)

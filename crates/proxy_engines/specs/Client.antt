@@ -7,8 +7,7 @@ use Rattle.resp_core.specs.declared.reader.TheConstants.{CLIENT_MEMBERS}
 use Rattle.splitter.specs.Request.{Request, request_of}
 use Rattle.splitter.specs.Requests.{finishes}
 use Rattle.splitter.specs.declared.request.Request.{Request as Request'}
-use Rattle.proxy_history.specs.History.{History, accepted_count, handed_count, requests, is_closed}
-use Rattle.proxy_history.specs.Seen.{SeenStep}
+use Rattle.proxy_history.specs.History.{History, Step, accepted_count, handed_count, requests, is_closed}
 use Rattle.proxy_history.specs.declared.event.Event.{Event}
 use Rattle.proxy_history.specs.declared.refusal.Refusal.{Refusal}
 use Rattle.proxy_history.specs.Output.{transcript}
@@ -107,11 +106,11 @@ pub record Carries (e : Client) (H : History) (taken b : List ℕ) : Type 0 wher
   pub stage_is : IsAtStage e.stage (IsDone e H) (asked_requests e.conn H) e.is_drained e.inbox e.next b given
 
 -- Nothing can be handed out: all that was accepted has been, or the next reply hasn't come.
-abbrev pub HandsNothing : (Refusal → Event → List SeenStep → Type 0) → Client → List SeenStep → List SeenStep → Type 0
+abbrev pub HandsNothing : (Refusal → Event → List Step → Type 0) → Client → List Step → List Step → Type 0
 HandsNothing cause e x y = (e.accepted ≡ e.handed) ⊎ ((left : ℕ) × HasHeld (cause (Refusal.NotReady left)) (Event.Handed e.conn) x y)
 
 -- The next request is held back: too many commands are unwritten.
-abbrev pub IsHeldBack : (Refusal → Event → List SeenStep → Type 0) → Client → List SeenStep → List SeenStep → Type 0
+abbrev pub IsHeldBack : (Refusal → Event → List Step → Type 0) → Client → List Step → List Step → Type 0
 IsHeldBack cause e x y = (r : Request') × (e.next ≡ Some r) × HasHeld (cause Refusal.Crowded) (Event.Arrived e.conn r) x y
 
 -- Nothing more arrives, and a reply hasn't come.
@@ -124,7 +123,7 @@ AwaitsBytes old new = (new.next ≡ None) × HasGivenAll new.inbox × HasPaused 
 
 -- Why nothing moved: nothing can be written; or nothing is to be written, nothing can be handed out, and nothing can be
 -- accepted.
-abbrev pub IsIdle : (Refusal → Event → List SeenStep → Type 0) → Client → Client → List SeenStep → List SeenStep → Type 0
+abbrev pub IsIdle : (Refusal → Event → List Step → Type 0) → Client → Client → List Step → List Step → Type 0
 IsIdle cause old new x y =
     HasPaused old.outbox.counts new.outbox.counts
     ⊎ ((old.outbox.pending ≡ []) × HandsNothing cause old x y × (IsHeldBack cause new x y ⊎ (AwaitsReplies new ⊎ AwaitsBytes old new)))

@@ -16,7 +16,7 @@ use Rattle.proxy_history.specs.declared.answer.Answer.{Answer}
 use Rattle.proxy_engines.specs.Device.{Counts}
 use Rattle.proxy_engines.specs.Moves.{has_moved}
 use Rattle.proxy_engines.specs.Ends.{InboxState, Holds, refusal_requests}
-use Rattle.proxy_engines.specs.Turned.{step_by}
+use Rattle.journal_core.specs.Journal.{step_by}
 
 -- The engine without its link: its host, after how many milliseconds a reply is late, the epoch, the text that is pending, and
 -- when each part without reply was taken, the oldest first. It is astray once a part was of another epoch than its own:

@@ -1,8 +1,7 @@
 -- What a step of a host's engine does.
 use Rattle.std.specs.Prelude.{◌≡◌, ◌≢◌, IfSome, ◌⊎◌, ⊤, ℕ, Bool, true, false, List, [], Option, Some, None, Result, Ok, Err}
 use Rattle.resp_core.specs.declared.value.Value.{Value}
-use Rattle.proxy_history.specs.History.{History}
-use Rattle.proxy_history.specs.Seen.{SeenStep}
+use Rattle.proxy_history.specs.History.{History, Step}
 use Rattle.proxy_history.specs.declared.event.Event.{Event}
 use Rattle.proxy_history.specs.declared.event.Kind.{Kind}
 use Rattle.proxy_engines.specs.Device.{HasRisen}
@@ -24,7 +23,7 @@ IsWhole None (Some k) = k.inbox.values.refusal ≡ None
 IsWhole f k = ⊤
 
 -- a value came that nobody asked for: its turn is refused for that
-abbrev pub IsUnasked : (Event → List SeenStep → Type 0) → List SeenStep → List SeenStep → ℕ → LineState → LinkState → Type 0
+abbrev pub IsUnasked : (Event → List Step → Type 0) → List Step → List Step → ℕ → LineState → LinkState → Type 0
 IsUnasked cause old new m l k = (v : Value) × (k.next ≡ Some v) × HasHeld cause (Event.Answered l.host l.epoch v m) old new
 
 -- Why a fault came, of this line, by these moves from one link to the other, or without one, and the error that tells it. U

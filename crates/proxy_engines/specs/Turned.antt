@@ -1,18 +1,14 @@
 -- What one turn does to the steps of its caller.
 use Rattle.std.specs.Prelude.{◌≡◌, ◌≤◌, ⊤, ℕ, List, ◌∷◌, length}
+use Rattle.journal_core.specs.Journal.{step_by}
 use Rattle.ticket_gate.specs.Journal.{StartsWith}
 use Rattle.proxy_history.specs.Setting.{max_steps}
 use Rattle.proxy_history.specs.History.{History, Step}
 use Rattle.proxy_history.specs.StepLaws.{IsAnswerTo}
-use Rattle.proxy_history.specs.Seen.{SeenStep}
 use Rattle.proxy_history.specs.declared.answer.Answer.{Answer}
 use Rattle.proxy_history.specs.declared.event.Event.{Event}
 use Rattle.proxy_history.specs.declared.refusal.Refusal.{Refusal}
 use Rattle.proxy_engines.specs.declared.ask.Denied.{Denied}
-
--- the step of a pass
-abbrev pub step_by : ℕ → Event → Answer → Step
-step_by pass event answer = record { pass = pass; event = event; answer = answer }
 
 -- The caller made one step more, with an answer of the event's kind.
 pub record Adds (pass : ℕ) (old new : History) (event : Event) (answer : Answer) : Type 0 where
@@ -21,11 +17,11 @@ pub record Adds (pass : ℕ) (old new : History) (event : Event) (answer : Answe
   pub few : length new ≤ max_steps
 
 -- where the state refused the turn, the refusal's cause holds of what is seen
-abbrev pub IsDue : (Refusal → Event → List SeenStep → Type 0) → Event → List SeenStep → Denied → Type 0
+abbrev pub IsDue : (Refusal → Event → List Step → Type 0) → Event → List Step → Denied → Type 0
 IsDue cause event seen Denied.Spent = ⊤
 IsDue cause event seen (Denied.By r) = cause r event seen
 
 -- the cause of a refusal held, of some list of steps between these
-abbrev pub HasHeld : (Event → List SeenStep → Type 0) → Event → List SeenStep → List SeenStep → Type 0
+abbrev pub HasHeld : (Event → List Step → Type 0) → Event → List Step → List Step → Type 0
 HasHeld cause event old new =
-    (between : List SeenStep) × StartsWith between old × StartsWith new between × cause event between
+    (between : List Step) × StartsWith between old × StartsWith new between × cause event between

@@ -1,5 +1,6 @@
 //! One turn, and what it does to the caller's own steps.
 ghost use Rattle.std.specs.Prelude.{◌≡◌, ◌∷◌, [], ℕ, IfOk, IfErr, OnOk};
+ghost use Rattle.journal_core.specs.Journal.{step_by};
 ghost use Rattle.ticket_gate.specs.Journal.{StartsWith};
 ghost use Rattle.splitter.specs.Plan.{is_last};
 ghost use Rattle.proxy_history.specs.History.{plan_for};
@@ -8,7 +9,7 @@ ghost use Rattle.proxy_history.specs.StepLaws.{is_last_answer};
 ghost use Rattle.proxy_history.specs.declared.answer.Answer.{Answer};
 ghost use Rattle.proxy_history.specs.declared.event.Event.{Event};
 ghost use Rattle.proxy_engines.specs.OwnSteps.{own_steps};
-ghost use Rattle.proxy_engines.specs.Turned.{Adds, IsDue, step_by};
+ghost use Rattle.proxy_engines.specs.Turned.{Adds, IsDue};
 
 use crate::error::EngineError;
 use proxy_core::{Answer, CoreTurns, Event, Local, Refusal, Request};

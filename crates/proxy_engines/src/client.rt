@@ -7,7 +7,7 @@ ghost use Rattle.proxy_history.specs.declared.event.Event.{Event};
 ghost use Rattle.proxy_engines.specs.OwnSteps.{own_steps};
 ghost use Rattle.proxy_engines.specs.Device.{HasFailed, HasPaused};
 ghost use Rattle.proxy_engines.specs.Ends.{HasGivenAll};
-ghost use Rattle.proxy_engines.specs.Turned.{step_by};
+ghost use Rattle.journal_core.specs.Journal.{step_by};
 ghost use Rattle.proxy_engines.specs.Moves.{AsTold, told_by_end, told_by_step, told_by_turn};
 ghost use Rattle.ticket_gate.specs.Journal.{StartsWith};
 

@@ -1,8 +1,8 @@
 -- What a pass sees, and the history of it.
-use Rattle.std.proofs.Common.{◌≡◌, ◌↔◌, ◌+◌, Bool, true, false, ◌==◌, ◌||◌, List, [], ◌∷◌, ◌++◌, map, filter, reverse, count_by, cond, refl, sym, ap, ◌∙◌, subst, inl, inr, arith}
+use Rattle.std.proofs.Common.{◌≡◌, ◌↔◌, ◌+◌, Bool, true, false, ◌==◌, ◌||◌, List, [], ◌∷◌, ◌++◌, filter, reverse, count_by, cond, refl, sym, ap, ◌∙◌, subst, inl, inr, arith}
 use Rattle.std.specs.List.{flat_map, list_any}
 use Rattle.std.proofs.lemmas.Bool.{cases_Bool}
-use Rattle.std.proofs.lemmas.List.{append-nil, map-append, reverse-append, reverse-reverse, length-map, length-reverse}
+use Rattle.std.proofs.lemmas.List.{append-nil, reverse-append, reverse-reverse, length-reverse}
 use Rattle.std.proofs.lemmas.List.Elements.{filter-append}
 use Rattle.std.proofs.lemmas.List.Sums.{sum_by-cons}
 use Rattle.proxy_history.specs.Setting.{Setting}
@@ -11,7 +11,7 @@ use Rattle.proxy_history.specs.Replies.{reply_by}
 use Rattle.proxy_history.specs.Past.{past}
 use Rattle.proxy_history.specs.Legal.{IsLegal, MayFollow}
 use Rattle.proxy_history.specs.Own.{is_connection_step, is_of_host}
-use Rattle.proxy_history.specs.Seen.{SeenStep, seen_step, step_of, history_of_seen}
+use Rattle.proxy_history.specs.Seen.{history_of_seen}
 use Rattle.proxy_history.specs.SeenLaws.{OrdersAgree, IsReadInOrder}
 use Rattle.proxy_history.specs.declared.event.Event.{Event}
 use Rattle.proxy_history.proofs.Beginnings.{beginning}
@@ -19,78 +19,68 @@ use Rattle.proxy_history.proofs.ReadingLemmas.{yield_of, handed_text_of, sent_te
 
 -- TWO ORDERS
 
-pub history_of_seen-append : (seen more : List SeenStep)
+pub history_of_seen-append : (seen more : List Step)
     → history_of_seen (seen ++ more) ≡ history_of_seen more ++ history_of_seen seen
-history_of_seen-append seen more =
-    ap reverse (map-append step_of seen more)
-    ∙ reverse-append (map step_of seen) (map step_of more)
+history_of_seen-append seen more = reverse-append seen more
 
-pub history_of_seen-push : (seen : List SeenStep) (s : SeenStep)
-    → history_of_seen (seen ++ s ∷ []) ≡ step_of s ∷ history_of_seen seen
+pub history_of_seen-push : (seen : List Step) (s : Step)
+    → history_of_seen (seen ++ s ∷ []) ≡ s ∷ history_of_seen seen
 history_of_seen-push seen s = history_of_seen-append seen (s ∷ [])
 
 -- the oldest step stands last in the history
-history_of_seen-cons : (s : SeenStep) (seen : List SeenStep)
-    → history_of_seen (s ∷ seen) ≡ history_of_seen seen ++ step_of s ∷ []
+history_of_seen-cons : (s : Step) (seen : List Step)
+    → history_of_seen (s ∷ seen) ≡ history_of_seen seen ++ s ∷ []
 history_of_seen-cons s seen = history_of_seen-append (s ∷ []) seen
 
-same_steps : (steps : List Step) → map step_of (map seen_step steps) ≡ steps
-same_steps [] = refl
-same_steps (s ∷ steps) = ap (λ z. s ∷ z) (same_steps steps)
-
-same_seen : (seen : List SeenStep) → map seen_step (map step_of seen) ≡ seen
-same_seen [] = refl
-same_seen (s ∷ seen) = ap (λ z. s ∷ z) (same_seen seen)
-
-pub orders_hold_the_same : (seen more : List SeenStep) (H : History) → OrdersAgree seen more H
+pub orders_hold_the_same : (seen more : List Step) (H : History) → OrdersAgree seen more H
 orders_hold_the_same seen more H = record {
-  there = ap reverse (same_steps (reverse H)) ∙ reverse-reverse H;
-  back = ap (map seen_step) (reverse-reverse (map step_of seen)) ∙ same_seen seen;
-  same_length = length-reverse (map step_of seen) ∙ length-map seen step_of;
+  there = reverse-reverse H;
+  back = reverse-reverse seen;
+  same_length = length-reverse seen;
   next = history_of_seen-push seen;
   longer = history_of_seen-append seen more;
 }
 
 -- LEGAL
 
-pub seen_steps_follow : (S : Setting) (seen : List SeenStep) (s : SeenStep)
-    → IsLegal S (history_of_seen (seen ++ s ∷ [])) ↔ (IsLegal S (history_of_seen seen) × MayFollow S (past S (history_of_seen seen)) (step_of s))
+pub seen_steps_follow : (S : Setting) (seen : List Step) (s : Step)
+    → IsLegal S (history_of_seen (seen ++ s ∷ [])) ↔ (IsLegal S (history_of_seen seen) × MayFollow S (past S (history_of_seen seen)) s)
 seen_steps_follow S seen s =
     let e = history_of_seen-push seen s in
     (λ legal. subst (IsLegal S) e legal, λ both. subst (IsLegal S) (sym e) both)
 
-pub seen_beginnings_are_legal : (S : Setting) (seen more : List SeenStep)
+pub seen_beginnings_are_legal : (S : Setting) (seen more : List Step)
     → IsLegal S (history_of_seen (seen ++ more)) → IsLegal S (history_of_seen seen)
 seen_beginnings_are_legal S seen more legal =
     beginning S (history_of_seen more) (history_of_seen seen) (subst (IsLegal S) (history_of_seen-append seen more) legal)
 
 -- READ IN ORDER
 
-yield_of-history_of_seen : {X : Type 0} (f : Step → List X) (seen : List SeenStep)
-    → yield_of f (history_of_seen seen) ≡ flat_map (λ (s : SeenStep). f (step_of s)) seen
+yield_of-history_of_seen : {X : Type 0} (f : Step → List X) (seen : List Step)
+    → yield_of f (history_of_seen seen) ≡ flat_map f seen
 yield_of-history_of_seen f [] = refl
 yield_of-history_of_seen f (s ∷ seen) =
-    ap (yield_of f) (history_of_seen-cons s seen) ∙ yield_of-append f (history_of_seen seen) (step_of s ∷ [])
-    ∙ ap (λ z. f (step_of s) ++ z) (yield_of-history_of_seen f seen)
+    ap (yield_of f) (history_of_seen-cons s seen) ∙ yield_of-append f (history_of_seen seen) (s ∷ [])
+    ∙ ap (λ z. f s ++ z) (yield_of-history_of_seen f seen)
 
-times-history_of_seen : (is : Event → Bool) (seen : List SeenStep)
-    → times is (history_of_seen seen) ≡ count_by (λ (s : SeenStep). is s.1) seen
+times-history_of_seen : (is : Event → Bool) (seen : List Step)
+    → times is (history_of_seen seen) ≡ count_by (λ (s : Step). is s.event) seen
 times-history_of_seen is [] = refl
 times-history_of_seen is (s ∷ seen) =
-    let first : times is (step_of s ∷ []) ≡ cond (is s.1) 1 0 = one (is s.1) in
-    omega (arith, ap (times is) (history_of_seen-cons s seen), times-append is (history_of_seen seen) (step_of s ∷ []), times-history_of_seen is seen, first, sum_by-cons (λ (t : SeenStep). cond (is t.1) 1 0) s seen)
+    let first : times is (s ∷ []) ≡ cond (is s.event) 1 0 = one (is s.event) in
+    omega (arith, ap (times is) (history_of_seen-cons s seen), times-append is (history_of_seen seen) (s ∷ []), times-history_of_seen is seen, first, sum_by-cons (λ (t : Step). cond (is t.event) 1 0) s seen)
   where
     one : (b : Bool) → cond b (0 + 1) 0 ≡ cond b 1 0
     one true = refl
     one false = refl
 
-has-history_of_seen : (is : Event → Bool) (seen : List SeenStep)
-    → has is (history_of_seen seen) ≡ list_any (λ (s : SeenStep). is s.1) seen
+has-history_of_seen : (is : Event → Bool) (seen : List Step)
+    → has is (history_of_seen seen) ≡ list_any (λ (s : Step). is s.event) seen
 has-history_of_seen is [] = refl
 has-history_of_seen is (s ∷ seen) =
-    ap (has is) (history_of_seen-cons s seen) ∙ has-append is (history_of_seen seen) (step_of s ∷ [])
-    ∙ ap (λ z. z || (is s.1 || false)) (has-history_of_seen is seen)
-    ∙ other_way (list_any (λ (t : SeenStep). is t.1) seen) (is s.1)
+    ap (has is) (history_of_seen-cons s seen) ∙ has-append is (history_of_seen seen) (s ∷ [])
+    ∙ ap (λ z. z || (is s.event || false)) (has-history_of_seen is seen)
+    ∙ other_way (list_any (λ (t : Step). is t.event) seen) (is s.event)
   where
     other_way : (a b : Bool) → (a || (b || false)) ≡ (b || a)
     other_way true true = refl
@@ -98,21 +88,21 @@ has-history_of_seen is (s ∷ seen) =
     other_way false true = refl
     other_way false false = refl
 
-filter-history_of_seen : (own : Step → Bool) (seen : List SeenStep)
-    → filter own (history_of_seen seen) ≡ history_of_seen (filter (λ (s : SeenStep). own (step_of s)) seen)
+filter-history_of_seen : (own : Step → Bool) (seen : List Step)
+    → filter own (history_of_seen seen) ≡ history_of_seen (filter own seen)
 filter-history_of_seen own [] = refl
 filter-history_of_seen own (s ∷ seen) =
     let both =
     ap (filter own) (history_of_seen-cons s seen)
-    ∙ filter-append own (history_of_seen seen) (step_of s ∷ [])
-    ∙ ap (λ z. z ++ filter own (step_of s ∷ [])) (filter-history_of_seen own seen) in
-    let rest = filter (λ (t : SeenStep). own (step_of t)) seen in
-    both ∙ elim (cases_Bool (own (step_of s))) [
+    ∙ filter-append own (history_of_seen seen) (s ∷ [])
+    ∙ ap (λ z. z ++ filter own (s ∷ [])) (filter-history_of_seen own seen) in
+    let rest = filter own seen in
+    both ∙ elim (cases_Bool (own s)) [
       | inl t ↦ rw t (sym (history_of_seen-cons s rest))
       | inr f ↦ rw f (append-nil (history_of_seen rest))
     ]
 
-pub seen_is_read_in_order : (seen : List SeenStep) → IsReadInOrder seen
+pub seen_is_read_in_order : (seen : List Step) → IsReadInOrder seen
 seen_is_read_in_order seen = record {
   transcript_is = λ c. transcript-yield_of c (history_of_seen seen)
       ∙ yield_of-history_of_seen (handed_text_of c) seen;

@@ -10,7 +10,7 @@ use Rattle.proxy_engines.specs.Client.{Client, Goes}
 use Rattle.proxy_engines.specs.Host.{LineState, LinkState, GoesOn}
 use Rattle.proxy_engines.specs.HostStep.{HostState, Records, RestsHost, StepsHost, WorksHost}
 use Rattle.proxy_engines.specs.Moves.{AsTold}
-use Rattle.proxy_engines.specs.Turned.{step_by}
+use Rattle.journal_core.specs.Journal.{step_by}
 use Rattle.proxy_engines.specs.declared.client.Progress.{Progress}
 use Rattle.proxy_engines.specs.declared.error.EngineError.{EngineError}
 use Rattle.proxy_engines.proofs.CallerLemmas as engines

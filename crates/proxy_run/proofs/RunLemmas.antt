@@ -22,7 +22,7 @@ use Rattle.proxy_core.specs.Recorded.{Origin, IsLegalJournal, journal_of, made_w
 use Rattle.ticket_gate.specs.Journal.{steps_of}
 use Rattle.ticket_gate.specs.Turns.{AloneFacts}
 use Rattle.proxy_engines.specs.OwnSteps.{own_steps}
-use Rattle.proxy_engines.specs.Turned.{step_by}
+use Rattle.journal_core.specs.Journal.{step_by}
 use Rattle.proxy_engines.specs.declared.client.Stage.{Stage}
 use Rattle.proxy_engines.proofs.CallerLemmas as engines
 use Rattle.proxy_run.specs.Stubs.{IsOfStubs}

@@ -164,6 +164,29 @@ fn step_number(
     }
 }
 
+// The first byte of an integer: a sign, or a digit.
+#[tactic(auto, unfolding(crate::specs::Reading::integer_at))]
+fn step_sign(byte: u8, most: u64, left: u32) -> Result<Next, Refusal>
+    ensures steps { Steps most left Head.Sign byte result }
+    ensures good { IfOk result (λ next. IsGoodNext most left next) }
+{
+    match byte {
+        b'+' => Ok(Next::Head(Head::Number {
+            is_negative: false,
+            most: MAX_LINE - 1,
+            count: 0,
+            n: 0,
+        })),
+        b'-' => Ok(Next::Head(Head::Number {
+            is_negative: true,
+            most: MAX_LINE - 1,
+            count: 0,
+            n: 0,
+        })),
+        _ => step_number(false, MAX_LINE, 0, 0, byte, most, left),
+    }
+}
+
 // What a null is.
 #[tactic(auto, unfolding(crate::specs::Reading::payload_at, crate::specs::Reading::members_at))]
 fn null_of(sized: Sized) -> Found
@@ -176,7 +199,7 @@ fn null_of(sized: Sized) -> Found
 }
 
 // What comes next behind one byte more of a head.
-#[tactic(auto, unfolding(crate::specs::Reading::byte_at, crate::specs::Reading::null_end_at, crate::specs::Reading::count_at, crate::specs::Reading::integer_at))]
+#[tactic(auto, unfolding(crate::specs::Reading::byte_at, crate::specs::Reading::null_end_at, crate::specs::Reading::count_at))]
 pub(crate) fn step(head: Head, byte: u8, most: u64, left: u32) -> Result<Next, Refusal>
     requires good { IsGoodHead most left head }
     ensures steps { Steps most left head byte result }
@@ -206,21 +229,7 @@ pub(crate) fn step(head: Head, byte: u8, most: u64, left: u32) -> Result<Next, R
             }
         }
         Head::Digits { sized, count, n } => step_length(sized, count, n, byte, most, left),
-        Head::Sign => match byte {
-            b'+' => Ok(Next::Head(Head::Number {
-                is_negative: false,
-                most: MAX_LINE - 1,
-                count: 0,
-                n: 0,
-            })),
-            b'-' => Ok(Next::Head(Head::Number {
-                is_negative: true,
-                most: MAX_LINE - 1,
-                count: 0,
-                n: 0,
-            })),
-            _ => step_number(false, MAX_LINE, 0, 0, byte, most, left),
-        },
+        Head::Sign => step_sign(byte, most, left),
         Head::Number {
             is_negative,
             most: digits,

@@ -1,7 +1,7 @@
 -- A sweep that was not made, and why.
 use Rattle.std.specs.Prelude.{◌≡◌, ℕ, List}
 use Rattle.ticket_gate.specs.Refusal.{RefusedByState}
-use Rattle.proxy_history.specs.Seen.{SeenStep}
+use Rattle.proxy_history.specs.History.{Step}
 use Rattle.proxy_history.specs.declared.event.Event.{Event}
 use Rattle.proxy_history.specs.declared.event.Event.TheVariants.{Swept}
 use Rattle.proxy_history.specs.declared.refusal.Refusal.{Refusal}
@@ -15,7 +15,7 @@ number_of NoMemory = 1001
 number_of JournalFull = 1002
 number_of Spent = 1202
 
-module _ (cause : Refusal → Event → List SeenStep → Type 0) (spent : Type 0) (pass : ℕ) (before : List SeenStep) (moment : ℕ) (after : List SeenStep) where
+module _ (cause : Refusal → Event → List Step → Type 0) (spent : Type 0) (pass : ℕ) (before : List Step) (moment : ℕ) (after : List Step) where
   -- A sweep of the pass at this moment was refused, and no step of it was added: by the core, for a cause that holds over what is seen now, or for want of tickets.
   abbrev pub RefusesSweep : SweepRefusal → Type 0
   RefusesSweep NoMemory = RefusedByState cause pass before (Swept moment) refusal.NoMemory after

@@ -1,6 +1,7 @@
 -- Which changes of how the gate stands leave what another seat knows true.
 use Rattle.std.proofs.Common.{◌≡◌, ℕ, ◌<◌, ◌≤◌, List, ◌++◌, sym, ap, ◌∙◌, subst, arith, Option, Some, None}
 use mathlib.Core.Option.{some}
+use Rattle.journal_core.specs.declared.step.Step.{Step as StepOf}
 use Rattle.ticket_gate.specs.declared.view.Knowledge.{Knowledge}
 use Rattle.ticket_gate.specs.declared.view.View.{View}
 use Rattle.ticket_gate.specs.Journal.{steps_of, StartsWith}
@@ -15,7 +16,7 @@ pub record Carries {E A : Type 0} (g h : Standing E A) (j : ℕ) : Type 0 where
   pub ticket : (t : ℕ) → g.serving ≤ t → t < g.drawn → g.holder_of t ≡ j → (h.serving ≤ t) × (h.holder_of t ≡ j)
   pub inside : g.inside ≡ some j → (g.serving ≡ h.serving) × (h.inside ≡ some j) × (g.journal ≡ h.journal)
   pub number : (n : ℕ) → n < g.enrolled → g.owner_of n ≡ j → (h.owner_of n ≡ j) × (steps_of n h.journal ≡ steps_of n g.journal)
-  pub more : (rest : List (ℕ × E × A)) × (h.journal ≡ g.journal ++ rest)
+  pub more : (rest : List (StepOf E A)) × (h.journal ≡ g.journal ++ rest)
 
 module _ {E A C : Type 0} (g h : Standing E A) (c : C) (j : ℕ) (on : Carries g h j) where
   pub agrees_on : (k : Knowledge E A C) → Agrees g c j k → Agrees h c j k

@@ -2,6 +2,7 @@
 use Rattle.std.proofs.Common.{◌≡◌, ℕ, List, ◌++◌, refl, sym, ap, ◌∙◌, subst, inl, inr, ⊎_elim, Option, Some}
 use mathlib.Core.Option.{none}
 use Rattle.atomic_table.specs.Table.{step, keeps, Allows}
+use Rattle.journal_core.specs.declared.step.Step.{Step as StepOf}
 use Rattle.ticket_gate.specs.declared.view.Knowledge.{Knowledge}
 use Rattle.ticket_gate.specs.declared.view.View.{View}
 use Rattle.ticket_gate.specs.Journal.{steps_of, StartsWith, Meets}
@@ -11,7 +12,7 @@ use Rattle.ticket_gate.proofs.Journals.{either_begins, steps_of-between}
 use Rattle.ticket_gate.proofs.Stepping.{Whole, serving_at, stays, goes_at}
 use Rattle.ticket_gate.proofs.Reading.{serving_is_read}
 
-module _ {S E A C : Type 0} (journal : S → List (ℕ × E × A)) (setting : S → C) (legal : C → List (ℕ × E × A) → Type 0) (c : C) (legal_before : (d : C) (log more : List (ℕ × E × A)) → legal d (log ++ more) → legal d log) where
+module _ {S E A C : Type 0} (journal : S → List (StepOf E A)) (setting : S → C) (legal : C → List (StepOf E A) → Type 0) (c : C) (legal_before : (d : C) (log more : List (StepOf E A)) → legal d (log ++ more) → legal d log) where
   abbrev Rule : Whole S E A C → Type 0
   Rule = GateRule journal setting legal c
 

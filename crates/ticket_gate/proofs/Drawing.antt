@@ -4,6 +4,7 @@ use mathlib.Core.Option.{none, some}
 use lib.ListN.{get_elem?}
 use prog.Atomic.{either}
 use Rattle.atomic_table.specs.Table.{step, keeps, stepped, Allows}
+use Rattle.journal_core.specs.declared.step.Step.{Step as StepOf}
 use Rattle.ticket_gate.specs.declared.view.Knowledge.{Knowledge}
 use Rattle.ticket_gate.specs.Rule.{Standing, Agrees, ViewAgrees, GateRule, view_of}
 use Rattle.ticket_gate.specs.Steps.{SeatState, DrawsTicket}
@@ -13,7 +14,7 @@ use Rattle.ticket_gate.proofs.Carrying.{Carries, view_agrees_on}
 use Rattle.ticket_gate.proofs.Placing.{placed-set}
 use Rattle.ticket_gate.proofs.Stepping.{Whole, drawn_at, stays, goes_at, goes_if}
 
-module _ {S E A C : Type 0} (journal : S → List (ℕ × E × A)) (setting : S → C) (legal : C → List (ℕ × E × A) → Type 0) (c : C) where
+module _ {S E A C : Type 0} (journal : S → List (StepOf E A)) (setting : S → C) (legal : C → List (StepOf E A) → Type 0) (c : C) where
   abbrev Rule : Whole S E A C → Type 0
   Rule = GateRule journal setting legal c
 

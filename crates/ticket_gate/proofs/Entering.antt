@@ -8,6 +8,7 @@ use lib.ListN.{get_elem?}
 use prog.Atomic.{either}
 use Rattle.atomic_table.specs.Table.{step, keeps, takes, stepped, Allows}
 use Rattle.atomic_table.proofs.Lists.{set_here}
+use Rattle.journal_core.specs.declared.step.Step.{Step as StepOf}
 use Rattle.ticket_gate.specs.declared.view.Knowledge.{Knowledge}
 use Rattle.ticket_gate.specs.declared.view.View.{View}
 use Rattle.ticket_gate.specs.Journal.{steps_of, StartsWith}
@@ -20,7 +21,7 @@ use Rattle.ticket_gate.proofs.Placing.{IsHome, home_if, inside_ticket}
 use Rattle.ticket_gate.proofs.Stepping.{Whole, drawn_at, serving_at, stays, goes_at, goes_if}
 use Rattle.ticket_gate.proofs.Reading.{drawn_is_read, serving_is_read}
 
-module _ {S E A C : Type 0} (journal : S → List (ℕ × E × A)) (setting : S → C) (legal : C → List (ℕ × E × A) → Type 0) (c : C) where
+module _ {S E A C : Type 0} (journal : S → List (StepOf E A)) (setting : S → C) (legal : C → List (StepOf E A) → Type 0) (c : C) where
   abbrev Rule : Whole S E A C → Type 0
   Rule = GateRule journal setting legal c
 
@@ -31,7 +32,7 @@ module _ {S E A C : Type 0} (journal : S → List (ℕ × E × A)) (setting : S 
   goes_on : (s : Whole S E A C) (r : Rule s) (id : ℕ) (k : Knowledge E A C) (x : S) → Agrees r.standing c id k → journal x ≡ r.standing.journal → setting x ≡ c → GoesOnFrom journal setting legal k x
   goes_on s r id k x f same is = record {
     has_setting = λ d h. is ∙ sym (f.setting d h);
-    is_legal = λ d h. subst (λ (z : C × List (ℕ × E × A)). legal z.0 z.1) (λ i. (sym (f.setting d h) i, sym same i)) r.is_legal;
+    is_legal = λ d h. subst (λ (z : C × List (StepOf E A)). legal z.0 z.1) (λ i. (sym (f.setting d h) i, sym same i)) r.is_legal;
     begins = subst (λ l. StartsWith l k.seen) (sym same) f.seen;
     own = λ n h. let (_, _, own_steps) = f.number n h in ap (steps_of n) same ∙ own_steps;
   }

@@ -4,6 +4,8 @@ use Rattle.std.specs.Option.{unwrap_or}
 use mathlib.Core.Option as maybe
 use mathlib.Core.Option.{none, some, some-injective}
 use Rattle.atomic_table.specs.Table.{step, gives, rest as after_first, Allows}
+use Rattle.journal_core.specs.declared.step.Step.{Step as StepOf}
+use Rattle.journal_core.specs.Journal.{step_by}
 use Rattle.ticket_gate.specs.declared.view.Knowledge.{Knowledge}
 use Rattle.ticket_gate.specs.declared.view.View.{View}
 use Rattle.ticket_gate.specs.Journal.{steps_of, PassesBelow}
@@ -16,18 +18,18 @@ use Rattle.ticket_gate.proofs.Stepping.{Whole}
 
 module _ {E A : Type 0} where
   -- no step, or one of the pass n
-  abbrev pub AtMostOneOf : ℕ → List (ℕ × E × A) → Type 0
-  AtMostOneOf n more = (more ≡ []) ⊎ ((event : E) × (answer : A) × (more ≡ (n, event, answer) ∷ []))
+  abbrev pub AtMostOneOf : ℕ → List (StepOf E A) → Type 0
+  AtMostOneOf n more = (more ≡ []) ⊎ ((event : E) × (answer : A) × (more ≡ step_by n event answer ∷ []))
 
-  no_other : (n m : ℕ) (more : List (ℕ × E × A)) → AtMostOneOf n more → m ≢ n → steps_of m more ≡ []
-  no_other n m more one apart = ⊎_elim (λ (z : more ≡ []). ap (steps_of m) z) (λ (z : (event : E) × (answer : A) × (more ≡ (n, event, answer) ∷ [])). let (event, answer, is) = z in ap (steps_of m) is ∙ steps_of-other m n event answer apart) one
+  no_other : (n m : ℕ) (more : List (StepOf E A)) → AtMostOneOf n more → m ≢ n → steps_of m more ≡ []
+  no_other n m more one apart = ⊎_elim (λ (z : more ≡ []). ap (steps_of m) z) (λ (z : (event : E) × (answer : A) × (more ≡ step_by n event answer ∷ [])). let (event, answer, is) = z in ap (steps_of m) is ∙ steps_of-other m n event answer apart) one
 
-  passes_below-one : (n enrolled : ℕ) (more : List (ℕ × E × A)) → n < enrolled → AtMostOneOf n more → PassesBelow enrolled more
+  passes_below-one : (n enrolled : ℕ) (more : List (StepOf E A)) → n < enrolled → AtMostOneOf n more → PassesBelow enrolled more
   passes_below-one n enrolled more low one = ⊎_elim
       (λ (z : more ≡ []). subst (PassesBelow enrolled) (sym z) tt)
-      (λ (z : (event : E) × (answer : A) × (more ≡ (n, event, answer) ∷ [])). let (_, _, is) = z in subst (PassesBelow enrolled) (sym is) (low, tt)) one
+      (λ (z : (event : E) × (answer : A) × (more ≡ step_by n event answer ∷ [])). let (_, _, is) = z in subst (PassesBelow enrolled) (sym is) (low, tt)) one
 
-module _ {S E A C : Type 0} (journal : S → List (ℕ × E × A)) (setting : S → C) (legal : C → List (ℕ × E × A) → Type 0) (c : C) where
+module _ {S E A C : Type 0} (journal : S → List (StepOf E A)) (setting : S → C) (legal : C → List (StepOf E A) → Type 0) (c : C) where
   abbrev Rule : Whole S E A C → Type 0
   Rule = GateRule journal setting legal c
 
@@ -35,8 +37,8 @@ module _ {S E A C : Type 0} (journal : S → List (ℕ × E × A)) (setting : S 
   held_or d [] = d
   held_or d (z ∷ zs) = unwrap_or z.1 d
 
-  serves_next-own : (slots id n t new : ℕ) (k : Knowledge E A C) (x : S) (more : List (ℕ × E × A)) (held : List (ℕ × Option S)) → new ≡ t + 1 → k.ticket ≡ Some t → k.inside ≡ true → k.number ≡ Some n
-      → journal x ≡ k.seen ++ more → ((event : E) (answer : A) → more ≡ (n, event, answer) ∷ [] → legal c (journal x)) → setting x ≡ c → AtMostOneOf n more
+  serves_next-own : (slots id n t new : ℕ) (k : Knowledge E A C) (x : S) (more : List (StepOf E A)) (held : List (ℕ × Option S)) → new ≡ t + 1 → k.ticket ≡ Some t → k.inside ≡ true → k.number ≡ Some n
+      → journal x ≡ k.seen ++ more → ((event : E) (answer : A) → more ≡ step_by n event answer ∷ [] → legal c (journal x)) → setting x ≡ c → AtMostOneOf n more
       → Allows Rule slots id (view_of k, (0, Some x) ∷ held) 1 (λ _. new) (λ _. ServesNext journal (step slots 1 new 0 none) (view_of k, (0, Some x) ∷ held) new)
   serves_next-own slots id n t new k x more held up has in_now numbered longer ok same one s r len at small =
       let g = r.standing in
@@ -80,7 +82,7 @@ module _ {S E A C : Type 0} (journal : S → List (ℕ × E × A)) (setting : S 
           few = r.few;
           is_legal = ⊎_elim
               (λ (z : more ≡ []). subst (legal c) (sym (grown ∙ ap (λ l. g.journal ++ l) z ∙ append-nil g.journal)) r.is_legal)
-              (λ (z : (event : E) × (answer : A) × (more ≡ (n, event, answer) ∷ [])). let (event, answer, is) = z in ok event answer is) one;
+              (λ (z : (event : E) × (answer : A) × (more ≡ step_by n event answer ∷ [])). let (event, answer, is) = z in ok event answer is) one;
           passes = subst (PassesBelow g.enrolled) (sym grown) (passes_below-append g.enrolled g.journal more r.passes (passes_below-one n g.enrolled more number.0 one));
           placed = (x, ap (λ (homes : List (maybe.Option (Option S))). set homes 0 (some (Some x))) out, refl, same);
           each_view = each_after (ViewAgrees h c) s.views id w (mine, tt) (λ j v apart there. view_agrees_on g h c j (carries j apart) v (r.each_view j v there));
@@ -89,8 +91,8 @@ module _ {S E A C : Type 0} (journal : S → List (ℕ × E × A)) (setting : S 
       )
 
   -- The state that is put back may have one more step of the pass, if that keeps it legal.
-  pub serves_next : (slots id n t new : ℕ) (me : SeatState S E A C) (k : Knowledge E A C) (x : S) (more : List (ℕ × E × A)) → me ≡ (view_of k, (0, Some x) ∷ []) → new ≡ t + 1 → k.ticket ≡ Some t → k.inside ≡ true → k.number ≡ Some n
-      → journal x ≡ k.seen ++ more → ((event : E) (answer : A) → more ≡ (n, event, answer) ∷ [] → legal c (journal x)) → setting x ≡ c → AtMostOneOf n more
+  pub serves_next : (slots id n t new : ℕ) (me : SeatState S E A C) (k : Knowledge E A C) (x : S) (more : List (StepOf E A)) → me ≡ (view_of k, (0, Some x) ∷ []) → new ≡ t + 1 → k.ticket ≡ Some t → k.inside ≡ true → k.number ≡ Some n
+      → journal x ≡ k.seen ++ more → ((event : E) (answer : A) → more ≡ step_by n event answer ∷ [] → legal c (journal x)) → setting x ≡ c → AtMostOneOf n more
       → Allows Rule slots id me 1 (λ _. new) (λ _. ServesNext journal (step slots 1 new 0 none) me new)
   serves_next slots id n t new me k x more is up has in_now numbered longer ok same one = subst (λ (m : SeatState S E A C). Allows Rule slots id m 1 (λ _. new) (λ _. ServesNext journal (step slots 1 new 0 none) m new)) (sym is)
       (serves_next-own slots id n t new k x more [] up has in_now numbered longer ok same one)

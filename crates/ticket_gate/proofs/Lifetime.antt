@@ -5,13 +5,14 @@ use mathlib.Core.Option as maybe
 use mathlib.Core.Option.{none, some, some-injective, some-ne-none}
 use lib.ListN.{get_elem?}
 use Rattle.atomic_table.specs.Table.{opening, Final, Seen}
+use Rattle.journal_core.specs.declared.step.Step.{Step as StepOf}
 use Rattle.ticket_gate.specs.declared.view.View.{View}
 use Rattle.ticket_gate.specs.Journal.{steps_of, StartsWith, Closes}
 use Rattle.ticket_gate.specs.Rule.{Standing, ViewAgrees, GateRule, first_view}
 use Rattle.ticket_gate.proofs.Seats.{not_inside, not_none}
 use Rattle.ticket_gate.proofs.Placing.{home_if, inside_ticket}
 
-module _ {S E A C : Type 0} (journal : S → List (ℕ × E × A)) (setting : S → C) (legal : C → List (ℕ × E × A) → Type 0) (c : C) where
+module _ {S E A C : Type 0} (journal : S → List (StepOf E A)) (setting : S → C) (legal : C → List (StepOf E A) → Type 0) (c : C) where
   abbrev at_first : ℕ → Standing E A
   at_first first = record {
     drawn = first;

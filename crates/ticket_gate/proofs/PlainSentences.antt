@@ -4,13 +4,14 @@ use mathlib.Core.Option as maybe
 use mathlib.Core.Option.{some-ne-none, some-injective}
 use lib.ListN.{get_elem?}
 use Rattle.atomic_table.specs.Table.{State}
+use Rattle.journal_core.specs.declared.step.Step.{Step as StepOf}
 use Rattle.ticket_gate.specs.declared.view.Knowledge.{Knowledge}
 use Rattle.ticket_gate.specs.declared.view.View.{View}
 use Rattle.ticket_gate.specs.Rule.{Standing, Agrees, OtherAgrees, StateIsPlaced, GateRule}
 use Rattle.ticket_gate.specs.PlainRule.{IsAt, HasState, IsOut, PlainRule}
 use Rattle.ticket_gate.proofs.Seats.{not_inside}
 
-module _ {S E A C : Type 0} (journal : S → List (ℕ × E × A)) (setting : S → C) (legal : C → List (ℕ × E × A) → Type 0) (c : C) (s : State (Option S) (View E A C)) (r : GateRule journal setting legal c s) where
+module _ {S E A C : Type 0} (journal : S → List (StepOf E A)) (setting : S → C) (legal : C → List (StepOf E A) → Type 0) (c : C) (s : State (Option S) (View E A C)) (r : GateRule journal setting legal c s) where
   abbrev g : Standing E A
   g = r.standing
 

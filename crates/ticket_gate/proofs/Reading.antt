@@ -2,6 +2,7 @@
 use Rattle.std.proofs.Common.{◌≡◌, ℕ, List, [], refl, sym, subst, ◌∙◌, le_refl, Option, None}
 use mathlib.Core.Option.{none}
 use Rattle.atomic_table.specs.Table.{step, keeps, Allows}
+use Rattle.journal_core.specs.declared.step.Step.{Step as StepOf}
 use Rattle.ticket_gate.specs.declared.view.Knowledge.{Knowledge}
 use Rattle.ticket_gate.specs.declared.view.View.{View}
 use Rattle.ticket_gate.specs.Rule.{Standing, Agrees, GateRule, view_of}
@@ -49,7 +50,7 @@ module _ {E A C : Type 0} (g : Standing E A) (c : C) (id : ℕ) (k : Knowledge E
     setting = f.setting;
   }
 
-module _ {S E A C : Type 0} (journal : S → List (ℕ × E × A)) (setting : S → C) (legal : C → List (ℕ × E × A) → Type 0) (c : C) where
+module _ {S E A C : Type 0} (journal : S → List (StepOf E A)) (setting : S → C) (legal : C → List (StepOf E A) → Type 0) (c : C) where
   abbrev Rule : Whole S E A C → Type 0
   Rule = GateRule journal setting legal c
 

@@ -7,6 +7,7 @@ use lib.ListN.{get_elem?}
 use lib.Seq.{set-get_or}
 use prog.Atomic.{either}
 use Rattle.atomic_table.specs.Table.{State, Act, keeps, stepped, carried_after, Valid}
+use Rattle.journal_core.specs.declared.step.Step.{Step as StepOf}
 use Rattle.ticket_gate.specs.declared.view.Knowledge.{Knowledge}
 use Rattle.ticket_gate.specs.declared.view.View.{View}
 use Rattle.ticket_gate.specs.Rule.{ViewAgrees, GateRule, view_of}
@@ -18,7 +19,7 @@ use Rattle.ticket_gate.proofs.Placing.{placed-set}
 abbrev pub Whole : Type 0 → Type 0 → Type 0 → Type 0 → Type 0
 Whole S E A C = State (Option S) (View E A C)
 
-module _ {S E A C : Type 0} (journal : S → List (ℕ × E × A)) (setting : S → C) (legal : C → List (ℕ × E × A) → Type 0) (c : C) where
+module _ {S E A C : Type 0} (journal : S → List (StepOf E A)) (setting : S → C) (legal : C → List (StepOf E A) → Type 0) (c : C) where
   module _ (s : Whole S E A C) (r : GateRule journal setting legal c s) where
     pub drawn_at : get_or s.words 0 0 ≡ r.standing.drawn
     drawn_at = ap (λ (words : List ℕ). get_or words 0 0) r.words

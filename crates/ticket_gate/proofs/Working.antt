@@ -4,6 +4,8 @@ use Rattle.std.specs.Prelude.{MatchResult, IfOk, IfErr}
 use Rattle.std.specs.Option.{unwrap_or}
 use Rattle.atomic_table.specs.Table.{rest}
 use Rattle.atomic_table.specs.declared.shared.Seat.{Seat}
+use Rattle.journal_core.specs.declared.step.Step.{Step as StepOf}
+use Rattle.journal_core.specs.Journal.{step_by}
 use Rattle.ticket_gate.specs.declared.view.Knowledge.{Knowledge}
 use Rattle.ticket_gate.specs.declared.view.View.{View}
 use Rattle.ticket_gate.specs.Rule.{view_of}
@@ -28,9 +30,9 @@ module _ {S : Type 0} where
   put_back me me' me'' k x y is out back = back ∙ (λ i. ((out i).0, (0, Some y) ∷ rest (out i).1)) ∙ (λ i. ((is i).0, (0, Some y) ∷ rest (is i).1))
 
 -- a turn of the pass n took the state x to the state y
-module _ {S E A C R : Type 0} (journal : S → List (ℕ × E × A)) (setting : S → C) (legal : C → List (ℕ × E × A) → Type 0) (cause : C → R → E → List (ℕ × E × A) → Type 0) (x y : S) (n : ℕ) (event : E) where
+module _ {S E A C R : Type 0} (journal : S → List (StepOf E A)) (setting : S → C) (legal : C → List (StepOf E A) → Type 0) (cause : C → R → E → List (StepOf E A) → Type 0) (x y : S) (n : ℕ) (event : E) where
   abbrev Answered : Result A (R × E) → Type 0
-  Answered outcome = IfOk outcome (λ answer. journal y ≡ journal x ++ (n, event, answer) ∷ [])
+  Answered outcome = IfOk outcome (λ answer. journal y ≡ journal x ++ step_by n event answer ∷ [])
 
   abbrev StaysLegal : Result A (R × E) → Type 0
   StaysLegal outcome = IfOk outcome (λ answer. legal (setting x) (journal x) → legal (setting x) (journal y))
@@ -40,24 +42,24 @@ module _ {S E A C R : Type 0} (journal : S → List (ℕ × E × A)) (setting : 
 
   -- what the turn adds to the journal
   pub adds : (outcome : Result A (R × E)) → Answered outcome → StaysLegal outcome → Refused outcome → legal (setting x) (journal x)
-      → (more : List (ℕ × E × A)) × (journal y ≡ journal x ++ more) × ((e : E) (answer : A) → more ≡ (n, e, answer) ∷ [] → legal (setting x) (journal y)) × AtMostOneOf n more
-  adds (Ok answer) grown keeps refused ok = ((n, event, answer) ∷ [], grown, (λ _ _ _. keeps ok), inr (event, answer, refl))
+      → (more : List (StepOf E A)) × (journal y ≡ journal x ++ more) × ((e : E) (answer : A) → more ≡ step_by n e answer ∷ [] → legal (setting x) (journal y)) × AtMostOneOf n more
+  adds (Ok answer) grown keeps refused ok = (step_by n event answer ∷ [], grown, (λ _ _ _. keeps ok), inr (event, answer, refl))
   adds (Err why) grown keeps refused ok = ([], refused.0 ∙ sym (append-nil (journal x)), (λ _ _ q. absurd (cc)), inl refl)
 
   -- what the place sees of it
-  outcome_seen : (outcome : Result A (R × E)) (k : Knowledge E A C) (seen : List (ℕ × E × A)) → k.seen ≡ journal x → seen ≡ journal y → Answered outcome → StaysLegal outcome → Refused outcome
+  outcome_seen : (outcome : Result A (R × E)) (k : Knowledge E A C) (seen : List (StepOf E A)) → k.seen ≡ journal x → seen ≡ journal y → Answered outcome → StaysLegal outcome → Refused outcome
       → ((c : C) → k.setting ≡ Some c → (setting x ≡ c) × legal c (journal x))
-      → MatchResult outcome (λ answer. (seen ≡ k.seen ++ (n, event, answer) ∷ []) × ((c : C) → k.setting ≡ Some c → legal c seen)) (λ refused. (seen ≡ k.seen) × (refused.1 ≡ event) × ((c : C) → k.setting ≡ Some c → cause c refused.0 event seen))
+      → MatchResult outcome (λ answer. (seen ≡ k.seen ++ step_by n event answer ∷ []) × ((c : C) → k.setting ≡ Some c → legal c seen)) (λ refused. (seen ≡ k.seen) × (refused.1 ≡ event) × ((c : C) → k.setting ≡ Some c → cause c refused.0 event seen))
   outcome_seen (Ok answer) k seen was now grown keeps refused known = (
-    now ∙ grown ∙ ap (λ z. z ++ (n, event, answer) ∷ []) (sym was),
+    now ∙ grown ∙ ap (λ z. z ++ step_by n event answer ∷ []) (sym was),
     λ c is. let its = known c is in
-        subst (λ (z : C × List (ℕ × E × A)). legal z.0 z.1) (λ i. (its.0 i, sym now i)) (keeps (subst (λ (d : C). legal d (journal x)) (sym its.0) its.1)),
+        subst (λ (z : C × List (StepOf E A)). legal z.0 z.1) (λ i. (its.0 i, sym now i)) (keeps (subst (λ (d : C). legal d (journal x)) (sym its.0) its.1)),
   )
   outcome_seen (Err why) k seen was now grown keeps (stays, same_event, caused) known = (
     now ∙ stays ∙ sym was,
     same_event,
     λ c is. let its = known c is in
-        subst (λ (z : C × List (ℕ × E × A)). cause z.0 why.0 event z.1) (λ i. (its.0 i, (sym stays ∙ sym now) i)) caused,
+        subst (λ (z : C × List (StepOf E A)). cause z.0 why.0 event z.1) (λ i. (its.0 i, (sym stays ∙ sym now) i)) caused,
   )
 
   pub has_made_turn : (k : Knowledge E A C) (t : ℕ) (outcome : Result A (R × E)) (me : SeatState S E A C) (seat : Seat (Option S) (View E A C)) → me ≡ (view_of k, (0, Some y) ∷ [])
@@ -73,7 +75,7 @@ module _ {S E A C R : Type 0} (journal : S → List (ℕ × E × A)) (setting : 
         done = outcome_seen outcome k seat.me.0.own.seen was (ap (λ (u : Knowledge E A C). u.seen) own) grown keeps refused known;
       }
 
-module _ {S E A C : Type 0} (journal : S → List (ℕ × E × A)) where
+module _ {S E A C : Type 0} (journal : S → List (StepOf E A)) where
   -- a place that was inside and put the state back as it was is at rest, and has seen what it saw inside
   pub has_looked : (k : Knowledge E A C) (t : ℕ) (x : S) (me : SeatState S E A C) (seat : Seat (Option S) (View E A C)) → me ≡ (view_of k, (0, Some x) ∷ [])
       → ((z : S) (after : List (ℕ × Option S)) → me.1 ≡ (0, Some z) ∷ after → seat.me ≡ (with_own me.0 (after_exit me.0.own (t + 1) (journal z)), after))

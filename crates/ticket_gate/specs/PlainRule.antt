@@ -4,6 +4,7 @@ use Rattle.std.specs.Prelude.{◌≡◌, ◌≢◌, ◌⊎◌, ◌↔◌, ℕ, �
 use mathlib.Core.Option as maybe
 use lib.ListN.{get_elem?}
 use Rattle.atomic_table.specs.Table.{State}
+use Rattle.journal_core.specs.declared.step.Step.{Step as StepOf}
 use Rattle.ticket_gate.specs.declared.view.Knowledge.{Knowledge}
 use Rattle.ticket_gate.specs.declared.view.View.{View}
 use Rattle.ticket_gate.specs.Journal.{steps_of, StartsWith, PassesBelow}
@@ -67,9 +68,9 @@ module _ {S E A C : Type 0} (s : State (Option S) (View E A C)) (drawn serving e
 -- place had seen when it went in. Its passes have numbers given out, what each place has seen is a
 -- beginning of it, and it has no step of a pass that the pass has not seen. The state and all
 -- places have one setting.
-pub record OneJournal {S E A C : Type 0} (journal : S → List (ℕ × E × A)) (setting : S → C)
-    (legal : C → List (ℕ × E × A) → Type 0) (c : C) (s : State (Option S) (View E A C))
-    (enrolled : ℕ) (log : List (ℕ × E × A)) : Type 0 where
+pub record OneJournal {S E A C : Type 0} (journal : S → List (StepOf E A)) (setting : S → C)
+    (legal : C → List (StepOf E A) → Type 0) (c : C) (s : State (Option S) (View E A C))
+    (enrolled : ℕ) (log : List (StepOf E A)) : Type 0 where
   pub at_home : (x : S) → HasState s x → (journal x ≡ log) × (setting x ≡ c)
   pub inside : (j : ℕ) (k : Knowledge E A C) → IsAt s j k → k.inside ≡ true → k.seen ≡ log
   pub is_legal : legal c log
@@ -80,13 +81,13 @@ pub record OneJournal {S E A C : Type 0} (journal : S → List (ℕ × E × A)) 
   pub one_setting : (j : ℕ) (k : Knowledge E A C) (d : C) → IsAt s j k → k.setting ≡ Some d → d ≡ c
 
 -- the rule of the gate in plain sentences
-pub record PlainRule {S E A C : Type 0} (journal : S → List (ℕ × E × A)) (setting : S → C)
-    (legal : C → List (ℕ × E × A) → Type 0) (c : C)
+pub record PlainRule {S E A C : Type 0} (journal : S → List (StepOf E A)) (setting : S → C)
+    (legal : C → List (StepOf E A) → Type 0) (c : C)
     (s : State (Option S) (View E A C)) : Type 0 where
   pub drawn : ℕ
   pub serving : ℕ
   pub enrolled : ℕ
-  pub log : List (ℕ × E × A)
+  pub log : List (StepOf E A)
   pub words : s.words ≡ drawn ∷ serving ∷ enrolled ∷ []
   pub behind : WordsAreBehind s drawn serving enrolled
   pub tickets : TicketsDiffer s drawn serving enrolled

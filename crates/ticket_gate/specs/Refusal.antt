@@ -1,5 +1,6 @@
 -- Why a gate refused, and what is known then.
 use Rattle.std.specs.Prelude.{◌≡◌, ◌<◌, ◌-◌, ◌^◌, ◌⊎◌, ℕ, List, Option, Some, None}
+use Rattle.journal_core.specs.declared.step.Step.{Step as StepOf}
 use Rattle.ticket_gate.specs.declared.view.Knowledge.{Knowledge}
 use Rattle.ticket_gate.specs.declared.refusal.GateRefusal.{GateRefusal}
 use Rattle.ticket_gate.specs.declared.refusal.GateRefusal.TheVariants.{Crowded, NoMemory}
@@ -35,11 +36,11 @@ module _ {E A C : Type 0} where
 
 -- The state refused the turn, for a cause that holds over what is seen now. No step of the pass n
 -- was added.
-abbrev pub RefusedByState : {E A R : Type 0} → (R → E → List (ℕ × E × A) → Type 0) → ℕ
-    → List (ℕ × E × A) → E → R → List (ℕ × E × A) → Type 0
+abbrev pub RefusedByState : {E A R : Type 0} → (R → E → List (StepOf E A) → Type 0) → ℕ
+    → List (StepOf E A) → E → R → List (StepOf E A) → Type 0
 RefusedByState cause n before event why after = GrowsByOthers n before after × cause why event after
 
-module _ {E A C R : Type 0} (cause : R → E → List (ℕ × E × A) → Type 0) (n : ℕ)
+module _ {E A C R : Type 0} (cause : R → E → List (StepOf E A) → Type 0) (n : ℕ)
     (before : Knowledge E A C) (event : E) (after : Knowledge E A C) where
   -- a turn that doesn't wait was refused, and the event comes back
   abbrev pub RefusesAtOnce : TurnRefusal R E → Type 0

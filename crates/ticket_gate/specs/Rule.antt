@@ -6,6 +6,7 @@ use Rattle.std.specs.Prelude.{◌≡◌, ◌≢◌, ℕ, ◌<◌, ◌≤◌, Lis
 use mathlib.Core.Option as maybe
 use lib.ListN.{get_elem?}
 use Rattle.atomic_table.specs.Table.{State}
+use Rattle.journal_core.specs.declared.step.Step.{Step as StepOf}
 use Rattle.ticket_gate.specs.declared.view.Knowledge.{Knowledge}
 use Rattle.ticket_gate.specs.declared.view.View.{View}
 use Rattle.ticket_gate.specs.Journal.{steps_of, StartsWith, PassesBelow}
@@ -16,7 +17,7 @@ pub record Standing (E A : Type 0) : Type 0 where
   pub drawn : ℕ
   pub serving : ℕ
   pub enrolled : ℕ
-  pub journal : List (ℕ × E × A)
+  pub journal : List (StepOf E A)
   pub inside : maybe.Option ℕ
   pub holder_of : ℕ → ℕ
   pub owner_of : ℕ → ℕ
@@ -47,9 +48,9 @@ module _ {E A C : Type 0} (g : Standing E A) (c : C) where
   abbrev pub ViewAgrees : ℕ → View E A C → Type 0
   ViewAgrees j v = Agrees j v.own × OtherAgrees j v.own v.other
 
-module _ {S E A C : Type 0} (journal : S → List (ℕ × E × A)) (setting : S → C) where
+module _ {S E A C : Type 0} (journal : S → List (StepOf E A)) (setting : S → C) where
   -- the slot has the state with this journal, or one seat is inside and the slot is out with it
-  abbrev pub StateIsPlaced : List (ℕ × E × A) → C → List (maybe.Option (Option S))
+  abbrev pub StateIsPlaced : List (StepOf E A) → C → List (maybe.Option (Option S))
       → List (View E A C) → maybe.Option ℕ → Type 0
   StateIsPlaced log c homes views maybe.none =
       (x : S) × (homes ≡ maybe.some (Some x) ∷ []) × (journal x ≡ log) × (setting x ≡ c)
@@ -58,8 +59,8 @@ module _ {S E A C : Type 0} (journal : S → List (ℕ × E × A)) (setting : S 
       × (v.own.inside ≡ true)
 
 -- the rule
-pub record GateRule {S E A C : Type 0} (journal : S → List (ℕ × E × A)) (setting : S → C)
-    (legal : C → List (ℕ × E × A) → Type 0) (c : C)
+pub record GateRule {S E A C : Type 0} (journal : S → List (StepOf E A)) (setting : S → C)
+    (legal : C → List (StepOf E A) → Type 0) (c : C)
     (s : State (Option S) (View E A C)) : Type 0 where
   pub standing : Standing E A
   pub words : s.words ≡ standing.drawn ∷ standing.serving ∷ standing.enrolled ∷ []

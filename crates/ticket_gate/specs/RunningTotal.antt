@@ -1,12 +1,13 @@
 -- What contracts see of a running total.
 use Rattle.std.specs.Prelude.{ℕ, ◌+◌, ◌<◌, List}
+use Rattle.journal_core.specs.declared.step.Step.{Step as StepOf}
 use Rattle.ticket_gate.specs.declared.running_total.RunningTotal.{RunningTotal}
 use Rattle.ticket_gate.specs.declared.running_total.AdditionRefusal.{AdditionRefusal}
 use Rattle.ticket_gate.specs.declared.running_total.AdditionRefusal.TheVariants.{PastLimit, NoMemory}
 use Rattle.ticket_gate.specs.Totals.{steps_in, amount_sum}
 
 -- the journal of the running total
-abbrev pub journal_of : RunningTotal → List (ℕ × ℕ × ℕ)
+abbrev pub journal_of : RunningTotal → List (StepOf ℕ ℕ)
 journal_of state = steps_in state.additions.items
 
 -- its limit
@@ -14,6 +15,6 @@ abbrev pub limit_of : RunningTotal → ℕ
 limit_of state = state.limit
 
 -- the amount would take the total past the limit; no journal says when memory runs out
-abbrev pub IsDue : ℕ → AdditionRefusal → ℕ → List (ℕ × ℕ × ℕ) → Type 0
+abbrev pub IsDue : ℕ → AdditionRefusal → ℕ → List (StepOf ℕ ℕ) → Type 0
 IsDue limit PastLimit amount journal = limit < amount_sum journal + amount
 IsDue limit NoMemory amount journal = Unit {0}

@@ -2,6 +2,7 @@
 -- the number found (at a store, the number stored) and the seat after.
 use Rattle.std.specs.Prelude.{◌≡◌, ◌≢◌, ℕ, ◌+◌, ◌<◌, ◌≤◌, List, [], ◌∷◌, true, false, Option, Some, None}
 use Rattle.atomic_table.specs.Table.{Me, Step}
+use Rattle.journal_core.specs.declared.step.Step.{Step as StepOf}
 use Rattle.ticket_gate.specs.declared.view.Knowledge.{Knowledge}
 use Rattle.ticket_gate.specs.declared.view.View.{View}
 use Rattle.ticket_gate.specs.Journal.{steps_of, StartsWith, Meets}
@@ -34,11 +35,11 @@ module _ {E A C : Type 0} where
   after_look k n = record k { last_served = n; looks = k.looks + 1 }
 
   -- inside with the ticket t, and the whole journal seen
-  abbrev pub after_entry : Knowledge E A C → ℕ → List (ℕ × E × A) → Knowledge E A C
+  abbrev pub after_entry : Knowledge E A C → ℕ → List (StepOf E A) → Knowledge E A C
   after_entry k t journal = record k { ticket = Some t; inside = true; seen = journal }
 
   -- outside again, with no ticket, after the number n was stored in `serving`
-  abbrev pub after_exit : Knowledge E A C → ℕ → List (ℕ × E × A) → Knowledge E A C
+  abbrev pub after_exit : Knowledge E A C → ℕ → List (StepOf E A) → Knowledge E A C
   after_exit k n journal =
       record k { last_served = n; ticket = None; inside = false; seen = journal }
 
@@ -69,8 +70,8 @@ module _ {S E A C : Type 0} where
       (n ≡ step.first → me' ≡ (with_own me.0 (record me.0.own { ticket = Some step.first }), me.1))
       × (n ≢ step.first → me' ≡ me)
 
-  module _ (journal : S → List (ℕ × E × A)) (setting : S → C)
-      (legal : C → List (ℕ × E × A) → Type 0) where
+  module _ (journal : S → List (StepOf E A)) (setting : S → C)
+      (legal : C → List (StepOf E A) → Type 0) where
     -- the state found inside: it has the setting, its journal is legal, begins with what the place
     -- has seen, and has no further step of its number
     pub record GoesOnFrom (k : Knowledge E A C) (x : S) : Type 0 where
@@ -102,14 +103,14 @@ module _ {S E A C : Type 0} where
         → (step.first < n) × (me' ≡ (with_own me.0 (record me.0.own { last_drawn = n }), me.1)))
 
   -- the state goes home with its journal, and the next ticket is served
-  abbrev pub ServesNext : (S → List (ℕ × E × A)) → Step (Option S) → SeatState S E A C → ℕ
+  abbrev pub ServesNext : (S → List (StepOf E A)) → Step (Option S) → SeatState S E A C → ℕ
       → SeatState S E A C → Type 0
   ServesNext journal step me n me' =
       (x : S) (rest : List (ℕ × Option S)) → me.1 ≡ (0, Some x) ∷ rest
       → me' ≡ (with_own me.0 (after_exit me.0.own step.first (journal x)), rest)
 
   -- two passes in one seat are compared
-  abbrev pub ComparesPasses : (C → List (ℕ × E × A) → Type 0) → Step (Option S) → SeatState S E A C
+  abbrev pub ComparesPasses : (C → List (StepOf E A) → Type 0) → Step (Option S) → SeatState S E A C
       → ℕ → SeatState S E A C → Type 0
   ComparesPasses legal step me n me' =
       (me' ≡ (with_own me.0 (after_look me.0.own n), me.1))

@@ -1,22 +1,24 @@
--- Journals of a running total. A step is the number of the pass, the amount and the total that it
--- came to.
+-- Journals of a running total. The event of a step is the amount, its answer the total that it came
+-- to.
 use Rattle.std.specs.Prelude.{◌≡◌, ℕ, ◌+◌, ◌≤◌, List, [], ◌∷◌, ◌++◌, map, sum_by}
 use Rattle.std.proofs.Common.{ap, ◌∙◌, append_assoc}
+use Rattle.journal_core.specs.declared.step.Step.{Step as StepOf}
+use Rattle.journal_core.specs.Journal.{step_by}
 use Rattle.ticket_gate.specs.declared.running_total.Addition.{Addition}
 
 -- the additions as steps
-abbrev pub steps_in : List Addition → List (ℕ × ℕ × ℕ)
-steps_in additions = map (λ a. (a.pass, a.amount, a.total)) additions
+abbrev pub steps_in : List Addition → List (StepOf ℕ ℕ)
+steps_in additions = map (λ a. step_by a.pass a.amount a.total) additions
 
 -- the sum of all amounts
-abbrev pub amount_sum : List (ℕ × ℕ × ℕ) → ℕ
-amount_sum journal = sum_by (λ step. step.1) journal
+abbrev pub amount_sum : List (StepOf ℕ ℕ) → ℕ
+amount_sum journal = sum_by (λ step. step.event) journal
 
 -- the total of each step is the sum of all amounts up to its own, and within the limit
-pub record AreTotals (limit : ℕ) (journal : List (ℕ × ℕ × ℕ)) : Type 0 where
-  pub each_total : (before after : List (ℕ × ℕ × ℕ)) (step : ℕ × ℕ × ℕ)
+pub record AreTotals (limit : ℕ) (journal : List (StepOf ℕ ℕ)) : Type 0 where
+  pub each_total : (before after : List (StepOf ℕ ℕ)) (step : StepOf ℕ ℕ)
       → journal ≡ before ++ step ∷ after
-      → let (_, amount, total) = step in (total ≡ amount_sum before + amount) × (total ≤ limit)
+      → (step.answer ≡ amount_sum before + step.event) × (step.answer ≤ limit)
 
 -- an empty journal has no step
 pub nothing_in_empty : {X : Type 0} (before after : List X) (x : X) → [] ≡ before ++ x ∷ after → ⊥
@@ -29,7 +31,7 @@ totals_at_first limit =
     record { each_total = λ before after step is. absurd (nothing_in_empty before after step is) }
 
 -- the totals of a beginning are right where those of the whole are
-pub totals_before : (limit : ℕ) (journal more : List (ℕ × ℕ × ℕ))
+pub totals_before : (limit : ℕ) (journal more : List (StepOf ℕ ℕ))
     → AreTotals limit (journal ++ more) → AreTotals limit journal
 totals_before limit journal more totals =
     record {

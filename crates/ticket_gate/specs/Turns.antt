@@ -1,13 +1,14 @@
 -- What a worker sees of its turns.
 use Rattle.std.specs.Prelude.{◌≡◌, ℕ, List}
+use Rattle.journal_core.specs.declared.step.Step.{Step as StepOf}
 use Rattle.ticket_gate.specs.declared.refusal.TurnRefusal.{TurnRefusal}
 use Rattle.ticket_gate.specs.declared.refusal.TurnRefusal.TheVariants.{Busy, Spent, State}
 use Rattle.ticket_gate.specs.Journal.{steps_of}
 use Rattle.ticket_gate.specs.Refusal.{RefusedByState}
 use Rattle.ticket_gate.specs.Gate.{GateFacts, PassFacts}
 
-module _ {E A R : Type 0} (cause : R → E → List (ℕ × E × A) → Type 0) (spent : Type 0) (n : ℕ)
-    (before : List (ℕ × E × A)) (event : E) (after : List (ℕ × E × A)) where
+module _ {E A R : Type 0} (cause : R → E → List (StepOf E A) → Type 0) (spent : Type 0) (n : ℕ)
+    (before : List (StepOf E A)) (event : E) (after : List (StepOf E A)) where
   -- A turn of the pass n was refused, and the event comes back. It is never refused for being busy,
   -- and for want of tickets only where `spent` holds.
   abbrev pub RefusesTurn : TurnRefusal R E → Type 0
@@ -34,7 +35,7 @@ abbrev pub alone_with : {S : Type 0} → S → ℕ → AloneFacts S
 alone_with state pass = record { state = state; pass = pass }
 
 -- the journal is legal, and all its steps are of this pass
-pub record IsUsedBy {S E A C : Type 0} (journal : S → List (ℕ × E × A)) (setting : S → C)
-    (legal : C → List (ℕ × E × A) → Type 0) (state : S) (n : ℕ) : Type 0 where
+pub record IsUsedBy {S E A C : Type 0} (journal : S → List (StepOf E A)) (setting : S → C)
+    (legal : C → List (StepOf E A) → Type 0) (state : S) (n : ℕ) : Type 0 where
   pub is_legal : legal (setting state) (journal state)
   pub own : steps_of n (journal state) ≡ journal state

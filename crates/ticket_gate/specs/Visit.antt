@@ -2,6 +2,8 @@
 use Rattle.std.specs.Prelude.{◌≡◌, ℕ, List, [], ◌∷◌, ◌++◌, false, true, Option, Some, Result, MatchResult}
 use Rattle.atomic_table.specs.Seated.{TableId}
 use Rattle.atomic_table.specs.declared.shared.Seat.{Seat}
+use Rattle.journal_core.specs.declared.step.Step.{Step as StepOf}
+use Rattle.journal_core.specs.Journal.{step_by}
 use Rattle.ticket_gate.specs.declared.view.Knowledge.{Knowledge}
 use Rattle.ticket_gate.specs.declared.view.View.{View}
 use Rattle.ticket_gate.specs.Rule.{view_of}
@@ -28,8 +30,8 @@ module _ {S E A C : Type 0} where
     pub outside : seat.me.0.own.inside ≡ false
     pub keeps : KeepsSeen before seat.me.0.own
 
-  module _ (journal : S → List (ℕ × E × A)) (setting : S → C)
-      (legal : C → List (ℕ × E × A) → Type 0) where
+  module _ (journal : S → List (StepOf E A)) (setting : S → C)
+      (legal : C → List (StepOf E A) → Type 0) where
     -- a place inside with the ticket t, and a state that goes on from what the place had seen
     -- before
     pub record IsInside (before : Knowledge E A C) (t : ℕ)
@@ -43,8 +45,8 @@ module _ {S E A C : Type 0} where
       pub has_setting : seat.me.0.own.setting ≡ before.setting
       pub goes_on : GoesOnFrom journal setting legal before state
 
-  module _ {R : Type 0} (legal : C → List (ℕ × E × A) → Type 0)
-      (cause : C → R → E → List (ℕ × E × A) → Type 0) where
+  module _ {R : Type 0} (legal : C → List (StepOf E A) → Type 0)
+      (cause : C → R → E → List (StepOf E A) → Type 0) where
     -- A place that was inside has made its turn and is at rest again: what it had seen inside has
     -- grown by its step and is legal, or is as it was and the cause holds.
     pub record HasMadeTurn (inside : Knowledge E A C) (n : ℕ) (event : E)
@@ -53,7 +55,7 @@ module _ {S E A C : Type 0} where
       pub number : seat.me.0.own.number ≡ inside.number
       pub has_setting : seat.me.0.own.setting ≡ inside.setting
       pub done : MatchResult outcome
-          (λ answer. (seat.me.0.own.seen ≡ inside.seen ++ (n, event, answer) ∷ [])
+          (λ answer. (seat.me.0.own.seen ≡ inside.seen ++ step_by n event answer ∷ [])
           × ((c : C) → inside.setting ≡ Some c → legal c seat.me.0.own.seen))
           (λ refused. (seat.me.0.own.seen ≡ inside.seen) × (refused.1 ≡ event)
           × ((c : C) → inside.setting ≡ Some c → cause c refused.0 event seat.me.0.own.seen))

@@ -1,5 +1,7 @@
 //! A state that keeps a journal of its turns.
-ghost use Rattle.std.specs.Prelude.{◌≡◌, ℕ, List, [], ◌∷◌, ◌++◌, IfOk, IfErr};
+ghost use Rattle.std.specs.Prelude.{◌≡◌, List, [], ◌∷◌, ◌++◌, IfOk, IfErr};
+ghost use Rattle.journal_core.specs.declared.step.Step.{Step as StepOf};
+ghost use Rattle.journal_core.specs.Journal.{step_by};
 
 /// A state that changes in turns and keeps a journal of them. A step of the journal is the number
 /// of the pass that made the turn, the event and the answer.
@@ -24,20 +26,20 @@ pub trait Recorded {
     type Sight;
 
     /// The steps so far, the oldest first.
-    ghost journal: { Self → List (ℕ × Self.Event × Self.Answer) };
+    ghost journal: { Self → List (StepOf Self.Event Self.Answer) };
 
     /// What the state was made with.
     ghost setting: { Self → Self.Setting };
 
     /// Which journals a setting allows.
-    ghost legal: { Self.Setting → List (ℕ × Self.Event × Self.Answer) → Type 0 };
+    ghost legal: { Self.Setting → List (StepOf Self.Event Self.Answer) → Type 0 };
 
     /// When a refusal of an event is due, over the journal so far.
-    ghost cause: { Self.Setting → Self.Refusal → Self.Event → List (ℕ × Self.Event × Self.Answer)
+    ghost cause: { Self.Setting → Self.Refusal → Self.Event → List (StepOf Self.Event Self.Answer)
         → Type 0 };
 
     /// What a look at a state with this setting and this journal tells.
-    ghost sight_of: { Self.Setting → List (ℕ × Self.Event × Self.Answer) → Self.Sight };
+    ghost sight_of: { Self.Setting → List (StepOf Self.Event Self.Answer) → Self.Sight };
 
     /// A look at the state. It takes no memory.
     fn sight(&self) -> Self::Sight
@@ -51,7 +53,7 @@ pub trait Recorded {
     ) -> Result<Self::Answer, (Self::Refusal, Self::Event)>
         ensures setting { setting self.new ≡ setting self.old }
         ensures answered { IfOk result
-            (λ answer. journal self.new ≡ journal self.old ++ (pass, event, answer) ∷ []) }
+            (λ answer. journal self.new ≡ journal self.old ++ step_by pass event answer ∷ []) }
         ensures legal { IfOk result (λ answer. legal (setting self.old) (journal self.old)
             → legal (setting self.old) (journal self.new)) }
         ensures refused { IfErr result (λ refused. (journal self.new ≡ journal self.old)
@@ -62,6 +64,6 @@ pub trait Recorded {
     ghost legal_at_first: { (c : Self.Setting) → legal c [] };
 
     /// Each beginning of a legal journal is legal.
-    ghost legal_before: { (c : Self.Setting) (log more : List (ℕ × Self.Event × Self.Answer))
+    ghost legal_before: { (c : Self.Setting) (log more : List (StepOf Self.Event Self.Answer))
         → legal c (log ++ more) → legal c log };
 }

@@ -1,5 +1,6 @@
 //! What a worker needs of a state: turns, whether the state is shared or not.
 ghost use Rattle.std.specs.Prelude.{◌≡◌, ℕ, List, IfOk, IfErr};
+ghost use Rattle.journal_core.specs.declared.step.Step.{Step as StepOf};
 ghost use Rattle.ticket_gate.specs.Journal.{AddsTurn};
 ghost use Rattle.ticket_gate.specs.Turns.{RefusesTurn};
 
@@ -31,16 +32,16 @@ pub trait Turns {
     ghost pass: { Self → ℕ };
 
     /// The journal as far as the pass has seen it.
-    ghost seen: { Self → List (ℕ × Self.Event × Self.Answer) };
+    ghost seen: { Self → List (StepOf Self.Event Self.Answer) };
 
     /// What the state was made with. No turn changes it.
     ghost setting: { Self → Self.Setting };
 
     /// Which journals a setting allows.
-    ghost legal: { Self.Setting → List (ℕ × Self.Event × Self.Answer) → Type 0 };
+    ghost legal: { Self.Setting → List (StepOf Self.Event Self.Answer) → Type 0 };
 
     /// When a refusal of an event by the state is due, over the journal so far.
-    ghost cause: { Self.Setting → Self.Refusal → Self.Event → List (ℕ × Self.Event × Self.Answer)
+    ghost cause: { Self.Setting → Self.Refusal → Self.Event → List (StepOf Self.Event Self.Answer)
         → Type 0 };
 
     /// What holds where a turn was refused because no ticket is left.

@@ -1,4 +1,5 @@
 //! What the places at a gate know. The proofs alone speak of it: no value of these types is made.
+use journal_core::Step;
 use std::collections::LinkedList;
 
 /// What one place knows. Its numbers have no greatest value.
@@ -18,7 +19,7 @@ pub struct Knowledge<E, A, C> {
     /// The number that it last found in the word `enrolled`.
     pub last_enrolled: u64,
     /// The journal as far as it has seen it.
-    pub seen: LinkedList<(u64, E, A)>,
+    pub seen: LinkedList<Step<E, A>>,
     /// The setting of the gate's state.
     pub setting: Option<C>,
 }

@@ -1,5 +1,6 @@
-use Rattle.std.proofs.Common.{arith, ap, ℕ, ◌+◌, ◌≤◌}
+use Rattle.std.proofs.Common.{arith, ap, ◌+◌, ◌≤◌}
 use Rattle.std.proofs.lemmas.List.{map-append}
+use Rattle.journal_core.specs.Journal.{step_by}
 use Rattle.ticket_gate.proofs.Totals.{totals-push}
 use Rattle.ticket_gate.proofs.running_total.RunningTotalRecorded.turn.Goals as goal
 
@@ -8,6 +9,6 @@ returns-in-Ok-clause-legal c totals =
     let e = c.in-Ok.ensures.items in
     let total = c.args.self.now.totalled in
     let within = c.args.self.now.within in
-    let step : ℕ × ℕ × ℕ = (c.args.pass, c.args.event, c.args.self.now.total + c.args.event) in
+    let step = step_by c.args.pass c.args.event (c.args.self.now.total + c.args.event) in
     let room : c.args.self.now.total + c.args.event ≤ c.args.self.now.limit = omega arith in
     rw (e, map-append) (totals-push _ _ step (ap (λ n. n + c.args.event) total) room totals)
