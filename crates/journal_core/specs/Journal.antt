@@ -1,6 +1,7 @@
 -- What contracts see of a journal, and its limits.
-use Rattle.std.specs.Prelude.{◌⊎◌, ◌+◌, ◌<◌, ◌≤◌, ℕ, List, Option, Some, None, length}
+use Rattle.std.specs.Prelude.{◌≡◌, ◌⊎◌, ◌+◌, ◌<◌, ◌≤◌, ℕ, true, List, Option, Some, None, length}
 use Rattle.journal_core.specs.declared.journal.TheConstants.{MAX_STEPS, MAX_BYTES}
+use Rattle.journal_core.specs.Blocks.{BlocksState}
 use Rattle.journal_core.specs.declared.step.Step.{Step}
 
 -- the step of a pass: its number, the event and the answer
@@ -22,7 +23,8 @@ IsFull journal bytes = (MAX_STEPS ≤ length journal.steps) ⊎ (MAX_BYTES < jou
 abbrev pub IsWithinLimits : ℕ → ℕ → Type 0
 IsWithinLimits steps bytes = (steps ≤ MAX_STEPS) × (bytes ≤ MAX_BYTES)
 
--- where room was made, the places of the steps are more than the steps, and with one more step no limit is passed
-abbrev pub HasRoom : (steps places bytes : ℕ) → Option ℕ → Type 0
-HasRoom steps places bytes None = Unit {0}
-HasRoom steps places bytes (Some more) = (steps < places) × IsWithinLimits (steps + 1) (bytes + more)
+-- where room was made, there is a place for a step, and with one more step no limit is passed
+abbrev pub HasRoom : {X : Type 0} → BlocksState X → ℕ → Option ℕ → Type 0
+HasRoom steps bytes None = Unit {0}
+HasRoom steps bytes (Some more) =
+    (steps.has_room ≡ true) × IsWithinLimits (length steps.items + 1) (bytes + more)

@@ -3,6 +3,7 @@ ghost use Rattle.std.specs.Prelude.{◌≡◌, ◌+◌, ◌≤◌, ◌<◌, ◌�
 ghost use Rattle.std.specs.Option.{option_copied};
 ghost use Rattle.journal_core.specs.Journal.{IsFull};
 
+use crate::blocks::Blocks;
 use crate::error::JournalError;
 use crate::step::Step;
 use std::alloc::Global;
@@ -19,22 +20,22 @@ pub const MAX_BYTES: u64 = 67_108_864;
 /// Contracts see the steps, the oldest first, their bytes, and what room was made for.
 #[derive(Drop)]
 pub struct Journal<E, A> {
-    steps: Vec<Step<E, A>>,
+    steps: Blocks<Step<E, A>>,
     bytes: u64,
     // The bytes that there is room for, from `room` to `add`.
     room: Option<u64>,
 }
 
 impl<E, A> Model for Journal<E, A> {
-    ghost use Rattle.std.specs.Prelude.{vec_len, vec_capacity};
+    ghost use Rattle.std.specs.Prelude.{length};
     ghost use Rattle.journal_core.specs.Journal.{JournalState, IsWithinLimits, HasRoom};
 
     ghost Value = { JournalState E A };
 
     ghost view = { λ j. record { steps = j.steps.items; bytes = j.bytes; room = j.room } };
 
-    ghost invariant = { λ j. IsWithinLimits (vec_len j.steps) j.bytes
-        × HasRoom (vec_len j.steps) (vec_capacity j.steps) j.bytes j.room };
+    ghost invariant = { λ j. IsWithinLimits (length j.steps.items) j.bytes
+        × HasRoom j.steps j.bytes j.room };
 }
 
 impl<E, A> Journal<E, A> {
@@ -45,7 +46,7 @@ impl<E, A> Journal<E, A> {
         ensures room { result.room ≡ None }
     {
         Journal {
-            steps: Vec::new(alloc),
+            steps: Blocks::new(alloc),
             bytes: 0,
             room: None,
         }
@@ -70,7 +71,7 @@ impl<E, A> Journal<E, A> {
         if self.steps.len() >= MAX_STEPS || bytes > MAX_BYTES - self.bytes {
             return Err(JournalError::JournalFull);
         }
-        self.steps.reserve(1)?;
+        self.steps.reserve_one()?;
         self.room = Some(bytes);
         Ok(())
     }

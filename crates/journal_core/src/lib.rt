@@ -5,6 +5,7 @@
 //! can't fail.
 #![tactic(auto)]
 
+mod blocks;
 mod error;
 mod journal;
 mod laws;
