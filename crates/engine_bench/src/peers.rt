@@ -1,0 +1,263 @@
+//! The other ends of both connections: a client and a host, and sockets to them in memory.
+
+use crate::load::{Load, Texts};
+use anyhow::{Result, bail};
+use std::cell::Cell;
+use std::io;
+use std::io::{ErrorKind, Read, Write};
+
+/// How often a socket was read and written.
+#[derive(Drop)]
+pub struct Calls {
+    reads: Cell<u64>,
+    writes: Cell<u64>,
+}
+
+impl Calls {
+    fn none() -> Calls {
+        Calls {
+            reads: Cell::new(0),
+            writes: Cell::new(0),
+        }
+    }
+
+    /// How many reads were made, those that found nothing too.
+    pub fn reads(&self) -> u64 {
+        self.reads.get()
+    }
+
+    /// How many writes were made.
+    pub fn writes(&self) -> u64 {
+        self.writes.get()
+    }
+
+    fn count_read(&self) {
+        self.reads.set(self.reads.get().saturating_add(1));
+    }
+
+    fn count_write(&self) {
+        self.writes.set(self.writes.get().saturating_add(1));
+    }
+}
+
+fn add(cell: &Cell<usize>, bytes: usize) {
+    cell.set(cell.get().saturating_add(bytes));
+}
+
+/// A client, which sends a batch once it has had all replies to the one before.
+#[derive(Drop)]
+pub struct ClientPeer {
+    pub calls: Calls,
+    // How many bytes the replies to a batch have.
+    replies_bytes: usize,
+    // How many batches are still to be sent.
+    batches: Cell<u64>,
+    // How many bytes of replies are wanted for the batches that were sent, and how many came.
+    wanted: Cell<usize>,
+    had: Cell<usize>,
+}
+
+impl ClientPeer {
+    fn new(load: Load, texts: &Texts) -> ClientPeer {
+        ClientPeer {
+            calls: Calls::none(),
+            replies_bytes: texts.replies.len(),
+            batches: Cell::new(load.batches),
+            wanted: Cell::new(0),
+            had: Cell::new(0),
+        }
+    }
+
+    // Whether each batch that was sent has its replies.
+    fn is_answered(&self) -> bool {
+        self.had.get() == self.wanted.get()
+    }
+
+    /// Whether all batches were sent and answered.
+    pub fn is_done(&self) -> bool {
+        self.batches.get() == 0 && self.is_answered()
+    }
+
+    // Sends a batch, if it is time for one.
+    fn sends(&self) -> bool {
+        if self.batches.get() == 0 || !self.is_answered() {
+            return false;
+        }
+        self.batches.set(self.batches.get().saturating_sub(1));
+        add(&self.wanted, self.replies_bytes);
+        true
+    }
+}
+
+/// What is read from a client.
+#[derive(Drop)]
+pub struct ClientReader<'a> {
+    peer: &'a ClientPeer,
+    batch: &'a [u8],
+    left: &'a [u8],
+}
+
+impl Read for ClientReader<'_> {
+    fn read(&mut self, buffer: &mut [u8]) -> io::Result<usize> {
+        self.peer.calls.count_read();
+        if self.left.is_empty() && self.peer.sends() {
+            self.left = self.batch;
+        }
+        let most = buffer.len().min(self.left.len());
+        if most == 0 {
+            return Err(io::Error::from(ErrorKind::WouldBlock));
+        }
+        let (now, later) = self.left.split_at(most);
+        buffer[..most].copy_from_slice(now);
+        self.left = later;
+        Ok(most)
+    }
+}
+
+/// What is written to a client.
+#[derive(Drop)]
+pub struct ClientWriter<'a> {
+    peer: &'a ClientPeer,
+}
+
+impl Write for ClientWriter<'_> {
+    fn write(&mut self, bytes: &[u8]) -> io::Result<usize> {
+        self.peer.calls.count_write();
+        add(&self.peer.had, bytes.len());
+        Ok(bytes.len())
+    }
+
+    fn flush(&mut self) -> io::Result<()> {
+        Ok(())
+    }
+}
+
+/// A host, which answers the requests that have come whole when it is told to.
+#[derive(Drop)]
+pub struct HostPeer {
+    pub calls: Calls,
+    request_bytes: usize,
+    reply_bytes: usize,
+    // How many bytes of requests came, and how many requests were answered.
+    had: Cell<usize>,
+    answered: Cell<usize>,
+    // How many bytes of replies can be read.
+    ready: Cell<usize>,
+}
+
+impl HostPeer {
+    fn new(texts: &Texts) -> HostPeer {
+        HostPeer {
+            calls: Calls::none(),
+            request_bytes: texts.request_bytes,
+            reply_bytes: texts.reply_bytes,
+            had: Cell::new(0),
+            answered: Cell::new(0),
+            ready: Cell::new(0),
+        }
+    }
+
+    /// Answers all requests that came.
+    pub fn answer(&self) {
+        let came = self.had.get().checked_div(self.request_bytes).unwrap_or(0);
+        let fresh = came.saturating_sub(self.answered.get());
+        self.answered.set(came);
+        add(&self.ready, fresh.saturating_mul(self.reply_bytes));
+    }
+}
+
+/// What is read from a host.
+#[derive(Drop)]
+pub struct HostReader<'a> {
+    peer: &'a HostPeer,
+    replies: &'a [u8],
+    left: &'a [u8],
+}
+
+impl Read for HostReader<'_> {
+    fn read(&mut self, buffer: &mut [u8]) -> io::Result<usize> {
+        self.peer.calls.count_read();
+        if self.left.is_empty() {
+            self.left = self.replies;
+        }
+        let ready = self.peer.ready.get();
+        let most = buffer.len().min(self.left.len()).min(ready);
+        if most == 0 {
+            return Err(io::Error::from(ErrorKind::WouldBlock));
+        }
+        self.peer.ready.set(ready.saturating_sub(most));
+        let (now, later) = self.left.split_at(most);
+        buffer[..most].copy_from_slice(now);
+        self.left = later;
+        Ok(most)
+    }
+}
+
+/// What is written to a host.
+#[derive(Drop)]
+pub struct HostWriter<'a> {
+    peer: &'a HostPeer,
+}
+
+impl Write for HostWriter<'_> {
+    fn write(&mut self, bytes: &[u8]) -> io::Result<usize> {
+        self.peer.calls.count_write();
+        add(&self.peer.had, bytes.len());
+        Ok(bytes.len())
+    }
+
+    fn flush(&mut self) -> io::Result<()> {
+        Ok(())
+    }
+}
+
+/// A client and a host.
+#[derive(Drop)]
+pub struct Peers {
+    pub client: ClientPeer,
+    pub host: HostPeer,
+}
+
+impl Peers {
+    /// To which nothing was sent yet.
+    pub fn new(load: Load, texts: &Texts) -> Peers {
+        Peers {
+            client: ClientPeer::new(load, texts),
+            host: HostPeer::new(texts),
+        }
+    }
+
+    /// The client's socket.
+    pub fn client_ends<'a>(&'a self, texts: &'a Texts) -> (ClientReader<'a>, ClientWriter<'a>) {
+        let reader = ClientReader {
+            peer: &self.client,
+            batch: &texts.batch,
+            left: &[],
+        };
+        let peer = &self.client;
+        (reader, ClientWriter { peer })
+    }
+
+    /// The host's socket.
+    pub fn host_ends<'a>(&'a self, texts: &'a Texts) -> (HostReader<'a>, HostWriter<'a>) {
+        let reader = HostReader {
+            peer: &self.host,
+            replies: &texts.replies,
+            left: &[],
+        };
+        let peer = &self.host;
+        (reader, HostWriter { peer })
+    }
+
+    /// Fails where the host hadn't all requests, or the client not all replies to them, byte for byte as many.
+    pub fn check_done(&self, load: Load, texts: &Texts) -> Result<()> {
+        let batches = load.batches as usize;
+        let are_done = self.client.is_done()
+            && self.client.had.get() == batches.saturating_mul(texts.replies.len())
+            && self.host.had.get() == batches.saturating_mul(texts.batch.len());
+        if !are_done {
+            bail!("not all requests and replies came");
+        }
+        Ok(())
+    }
+}

@@ -1,0 +1,248 @@
+//! What a core's journal tells of a run.
+
+use proxy_core::{Answer, Core, Event, Kind, Step, Trip};
+use std::test::Fail;
+
+// What a step was, without what it carries.
+#[derive(Clone, Copy, Debug, PartialEq, Eq)]
+pub(crate) enum Deed {
+    Opened,
+    Arrived,
+    Finished,
+    Taken,
+    Answered,
+    Failed,
+    Swept,
+    Handed,
+    Closed,
+}
+
+impl Deed {
+    fn of(event: &Event) -> Deed {
+        match event {
+            Event::Opened => Deed::Opened,
+            Event::Arrived { .. } => Deed::Arrived,
+            Event::Finished { .. } => Deed::Finished,
+            Event::Taken { .. } => Deed::Taken,
+            Event::Answered { .. } => Deed::Answered,
+            Event::Failed { .. } => Deed::Failed,
+            Event::Swept { .. } => Deed::Swept,
+            Event::Handed { .. } => Deed::Handed,
+            Event::Closed { .. } => Deed::Closed,
+        }
+    }
+}
+
+// A fault of a link, as the journal has it.
+#[derive(Clone, Copy, Debug, PartialEq, Eq)]
+pub(crate) struct Loss {
+    pub(crate) kind: Kind,
+    pub(crate) epoch: u64,
+    pub(crate) parts: u64,
+    pub(crate) t: u64,
+}
+
+impl Loss {
+    fn of(step: &Step<Event, Answer>) -> Option<Loss> {
+        match (&step.event, &step.answer) {
+            (Event::Failed { kind, epoch, t, .. }, Answer::Lost { parts, .. }) => Some(Loss {
+                kind: *kind,
+                epoch: *epoch,
+                parts: *parts,
+                t: *t,
+            }),
+            _ => None,
+        }
+    }
+}
+
+// How many steps are such a deed.
+pub(crate) fn count(core: &Core, deed: Deed) -> usize {
+    let journal = core.journal();
+    let mut found = 0usize;
+    for i in 0..journal.len() {
+        if let Some(step) = journal.get(i) {
+            if Deed::of(&step.event) == deed {
+                found = found.saturating_add(1);
+            }
+        }
+    }
+    found
+}
+
+// The newest step.
+pub(crate) fn last_deed(core: &Core) -> Option<Deed> {
+    let journal = core.journal();
+    match journal.get(journal.len().saturating_sub(1)) {
+        Some(step) => Some(Deed::of(&step.event)),
+        None => None,
+    }
+}
+
+// The newest fault.
+pub(crate) fn last_loss(core: &Core) -> Option<Loss> {
+    let journal = core.journal();
+    let mut found = None;
+    for i in 0..journal.len() {
+        if let Some(step) = journal.get(i) {
+            found = Loss::of(step).or(found);
+        }
+    }
+    found
+}
+
+// What the newest fault did to its host, and the epoch that it ended.
+pub(crate) fn last_trip(core: &Core) -> Option<(u64, Trip)> {
+    let journal = core.journal();
+    match journal.get(journal.len().saturating_sub(1)) {
+        Some(
+            Step {
+                event: Event::Failed { epoch, .. },
+                answer: Answer::Lost { trip, .. },
+                ..
+            },
+        ) => Some((*epoch, *trip)),
+        _ => None,
+    }
+}
+
+// How many parts were sent in this epoch.
+pub(crate) fn sent_in(core: &Core, epoch: u64) -> usize {
+    let journal = core.journal();
+    let mut found = 0usize;
+    for i in 0..journal.len() {
+        if let Some(
+            Step {
+                answer: Answer::Sent { epoch: sent, .. },
+                ..
+            },
+        ) = journal.get(i)
+        {
+            found = found.saturating_add(usize::from(*sent == epoch));
+        }
+    }
+    found
+}
+
+// Appends the texts of the parts that were sent in this epoch.
+pub(crate) fn put_sent(core: &Core, epoch: u64, texts: &mut Vec<u8>) -> Result<(), Fail> {
+    let journal = core.journal();
+    for i in 0..journal.len() {
+        match journal.get(i) {
+            Some(
+                Step {
+                    answer: Answer::Sent {
+                        epoch: sent,
+                        text,
+                        ..
+                    },
+                    ..
+                },
+            ) if *sent == epoch => texts.extend_from_slice(text.as_slice())?,
+            _ => {}
+        }
+    }
+    Ok(())
+}
+
+// How many replies were handed out before the newest command arrived.
+pub(crate) fn handed_before_last_arrival(core: &Core) -> usize {
+    let journal = core.journal();
+    let mut handed = 0usize;
+    let mut before = 0usize;
+    for i in 0..journal.len() {
+        match journal.get(i) {
+            Some(
+                Step {
+                    event: Event::Handed { .. },
+                    ..
+                },
+            ) => handed = handed.saturating_add(1),
+            Some(
+                Step {
+                    event: Event::Arrived { .. },
+                    ..
+                },
+            ) => before = handed,
+            _ => {}
+        }
+    }
+    before
+}
+
+// Steps that come in the same order whoever comes first: those of one deed, and of one host if it is a host's.
+#[derive(Clone, Copy, Debug, PartialEq, Eq)]
+struct Kin {
+    deed: Deed,
+    host: Option<usize>,
+}
+
+impl Kin {
+    fn of(event: &Event) -> Kin {
+        let host = match event {
+            Event::Taken { host } | Event::Answered { host, .. } | Event::Failed { host, .. } => {
+                Some(*host)
+            }
+            _ => None,
+        };
+        let deed = Deed::of(event);
+        Kin { deed, host }
+    }
+
+    // The answer to the first of these steps from a place on, and the place behind it.
+    fn next(self, core: &Core, from: usize) -> Option<(&Answer, usize)> {
+        let journal = core.journal();
+        for i in from..journal.len() {
+            if let Some(step) = journal.get(i) {
+                if Kin::of(&step.event) == self {
+                    return Some((&step.answer, i.saturating_add(1)));
+                }
+            }
+        }
+        None
+    }
+
+    // Whether these steps have the same answers in both journals, in the same order.
+    fn goes_alike(self, one: &Core, other: &Core) -> bool {
+        let (mut i, mut j) = (0, 0);
+        for _ in 0..=one.journal().len() {
+            match (self.next(one, i), self.next(other, j)) {
+                (None, None) => return true,
+                (Some((answer, behind)), Some((other_answer, other_behind))) => {
+                    if answer != other_answer {
+                        return false;
+                    }
+                    i = behind;
+                    j = other_behind;
+                }
+                _ => return false,
+            }
+        }
+        false
+    }
+}
+
+// Whether one client and three hosts without faults did the same in both journals, whoever came first.
+pub(crate) fn go_alike(one: &Core, other: &Core) -> bool {
+    let clients = [
+        Deed::Opened,
+        Deed::Arrived,
+        Deed::Finished,
+        Deed::Handed,
+        Deed::Closed,
+    ];
+    for deed in clients {
+        if !(Kin { deed, host: None }).goes_alike(one, other) {
+            return false;
+        }
+    }
+    for host in 0..3 {
+        for deed in [Deed::Taken, Deed::Answered] {
+            let host = Some(host);
+            if !(Kin { deed, host }).goes_alike(one, other) {
+                return false;
+            }
+        }
+    }
+    one.journal().len() == other.journal().len()
+}

@@ -1,0 +1,22 @@
+//! The tests of the engines of clients and hosts over devices that stop short, pause, fail and lie, and over turns that are
+//! refused.
+#![tactic(auto)]
+
+#[cfg(test)]
+mod client_lies;
+#[cfg(test)]
+mod devices;
+#[cfg(test)]
+mod host_lies;
+#[cfg(test)]
+mod journal;
+#[cfg(test)]
+mod refusal_tests;
+#[cfg(test)]
+mod rig;
+#[cfg(test)]
+mod scene;
+#[cfg(test)]
+mod texts;
+#[cfg(test)]
+mod turns;

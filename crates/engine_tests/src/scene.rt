@@ -1,0 +1,59 @@
+//! One client before one host, with what each says and what each is told.
+
+use crate::devices::{Feed, Taken};
+use crate::rig::{Ends, Link, Rig};
+use crate::turns::Ration;
+use std::alloc::Global;
+use std::cell::Cell;
+use std::sync::Wait;
+use std::test::Fail;
+use stub_server::Act;
+
+// What one client and one host say, and what both are told.
+#[derive(Drop)]
+pub(crate) struct Scene {
+    pub(crate) client: Cell<Feed>,
+    pub(crate) host: Cell<Feed>,
+    pub(crate) answered: Taken,
+    pub(crate) asked: Taken,
+    // What is written to the host over a second link.
+    pub(crate) asked_later: Taken,
+}
+
+impl Scene {
+    pub(crate) fn new(alloc: Global, client: Feed, host: Feed) -> Scene {
+        Scene {
+            client: Cell::new(client),
+            host: Cell::new(host),
+            answered: Taken::new(alloc),
+            asked: Taken::new(alloc),
+            asked_later: Taken::new(alloc),
+        }
+    }
+
+    // The engines of both, without a link between them.
+    pub(crate) fn rig<'a, Rt: Wait + AllocGlobal>(&'a self, rt: &Rt) -> Result<Rig<'a>, Fail> {
+        let mut rig = Rig::new(rt.alloc(), 1, Ration::FREE)?;
+        rig.open(rt, Ends::new(&self.client, &self.answered))?;
+        Ok(rig)
+    }
+
+    // The same with a link to the host, which says what it says whatever it is asked.
+    pub(crate) fn linked<'a, Rt: Wait + AllocGlobal>(&'a self, rt: &Rt) -> Result<Rig<'a>, Fail> {
+        let mut rig = self.rig(rt)?;
+        rig.links.push(Link::to_text(&self.host, &self.asked))?;
+        Ok(rig)
+    }
+
+    // The same with a link to a stub that serves by these acts.
+    pub(crate) fn before_stub<'a, Rt: Wait + AllocGlobal>(
+        &'a self,
+        rt: &Rt,
+        acts: &[Act],
+    ) -> Result<Rig<'a>, Fail> {
+        let mut rig = self.rig(rt)?;
+        rig.links
+            .push(Link::to_stub(rt.alloc(), acts, &self.asked)?)?;
+        Ok(rig)
+    }
+}

@@ -1,0 +1,50 @@
+//! What clients ask, and what three hosts whose maps are empty at first answer.
+
+// What a client says, and what it is answered.
+pub(crate) type Exchange = (&'static [u8], &'static [u8]);
+
+// A SET of 27 bytes and an MGET of 35.
+pub(crate) const SET_AND_MGET: Exchange = (
+    b"*3\r\n$3\r\nSET\r\n$1\r\na\r\n$1\r\n1\r\n*4\r\n$4\r\nMGET\r\n$1\r\na\r\n$1\r\nb\r\n$1\r\na\r\n",
+    b"+OK\r\n*3\r\n$1\r\n1\r\n$-1\r\n$1\r\n1\r\n",
+);
+
+// Commands of keys that no other client has.
+pub(crate) const OTHER_KEYS: Exchange = (
+    b"*3\r\n$3\r\nSET\r\n$3\r\nabc\r\n$1\r\n1\r\n*4\r\n$4\r\nMGET\r\n$3\r\nabc\r\n$0\r\n\r\n$3\r\nabc\r\n",
+    b"+OK\r\n*3\r\n$1\r\n1\r\n$-1\r\n$1\r\n1\r\n",
+);
+
+// Local answers, one of a reader that refuses its bytes, a last command, and commands of one host and of several.
+pub(crate) const EXCHANGES: [Exchange; 6] = [
+    SET_AND_MGET,
+    (
+        b"*3\r\n$5\r\nblpop\r\n$1\r\nk\r\n$1\r\n0\r\n*1\r\n$4\r\nping\r\n",
+        b"-unsupported command 'blpop'\r\n+PONG\r\n",
+    ),
+    (
+        b"*1\r\n$4\r\nPING\r\n*1\n*1\r\n$4\r\nPING\r\n",
+        b"+PONG\r\n-downstream protocol error\r\n",
+    ),
+    (b"*1\r\n$4\r\nQUIT\r\n*1\r\n$4\r\nPING\r\n", b"+OK\r\n"),
+    (
+        b"*5\r\n$4\r\nMSET\r\n$1\r\na\r\n$1\r\n1\r\n$0\r\n\r\n$1\r\n2\r\n*5\r\n$3\r\nDEL\r\n$1\r\na\r\n$1\r\na\r\n$0\r\n\r\n$3\r\nabc\r\n",
+        b"+OK\r\n:2\r\n",
+    ),
+    (
+        b"*2\r\n$3\r\nSET\r\n$1\r\na\r\n*1\r\n$4\r\nPING\r\n",
+        b"-ERR wrong number of arguments\r\n+PONG\r\n",
+    ),
+];
+
+// A GET of a key of host 1 of three, and of the only host.
+pub(crate) const GET: &[u8] = b"*2\r\n$3\r\nGET\r\n$1\r\na\r\n";
+
+// A SET of the same key.
+pub(crate) const SET: &[u8] = b"*3\r\n$3\r\nSET\r\n$1\r\na\r\n$1\r\n1\r\n";
+
+// What the proxy answers for a part that was lost.
+pub(crate) const FAILURE: &[u8] = b"-upstream failure\r\n";
+
+// What a host answers to a GET of a key that it hasn't.
+pub(crate) const NOTHING: &[u8] = b"$-1\r\n";

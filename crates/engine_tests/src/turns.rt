@@ -1,0 +1,115 @@
+//! Turns on a core of one's own, some of which are refused as if no ticket were left.
+ghost use Rattle.std.specs.Prelude.{⊤};
+ghost use Rattle.proxy_core.specs.Recorded.{journal_of, made_with, IsLegalJournal, IsCauseIn};
+
+use ejector::EjectState;
+use ketama::Ring;
+use proxy_core::{Answer, Core, CoreTurns, Event, Refusal};
+use std::sync::Wait;
+use ticket_gate::{Alone, TurnRefusal, Turns};
+
+// Which turns are refused, counted from 1 as they are asked for: from the first on so many.
+#[derive(Clone, Copy, Debug, PartialEq, Eq)]
+pub(crate) struct Ration {
+    first: u64,
+    refused: u64,
+}
+
+impl Ration {
+    // No turn is refused.
+    pub(crate) const FREE: Ration = Ration {
+        first: 0,
+        refused: 0,
+    };
+
+    pub(crate) fn without(first: u64, refused: u64) -> Ration {
+        Ration { first, refused }
+    }
+
+    fn refuses(self, turn: u64) -> bool {
+        turn >= self.first && turn.saturating_sub(self.first) < self.refused
+    }
+}
+
+// Turns on a core of which some are refused.
+#[derive(Drop)]
+pub(crate) struct Rationed {
+    alone: Alone<Core>,
+    ration: Ration,
+    asked: u64,
+}
+
+impl Rationed {
+    pub(crate) fn new(alone: Alone<Core>, ration: Ration) -> Rationed {
+        Rationed {
+            alone,
+            ration,
+            asked: 0,
+        }
+    }
+
+    pub(crate) fn core(&self) -> &Core {
+        self.alone.state()
+    }
+
+    pub(crate) fn into_core(self) -> Core {
+        let Rationed { alone, .. } = self;
+        alone.into_state()
+    }
+}
+
+impl Turns for Rationed {
+    type Event = Event;
+
+    type Answer = Answer;
+
+    type Refusal = Refusal;
+
+    type Setting = (Ring, EjectState);
+
+    type Home = ();
+
+    ghost home = { λ t. tt };
+
+    ghost pass = { λ t. t.alone.pass };
+
+    ghost seen = { λ t. journal_of t.alone.state };
+
+    ghost setting = { λ t. made_with t.alone.state };
+
+    ghost legal = { IsLegalJournal };
+
+    ghost cause = { IsCauseIn };
+
+    ghost spent = { λ t. ⊤ };
+
+    fn turn<R: Wait>(
+        &mut self,
+        rt: &R,
+        event: Event,
+    ) -> Result<Answer, TurnRefusal<Refusal, Event>> {
+        self.asked = self.asked.saturating_add(1);
+        if self.ration.refuses(self.asked) {
+            return Err(TurnRefusal::Spent { event });
+        }
+        self.alone.turn(rt, event)
+    }
+}
+
+impl CoreTurns for Rationed {
+    ghost use Rattle.proxy_core.specs.JournalLaws.{answers_fit, are_few_steps, are_histories, epochs_are_present, finishing_takes_nothing, openings_are_new, refusals_mean};
+
+    ghost are_histories = { are_histories };
+
+    ghost answers_fit = { answers_fit };
+
+    ghost openings_are_new = { openings_are_new };
+
+    ghost are_few_steps = { are_few_steps };
+
+    ghost epochs_are_present = { epochs_are_present };
+
+    ghost refusals_mean = { refusals_mean };
+
+    ghost finishing_takes_nothing = { finishing_takes_nothing };
+}
