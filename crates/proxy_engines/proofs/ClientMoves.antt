@@ -1,6 +1,6 @@
 -- What a client's engine carries over each of its moves.
 use Rattle.std.proofs.Common.{◌≡◌, ◌≢◌, ◌∙◌, ◌≤◌, ◌+◌, ◌-◌, ◌^◌, ◌==◌, min, ℕ, Bool, true, false, List, [], ◌∷◌, ◌++◌, Option, Some, None, map, ap, append_assoc, append-nil, length, refl, sym, arith, inl, inr, subst, eq-eqb}
-use Rattle.std.specs.Prelude.{IfSome, IfNone, ◌||◌}
+use Rattle.std.specs.Prelude.{IfSome, IfNone, IfOk, Result, Ok, Err, ◌||◌}
 use Rattle.std.specs.Io.KnownBytes.{Consumes, Appends}
 use Rattle.std.proofs.lemmas.List.{map-append}
 use Rattle.std.proofs.lemmas.List.Elements.{filter-append}
@@ -21,9 +21,10 @@ use Rattle.proxy_history.proofs.CallerLemmas as history
 use Rattle.proxy_engines.specs.Ends.{OutboxState, Sends, InboxState, Holds, HasGivenAll}
 use Rattle.journal_core.specs.Journal.{step_by}
 use Rattle.proxy_engines.specs.Client.{Client, Carries, Goes, IsAllRead, IsAtStage, IsDone, IsFinished, IsLive, IsOver, NoneFinishes, asked_requests, waiting_requests}
-use Rattle.proxy_engines.specs.Moves.{has_moved, AsTold}
+use Rattle.proxy_engines.specs.Moves.{has_moved, AsTold, told_by_turn}
 use Rattle.proxy_engines.proofs.MoveLemmas.{has_moved-append}
 use Rattle.proxy_engines.specs.declared.client.Stage.{Stage}
+use Rattle.proxy_engines.specs.declared.error.EngineError.{EngineError}
 
 -- BYTES
 
@@ -91,6 +92,11 @@ still_goes old new H conn drained left counts held f = record {
 -- nothing at all
 pub same_goes : (e : Client) (H H' : History) → H' ≡ H → Goes e e H H' false
 same_goes e H H' same = rw same (still_goes e e H refl refl refl refl refl (λ taken b k. k))
+
+-- a turn that wasn't answered
+pub unanswered_goes : (e : Client) (H H' : History) (result : Result Bool EngineError) → H' ≡ H → IfOk result (λ b. b ≡ false) → AsTold (Goes e e H H') (told_by_turn result)
+unanswered_goes e H H' (Ok b) same unmoved = rw unmoved (same_goes e H H' same)
+unanswered_goes e H H' (Err error) same unmoved = (false, same_goes e H H' same)
 
 -- two moves after one another
 pub goes_then : (a b c : Client) (x y z : History) (m n : Bool) → Goes a b x y m → Goes b c y z n → Goes a c x z (m || n)

@@ -1,6 +1,7 @@
-use Rattle.std.proofs.Common.{◌∙◌, sym}
-use Rattle.proxy_engines.proofs.ClientMoves.{arrived_on, arrived_last}
+use Rattle.std.proofs.Common.{◌≡◌, ◌∙◌, IfOk, Some, false, refl, sym, ap}
+use Rattle.proxy_engines.proofs.ClientMoves.{arrived_on, arrived_last, unanswered_goes}
 use Rattle.proxy_engines.proofs.client.ClientEngine.offer.Goals as goal
+use Rattle.proxy_engines.proofs.client.ClientEngine.offer.Goals.{in-By-Crowded, in_default-denied}
 
 pub returns-then-is_last-clause-goes : goal.returns-then-is_last-clause-goes
 returns-then-is_last-clause-goes g c =
@@ -15,3 +16,13 @@ returns-else-is_last-clause-goes g c =
     rw (c.take.ensures.after, c.saturating_add-self-inside.ensures, now.1.steps, ← c.self.view_is)
     (arrived_on _ c.in-Some.request (g.T.Turns.pass c.args.turns.now) _ now.0 (rw (← c.self.view_is) at c.requires.stage) (sym c.take.ensures.value ∙ c.in-Some.is) (rw now.1.steps at now.1.few)
     (sym c.in-Ok.ensures.last ∙ c.if-is_last.false))
+
+pub returns-after-denied-clause-goes : goal.returns-after-denied-clause-goes
+returns-after-denied-clause-goes g c =
+    let back = ap Some c.in-Err.ensures.back ∙ sym c.in-Some.is ∙ c.take.ensures.value in
+    let unmoved : IfOk c.match-denied.result (λ b. b ≡ false) =
+    elim c.match-denied.branch [
+      | in-By-Crowded w ↦ rw w.result-is refl
+      | in_default-denied w ↦ rw w.result-is tt
+    ] in
+    rw (back, c.self.view_is) (unanswered_goes c.args.self.now _ _ _ c.in-Err.ensures.rests unmoved)
