@@ -1,4 +1,4 @@
-//! A list whose elements are never moved.
+//! A list that grows in blocks of memory.
 ghost use Rattle.std.specs.Prelude.{◌≡◌, ◌<◌, ◌-◌, ◌^◌, true, [], ◌∷◌, ◌++◌, length, slice_get, OnOk, OnErr, IsOk};
 ghost use Rattle.std.specs.Option.{option_copied};
 
