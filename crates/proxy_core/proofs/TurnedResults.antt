@@ -43,20 +43,17 @@ settled_to done old new after pass event a h is =
     subst (λ (m : Machine). IsMade old m pass event a) (sym is.step)
     (subst (λ (z : Answer). IsMade old (with_step new pass event is.done) pass event z) (sym is.answer_is) (makes.made pass))
 
-pub if_made : (done : Result Done Refusal) (r : Result Answer Refused) (old new after : Machine) (pass : ℕ) (event event' : Event) → event' ≡ event
-    → IfOk done (λ d. Makes old new event d) → IfOk r (λ a. IsSettled new after pass event done a) → IfOk r (λ a. IsMade old after pass event' a)
-if_made done (Ok a) old new after pass event event' e h is =
-    subst (λ (z : Event). IsMade old after pass z a) (sym e) (settled_to done old new after pass event a h is)
-if_made done (Err r) old new after pass event event' e h is = tt
+pub if_made : (done : Result Done Refusal) (r : Result Answer Refused) (old new after : Machine) (pass : ℕ) (event : Event)
+    → IfOk done (λ d. Makes old new event d) → IfOk r (λ a. IsSettled new after pass event done a) → IfOk r (λ a. IsMade old after pass event a)
+if_made done r old new after pass event h is = IfOk-weaker r _ _ (λ a. settled_to done old new after pass event a h) is
 
-pub if_left : (done : Result Done Refusal) (r : Result Answer Refused) (old new after : Machine) (event event' : Event) → event' ≡ event → IsKept old
+pub if_left : (done : Result Done Refusal) (r : Result Answer Refused) (old new after : Machine) (event : Event) → IsKept old
     → IfErr done (λ cause. IsSame old new × HasCauseIn old event cause)
-    → IfErr r (λ r. (r.event ≡ event) × (done ≡ Err r.cause) × (after ≡ new)) → IfErr r (λ r. IsLeft old after event' r)
-if_left done (Ok a) old new after event event' e kept h is = tt
-if_left done (Err r) old new after event event' e kept h (is_event, is_cause, is_new) =
+    → IfErr r (λ r. (r.event ≡ event) × (done ≡ Err r.cause) × (after ≡ new)) → IfErr r (λ r. IsLeft old after event r)
+if_left done (Ok a) old new after event kept h is = tt
+if_left done (Err r) old new after event kept h (is_event, is_cause, is_new) =
     let cause = subst (λ (z : Result Done Refusal). IfErr z (λ cause. IsSame old new × HasCauseIn old event cause)) is_cause h in
-    subst (λ (z : Event). IsLeft old after z r) (sym e)
-    (subst (λ (m : Machine). IsLeft old m event r) (sym is_new) (left old new event r kept (is_event, cause.0, cause.1)))
+    subst (λ (m : Machine). IsLeft old m event r) (sym is_new) (left old new event r kept (is_event, cause.0, cause.1))
 
 pub all_three : (P Q R : Done → Type 0) (r : Result Done Refusal) → IfOk r P → IfOk r Q → IfOk r R → IfOk r (λ d. P d × Q d × R d)
 all_three P Q R (Ok d) p q s = (p, q, s)

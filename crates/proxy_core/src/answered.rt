@@ -12,14 +12,42 @@ ghost use Rattle.proxy_history.specs.declared.answer.Answer.TheVariants as answe
 ghost use Rattle.proxy_history.specs.declared.event.Event.TheVariants as events;
 ghost use Rattle.proxy_core.specs.Connections.{AreAwaited, answered_parts};
 ghost use Rattle.proxy_core.specs.Pipelines.{answered_by, next_owner, with_pipeline, pipeline_at};
-ghost use Rattle.proxy_core.specs.Machine.{own_cause_in, setting_in, memory_in, IsDone, IsSame, HasCauseIn};
+ghost use Rattle.proxy_core.specs.Core.{IsMade, IsLeft};
+ghost use Rattle.proxy_core.specs.Machine.{own_cause_in, setting_in, memory_in, IsDone, IsSame, HasCauseIn, IsKept};
 
 use crate::machine::{Done, Machine, make_room};
+use crate::refused::Refused;
 use ejector::{Ejector, Trip};
-use proxy_history::{Answer, Refusal};
+use proxy_history::{Answer, Event, Refusal};
 use resp_core::Value;
 
 impl Machine {
+    /// A turn in which a host answers.
+    pub(crate) fn turn_answered(
+        &mut self,
+        pass: u64,
+        host: usize,
+        epoch: u64,
+        value: Value,
+        t: u64,
+    ) -> Result<Answer, Refused>
+        requires { IsKept self.old }
+        ensures answered { IfOk result (λ a. IsMade self.old self.new pass (events.Answered host epoch value t) a) }
+        ensures refused { IfErr result (λ r. IsLeft self.old self.new (events.Answered host epoch value t) r) }
+    {
+        let done = self.answer(host, epoch, &value, t);
+        self.settle(
+            pass,
+            Event::Answered {
+                host,
+                epoch,
+                value,
+                t,
+            },
+            done,
+        )
+    }
+
     /// A host answered: the reply belongs to the oldest part that flies.
     pub(crate) fn answer(
         &mut self,

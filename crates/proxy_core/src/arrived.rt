@@ -19,18 +19,35 @@ ghost use Rattle.proxy_history.specs.declared.event.Event.TheVariants as events;
 ghost use Rattle.proxy_core.specs.Connections.{MayAccept, connection_at};
 ghost use Rattle.proxy_core.specs.Places.{AreCounted, counted_at, next_place, placed_as};
 ghost use Rattle.proxy_core.specs.Arrivals.{HasRoomFor, IsAccepted, MayJoinAll, Tells, own_plan, with_arrival};
+ghost use Rattle.proxy_core.specs.Core.{IsMade, IsLeft};
 ghost use Rattle.proxy_core.specs.Machine.{setting_in, memory_in, history_in, IsDone, IsKept, IsSame, IsReady, HasCauseIn};
 
 use crate::machine::{Done, Machine, make_room};
 use crate::place::{Accepted, Placed, next_place};
+use crate::refused::Refused;
 use ketama::{MAX_HOSTS, point_of_key};
-use proxy_history::Refusal;
+use proxy_history::{Answer, Event, Refusal};
 use reply_queue::MAX_COMMANDS;
 use resp_core::Value;
-use splitter::{Join, Local, PartPlan, PartPlans, Plan, Request, plan};
+use splitter::{Join, Local, PartPlan, PartPlans, Plan, Request, plan_with};
 use std::alloc::AllocError;
 
 impl Machine {
+    /// A turn in which a request arrives.
+    pub(crate) fn turn_arrived(
+        &mut self,
+        pass: u64,
+        conn: u64,
+        request: Request,
+    ) -> Result<Answer, Refused>
+        requires { IsKept self.old }
+        ensures answered { IfOk result (λ a. IsMade self.old self.new pass (events.Arrived conn request) a) }
+        ensures refused { IfErr result (λ r. IsLeft self.old self.new (events.Arrived conn request) r) }
+    {
+        let done = self.arrive(conn, &request);
+        self.settle(pass, Event::Arrived { conn, request }, done)
+    }
+
     /// A request of a connection arrived: the command is accepted, and each of its parts gets its host for good, or a value at
     /// once.
     pub(crate) fn arrive(&mut self, conn: u64, request: &Request) -> Result<Done, Refusal>
@@ -88,7 +105,7 @@ impl Machine {
             return Err(Refusal::Crowded);
         }
         make_room(&mut self.journal, bytes)?;
-        match plan(self.alloc, request) {
+        match plan_with(self.alloc, &mut self.texts, request) {
             Ok(plan) => Ok(plan),
             Err(_) => Err(Refusal::NoMemory),
         }

@@ -5,14 +5,26 @@ ghost use Rattle.proxy_history.specs.declared.event.Event.TheVariants as events;
 ghost use Rattle.proxy_history.specs.Value.{upstream_failure};
 ghost use Rattle.proxy_core.specs.Connections.{AreAwaited, connections_without};
 ghost use Rattle.proxy_core.specs.Pipelines.{lost_owners, without_connection, pipeline_at};
-ghost use Rattle.proxy_core.specs.Machine.{memory_in, IsDone, IsSame, HasCauseIn};
+ghost use Rattle.proxy_core.specs.Core.{IsMade, IsLeft};
+ghost use Rattle.proxy_core.specs.Machine.{memory_in, IsDone, IsSame, HasCauseIn, IsKept};
 
 use crate::connections::Connections;
 use crate::machine::{Done, Machine, make_room};
 use crate::pipelines::Pipelines;
-use proxy_history::{Answer, Refusal};
+use crate::refused::Refused;
+use proxy_history::{Answer, Event, Refusal};
 
 impl Machine {
+    /// A turn in which a connection is closed.
+    pub(crate) fn turn_closed(&mut self, pass: u64, conn: u64) -> Result<Answer, Refused>
+        requires { IsKept self.old }
+        ensures answered { IfOk result (λ a. IsMade self.old self.new pass (events.Closed conn) a) }
+        ensures refused { IfErr result (λ r. IsLeft self.old self.new (events.Closed conn) r) }
+    {
+        let done = self.close(conn);
+        self.settle(pass, Event::Closed { conn }, done)
+    }
+
     /// Closes a connection: its parts that wait are dropped, and the replies to those that fly go to nobody.
     pub(crate) fn close(&mut self, conn: u64) -> Result<Done, Refusal>
         requires closed { self.old.connections.closed + 1 < 2 ^ 64 }

@@ -14,15 +14,43 @@ ghost use Rattle.upstream_pipe.specs.Pipe.{owner_in};
 ghost use Rattle.journal_core.specs.Journal.{IsFull};
 ghost use Rattle.proxy_core.specs.Connections.{AreAwaited, answered_parts};
 ghost use Rattle.proxy_core.specs.Pipelines.{PipelineState, failed_pipeline, lost_owners, with_pipeline, pipeline_at};
-ghost use Rattle.proxy_core.specs.Machine.{setting_in, memory_in, own_cause_in, fault_mark, IsDone, IsSame, HasCauseIn};
+ghost use Rattle.proxy_core.specs.Core.{IsMade, IsLeft};
+ghost use Rattle.proxy_core.specs.Machine.{setting_in, memory_in, own_cause_in, fault_mark, IsDone, IsSame, HasCauseIn, IsKept};
 
 use crate::answered::counted;
 use crate::machine::{Done, Machine, make_room};
+use crate::refused::Refused;
 use ejector::{Ejector, Trip};
-use proxy_history::{Answer, Kind, Refusal};
+use proxy_history::{Answer, Event, Kind, Refusal};
 use upstream_pipe::Lost;
 
 impl Machine {
+    /// A turn in which a host fails.
+    pub(crate) fn turn_failed(
+        &mut self,
+        pass: u64,
+        host: usize,
+        epoch: u64,
+        kind: Kind,
+        t: u64,
+    ) -> Result<Answer, Refused>
+        requires { IsKept self.old }
+        ensures answered { IfOk result (λ a. IsMade self.old self.new pass (events.Failed host epoch kind t) a) }
+        ensures refused { IfErr result (λ r. IsLeft self.old self.new (events.Failed host epoch kind t) r) }
+    {
+        let done = self.fail(host, epoch, kind, t);
+        self.settle(
+            pass,
+            Event::Failed {
+                host,
+                epoch,
+                kind,
+                t,
+            },
+            done,
+        )
+    }
+
     /// A host failed: all parts that wait for it or fly to it are lost, and its epoch is over.
     pub(crate) fn fail(
         &mut self,

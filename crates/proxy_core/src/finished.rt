@@ -3,12 +3,24 @@ ghost use Rattle.std.specs.Prelude.{◌≡◌, IfOk, IfErr};
 ghost use Rattle.proxy_history.specs.declared.answer.Answer.TheVariants as answers;
 ghost use Rattle.proxy_history.specs.declared.event.Event.TheVariants as events;
 ghost use Rattle.proxy_core.specs.Connections.{with_connection, finished_connection};
-ghost use Rattle.proxy_core.specs.Machine.{memory_in, IsDone, IsSame, HasCauseIn};
+ghost use Rattle.proxy_core.specs.Core.{IsMade, IsLeft};
+ghost use Rattle.proxy_core.specs.Machine.{memory_in, IsDone, IsSame, HasCauseIn, IsKept};
 
 use crate::machine::{Done, Machine, make_room};
-use proxy_history::{Answer, Refusal};
+use crate::refused::Refused;
+use proxy_history::{Answer, Event, Refusal};
 
 impl Machine {
+    /// A turn in which a connection finishes.
+    pub(crate) fn turn_finished(&mut self, pass: u64, conn: u64) -> Result<Answer, Refused>
+        requires { IsKept self.old }
+        ensures answered { IfOk result (λ a. IsMade self.old self.new pass (events.Finished conn) a) }
+        ensures refused { IfErr result (λ r. IsLeft self.old self.new (events.Finished conn) r) }
+    {
+        let done = self.finish(conn);
+        self.settle(pass, Event::Finished { conn }, done)
+    }
+
     /// The connection takes no further command.
     pub(crate) fn finish(&mut self, conn: u64) -> Result<Done, Refusal>
         ensures done { IfOk result (λ d. (d.answer ≡ answers.Finishing)

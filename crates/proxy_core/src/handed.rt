@@ -3,21 +3,32 @@ ghost use Rattle.std.specs.Prelude.{◌≡◌, length, IfOk, IfErr, IfSome, IsSo
 ghost use Rattle.std.specs.Option.{option_map};
 ghost use Rattle.resp_core.specs.Text.{text};
 ghost use Rattle.resp_core.specs.Tree.{is_plain_tree};
-ghost use Rattle.resp_core.specs.Value.{tree_of};
 ghost use Rattle.reply_queue.specs.Queue.{front_reply};
 ghost use Rattle.proxy_history.specs.declared.answer.Answer.TheVariants as answers;
 ghost use Rattle.proxy_history.specs.declared.event.Event.TheVariants as events;
 ghost use Rattle.proxy_core.specs.Connections.{connection_without_front, with_connection, connection_at, reply_in};
-ghost use Rattle.proxy_core.specs.Machine.{memory_in, text_in, IsDone, IsSame, IsReady, HasCauseIn};
+ghost use Rattle.proxy_core.specs.Core.{IsMade, IsLeft};
+ghost use Rattle.proxy_core.specs.Machine.{memory_in, text_in, IsDone, IsSame, IsReady, HasCauseIn, IsKept};
 
 use crate::machine::{Done, Machine, make_room};
+use crate::refused::Refused;
 use bytes::Bytes;
-use proxy_history::{Answer, Refusal};
+use proxy_history::{Answer, Event, Refusal};
 use reply_queue::Queue;
-use resp_core::{Value, put_text};
-use std::alloc::{AllocError, Global};
+use resp_core::Texts;
+use std::alloc::AllocError;
 
 impl Machine {
+    /// A turn in which a reply is handed out.
+    pub(crate) fn turn_handed(&mut self, pass: u64, conn: u64) -> Result<Answer, Refused>
+        requires { IsKept self.old }
+        ensures answered { IfOk result (λ a. IsMade self.old self.new pass (events.Handed conn) a) }
+        ensures refused { IfErr result (λ r. IsLeft self.old self.new (events.Handed conn) r) }
+    {
+        let done = self.hand(conn);
+        self.settle(pass, Event::Handed { conn }, done)
+    }
+
     /// Hands out the reply to the oldest command of the connection that isn't handed out.
     pub(crate) fn hand(&mut self, conn: u64) -> Result<Done, Refusal>
         requires plain { IfSome (reply_in (connection_at conn self.old.connections.numbered))
@@ -55,7 +66,7 @@ impl Machine {
         let Some(connection) = self.connections.get(conn) else {
             return Err(Refusal::NoSuchConnection);
         };
-        let Some(text) = front_text(self.alloc, &connection.queue)? else {
+        let Some(text) = front_text(&mut self.texts, &connection.queue)? else {
             let left = connection.queue.left() as u64;
             return Err(Refusal::NotReady { left });
         };
@@ -69,31 +80,19 @@ impl Machine {
 
 // The text of the reply to the oldest command, which has to be plain, if there is one. A reply that is one value is written from
 // where it stands.
-fn front_text(alloc: Global, queue: &Queue) -> Result<Option<Bytes>, AllocError>
+fn front_text(texts: &mut Texts, queue: &Queue) -> Result<Option<Bytes>, AllocError>
     requires plain { IfSome (front_reply queue.now.commands) (λ v. IsTrue (is_plain_tree v)) }
     ensures text { IfOk result (λ o. o ≡ option_map text (front_reply queue.now.commands)) }
     ensures ready { OnErr result (IsSome (front_reply queue.now.commands)) }
 {
     if let Some(reply) = queue.same_front() {
-        return Ok(Some(text_of(alloc, reply)?));
+        return Ok(Some(texts.text_of(reply)?));
     }
     let Ok(reply) = queue.front() else {
         return Err(AllocError);
     };
     match reply {
-        Some(reply) => Ok(Some(text_of(alloc, &reply)?)),
+        Some(reply) => Ok(Some(texts.text_of(&reply)?)),
         None => Ok(None),
     }
-}
-
-// The text of a value, which has to be plain.
-fn text_of(alloc: Global, value: &Value) -> Result<Bytes, AllocError>
-    requires { IsTrue (is_plain_tree (tree_of value.now)) }
-    ensures { IfOk result (λ bytes. bytes ≡ text (tree_of value.now)) }
-{
-    let mut text = Vec::new(alloc);
-    if put_text(alloc, value, &mut text).is_err() {
-        return Err(AllocError);
-    }
-    Ok(Bytes::from_vec(text)?)
 }

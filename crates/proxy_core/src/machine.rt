@@ -21,6 +21,7 @@ use ejector::{EjectError, EjectState, Ejector, Rules, Settings};
 use journal_core::{Journal, JournalError, Step};
 use ketama::{MAX_HOSTS, Ring};
 use proxy_history::{Answer, Event, Refusal};
+use resp_core::Texts;
 use std::alloc::{AllocError, Global};
 use std::boxed::Box;
 use std::marker::Model;
@@ -121,6 +122,7 @@ impl Core {
             journal: Journal::new(alloc),
             connections: Connections::new(alloc),
             pipelines,
+            texts: Texts::new(alloc),
         };
         Ok(Core {
             machine: Box::new(alloc, machine)?,
@@ -293,6 +295,8 @@ pub(crate) struct Machine {
     pub journal: Journal<Event, Answer>,
     pub connections: Connections,
     pub pipelines: Pipelines,
+    // Where texts of parts and of replies are written.
+    pub texts: Texts,
 }
 
 /// What an event comes to, before its step is added.
@@ -314,71 +318,32 @@ impl Machine {
         ensures refused { IfErr result (λ r. IsLeft self.old self.new event r) }
     {
         match event {
-            Event::Opened => {
-                let done = self.open();
-                self.settle(pass, Event::Opened, done)
-            }
-            Event::Arrived { conn, request } => {
-                let done = self.arrive(conn, &request);
-                self.settle(pass, Event::Arrived { conn, request }, done)
-            }
-            Event::Finished { conn } => {
-                let done = self.finish(conn);
-                self.settle(pass, Event::Finished { conn }, done)
-            }
-            Event::Taken { host } => {
-                let done = self.take(host);
-                self.settle(pass, Event::Taken { host }, done)
-            }
+            Event::Opened => self.turn_opened(pass),
+            Event::Arrived { conn, request } => self.turn_arrived(pass, conn, request),
+            Event::Finished { conn } => self.turn_finished(pass, conn),
+            Event::Taken { host } => self.turn_taken(pass, host),
             Event::Answered {
                 host,
                 epoch,
                 value,
                 t,
-            } => {
-                let done = self.answer(host, epoch, &value, t);
-                let event = Event::Answered {
-                    host,
-                    epoch,
-                    value,
-                    t,
-                };
-                self.settle(pass, event, done)
-            }
+            } => self.turn_answered(pass, host, epoch, value, t),
             Event::Failed {
                 host,
                 epoch,
                 kind,
                 t,
-            } => {
-                let done = self.fail(host, epoch, kind, t);
-                let event = Event::Failed {
-                    host,
-                    epoch,
-                    kind,
-                    t,
-                };
-                self.settle(pass, event, done)
-            }
-            Event::Swept { t } => {
-                let done = self.sweep(t);
-                self.settle(pass, Event::Swept { t }, done)
-            }
-            Event::Handed { conn } => {
-                let done = self.hand(conn);
-                self.settle(pass, Event::Handed { conn }, done)
-            }
-            Event::Closed { conn } => {
-                let done = self.close(conn);
-                self.settle(pass, Event::Closed { conn }, done)
-            }
+            } => self.turn_failed(pass, host, epoch, kind, t),
+            Event::Swept { t } => self.turn_swept(pass, t),
+            Event::Handed { conn } => self.turn_handed(pass, conn),
+            Event::Closed { conn } => self.turn_closed(pass, conn),
         }
     }
 
     // Adds the step of an event that was done, or gives the event back. Where it stands, the kind of the event is known, so
     // that little is moved.
     #[inline(always)]
-    fn settle(
+    pub(crate) fn settle(
         &mut self,
         pass: u64,
         event: Event,

@@ -3,12 +3,24 @@ ghost use Rattle.std.specs.Prelude.{◌≡◌, ◌++◌, ◌∷◌, [], Some, le
 ghost use Rattle.proxy_history.specs.declared.answer.Answer.TheVariants as answers;
 ghost use Rattle.proxy_history.specs.declared.event.Event.TheVariants as events;
 ghost use Rattle.proxy_core.specs.Connections.{fresh_connection};
-ghost use Rattle.proxy_core.specs.Machine.{memory_in, IsDone, IsSame, HasCauseIn};
+ghost use Rattle.proxy_core.specs.Core.{IsMade, IsLeft};
+ghost use Rattle.proxy_core.specs.Machine.{memory_in, IsDone, IsSame, HasCauseIn, IsKept};
 
 use crate::machine::{Done, Machine, make_room};
-use proxy_history::{Answer, MAX_CONNECTIONS, Refusal};
+use crate::refused::Refused;
+use proxy_history::{Answer, Event, MAX_CONNECTIONS, Refusal};
 
 impl Machine {
+    /// A turn in which a connection is opened.
+    pub(crate) fn turn_opened(&mut self, pass: u64) -> Result<Answer, Refused>
+        requires { IsKept self.old }
+        ensures answered { IfOk result (λ a. IsMade self.old self.new pass events.Opened a) }
+        ensures refused { IfErr result (λ r. IsLeft self.old self.new events.Opened r) }
+    {
+        let done = self.open();
+        self.settle(pass, Event::Opened, done)
+    }
+
     /// Opens a connection, whose number is that of the connections opened before.
     pub(crate) fn open(&mut self) -> Result<Done, Refusal>
         ensures done { IfOk result

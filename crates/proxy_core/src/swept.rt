@@ -6,13 +6,25 @@ ghost use Rattle.ejector.specs.State.{State};
 ghost use Rattle.ejector.specs.Ejection.{state, sweep_answer};
 ghost use Rattle.proxy_history.specs.Answer.{counts_of};
 ghost use Rattle.proxy_history.specs.declared.event.Event.TheVariants as events;
-ghost use Rattle.proxy_core.specs.Machine.{memory_in, IsDone, IsSame, HasCauseIn};
+ghost use Rattle.proxy_core.specs.Core.{IsMade, IsLeft};
+ghost use Rattle.proxy_core.specs.Machine.{memory_in, IsDone, IsSame, HasCauseIn, IsKept};
 
 use crate::machine::{Done, Machine, make_room};
+use crate::refused::Refused;
 use ejector::{Ejector, Swept};
-use proxy_history::{Answer, Refusal};
+use proxy_history::{Answer, Event, Refusal};
 
 impl Machine {
+    /// A turn in which the hosts are swept.
+    pub(crate) fn turn_swept(&mut self, pass: u64, t: u64) -> Result<Answer, Refused>
+        requires { IsKept self.old }
+        ensures answered { IfOk result (λ a. IsMade self.old self.new pass (events.Swept t) a) }
+        ensures refused { IfErr result (λ r. IsLeft self.old self.new (events.Swept t) r) }
+    {
+        let done = self.sweep(t);
+        self.settle(pass, Event::Swept { t }, done)
+    }
+
     /// Sweeps the hosts.
     pub(crate) fn sweep(&mut self, t: u64) -> Result<Done, Refusal>
         ensures done { IfOk result (λ d. IsDone self.old self.new (events.Swept t) d

@@ -4,13 +4,25 @@ ghost use Rattle.proxy_history.specs.Setting.{hosts};
 ghost use Rattle.proxy_history.specs.declared.answer.Answer.TheVariants as answers;
 ghost use Rattle.proxy_history.specs.declared.event.Event.TheVariants as events;
 ghost use Rattle.proxy_core.specs.Pipelines.{taken_from, with_pipeline, pipeline_at};
-ghost use Rattle.proxy_core.specs.Machine.{setting_in, memory_in, text_in, IsDone, IsSame, IsReady, HasCauseIn};
+ghost use Rattle.proxy_core.specs.Core.{IsMade, IsLeft};
+ghost use Rattle.proxy_core.specs.Machine.{setting_in, memory_in, text_in, IsDone, IsSame, IsReady, HasCauseIn, IsKept};
 
 use crate::machine::{Done, Machine, make_room};
+use crate::refused::Refused;
 use bytes::Bytes;
-use proxy_history::{Answer, Refusal};
+use proxy_history::{Answer, Event, Refusal};
 
 impl Machine {
+    /// A turn in which a part is taken.
+    pub(crate) fn turn_taken(&mut self, pass: u64, host: usize) -> Result<Answer, Refused>
+        requires { IsKept self.old }
+        ensures answered { IfOk result (λ a. IsMade self.old self.new pass (events.Taken host) a) }
+        ensures refused { IfErr result (λ r. IsLeft self.old self.new (events.Taken host) r) }
+    {
+        let done = self.take(host);
+        self.settle(pass, Event::Taken { host }, done)
+    }
+
     /// Takes the oldest part that waits for the host, which flies from now on.
     pub(crate) fn take(&mut self, host: usize) -> Result<Done, Refusal>
         requires hosts { length self.old.pipelines.states ≡ hosts (setting_in self.old) }

@@ -17,6 +17,7 @@ mod parse;
 mod progress;
 mod reader;
 mod text;
+mod texts;
 mod value;
 
 pub use error::RespError;
@@ -27,4 +28,5 @@ pub use laws::{
 };
 pub use reader::{CLIENT_MEMBERS, HOST_MEMBERS, Limits, Reader};
 pub use text::{bulk_len, put_bulk, put_text};
+pub use texts::Texts;
 pub use value::{Value, Values};

@@ -20,6 +20,6 @@ pub use laws::{
     parts_are_of_commands, parts_are_read_back, parts_keep_limits, plan_texts_are_plain,
     streams_ask_one_list,
 };
-pub use planning::plan;
+pub use planning::{plan, plan_with};
 pub use plans::{Join, Local, PartPlan, PartPlans, Plan};
 pub use request::Request;

@@ -11,13 +11,14 @@ use crate::error::SplitError;
 use crate::plans::{PartPlan, PartPlans};
 use bytes::Bytes;
 use itoa::Buffer;
-use resp_core::{Value, Values, bulk_len, put_bulk, put_text};
+use resp_core::{Texts, Value, Values, bulk_len, put_bulk};
 use std::alloc::{AllocError, Global};
 
 /// The one part of a command that goes whole to the host of its word `key_at`. The value has to be a command, of these
 /// words.
 pub(crate) fn whole_part(
     alloc: Global,
+    texts: &mut Texts,
     command: &Value,
     words: &Values,
     key_at: usize,
@@ -28,17 +29,20 @@ pub(crate) fn whole_part(
     ensures parts { IfOk result (λ ps. ps ≡ part_at key_at (map payload_of words.now) ∷ []) }
     ensures err { IfErr result (λ e. e ≡ SplitError.NoMemory) }
 {
-    let mut text = Vec::new(alloc);
-    put_text(alloc, command, &mut text)?;
     let part = PartPlan {
         key: words.word(key_at).clone()?,
-        text: Bytes::from_vec(text)?,
+        text: texts.text_of(command)?,
     };
     Ok(PartPlans(Vec::from_array(alloc, [part])?))
 }
 
 /// A part for each word behind the first: a command of this name and that word, which is the part's key.
-pub(crate) fn key_parts(alloc: Global, name: Bytes, words: &Values) -> Result<PartPlans, SplitError>
+pub(crate) fn key_parts(
+    alloc: Global,
+    texts: &mut Texts,
+    name: Bytes,
+    words: &Values,
+) -> Result<PartPlans, SplitError>
     requires { are_words words.now ≡ true }
     ensures parts { IfOk result
         (λ ps. ps ≡ map (λ key. part_at 1 (name ∷ key ∷ [])) (drop 1 (map payload_of words.now))) }
@@ -47,13 +51,17 @@ pub(crate) fn key_parts(alloc: Global, name: Bytes, words: &Values) -> Result<Pa
     let head = head(alloc, 2, name)?;
     let mut parts = Vec::with_capacity(alloc, words.0.len() - 1)?;
     for at in 1..words.0.len() {
-        parts.push(key_part(alloc, head.as_slice(), words.word(at))?)?;
+        parts.push(key_part(alloc, texts, head.as_slice(), words.word(at))?)?;
     }
     Ok(PartPlans(parts))
 }
 
 /// A part for each two words behind the first, a key and its value: a SET of them.
-pub(crate) fn pair_parts(alloc: Global, words: &Values) -> Result<PartPlans, SplitError>
+pub(crate) fn pair_parts(
+    alloc: Global,
+    texts: &mut Texts,
+    words: &Values,
+) -> Result<PartPlans, SplitError>
     requires { are_words words.now ≡ true }
     ensures parts { IfOk result (λ ps. ps
         ≡ map (λ pair. part_at 1 (codes "SET" ∷ pair.0 ∷ pair.1 ∷ []))
@@ -65,7 +73,7 @@ pub(crate) fn pair_parts(alloc: Global, words: &Values) -> Result<PartPlans, Spl
     let mut parts = Vec::with_capacity(alloc, count)?;
     for pair in 0..count {
         let (key, value) = (words.word(2 * pair + 1), words.word(2 * pair + 2));
-        parts.push(pair_part(alloc, head.as_slice(), key, value)?)?;
+        parts.push(pair_part(alloc, texts, head.as_slice(), key, value)?)?;
     }
     Ok(PartPlans(parts))
 }
@@ -93,7 +101,12 @@ fn begun(alloc: Global, head: &[u8], words: u64) -> Result<Vec<u8>, AllocError>
 }
 
 // The part of a command of a key alone, whose text begins like this.
-fn key_part(alloc: Global, head: &[u8], key: &Bytes) -> Result<PartPlan, SplitError>
+fn key_part(
+    alloc: Global,
+    texts: &mut Texts,
+    head: &[u8],
+    key: &Bytes,
+) -> Result<PartPlan, SplitError>
     ensures part { IfOk result (λ p. p ≡ part_of key.now (head.now ++ text (bulk key.now))) }
     ensures err { IfErr result (λ e. e ≡ SplitError.NoMemory) }
 {
@@ -101,12 +114,18 @@ fn key_part(alloc: Global, head: &[u8], key: &Bytes) -> Result<PartPlan, SplitEr
     put_bulk(key.as_slice(), &mut text)?;
     Ok(PartPlan {
         key: key.clone()?,
-        text: Bytes::from_vec(text)?,
+        text: texts.hold(text)?,
     })
 }
 
 // The part of a command of a key and its value, whose text begins like this.
-fn pair_part(alloc: Global, head: &[u8], key: &Bytes, value: &Bytes) -> Result<PartPlan, SplitError>
+fn pair_part(
+    alloc: Global,
+    texts: &mut Texts,
+    head: &[u8],
+    key: &Bytes,
+    value: &Bytes,
+) -> Result<PartPlan, SplitError>
     ensures part { IfOk result
         (λ p. p ≡ part_of key.now (head.now ++ text (bulk key.now) ++ text (bulk value.now))) }
     ensures err { IfErr result (λ e. e ≡ SplitError.NoMemory) }
@@ -117,6 +136,6 @@ fn pair_part(alloc: Global, head: &[u8], key: &Bytes, value: &Bytes) -> Result<P
     put_bulk(value.as_slice(), &mut text)?;
     Ok(PartPlan {
         key: key.clone()?,
-        text: Bytes::from_vec(text)?,
+        text: texts.hold(text)?,
     })
 }

@@ -16,7 +16,7 @@ use crate::plans::{Join, Local, Plan};
 use crate::request::Request;
 use bytes::Bytes;
 use command_table::{Entry, Kind, look};
-use resp_core::{Value, Values};
+use resp_core::{Texts, Value, Values};
 use std::alloc::Global;
 
 /// The plan of a request, by the table of commands.
@@ -27,13 +27,21 @@ pub fn plan(alloc: Global, request: &Request) -> Result<Plan, SplitError>
     ensures plan { IfOk result (λ p. plan_in p ≡ plan_of (request_of request.now)) }
     ensures err { IfErr result (λ e. e ≡ SplitError.NoMemory) }
 {
+    plan_with(alloc, &mut Texts::new(alloc), request)
+}
+
+/// The same, for one request of many: the texts of the parts are written to `texts`.
+pub fn plan_with(alloc: Global, texts: &mut Texts, request: &Request) -> Result<Plan, SplitError>
+    ensures plan { IfOk result (λ p. plan_in p ≡ plan_of (request_of request.now)) }
+    ensures err { IfErr result (λ e. e ≡ SplitError.NoMemory) }
+{
     match request {
         Request::Broken => Ok(Plan::Leave(
             Local::Broken,
             Value::Fault(Bytes::from_static(b"downstream protocol error")),
         )),
         Request::Read(value) => match value.words() {
-            Some(words) => plan_command(alloc, value, words),
+            Some(words) => plan_command(alloc, texts, value, words),
             None => Ok(Plan::Here(
                 Local::Invalid,
                 Value::Fault(Bytes::from_static(b"invalid request")),
@@ -43,7 +51,12 @@ pub fn plan(alloc: Global, request: &Request) -> Result<Plan, SplitError>
 }
 
 // The plan of a command, which is this value, of these words.
-fn plan_command(alloc: Global, command: &Value, words: &Values) -> Result<Plan, SplitError>
+fn plan_command(
+    alloc: Global,
+    texts: &mut Texts,
+    command: &Value,
+    words: &Values,
+) -> Result<Plan, SplitError>
     requires words { are_words words.now ≡ true }
     requires array { IsArrayOf words.now (tree_of command.now) }
     ensures plan { IfOk result
@@ -61,7 +74,7 @@ fn plan_command(alloc: Global, command: &Value, words: &Values) -> Result<Plan, 
             Value::Fault(wrong_number(alloc, entry)?),
         ));
     }
-    plan_known(alloc, entry, command, words)
+    plan_known(alloc, texts, entry, command, words)
 }
 
 // Whether the command may have so many words.
@@ -78,6 +91,7 @@ fn takes(entry: Entry, words: usize) -> bool
 // The plan of a command of the table that has a right number of words.
 fn plan_known(
     alloc: Global,
+    texts: &mut Texts,
     entry: Entry,
     command: &Value,
     words: &Values,
@@ -97,15 +111,18 @@ fn plan_known(
         )),
         Kind::Echo => return Ok(Plan::Here(Local::Echoed, Value::Bulk(words.word(1).clone()?))),
         Kind::Quit => return Ok(Plan::Leave(Local::Bye, Value::Simple(Bytes::from_static(b"OK")))),
-        Kind::One => (Join::Same, whole_part(alloc, command, words, entry.key_at)?),
+        Kind::One => (
+            Join::Same,
+            whole_part(alloc, texts, command, words, entry.key_at)?,
+        ),
         Kind::SplitGet => (
             Join::Get,
-            key_parts(alloc, Bytes::from_static(b"GET"), words)?,
+            key_parts(alloc, texts, Bytes::from_static(b"GET"), words)?,
         ),
-        Kind::SplitSet => (Join::Set, pair_parts(alloc, words)?),
+        Kind::SplitSet => (Join::Set, pair_parts(alloc, texts, words)?),
         Kind::SplitSum => (
             Join::Sum,
-            key_parts(alloc, upper_name(alloc, entry)?, words)?,
+            key_parts(alloc, texts, upper_name(alloc, entry)?, words)?,
         ),
     };
     Ok(Plan::Parts { how, list })

@@ -4,7 +4,7 @@ use Rattle.splitter.specs.Planned.{plan_in}
 use Rattle.splitter.specs.Plan.{Plan, plan_of}
 use Rattle.splitter.specs.Request.{request_of}
 use Rattle.splitter.proofs.PlanLemmas.{plan_of-command}
-use Rattle.splitter.proofs.planning.plan.Goals as goal
+use Rattle.splitter.proofs.planning.plan_with.Goals as goal
 
 pub returns-in-Some-clause-plan : goal.returns-in-Some-clause-plan
 returns-in-Some-clause-plan c =

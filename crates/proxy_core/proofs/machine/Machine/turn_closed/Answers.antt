@@ -1,0 +1,28 @@
+use Rattle.proxy_history.specs.declared.event.Event.TheVariants.{Closed}
+use Rattle.proxy_core.specs.Core.{with_step}
+use Rattle.proxy_core.proofs.TurnedResults.{makes, if_makes, has_room, if_made, if_left}
+use Rattle.proxy_core.proofs.TurnedEvents.{closed-made}
+use Rattle.proxy_core.proofs.TurnedAsked.{asked_closed, asked_fault}
+use Rattle.proxy_core.proofs.machine.Machine.turn_closed.Goals as goal
+
+pub close-done-requires : goal.close-done-requires
+close-done-requires c = record { closed = asked_closed c.args.self.now c.requires; awaited = λ h. asked_fault c.args.self.now h c.requires }
+
+pub settle-requires : goal.settle-requires
+settle-requires c =
+    has_room c.close-done.result c.args.self.now c.close-done.new.self (Closed c.args.conn)
+    (if_makes _ c.close-done.result c.args.self.now c.close-done.new.self (Closed c.args.conn)
+    (λ d h. makes c.args.self.now c.close-done.new.self (Closed c.args.conn) d _ h.1 (λ pass is. closed-made c.args.self.now (with_step c.close-done.new.self pass (Closed c.args.conn) d) pass c.args.conn d.answer c.requires (h.0, is)))
+    c.close-done.ensures.done)
+
+pub returns-clause-answered : goal.returns-clause-answered
+returns-clause-answered c =
+    if_made c.close-done.result c.settle.result c.args.self.now c.close-done.new.self c.settle.new.self c.args.pass (Closed c.args.conn)
+    (if_makes _ c.close-done.result c.args.self.now c.close-done.new.self (Closed c.args.conn)
+    (λ d h. makes c.args.self.now c.close-done.new.self (Closed c.args.conn) d _ h.1 (λ pass is. closed-made c.args.self.now (with_step c.close-done.new.self pass (Closed c.args.conn) d) pass c.args.conn d.answer c.requires (h.0, is)))
+    c.close-done.ensures.done)
+    c.settle.ensures.answered
+
+pub returns-clause-refused : goal.returns-clause-refused
+returns-clause-refused c =
+    if_left c.close-done.result c.settle.result c.args.self.now c.close-done.new.self c.settle.new.self (Closed c.args.conn) c.requires c.close-done.ensures.refused c.settle.ensures.refused

@@ -1,0 +1,24 @@
+use Rattle.proxy_history.specs.declared.event.Event.TheVariants.{Finished}
+use Rattle.proxy_core.specs.Core.{with_step}
+use Rattle.proxy_core.proofs.TurnedResults.{makes, if_makes, has_room, if_made, if_left}
+use Rattle.proxy_core.proofs.TurnedEvents.{finished-made}
+use Rattle.proxy_core.proofs.machine.Machine.turn_finished.Goals as goal
+
+pub settle-requires : goal.settle-requires
+settle-requires c =
+    has_room c.finish-done.result c.args.self.now c.finish-done.new.self (Finished c.args.conn)
+    (if_makes _ c.finish-done.result c.args.self.now c.finish-done.new.self (Finished c.args.conn)
+    (λ d h. makes c.args.self.now c.finish-done.new.self (Finished c.args.conn) d _ h.1 (λ pass is. finished-made c.args.self.now (with_step c.finish-done.new.self pass (Finished c.args.conn) d) pass c.args.conn d.answer c.requires (h.0, is)))
+    c.finish-done.ensures.done)
+
+pub returns-clause-answered : goal.returns-clause-answered
+returns-clause-answered c =
+    if_made c.finish-done.result c.settle.result c.args.self.now c.finish-done.new.self c.settle.new.self c.args.pass (Finished c.args.conn)
+    (if_makes _ c.finish-done.result c.args.self.now c.finish-done.new.self (Finished c.args.conn)
+    (λ d h. makes c.args.self.now c.finish-done.new.self (Finished c.args.conn) d _ h.1 (λ pass is. finished-made c.args.self.now (with_step c.finish-done.new.self pass (Finished c.args.conn) d) pass c.args.conn d.answer c.requires (h.0, is)))
+    c.finish-done.ensures.done)
+    c.settle.ensures.answered
+
+pub returns-clause-refused : goal.returns-clause-refused
+returns-clause-refused c =
+    if_left c.finish-done.result c.settle.result c.args.self.now c.finish-done.new.self c.settle.new.self (Finished c.args.conn) c.requires c.finish-done.ensures.refused c.settle.ensures.refused

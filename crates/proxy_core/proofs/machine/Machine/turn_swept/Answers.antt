@@ -1,0 +1,24 @@
+use Rattle.proxy_history.specs.declared.event.Event.TheVariants.{Swept}
+use Rattle.proxy_core.specs.Core.{with_step}
+use Rattle.proxy_core.proofs.TurnedResults.{makes, if_makes, has_room, if_made, if_left, all_three, if_ok}
+use Rattle.proxy_core.proofs.TurnedEvents.{swept-made}
+use Rattle.proxy_core.proofs.machine.Machine.turn_swept.Goals as goal
+
+pub settle-requires : goal.settle-requires
+settle-requires c =
+    has_room c.sweep-done.result c.args.self.now c.sweep-done.new.self (Swept c.args.t)
+    (if_makes _ c.sweep-done.result c.args.self.now c.sweep-done.new.self (Swept c.args.t)
+    (λ d (gives, its_own, hosts). makes c.args.self.now c.sweep-done.new.self (Swept c.args.t) d _ gives (λ pass is. swept-made c.args.self.now (with_step c.sweep-done.new.self pass (Swept c.args.t) d) pass c.args.t d.answer c.requires is its_own hosts))
+    (all_three _ _ _ c.sweep-done.result c.sweep-done.ensures.done c.sweep-done.ensures.swept (if_ok _ c.sweep-done.result c.sweep-done.ensures.hosts)))
+
+pub returns-clause-answered : goal.returns-clause-answered
+returns-clause-answered c =
+    if_made c.sweep-done.result c.settle.result c.args.self.now c.sweep-done.new.self c.settle.new.self c.args.pass (Swept c.args.t)
+    (if_makes _ c.sweep-done.result c.args.self.now c.sweep-done.new.self (Swept c.args.t)
+    (λ d (gives, its_own, hosts). makes c.args.self.now c.sweep-done.new.self (Swept c.args.t) d _ gives (λ pass is. swept-made c.args.self.now (with_step c.sweep-done.new.self pass (Swept c.args.t) d) pass c.args.t d.answer c.requires is its_own hosts))
+    (all_three _ _ _ c.sweep-done.result c.sweep-done.ensures.done c.sweep-done.ensures.swept (if_ok _ c.sweep-done.result c.sweep-done.ensures.hosts)))
+    c.settle.ensures.answered
+
+pub returns-clause-refused : goal.returns-clause-refused
+returns-clause-refused c =
+    if_left c.sweep-done.result c.settle.result c.args.self.now c.sweep-done.new.self c.settle.new.self (Swept c.args.t) c.requires c.sweep-done.ensures.refused c.settle.ensures.refused
