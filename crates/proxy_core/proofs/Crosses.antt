@@ -9,8 +9,11 @@ use Rattle.std.specs.contracts.option.Option as Option
 use Rattle.std.specs.contracts.impls.GlobalAllocator.TheImpl.{ghosts}
 use Rattle.bytes.specs.contracts.shared.Bytes as Bytes
 use Rattle.bytes.proofs.shared.Bytes.TheSendSync as bytes
+use Rattle.bytes.proofs.unique.BytesMut.TheSendSync as room
 use Rattle.resp_core.specs.contracts.value.Value as Value
 use Rattle.resp_core.specs.contracts.value.Values as Values
+use Rattle.resp_core.specs.contracts.texts.Room as Room
+use Rattle.resp_core.specs.contracts.texts.Texts as Texts
 use Rattle.resp_core.proofs.value.Values.TheLaws.TheKnot as knot
 use Rattle.ketama.specs.contracts.ring.Ring as Ring
 use Rattle.ejector.specs.contracts.ejector.Ejector as Ejector
@@ -82,8 +85,14 @@ pipeline_send = search (pipe_send, crosses, sendable) depth 20
 journal_send : IsSend (Journal.the_row Event.the_row Answer.the_row)
 journal_send = search (event_send, answer_send, crosses, sendable) depth 20
 
+room_send : IsSend Room.the_row
+room_send = search (room.the_send, crosses, sendable) depth 20
+
+texts_send : IsSend Texts.the_row
+texts_send = search (room_send, crosses, sendable) depth 20
+
 machine_send : IsSend (Machine.the_field).row
-machine_send = search (ring_send, ejector_send, journal_send, connection_send, pipeline_send, crosses, sendable) depth 20
+machine_send = search (ring_send, ejector_send, journal_send, connection_send, pipeline_send, texts_send, crosses, sendable) depth 20
 
 pub core_send : IsSend Core.the_row
 core_send = search (machine_send, crosses, sendable) depth 20
