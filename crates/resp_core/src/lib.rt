@@ -16,6 +16,7 @@ mod limits;
 mod parse;
 mod progress;
 mod reader;
+mod room;
 mod text;
 mod texts;
 mod value;

@@ -11,6 +11,7 @@ use crate::error::Refusal;
 use crate::head::{Found, Head, Line, Next, Refused, read_head};
 use crate::limits::{MAX_DEPTH, MAX_TEXT};
 use crate::parse::{Stop, take_payload, take_text};
+use crate::room::Room;
 use crate::value::{Value, Values};
 use bytes::{Bytes, BytesMut};
 use std::alloc::{AllocError, Global};
@@ -18,6 +19,12 @@ use std::alloc::{AllocError, Global};
 // Payloads and texts of fewer bytes are copied, and so are those of less than one in `MAX_KEPT`
 // bytes of the buffer: what is shared keeps no more than `MAX_KEPT` times its bytes.
 const LEAST_SHARED: usize = 4_096;
+
+// Bytes of a block at most into which short ones are copied. An idle connection can keep so many.
+const MAX_BLOCK: usize = 512;
+
+// Members of a list at most for which there is room before they come.
+const FEW_MEMBERS: usize = 4;
 
 const MAX_KEPT: usize = 8;
 
@@ -38,6 +45,8 @@ pub(crate) struct Progress {
     pub(crate) pending: BytesMut,
     // The most bytes for which there was room since nothing was pending.
     pub(crate) room: usize,
+    // Where short payloads and texts are copied.
+    pub(crate) copies: Room,
     // The lists that are open, the outermost first.
     pub(crate) opens: Vec<Begun>,
     // A whole value that is not yet in its list.
@@ -54,7 +63,7 @@ pub(crate) struct Progress {
 
 // Takes so many bytes from the front, of which the first ones are given.
 fn cut(
-    alloc: Global,
+    copies: &mut Room,
     pending: &mut BytesMut,
     room: usize,
     len: usize,
@@ -66,7 +75,7 @@ fn cut(
     ensures err { OnErr result (pending.new.items ≡ pending.old.items) }
 {
     if len < LEAST_SHARED || len < room / MAX_KEPT {
-        let front = Bytes::copy_from_slice(alloc, &pending.as_slice()[..len])?;
+        let front = copies.copy_of(&pending.as_slice()[..len])?;
         pending.advance(taken);
         return Ok(front);
     }
@@ -95,6 +104,7 @@ impl Progress {
         Progress {
             pending: BytesMut::new(alloc),
             room: 0,
+            copies: Room::new(alloc, MAX_BLOCK),
             opens: Vec::new(alloc),
             done: None,
             next: Next::Head(Head::Type),
@@ -267,8 +277,8 @@ impl Progress {
         ensures halts { IfErr result (λ e. HaltsIn most self.old e) }
     {
         match found {
-            Found::Line(line) => return self.take_line(alloc, line, most),
-            Found::Payload(n) => return self.take_bulk(alloc, n, most),
+            Found::Line(line) => return self.take_line(line, most),
+            Found::Payload(n) => return self.take_bulk(n, most),
             Found::Members(n) => {
                 if self.open_list(alloc, most, n).is_err() {
                     return Err(Halt::NoMemory);
@@ -333,13 +343,13 @@ impl Progress {
         ensures fewer { self.new.pending ≡ self.old.pending }
         ensures reads { LeadsTo most self.old self.new }
     {
-        let members = Values(Vec::new(alloc));
         if n == 0 {
-            self.finish(Value::List(members));
+            self.finish(Value::List(Values(Vec::new(alloc))));
             return Ok(());
         }
+        let members = Vec::with_capacity(alloc, FEW_MEMBERS.min(n as usize))?;
         let list = Begun {
-            members,
+            members: Values(members),
             due: n - 1,
         };
         if self.opens.push(list).is_err() {
@@ -350,7 +360,7 @@ impl Progress {
     }
 
     // Takes a payload, if all of it and its line end have come.
-    fn take_bulk(&mut self, alloc: Global, n: u64, most: u64) -> Result<bool, Halt>
+    fn take_bulk(&mut self, n: u64, most: u64) -> Result<bool, Halt>
         requires good { IsGood most self.old }
         requires next { (self.old.done ≡ None) × (self.old.next ≡ Next.Found (Found.Payload n)) }
         ensures good { IsGood most self.new }
@@ -364,7 +374,8 @@ impl Progress {
             Ok((payload, rest)) => {
                 let len = payload.len();
                 let taken = visible - rest.len();
-                let Ok(payload) = cut(alloc, &mut self.pending, self.room, len, taken) else {
+                let Ok(payload) = cut(&mut self.copies, &mut self.pending, self.room, len, taken)
+                else {
                     return Err(Halt::NoMemory);
                 };
                 self.came += taken;
@@ -384,7 +395,7 @@ impl Progress {
     }
 
     // Takes a line of text, if all of it has come.
-    fn take_line(&mut self, alloc: Global, line: Line, most: u64) -> Result<bool, Halt>
+    fn take_line(&mut self, line: Line, most: u64) -> Result<bool, Halt>
         requires good { IsGood most self.old }
         requires next { (self.old.done ≡ None) × (self.old.next ≡ Next.Found (Found.Line line)) }
         ensures good { IsGood most self.new }
@@ -398,7 +409,8 @@ impl Progress {
             Ok((text, rest)) => {
                 let len = text.len();
                 let taken = visible - rest.len();
-                let Ok(text) = cut(alloc, &mut self.pending, self.room, len, taken) else {
+                let Ok(text) = cut(&mut self.copies, &mut self.pending, self.room, len, taken)
+                else {
                     return Err(Halt::NoMemory);
                 };
                 self.came += taken;
