@@ -9,10 +9,10 @@ use Rattle.std.specs.contracts.option.Option as Option
 use Rattle.std.specs.contracts.impls.GlobalAllocator.TheImpl.{ghosts}
 use Rattle.bytes.specs.contracts.shared.Bytes as Bytes
 use Rattle.bytes.proofs.shared.Bytes.TheSendSync as bytes
-use Rattle.bytes.proofs.unique.BytesMut.TheSendSync as room
+use Rattle.bytes.proofs.unique.BytesMut.TheSendSync as mutable
 use Rattle.resp_core.specs.contracts.value.Value as Value
 use Rattle.resp_core.specs.contracts.value.Values as Values
-use Rattle.resp_core.specs.contracts.texts.Room as Room
+use Rattle.resp_core.specs.contracts.room.Room as Room
 use Rattle.resp_core.specs.contracts.texts.Texts as Texts
 use Rattle.resp_core.proofs.value.Values.TheLaws.TheKnot as knot
 use Rattle.ketama.specs.contracts.ring.Ring as Ring
@@ -86,7 +86,7 @@ journal_send : IsSend (Journal.the_row Event.the_row Answer.the_row)
 journal_send = search (event_send, answer_send, crosses, sendable) depth 20
 
 room_send : IsSend Room.the_row
-room_send = search (room.the_send, crosses, sendable) depth 20
+room_send = search (mutable.the_send, crosses, sendable) depth 20
 
 texts_send : IsSend Texts.the_row
 texts_send = search (room_send, crosses, sendable) depth 20
