@@ -43,7 +43,9 @@ impl Denied {
     }
 }
 
-/// Makes one turn. Where it is refused the event comes back.
+/// Makes one turn. Where it is refused the event comes back. Where it stands the kind of the event is known, so that little is
+/// moved.
+#[inline(always)]
 pub(crate) fn ask<Rt: Wait, T: CoreTurns>(
     rt: &Rt,
     turns: &mut T,
@@ -70,6 +72,7 @@ pub(crate) fn ask<Rt: Wait, T: CoreTurns>(
 }
 
 /// Makes one turn of an event that nobody wants back.
+#[inline(always)]
 pub(crate) fn tell<Rt: Wait, T: CoreTurns>(
     rt: &Rt,
     turns: &mut T,
