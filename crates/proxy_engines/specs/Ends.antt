@@ -4,6 +4,7 @@ use Rattle.std.specs.Io.KnownBytes.{Appends}
 use Rattle.resp_core.specs.Tree.{Tree}
 use Rattle.resp_core.specs.Laws as resp
 use Rattle.resp_core.specs.Standing.{ReaderState, Stands}
+use Rattle.resp_core.specs.Stream.{HasNoRefusal}
 use Rattle.resp_core.specs.declared.error.RespError.{RespError}
 use Rattle.splitter.specs.Request.{Request, read, broken}
 use Rattle.splitter.specs.Requests.{end_of}
@@ -45,6 +46,11 @@ pub record Holds (i : InboxState) (b : List ℕ) (rs : List Request) : Type 0 wh
 -- a byte behind them is refused
 abbrev pub AreRequests : ℕ → List ℕ → List Request → Type 0
 AreRequests most b rs = (ts : List Tree) × (is_refused : Bool) × resp.Holds most b ts is_refused × (rs ≡ map read ts ++ end_of is_refused)
+
+-- The reader of values has given all values of the bytes that it was fed, and none of these is refused.
+pub record HasNothingToGive (r : ReaderState) : Type 0 where
+  pub none_refused : r.refusal ≡ None
+  pub all : (x : List ℕ) (ts : List Tree) → Stands r x ts → HasNoRefusal r.most x ts
 
 -- The end has given all requests that came, and no byte behind them is refused.
 pub record HasGivenAll (i : InboxState) : Type 0 where

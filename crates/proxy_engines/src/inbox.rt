@@ -50,11 +50,13 @@ pub(crate) struct Inbox<R: ReadTally> {
     // So many came with the last read that brought any.
     last: usize,
     values: Reader,
+    // Whether the reader of values has given all that came whole of the bytes that it was fed.
+    has_given_all: bool,
 }
 
 impl<R: ReadTally> Model for Inbox<R> {
-    ghost use Rattle.std.specs.Prelude.{◌≡◌, ◌≤◌, take, length};
-    ghost use Rattle.proxy_engines.specs.Ends.{InboxState};
+    ghost use Rattle.std.specs.Prelude.{◌≡◌, ◌≤◌, true, take, length};
+    ghost use Rattle.proxy_engines.specs.Ends.{InboxState, HasNothingToGive};
     ghost use Rattle.proxy_engines.specs.declared.inbox.TheConstants.{READ_SIZE, LEAST_READ_SIZE};
 
     ghost Value = { InboxState };
@@ -72,7 +74,8 @@ impl<R: ReadTally> Model for Inbox<R> {
     } };
 
     ghost invariant = { λ i. (LEAST_READ_SIZE ≤ length i.buffer.items)
-        × (length i.buffer.items ≤ READ_SIZE) × (i.fresh ≤ length i.buffer.items) };
+        × (length i.buffer.items ≤ READ_SIZE) × (i.fresh ≤ length i.buffer.items)
+        × (i.has_given_all ≡ true → HasNothingToGive i.values) };
 }
 
 impl<R: ReadTally> Inbox<R> {
@@ -94,6 +97,7 @@ impl<R: ReadTally> Inbox<R> {
                 fresh: 0,
                 last: 0,
                 values: Reader::new(alloc, limits),
+                has_given_all: false,
             }),
             Err(_) => Err(input),
         }
@@ -150,6 +154,7 @@ impl<R: ReadTally> Inbox<R> {
         ensures most { self.new.values.most ≡ self.old.values.most }
     {
         if self.fresh > 0 {
+            self.has_given_all = false;
             if self.values.feed(&self.buffer[..self.fresh]).is_err() {
                 return Err(AllocError);
             }
@@ -179,10 +184,17 @@ impl<R: ReadTally> Inbox<R> {
         ensures counts { self.new.counts ≡ self.old.counts }
         ensures most { self.new.values.most ≡ self.old.values.most }
     {
+        if self.has_given_all && self.fresh == 0 {
+            return Ok(None);
+        }
         self.feed()?;
+        self.has_given_all = false;
         match self.values.next_value() {
             Ok(Some(value)) => Ok(Some(Request::Read(value))),
-            Ok(None) => Ok(None),
+            Ok(None) => {
+                self.has_given_all = true;
+                Ok(None)
+            }
             Err(error) => {
                 if is_memory(&error) {
                     return Err(AllocError);
