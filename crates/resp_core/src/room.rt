@@ -8,6 +8,9 @@ use std::marker::Model;
 // What part of the longest block a text is at most that shares one.
 const MIN_TEXTS: usize = 4;
 
+// What part of the longest block the first one is.
+const FIRST_BLOCK: usize = 16;
+
 /// The room behind the texts of a block.
 ///
 /// Where a text lies changes nothing of it, so that contracts see no difference between two rooms.
@@ -63,6 +66,7 @@ impl Room {
         let block_len = self
             .block_len
             .saturating_mul(2)
+            .max(self.longest / FIRST_BLOCK)
             .min(self.longest)
             .max(text_len);
         self.left = BytesMut::with_capacity(self.alloc, block_len)?;

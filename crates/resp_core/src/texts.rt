@@ -10,6 +10,7 @@ use crate::value::Value;
 use bytes::Bytes;
 use std::alloc::{AllocError, Global};
 use std::marker::Model;
+use std::mem;
 
 // How many bytes a block has at most that texts share.
 const MAX_BLOCK: usize = 16_384;
@@ -24,7 +25,7 @@ const MAX_SHORT: usize = 1_024;
 #[derive(Drop)]
 pub struct Texts {
     alloc: Global,
-    // A short text while it is written.
+    // A text while it is written.
     draft: Vec<u8>,
     room: Room,
 }
@@ -54,18 +55,15 @@ impl Texts {
         requires { IsTrue (is_plain_tree (tree_of value.now)) }
         ensures { IfOk result (λ bytes. bytes ≡ text (tree_of value.now)) }
     {
-        if value.text_len() > MAX_SHORT as u64 {
-            let mut text = Vec::new(self.alloc);
-            return match put_text(self.alloc, value, &mut text) {
-                Ok(()) => Ok(Bytes::from_vec(text)?),
-                Err(_) => Err(AllocError),
-            };
-        }
         self.draft.clear();
-        match put_text(self.alloc, value, &mut self.draft) {
-            Ok(()) => self.room.copy_of(self.draft.as_slice()),
-            Err(_) => Err(AllocError),
+        if put_text(self.alloc, value, &mut self.draft).is_err() {
+            return Err(AllocError);
         }
+        if self.draft.len() > MAX_SHORT {
+            let text = mem::replace(&mut self.draft, Vec::new(self.alloc));
+            return Ok(Bytes::from_vec(text)?);
+        }
+        self.room.copy_of(self.draft.as_slice())
     }
 
     /// A text that is written already. A short one is copied to the block that is shared.
