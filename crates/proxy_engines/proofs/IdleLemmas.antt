@@ -1,5 +1,5 @@
 -- Why a client is idle, put together.
-use Rattle.std.proofs.Common.{◌≡◌, ◌⊎◌, List, [], append-nil, sym, inl, inr}
+use Rattle.std.proofs.Common.{◌≡◌, ◌⊎◌, ℕ, List, [], append-nil, sym, inl, inr}
 use Rattle.std.specs.Prelude.{Result, Ok, Err, IfOk}
 use Rattle.ticket_gate.specs.Journal.{StartsWith}
 use Rattle.proxy_history.specs.History.{Step}
@@ -20,6 +20,11 @@ held_within C event w x y z first last (between, begins, ends, cause) =
 -- what holds now held between the list before and this one
 pub held_now : (C : Event → List Step → Type 0) (event : Event) (x y : List Step) → StartsWith y x → C event y → HasHeld C event x y
 held_now C event x y later cause = (y, later, ([], sym (append-nil y)), cause)
+
+-- the next reply hasn't come, so that nothing can be handed out
+pub hands_nothing : (C : Refusal → Event → List Step → Type 0) (e : Client) (x y : List Step) → StartsWith y x
+    → (left : ℕ) × C (Refusal.NotReady left) (Event.Handed e.conn) y → HandsNothing C e x y
+hands_nothing C e x y later (left, cause) = inr (left, held_now (C (Refusal.NotReady left)) (Event.Handed e.conn) x y later cause)
 
 module _ (C : Refusal → Event → List Step → Type 0) (e new : Client) (x y z : List Step) (first : StartsWith y x) (last : StartsWith z y) (empty : e.outbox.pending ≡ []) where
   nothing_later : HandsNothing C e x y → HandsNothing C e x z
