@@ -4,10 +4,9 @@ use Rattle.std.proofs.lemmas.List.{map-append}
 use Rattle.std.specs.Prelude.{false, ⊤, IfSome, Result, Ok, Err, is_err, OnOk}
 use Rattle.resp_core.specs.Tree.{Tree}
 use Rattle.resp_core.specs.Standing.{Stands}
-use Rattle.resp_core.specs.Stream.{HasNoRefusal}
 use Rattle.resp_core.specs.declared.error.RespError.{RespError}
 use Rattle.splitter.specs.Request.{Request as Asked, read, broken}
-use Rattle.proxy_engines.specs.Ends.{InboxState, Holds, AreRequests}
+use Rattle.proxy_engines.specs.Ends.{InboxState, Holds}
 
 after-none : (i : InboxState) → i.fresh ≡ [] → IfSome i.values.refusal (λ _. i.fresh ≡ [])
 after-none i e = if_some i.values.refusal e
@@ -56,11 +55,6 @@ holds-refused i j e b rs d d' n n' f h = record {
   requests = rw n' (ap (λ z. z ++ broken ∷ []) ((rw (n, append-nil (map read h.given)) at h.requests)));
   after = after-none j d';
 }
-
-pub all-given : (i : InboxState) (b : List ℕ) (rs : List Asked) → i.fresh ≡ [] → i.values.refusal ≡ None → ((x : List ℕ) (ts : List Tree) → Stands i.values x ts → HasNoRefusal i.values.most x ts) → Holds i b rs → AreRequests i.values.most b rs
-all-given i b rs d n f h =
-    let bytes : b ≡ h.fed = h.bytes ∙ (rw d (append-nil h.fed)) in
-    (h.given, false, (rw bytes (f h.fed h.given h.stands)), (rw n at h.requests))
 
 -- what holds where a call was answered
 pub fed_ok : (P : Type 0) (r : Result ⊤ RespError) → is_err r ≡ false → OnOk r P → P
