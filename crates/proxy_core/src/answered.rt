@@ -32,8 +32,10 @@ impl Machine {
         t: u64,
     ) -> Result<Answer, Refused>
         requires { IsKept self.old }
-        ensures answered { IfOk result (λ a. IsMade self.old self.new pass (events.Answered host epoch value t) a) }
-        ensures refused { IfErr result (λ r. IsLeft self.old self.new (events.Answered host epoch value t) r) }
+        ensures answered { IfOk result
+            (λ a. IsMade self.old self.new pass (events.Answered host epoch value t) a) }
+        ensures refused { IfErr result
+            (λ r. IsLeft self.old self.new (events.Answered host epoch value t) r) }
     {
         let done = self.answer(host, epoch, &value, t);
         self.settle(

@@ -41,8 +41,10 @@ impl Machine {
         request: Request,
     ) -> Result<Answer, Refused>
         requires { IsKept self.old }
-        ensures answered { IfOk result (λ a. IsMade self.old self.new pass (events.Arrived conn request) a) }
-        ensures refused { IfErr result (λ r. IsLeft self.old self.new (events.Arrived conn request) r) }
+        ensures answered { IfOk result
+            (λ a. IsMade self.old self.new pass (events.Arrived conn request) a) }
+        ensures refused { IfErr result
+            (λ r. IsLeft self.old self.new (events.Arrived conn request) r) }
     {
         let done = self.arrive(conn, &request);
         self.settle(pass, Event::Arrived { conn, request }, done)

@@ -35,8 +35,10 @@ impl Machine {
         t: u64,
     ) -> Result<Answer, Refused>
         requires { IsKept self.old }
-        ensures answered { IfOk result (λ a. IsMade self.old self.new pass (events.Failed host epoch kind t) a) }
-        ensures refused { IfErr result (λ r. IsLeft self.old self.new (events.Failed host epoch kind t) r) }
+        ensures answered { IfOk result
+            (λ a. IsMade self.old self.new pass (events.Failed host epoch kind t) a) }
+        ensures refused { IfErr result
+            (λ r. IsLeft self.old self.new (events.Failed host epoch kind t) r) }
     {
         let done = self.fail(host, epoch, kind, t);
         self.settle(

@@ -14,7 +14,8 @@ impl Machine {
     /// A turn in which a connection finishes.
     pub(crate) fn turn_finished(&mut self, pass: u64, conn: u64) -> Result<Answer, Refused>
         requires { IsKept self.old }
-        ensures answered { IfOk result (λ a. IsMade self.old self.new pass (events.Finished conn) a) }
+        ensures answered { IfOk result
+            (λ a. IsMade self.old self.new pass (events.Finished conn) a) }
         ensures refused { IfErr result (λ r. IsLeft self.old self.new (events.Finished conn) r) }
     {
         let done = self.finish(conn);

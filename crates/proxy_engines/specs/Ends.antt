@@ -47,7 +47,7 @@ pub record Holds (i : InboxState) (b : List ℕ) (rs : List Request) : Type 0 wh
 abbrev pub AreRequests : ℕ → List ℕ → List Request → Type 0
 AreRequests most b rs = (ts : List Tree) × (is_refused : Bool) × resp.Holds most b ts is_refused × (rs ≡ map read ts ++ end_of is_refused)
 
--- The reader of values has given all values of the bytes that it was fed, and none of these is refused.
+-- The reader of values has given all values of the bytes that it was fed, and refused none of them.
 pub record HasNothingToGive (r : ReaderState) : Type 0 where
   pub none_refused : r.refusal ≡ None
   pub all : (x : List ℕ) (ts : List Tree) → Stands r x ts → HasNoRefusal r.most x ts
