@@ -5,7 +5,7 @@ use bytes::{Bytes, BytesMut};
 use std::alloc::{AllocError, Global};
 use std::marker::Model;
 
-// What part of the longest block a text is at most that shares one.
+// How many texts the longest block has room for at least: a longer text doesn't share one.
 const MIN_TEXTS: usize = 4;
 
 // What part of the longest block the first one is.

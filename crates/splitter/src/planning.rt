@@ -30,7 +30,7 @@ pub fn plan(alloc: Global, request: &Request) -> Result<Plan, SplitError>
     plan_with(alloc, &mut Texts::new(alloc), request)
 }
 
-/// The same, for one request of many: the texts of the parts are written to `texts`.
+/// The same, for one request of many: the texts of the parts are written to `texts`. Refused 701 (no memory).
 pub fn plan_with(alloc: Global, texts: &mut Texts, request: &Request) -> Result<Plan, SplitError>
     ensures plan { IfOk result (λ p. plan_in p ≡ plan_of (request_of request.now)) }
     ensures err { IfErr result (λ e. e ≡ SplitError.NoMemory) }
