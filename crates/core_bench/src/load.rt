@@ -22,6 +22,11 @@ const BYTES_AT_ONCE: usize = 4_000_000;
 
 const ROUNDS: usize = 15;
 
+// How many groups of commands a core has where it is made anew, and how many cores a round has.
+const GROUPS: usize = 10;
+
+const CORES: u64 = 2_000;
+
 /// Commands of one kind: so many at a time arrive, are sent, answered and handed out.
 #[derive(Drop)]
 pub struct Load {
@@ -40,9 +45,19 @@ pub struct Times {
     pub end_ns: u128,
 }
 
+impl Times {
+    // The shorter of both, each for itself.
+    fn min(self, other: Times) -> Times {
+        Times {
+            turns_ns: self.turns_ns.min(other.turns_ns),
+            end_ns: self.end_ns.min(other.end_ns),
+        }
+    }
+}
+
 impl Load {
     /// One GET at a time, with a reply of so many bytes.
-    pub fn get(alloc: Global, bytes: usize) -> Result<Load> {
+    pub(crate) fn get(alloc: Global, bytes: usize) -> Result<Load> {
         Ok(Load {
             name: Bytes::from_static(b"GET"),
             keys: 1,
@@ -52,7 +67,7 @@ impl Load {
     }
 
     /// One MGET at a time, of so many keys, with replies of 64 bytes.
-    pub fn mget(alloc: Global, keys: usize) -> Result<Load> {
+    pub(crate) fn mget(alloc: Global, keys: usize) -> Result<Load> {
         Ok(Load {
             name: Bytes::from_static(b"MGET"),
             keys,
@@ -62,7 +77,7 @@ impl Load {
     }
 
     /// So many GETs at a time, with replies of 64 bytes.
-    pub fn pipeline(alloc: Global, commands: usize) -> Result<Load> {
+    pub(crate) fn pipeline(alloc: Global, commands: usize) -> Result<Load> {
         Ok(Load {
             name: Bytes::from_static(b"GET"),
             keys: 1,
@@ -72,14 +87,10 @@ impl Load {
     }
 
     /// How long a command takes, in the best of several rounds.
-    pub fn least(&self, rt: &impl Clock, alloc: Global) -> Result<Times> {
+    pub(crate) fn least(&self, rt: &impl Clock, alloc: Global) -> Result<Times> {
         let mut least = self.round(rt, alloc)?;
         for _ in 0..ROUNDS {
-            let times = self.round(rt, alloc)?;
-            least = Times {
-                turns_ns: least.turns_ns.min(times.turns_ns),
-                end_ns: least.end_ns.min(times.end_ns),
-            };
+            least = least.min(self.round(rt, alloc)?);
         }
         Ok(least)
     }
@@ -106,6 +117,38 @@ impl Load {
         Ok(Times {
             turns_ns: turns.as_nanos() / commands.max(1),
             end_ns: end.as_nanos() / commands.max(1),
+        })
+    }
+
+    /// How long a command takes where a core is made anew each ten groups of commands, in the best of several rounds.
+    pub(crate) fn least_fresh(&self, rt: &impl Clock, alloc: Global) -> Result<Times> {
+        let mut least = self.round_of_cores(rt, alloc)?;
+        for _ in 0..ROUNDS {
+            least = least.min(self.round_of_cores(rt, alloc)?);
+        }
+        Ok(least)
+    }
+
+    // How long a command takes on many cores, one after the other.
+    fn round_of_cores(&self, rt: &impl Clock, alloc: Global) -> Result<Times> {
+        let mut turns = Duration::ZERO;
+        let mut ends = Duration::ZERO;
+        for _ in 0..CORES {
+            let events = self.events(alloc, GROUPS)?;
+            let mut core = fresh_core(alloc)?;
+            let start = Instant::now(rt)?;
+            make_turns(&mut core, events)?;
+            turns = turns.saturating_add(start.elapsed(rt)?);
+            let start = Instant::now(rt)?;
+            drop(core);
+            ends = ends.saturating_add(start.elapsed(rt)?);
+        }
+        let commands = u128::from(CORES).saturating_mul(
+            GROUPS.saturating_mul(self.at_once) as u128,
+        );
+        Ok(Times {
+            turns_ns: turns.as_nanos() / commands.max(1),
+            end_ns: ends.as_nanos() / commands.max(1),
         })
     }
 

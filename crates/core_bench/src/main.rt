@@ -2,9 +2,10 @@
 //!
 //! `core_bench run` prints how long the cycle Arrived, Taken, Answered, Handed takes for a GET with replies of several
 //! lengths, for an MGET of ten keys and for pipelines of 64 commands, and beside it the MD5 of the key and a push and a pop
-//! of a queue, as a scale. The events are built before the time is taken; a journal is thrown away at 20,000 steps. Each
-//! figure is the least of several rounds. `core_bench rings` prints how fast rings are, `core_bench reader` how fast the
-//! reader of values is. With no argument it prints how to run it, so that its output is always the same.
+//! of a queue, as a scale. The events are built before the time is taken; a journal is thrown away at 20,000 steps. One
+//! more line is of a GET on cores that are each thrown away after 10 cycles. Each figure is the least of several rounds.
+//! `core_bench rings` prints how fast rings are, `core_bench reader` how fast the reader of values is. With no argument it
+//! prints how to run it, so that its output is always the same.
 #![tactic(auto)]
 
 mod load;
@@ -12,7 +13,7 @@ mod reader;
 mod rings;
 mod scale;
 
-use crate::load::Load;
+use crate::load::{Load, Times};
 use crate::scale::{digest_time, queue_time};
 use anyhow::Result;
 use std::alloc::Global;
@@ -48,6 +49,8 @@ fn print_turns(rt: &(impl Clock + Print), alloc: Global) -> Result<()> {
         "GET, 64 in a pipeline",
         Load::pipeline(alloc, 64)?,
     )?;
+    let fresh = Load::get(alloc, 64)?.least_fresh(rt, alloc)?;
+    print_times(rt, "GET, reply of 64 bytes, a core each 10 cycles", fresh)?;
     let digest = digest_time(rt)?;
     println!(rt; "MD5 of the key: {digest} ns")?;
     let queue = queue_time(rt, alloc)?;
@@ -57,7 +60,11 @@ fn print_turns(rt: &(impl Clock + Print), alloc: Global) -> Result<()> {
 
 // Prints how long a command of this load takes.
 fn print_load(rt: &(impl Clock + Print), alloc: Global, name: &str, load: Load) -> Result<()> {
-    let least = load.least(rt, alloc)?;
+    print_times(rt, name, load.least(rt, alloc)?)
+}
+
+// Prints how long a command took.
+fn print_times(rt: &impl Print, name: &str, least: Times) -> Result<()> {
     let (turns, end) = (least.turns_ns, least.end_ns);
     println!(rt; "{name}: {turns} ns a command, and {end} ns for its share of the journal's end")?;
     Ok(())

@@ -13,7 +13,7 @@ const PIECES: [usize; 2] = [16_384, 1];
 
 /// Prints, for streams of some 4 MB and for each length of the pieces in which they come, the bytes that are read a second,
 /// and beside them those of a plain copy of the same pieces into one buffer.
-pub fn print(rt: &(impl Clock + Print), alloc: Global) -> Result<()> {
+pub(crate) fn print(rt: &(impl Clock + Print), alloc: Global) -> Result<()> {
     for stream in Stream::ALL {
         let bytes = stream.bytes(alloc)?;
         for piece in PIECES {

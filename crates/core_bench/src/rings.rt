@@ -17,7 +17,7 @@ const ASKED: u32 = 20_000_000;
 const BUILT: u64 = 20;
 
 /// Prints both for 3 and for 64 hosts.
-pub fn print(rt: &(impl Clock + Print), alloc: Global) -> Result<()> {
+pub(crate) fn print(rt: &(impl Clock + Print), alloc: Global) -> Result<()> {
     for hosts in [3, 64] {
         let ring = ring_of(alloc, hosts)?;
         let built = micros_to_build(rt, alloc, hosts)?;

@@ -10,7 +10,7 @@ use std::time::{Duration, Instant};
 const CALLS: u64 = 100_000;
 
 /// How long the point of a key takes, of which nearly all is its MD5.
-pub fn digest_time(rt: &impl Clock) -> Result<u128> {
+pub(crate) fn digest_time(rt: &impl Clock) -> Result<u128> {
     let start = Instant::now(rt)?;
     let mut bits = 0;
     for _ in 0..CALLS {
@@ -21,7 +21,7 @@ pub fn digest_time(rt: &impl Clock) -> Result<u128> {
 }
 
 /// How long a push on a queue and a pop take.
-pub fn queue_time(rt: &impl Clock, alloc: Global) -> Result<u128> {
+pub(crate) fn queue_time(rt: &impl Clock, alloc: Global) -> Result<u128> {
     let mut queue = VecDeque::new(alloc);
     let start = Instant::now(rt)?;
     let mut sum: u64 = 0;
@@ -34,7 +34,7 @@ pub fn queue_time(rt: &impl Clock, alloc: Global) -> Result<u128> {
 }
 
 /// The microseconds of a duration.
-pub fn micros(elapsed: Duration) -> u64 {
+pub(crate) fn micros(elapsed: Duration) -> u64 {
     elapsed
         .as_secs()
         .saturating_mul(1_000_000)

@@ -14,7 +14,7 @@ pub struct Counted<T: CoreTurns> {
 
 impl<T: CoreTurns> Counted<T> {
     /// With no turn counted yet.
-    pub fn new(turns: T) -> Counted<T> {
+    pub(crate) fn new(turns: T) -> Counted<T> {
         Counted {
             turns,
             tried: 0,
@@ -23,12 +23,12 @@ impl<T: CoreTurns> Counted<T> {
     }
 
     /// How many turns were tried.
-    pub fn tried(&self) -> u64 {
+    pub(crate) fn tried(&self) -> u64 {
         self.tried
     }
 
     /// How many turns were answered.
-    pub fn answered(&self) -> u64 {
+    pub(crate) fn answered(&self) -> u64 {
         self.answered
     }
 }

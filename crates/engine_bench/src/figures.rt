@@ -103,7 +103,7 @@ pub struct Figures {
 
 impl Figures {
     /// The least times of so many rounds.
-    pub fn measured<R: Wait + Clock>(
+    pub(crate) fn measured<R: Wait + Clock>(
         rt: &R,
         alloc: Global,
         load: Load,
@@ -123,7 +123,7 @@ impl Figures {
 
 impl Figures {
     /// Prints a line of what a command costs.
-    pub fn print<R: Print>(&self, rt: &R, load: Load) -> Result<()> {
+    pub(crate) fn print<R: Print>(&self, rt: &R, load: Load) -> Result<()> {
         let commands = load.commands();
         let each = |count: u64| Each { count, commands };
         let (name, pipeline) = (load.command.name(), load.pipeline);

@@ -20,7 +20,7 @@ pub enum Command {
 
 impl Command {
     /// Its name.
-    pub fn name(self) -> &'static str {
+    pub(crate) fn name(self) -> &'static str {
         match self {
             Command::Get => "GET",
             Command::Set => "SET",
@@ -59,7 +59,7 @@ pub struct Load {
 
 impl Load {
     /// At least one batch, and no more commands than this beside.
-    pub fn new(command: Command, pipeline: u64, commands: u64) -> Load {
+    pub(crate) fn new(command: Command, pipeline: u64, commands: u64) -> Load {
         Load {
             command,
             pipeline,
@@ -68,7 +68,7 @@ impl Load {
     }
 
     /// How many commands there are.
-    pub fn commands(self) -> u64 {
+    pub(crate) fn commands(self) -> u64 {
         self.pipeline.saturating_mul(self.batches)
     }
 }
@@ -84,7 +84,7 @@ pub struct Texts {
 
 impl Texts {
     /// Those of this load. No two commands of a batch have the same key.
-    pub fn new(alloc: Global, load: Load) -> Result<Texts> {
+    pub(crate) fn new(alloc: Global, load: Load) -> Result<Texts> {
         let mut batch = Vec::new(alloc);
         let mut replies = Vec::new(alloc);
         for number in 0..load.pipeline {

@@ -22,12 +22,12 @@ impl Calls {
     }
 
     /// How many reads were made, those that found nothing too.
-    pub fn reads(&self) -> u64 {
+    pub(crate) fn reads(&self) -> u64 {
         self.reads.get()
     }
 
     /// How many writes were made.
-    pub fn writes(&self) -> u64 {
+    pub(crate) fn writes(&self) -> u64 {
         self.writes.get()
     }
 
@@ -74,7 +74,7 @@ impl ClientPeer {
     }
 
     /// Whether all batches were sent and answered.
-    pub fn is_done(&self) -> bool {
+    pub(crate) fn is_done(&self) -> bool {
         self.batches.get() == 0 && self.is_answered()
     }
 
@@ -158,7 +158,7 @@ impl HostPeer {
     }
 
     /// Answers all requests that came.
-    pub fn answer(&self) {
+    pub(crate) fn answer(&self) {
         let came = self.had.get().checked_div(self.request_bytes).unwrap_or(0);
         let fresh = came.saturating_sub(self.answered.get());
         self.answered.set(came);
@@ -220,7 +220,7 @@ pub struct Peers {
 
 impl Peers {
     /// To which nothing was sent yet.
-    pub fn new(load: Load, texts: &Texts) -> Peers {
+    pub(crate) fn new(load: Load, texts: &Texts) -> Peers {
         Peers {
             client: ClientPeer::new(load, texts),
             host: HostPeer::new(texts),
@@ -228,7 +228,7 @@ impl Peers {
     }
 
     /// The client's socket.
-    pub fn client_ends<'a>(&'a self, texts: &'a Texts) -> (ClientReader<'a>, ClientWriter<'a>) {
+    pub(crate) fn client_ends<'a>(&'a self, texts: &'a Texts) -> (ClientReader<'a>, ClientWriter<'a>) {
         let reader = ClientReader {
             peer: &self.client,
             batch: &texts.batch,
@@ -239,7 +239,7 @@ impl Peers {
     }
 
     /// The host's socket.
-    pub fn host_ends<'a>(&'a self, texts: &'a Texts) -> (HostReader<'a>, HostWriter<'a>) {
+    pub(crate) fn host_ends<'a>(&'a self, texts: &'a Texts) -> (HostReader<'a>, HostWriter<'a>) {
         let reader = HostReader {
             peer: &self.host,
             replies: &texts.replies,
@@ -250,7 +250,7 @@ impl Peers {
     }
 
     /// Fails where the host hadn't all requests, or the client not all replies to them, byte for byte as many.
-    pub fn check_done(&self, load: Load, texts: &Texts) -> Result<()> {
+    pub(crate) fn check_done(&self, load: Load, texts: &Texts) -> Result<()> {
         let batches = load.batches as usize;
         let are_done = self.client.is_done()
             && self.client.had.get() == batches.saturating_mul(texts.replies.len())

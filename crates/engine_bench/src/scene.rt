@@ -34,7 +34,7 @@ pub struct Scene<'a> {
 
 impl<'a> Scene<'a> {
     /// With the connection open and the host linked.
-    pub fn new<R: Wait, T: CoreTurns>(
+    pub(crate) fn new<R: Wait, T: CoreTurns>(
         rt: &R,
         alloc: Global,
         turns: &mut T,
@@ -64,7 +64,7 @@ impl<'a> Scene<'a> {
 
     /// Makes steps until the client has all its replies: its own while there are any to make, then the host's while there
     /// are, and those once more when the host has answered; and so on. Gives how many there were.
-    pub fn serve<R: Wait, T: CoreTurns>(&mut self, rt: &R, turns: &mut T) -> Result<Sides> {
+    pub(crate) fn serve<R: Wait, T: CoreTurns>(&mut self, rt: &R, turns: &mut T) -> Result<Sides> {
         for _ in 0..MOST_STEPS {
             self.step_client(rt, turns)?;
             if self.peers.client.is_done() {

@@ -16,7 +16,7 @@ impl Laden {
     ghost use Rattle.ticket_gate.specs.RunningTotal.{journal_of};
 
     /// A total of 0 without a limit, whose turns make so many rounds of work.
-    pub fn new(alloc: Global, rounds: u32) -> Laden
+    pub(crate) fn new(alloc: Global, rounds: u32) -> Laden
         ensures { journal_of result.total ≡ [] }
     {
         Laden {
@@ -27,13 +27,13 @@ impl Laden {
     }
 
     /// How many turns were answered.
-    pub fn turns(&self) -> usize {
+    pub(crate) fn turns(&self) -> usize {
         self.total.additions().len()
     }
 }
 
 /// Each round waits for the one before it: six shifts and sums, some 2.5 ns.
-pub fn stirred(seed: u64, rounds: u32) -> u64 {
+pub(crate) fn stirred(seed: u64, rounds: u32) -> u64 {
     let mut stirred = seed;
     for _ in 0..rounds {
         stirred ^= stirred << 13;

@@ -6,10 +6,11 @@ use std::alloc::{AllocError, Global};
 use std::marker::Model;
 use std::mem;
 
-/// How many elements a block holds at most.
-pub(crate) const BLOCK: usize = 512;
+/// How many elements a block holds.
+pub(crate) const BLOCK: usize = 64;
 
-/// A list that grows at its end, in blocks of memory that it keeps: none is moved to a larger one once it has 512 elements.
+/// A list that grows at its end, in blocks of memory that it keeps: each has room for 64 elements from the first on, so that
+/// none is ever moved.
 ///
 /// Contracts see the elements, and whether there is a place for one more.
 #[derive(Drop)]
@@ -59,7 +60,8 @@ impl<T> Blocks<T> {
         ensures err { OnErr result (self.new ≡ self.old) }
     {
         if self.last.len() < BLOCK {
-            return self.last.reserve(1);
+            let more = if self.last.capacity() == 0 { BLOCK } else { 1 };
+            return self.last.reserve(more);
         }
         self.full.reserve(1)?;
         let next = Vec::with_capacity(self.alloc, BLOCK)?;

@@ -12,7 +12,7 @@ use Rattle.proxy_history.specs.Outcome.{outcome}
 use Rattle.std.specs.Prelude.{is_some}
 use Rattle.proxy_history.specs.Legal.{IsLegal}
 use Rattle.proxy_history.specs.declared.event.Event.{Event}
-use Rattle.proxy_history.specs.declared.event.Event.TheVariants.{Opened, Arrived, Finished, Taken, Answered, Failed, Swept, Handed, Closed}
+use Rattle.proxy_history.specs.declared.event.Event.TheVariants.{Arrived, Finished, Handed, Closed}
 use Rattle.proxy_history.proofs.CallerLemmas.{first_true-none as are_false, times-cons as times_grows, times-length, length-requests}
 
 -- OPEN CONNECTIONS
@@ -64,11 +64,7 @@ of_other S x c (Handed conn) n l =
     record { no_arrival = refl; no_handing = other c conn x.steps (handed_open S x conn n) l; no_closing = refl; no_finish = refl }
 of_other S x c (Closed conn) n l =
     record { no_arrival = refl; no_handing = refl; no_closing = other c conn x.steps (closed_open S x conn n) l; no_finish = refl }
-of_other S x c Opened n l = record { no_arrival = refl; no_handing = refl; no_closing = refl; no_finish = refl }
-of_other S x c (Taken host) n l = record { no_arrival = refl; no_handing = refl; no_closing = refl; no_finish = refl }
-of_other S x c (Answered host e value t) n l = record { no_arrival = refl; no_handing = refl; no_closing = refl; no_finish = refl }
-of_other S x c (Failed host e kind t) n l = record { no_arrival = refl; no_handing = refl; no_closing = refl; no_finish = refl }
-of_other S x c (Swept t) n l = record { no_arrival = refl; no_handing = refl; no_closing = refl; no_finish = refl }
+of_other S x c _ n l = record { no_arrival = refl; no_handing = refl; no_closing = refl; no_finish = refl }
 
 one_less : (is : Event → Bool) (s : Step) (H : History) → is s.event ≡ false → times is (s ∷ H) ≡ times is H
 one_less is s H e = rw e refl
@@ -109,14 +105,7 @@ handed_below S x c (Handed conn) n l = elim (cases_Bool (conn == c)) [
   | inl t ↦ let e = is_owed S x conn n in let d : handed_count c x.steps < accepted_count c x.steps = subst (λ (z : ℕ). handed_count z x.steps < accepted_count z x.steps) (eqb-true conn c t) e in rw t (omega (arith, d))
   | inr f ↦ rw f l
 ]
-handed_below S x c Opened n l = l
-handed_below S x c (Arrived conn request) n l = l
-handed_below S x c (Finished conn) n l = l
-handed_below S x c (Taken host) n l = l
-handed_below S x c (Answered host e value t) n l = l
-handed_below S x c (Failed host e kind t) n l = l
-handed_below S x c (Swept t) n l = l
-handed_below S x c (Closed conn) n l = l
+handed_below S x c _ n l = l
 
 pub handed_were_accepted : (S : Setting) (H : History) (c : ℕ) → IsLegal S H → handed_count c H ≤ accepted_count c H
 handed_were_accepted S [] c legal = omega arith

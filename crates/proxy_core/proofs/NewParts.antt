@@ -17,7 +17,7 @@ use Rattle.proxy_history.specs.Arrival.{parts_by, parts_placed, placed_part, wit
 use Rattle.proxy_history.specs.Value.{reply_to, value_at, value_of, value_or}
 use Rattle.proxy_history.specs.Outcome.{parts_of, is_part_of}
 use Rattle.proxy_history.specs.declared.event.Event.{Event}
-use Rattle.proxy_history.specs.declared.event.Event.TheVariants.{Opened, Arrived, Finished, Taken, Answered, Failed, Swept, Handed, Closed}
+use Rattle.proxy_history.specs.declared.event.Event.TheVariants.{Taken}
 use Rattle.proxy_history.proofs.CallerLemmas.{AreOf, AreEarlier, AreEarlier-cons as earlier_grows, AreEarlier-append as earlier_both, AreInOrder-parts as parts_are_in_order, filter-AreOf as all_of, AreOf-placing_first as are_placed, parts_of-not_yet as not_yet}
 
 -- WHAT WAS SENT IS OF COMMANDS THAT HAD ARRIVED
@@ -35,14 +35,7 @@ earlier_first H (p ∷ ps) a = (a.0, tt)
 
 sent_by_earlier : (x : Past) (event : Event) → AreEarlier x.steps x.parts → AreEarlier x.steps (sent_by x event)
 sent_by_earlier x (Taken host) a = earlier_first x.steps (waiting_parts host x) (earlier_filter x.steps (waits host x) x.parts a)
-sent_by_earlier x Opened a = tt
-sent_by_earlier x (Arrived conn request) a = tt
-sent_by_earlier x (Finished conn) a = tt
-sent_by_earlier x (Answered host e value t) a = tt
-sent_by_earlier x (Failed host e kind t) a = tt
-sent_by_earlier x (Swept t) a = tt
-sent_by_earlier x (Handed conn) a = tt
-sent_by_earlier x (Closed conn) a = tt
+sent_by_earlier x _ a = tt
 
 pub sent_earlier : (S : Setting) (H : History) → AreEarlier H (past S H).sent
 sent_earlier S [] = tt

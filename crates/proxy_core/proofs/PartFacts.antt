@@ -19,7 +19,7 @@ use Rattle.proxy_history.specs.Value.{value_of}
 use Rattle.proxy_history.specs.Outcome.{parts_of, is_part_of, values_of, with_value, outcome, outcome_by}
 use Rattle.proxy_history.specs.Legal.{IsLegal}
 use Rattle.proxy_history.specs.declared.event.Event.{Event}
-use Rattle.proxy_history.specs.declared.event.Event.TheVariants.{Opened, Arrived, Finished, Taken, Answered, Failed, Swept, Handed, Closed}
+use Rattle.proxy_history.specs.declared.event.Event.TheVariants.{Arrived}
 use Rattle.proxy_history.proofs.CallerLemmas.{times-cons as times_grows, first_true-none as are_false, AreOf, length-requests, AreOf-placing as placing_are_of, parts_of-after as parts_stay, number-with_host as host_keeps_number, HasArrived-parts as parts_have_arrived, IsLegal-append as beginning, filter-AreOf_other as none_of, filter-AreOf as all_of, parts_of-not_yet as not_yet, transcript-first_outcomes as in_order}
 
 -- NUMBERS ARE PLACES
@@ -61,14 +61,7 @@ placed_numbered S x c i conn (leave name value) = tt
 
 new_numbered : (S : Setting) (x : Past) (c i : ℕ) (event : Event) → AreNumbered 0 (filter (is_part_of c i) (parts_by S x event))
 new_numbered S x c i (Arrived conn request) = placed_numbered S x c i conn (plan_for request)
-new_numbered S x c i Opened = tt
-new_numbered S x c i (Finished conn) = tt
-new_numbered S x c i (Taken host) = tt
-new_numbered S x c i (Answered host e value t) = tt
-new_numbered S x c i (Failed host e kind t) = tt
-new_numbered S x c i (Swept t) = tt
-new_numbered S x c i (Handed conn) = tt
-new_numbered S x c i (Closed conn) = tt
+new_numbered S x c i _ = tt
 
 -- the parts of a command stand in the places of their numbers
 pub parts_are_numbered : (S : Setting) (H : History) (c i : ℕ) → AreNumbered 0 (parts_of c i (past S H))

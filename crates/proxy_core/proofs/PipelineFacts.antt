@@ -6,7 +6,6 @@ use Rattle.std.proofs.lemmas.List.{length-map, length-drop, length-append}
 use Rattle.std.proofs.lemmas.List.FromFn.{length-map-range_with_len}
 use Rattle.list_words.proofs.CallerLemmas.{slice_get-table}
 use Rattle.resp_core.specs.declared.value.Value.{Value}
-use Rattle.splitter.specs.declared.request.Request.{Request}
 use Rattle.proxy_history.specs.Setting.{Setting, hosts}
 use Rattle.proxy_history.specs.History.{History, openings, epoch, is_opening, is_fault}
 use Rattle.proxy_history.specs.Replies.{replies_from}
@@ -18,7 +17,7 @@ use Rattle.proxy_history.specs.Answer.{answer_to, text_of_first}
 use Rattle.proxy_history.specs.Payload.{payload_of}
 use Rattle.proxy_history.specs.declared.event.Kind.{Kind}
 use Rattle.proxy_history.specs.declared.event.Event.{Event}
-use Rattle.proxy_history.specs.declared.event.Event.TheVariants.{Opened, Arrived, Finished, Taken, Answered, Failed, Swept, Handed, Closed}
+use Rattle.proxy_history.specs.declared.event.Event.TheVariants.{Taken, Answered, Failed}
 use Rattle.proxy_history.proofs.CallerLemmas.{times-length}
 use Rattle.proxy_core.specs.Pipelines.{pipe_part, place_of, pipeline_of, pipelines_of, no_pipeline, pipeline_at, text_of_oldest}
 use Rattle.proxy_core.specs.Memory.{memory_of}
@@ -87,14 +86,7 @@ one_at_most (p ∷ ps) = omega arith
 
 one_sent_at_most : (x : Past) (event : Event) → length (sent_by x event) ≤ 1
 one_sent_at_most x (Taken host) = one_at_most (waiting_parts host x)
-one_sent_at_most x Opened = omega arith
-one_sent_at_most x (Arrived conn request) = omega arith
-one_sent_at_most x (Finished conn) = omega arith
-one_sent_at_most x (Answered host e value t) = omega arith
-one_sent_at_most x (Failed host e kind t) = omega arith
-one_sent_at_most x (Swept t) = omega arith
-one_sent_at_most x (Handed conn) = omega arith
-one_sent_at_most x (Closed conn) = omega arith
+one_sent_at_most x _ = omega arith
 
 sent-at_most : (S : Setting) (H : History) → length (past S H).sent ≤ length H
 sent-at_most S [] = omega arith
@@ -114,33 +106,7 @@ opened-at_most H = times-length is_opening H
 
 -- PAYLOAD
 
-pub payload_in-opened : (S : Setting) (H : History) → payload_in (memory_of S H) Opened ≡ payload_of Opened (answer_to S (past S H) Opened)
-payload_in-opened S H = refl
-
-pub payload_in-arrived : (S : Setting) (H : History) (conn : ℕ) (request : Request)
-    → payload_in (memory_of S H) (Arrived conn request) ≡ payload_of (Arrived conn request) (answer_to S (past S H) (Arrived conn request))
-payload_in-arrived S H conn request = refl
-
-pub payload_in-finished : (S : Setting) (H : History) (conn : ℕ)
-    → payload_in (memory_of S H) (Finished conn) ≡ payload_of (Finished conn) (answer_to S (past S H) (Finished conn))
-payload_in-finished S H conn = refl
-
 pub payload_in-taken : (S : Setting) (H : History) (host : ℕ) → host < hosts S
     → payload_in (memory_of S H) (Taken host) ≡ payload_of (Taken host) (answer_to S (past S H) (Taken host))
 payload_in-taken S H host l =
     rw (pipeline_at-pipelines_of S (past S H) host l) (ap (λ z. 0 + length z) (text_of_oldest-pipeline (past S H) host))
-
-pub payload_in-answered : (S : Setting) (H : History) (host e t : ℕ) (value : Value)
-    → payload_in (memory_of S H) (Answered host e value t) ≡ payload_of (Answered host e value t) (answer_to S (past S H) (Answered host e value t))
-payload_in-answered S H host e t value = refl
-
-pub payload_in-failed : (S : Setting) (H : History) (host e t : ℕ) (kind : Kind)
-    → payload_in (memory_of S H) (Failed host e kind t) ≡ payload_of (Failed host e kind t) (answer_to S (past S H) (Failed host e kind t))
-payload_in-failed S H host e t kind = refl
-
-pub payload_in-swept : (S : Setting) (H : History) (t : ℕ) → payload_in (memory_of S H) (Swept t) ≡ payload_of (Swept t) (answer_to S (past S H) (Swept t))
-payload_in-swept S H t = refl
-
-pub payload_in-closed : (S : Setting) (H : History) (conn : ℕ)
-    → payload_in (memory_of S H) (Closed conn) ≡ payload_of (Closed conn) (answer_to S (past S H) (Closed conn))
-payload_in-closed S H conn = refl

@@ -21,7 +21,7 @@ use Rattle.proxy_history.specs.Cause.{own_cause}
 use Rattle.proxy_history.specs.declared.answer.Answer.{Answer}
 use Rattle.proxy_history.specs.declared.event.Kind.{Kind}
 use Rattle.proxy_history.specs.declared.event.Event.{Event}
-use Rattle.proxy_history.specs.declared.event.Event.TheVariants.{Opened, Arrived, Finished, Taken, Answered, Failed, Swept, Handed, Closed}
+use Rattle.proxy_history.specs.declared.event.Event.TheVariants.{Opened, Finished, Taken, Answered, Failed, Swept, Handed, Closed}
 use Rattle.proxy_history.proofs.CallerLemmas.{own_cause-answered as is_current, eq-sym as eqb_sym, is_of-true as is_of_parts, AreOfPast, filter-none_of_next as none_of_next, waiting-closed as after_closed, AreOfPast-cons as of_past_grows, AreOfPast-append as of_past_both, AreOfPast-parts as are_of_past, waiting-failed as fault_empties}
 use Rattle.proxy_core.specs.Pipelines.{owner_of_part, pipe_part, place_of, pipeline_of, pipelines_of, with_pipeline, answered_by, failed_pipeline, without_connection}
 use Rattle.proxy_core.proofs.CommandRows.{IsQuiet, same_values}
@@ -119,14 +119,7 @@ of_past_first H (p ∷ ps) a = (a.0, tt)
 
 sent_now : (H : History) (event : Event) (x : Past) → AreOfPast H x.parts → AreOfPast H (sent_by x event)
 sent_now H (Taken host) x a = of_past_first H (waiting_parts host x) (of_past_filter H (waits host x) x.parts a)
-sent_now H Opened x a = tt
-sent_now H (Arrived conn request) x a = tt
-sent_now H (Finished conn) x a = tt
-sent_now H (Answered host e value t) x a = tt
-sent_now H (Failed host e kind t) x a = tt
-sent_now H (Swept t) x a = tt
-sent_now H (Handed conn) x a = tt
-sent_now H (Closed conn) x a = tt
+sent_now H _ x a = tt
 
 -- no part that was sent is of an epoch to come
 pub sent_of_past : (S : Setting) (H : History) → AreOfPast H (past S H).sent

@@ -1,5 +1,6 @@
 -- The places that the code finds are those of the parts that are placed.
 use Rattle.std.proofs.Common.{◌≡◌, ℕ, ◌+◌, ◌<◌, ◌≤◌, ◌==◌, Bool, true, false, nat_lt, List, [], ◌∷◌, ◌++◌, length, map, filter, get_or, replicate, Option, Some, None, refl, sym, ap, ◌∙◌, inl, inr, subst, arith, if◌then◌else◌}
+use Rattle.std.specs.Prelude.{IfSome}
 use Rattle.std.proofs.lemmas.Bool.{cases_Bool, eqb-true, eqb-false, eq-eqb, ne_eqb, and_right, ltb-true, ltb-false}
 use Rattle.std.proofs.lemmas.List.{get_or-set_other, length-map, length-set, length-replicate, get_or-replicate, map-append}
 use Rattle.std.proofs.lemmas.Grind.{get_or-set_at}
@@ -68,6 +69,10 @@ next_has_room : (pipelines : List PipelineState) (counts : List ℕ) (host : Opt
     → 0 < one_at h (next_place pipelines counts host) → (h < n) × (length (pipeline_at h pipelines).waiting + get_or counts h 0 < max_waiting)
 next_has_room pipelines counts None n h inside some = absurd (omega (arith, some))
 next_has_room pipelines counts (Some k) n h inside some = next_by pipelines counts k h n _ refl (inside k refl) some
+
+-- the host of an owner is one of those that there are
+pub within_hosts : (host : Option ℕ) (n : ℕ) → IfSome host (λ h. h < n) → (h : ℕ) → host ≡ Some h → h < n
+within_hosts host n i h e = rw e at i
 
 pub none_counted : (pipelines : List PipelineState) (n : ℕ) → length pipelines ≡ n → AreCounted pipelines (replicate n 0) []
 none_counted pipelines n e = record {

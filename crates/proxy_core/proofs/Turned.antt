@@ -51,15 +51,9 @@ pub taken_has_host : (S : Setting) (H : History) (host : ℕ) → own_cause S (p
 taken_has_host S H host n = leb-false (hosts S) host (are_false (causes S (past S H) (Taken host)) n).0
 
 payload_is : (S : Setting) (H : History) (event : Event) → own_cause S (past S H) event ≡ None → payload_in (memory_of S H) event ≡ payload_of event (answer_to S (past S H) event)
-payload_is S H Opened n = refl
-payload_is S H (Arrived conn request) n = refl
-payload_is S H (Finished conn) n = refl
 payload_is S H (Taken host) n = payload_in-taken S H host (taken_has_host S H host n)
-payload_is S H (Answered host e value t) n = refl
-payload_is S H (Failed host e kind t) n = refl
-payload_is S H (Swept t) n = refl
 payload_is S H (Handed conn) n = payload_in-handed S H conn (handed_open S (past S H) conn n)
-payload_is S H (Closed conn) n = refl
+payload_is S H _ n = refl
 
 pub own_cause_is : (m : Machine) (event : Event) → IsKept m → own_cause_in (setting_in m) (memory_in m) event ≡ own_cause (setting_in m) (past (setting_in m) (history_in m)) event
 own_cause_is m event kept = ap (λ (z : Memory). own_cause_in (setting_in m) z event) kept.memory ∙ cause_in (setting_in m) (history_in m) event

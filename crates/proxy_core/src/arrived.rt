@@ -1,13 +1,15 @@
 //! A request arrives.
-ghost use Rattle.std.specs.Prelude.{◌≡◌, ℕ, ◌<◌, ◌^◌, ◌-◌, [], length, map, replicate, None, IfOk, IfErr, OnOk, IfSome};
+ghost use Rattle.std.specs.Prelude.{◌≡◌, ℕ, ◌<◌, ◌^◌, ◌-◌, [], ◌∷◌, length, map, replicate, None, IfOk, IfErr, OnOk, IfSome};
 ghost use Rattle.resp_core.specs.Value.{tree_of};
 ghost use Rattle.resp_core.specs.Stream.{told_offset};
 ghost use Rattle.ketama.specs.Key.{point_of};
 ghost use Rattle.ketama.specs.Owner.{owner_of};
 ghost use Rattle.ejector.specs.State.{hosts_of};
 ghost use Rattle.ejector.specs.Usable.{is_usable};
+ghost use Rattle.splitter.specs.Part.{part_of};
 ghost use Rattle.splitter.specs.Plan.{parts};
-ghost use Rattle.splitter.specs.Planned.{plan_in};
+ghost use Rattle.splitter.specs.Planned.{planned_in};
+ghost use Rattle.splitter.specs.declared.plans.Join.TheVariants.{Same};
 ghost use Rattle.proxy_history.specs.Setting.{hosts};
 ghost use Rattle.proxy_history.specs.History.{plan_for};
 ghost use Rattle.proxy_history.specs.Past.{past};
@@ -25,12 +27,14 @@ ghost use Rattle.proxy_core.specs.Machine.{setting_in, memory_in, history_in, Is
 use crate::machine::{Done, Machine, make_room};
 use crate::place::{Accepted, Placed, next_place};
 use crate::refused::Refused;
+use bytes::Bytes;
 use ketama::{MAX_HOSTS, point_of_key};
 use proxy_history::{Answer, Event, Refusal};
 use reply_queue::MAX_COMMANDS;
 use resp_core::Value;
-use splitter::{Join, Local, PartPlan, PartPlans, Plan, Request, plan_with};
+use splitter::{Join, Local, PartPlan, PartPlans, Plan, Planned, Request, plan_with};
 use std::alloc::AllocError;
+use std::slice;
 
 impl Machine {
     /// A turn in which a request arrives.
@@ -89,11 +93,16 @@ impl Machine {
     }
 
     // Looks for a cause, makes room, and finds what is to be done with the request.
-    fn ready_to_arrive(&mut self, conn: u64, request: &Request, bytes: u64) -> Result<Plan, Refusal>
+    fn ready_to_arrive<'r>(
+        &mut self,
+        conn: u64,
+        request: &'r Request,
+        bytes: u64,
+    ) -> Result<Planned<'r>, Refusal>
         requires { bytes ≡ told_offset (length_of_request request.now) }
         ensures ready { OnOk result (IsReady self.old self.new (events.Arrived conn request.now)) }
         ensures text { OnOk result (length_of_request request.now < 2 ^ 64 - 1) }
-        ensures plan { IfOk result (λ plan. plan_in plan ≡ plan_for request.now) }
+        ensures plan { IfOk result (λ plan. planned_in plan ≡ plan_for request.now) }
         ensures refused { IfErr result (λ r. IsSame self.old self.new
             × HasCauseIn self.old (events.Arrived conn request.now) r) }
     {
@@ -107,28 +116,29 @@ impl Machine {
             return Err(Refusal::Crowded);
         }
         make_room(&mut self.journal, bytes)?;
-        match plan_with(self.alloc, &mut self.texts, request) {
+        match plan_with(self.alloc, &mut self.texts, request, bytes) {
             Ok(plan) => Ok(plan),
             Err(_) => Err(Refusal::NoMemory),
         }
     }
 
     // Accepts a command of this plan.
-    fn accept_plan(&mut self, conn: u64, plan: Plan) -> Result<Accepted, Refusal>
+    fn accept_plan(&mut self, conn: u64, plan: Planned<'_>) -> Result<Accepted, Refusal>
         requires pipelines { length self.old.pipelines.states ≡ hosts (setting_in self.old) }
         requires hosts { self.old.ejector.rules.hosts ≡ self.old.ring.hosts }
         requires open { MayAccept (connection_at conn self.old.connections.numbered) }
-        requires join { MayJoinAll (plan_in plan) }
+        requires join { MayJoinAll (planned_in plan) }
         ensures accepted { IfOk result (λ a. (x : Past)
             → Tells (setting_in self.old) (memory_in self.old) conn x
-            → IsAccepted self.old self.new conn (plan_in plan) x a) }
+            → IsAccepted self.old self.new conn (planned_in plan.entry) x a) }
         ensures journal { self.new.journal ≡ self.old.journal }
         ensures refused { IfErr result (λ r. (r ≡ Refusal.NoMemory) × IsSame self.old self.new) }
     {
         match plan {
-            Plan::Here(name, value) => self.accept_value(conn, name, value, false),
-            Plan::Leave(name, value) => self.accept_value(conn, name, value, true),
-            Plan::Parts { how, list } => self.accept_list(conn, how, list),
+            Planned::Whole { key, text } => self.accept_whole(conn, key, text),
+            Planned::Other(Plan::Here(name, value)) => self.accept_value(conn, name, value, false),
+            Planned::Other(Plan::Leave(name, value)) => self.accept_value(conn, name, value, true),
+            Planned::Other(Plan::Parts { how, list }) => self.accept_list(conn, how, list),
         }
     }
 
@@ -149,6 +159,46 @@ impl Machine {
     {
         let index = self.connections.accept_own(conn, value, is_last)?;
         Ok(Accepted::own(index, name))
+    }
+
+    // Accepts a command that goes whole to the host of its key.
+    fn accept_whole(&mut self, conn: u64, key: &Bytes, text: Bytes) -> Result<Accepted, Refusal>
+        requires pipelines { length self.old.pipelines.states ≡ hosts (setting_in self.old) }
+        requires hosts { self.old.ejector.rules.hosts ≡ self.old.ring.hosts }
+        requires open { MayAccept (connection_at conn self.old.connections.numbered) }
+        ensures accepted { IfOk result (λ a. (x : Past)
+            → Tells (setting_in self.old) (memory_in self.old) conn x
+            → IsAccepted self.old self.new conn (parts Same (part_of key.now text ∷ [])) x a) }
+        ensures journal { self.new.journal ≡ self.old.journal }
+        ensures refused { IfErr result (λ r. (r ≡ Refusal.NoMemory) × IsSame self.old self.new) }
+    {
+        let mut places = [0u16; MAX_HOSTS];
+        let counts = &mut places[..self.ring.hosts()];
+        let placed = self.place_whole(counts, key, text);
+        self.pipelines.reserve(counts)?;
+        let index = self
+            .connections
+            .accept(conn, Join::Same, slice::from_ref(&placed))?;
+        let accepted = Accepted::counted(index, slice::from_ref(&placed));
+        self.pipelines.push_one(conn, index, placed);
+        Ok(accepted)
+    }
+
+    // Finds the place of a command's only part, and counts for its host the part that is to wait for it.
+    fn place_whole(&self, counts: &mut [u16], key: &Bytes, text: Bytes) -> Placed
+        requires pipelines { length self.now.pipelines.states ≡ hosts (setting_in self.now) }
+        requires hosts { self.now.ejector.rules.hosts ≡ self.now.ring.hosts }
+        requires counts { counts.old ≡ replicate (length self.now.pipelines.states) 0 }
+        ensures placed { (x : Past) (conn command : ℕ)
+            → Tells (setting_in self.now) (memory_in self.now) conn x
+            → result ∷ [] ≡ map placed_as
+            (parts_placed (setting_in self.now) x conn command [] (part_of key.now text ∷ [])) }
+        ensures counted { AreCounted (memory_in self.now).pipelines counts.new (result ∷ []) }
+    {
+        let mut places = [false; MAX_HOSTS];
+        let usable = &mut places[..self.ring.hosts()];
+        self.ejector.all_usable(usable);
+        self.place_at(usable, counts, 0, self.point_of(key), text)
     }
 
     // Accepts a command of these parts.
@@ -240,14 +290,44 @@ impl Machine {
             (point_of plan.key self.now.ejector.rules.settings.tags) usable.now)
             (λ h. h < length self.now.pipelines.states) }
     {
-        let tags = self.ejector.rules().settings.tags;
-        let host = self
-            .ring
-            .owner(point_of_key(plan.key.as_slice(), tags), usable);
+        let point = self.point_of(&plan.key);
+        self.place_at(usable, counts, number, point, plan.text)
+    }
+
+    // The point of a key on the ring.
+    fn point_of(&self, key: &Bytes) -> u32
+        ensures { result ≡ point_of key.now self.now.ejector.rules.settings.tags }
+    {
+        point_of_key(key.as_slice(), self.ejector.rules().settings.tags)
+    }
+
+    // Finds the place of the next part, whose key has this point.
+    fn place_at(
+        &self,
+        usable: &[bool],
+        counts: &mut [u16],
+        number: u32,
+        point: u32,
+        text: Bytes,
+    ) -> Placed
+        requires pipelines { length self.now.pipelines.states ≡ self.now.ring.hosts }
+        requires usable { length usable.now ≡ self.now.ring.hosts }
+        requires counts { length counts.old ≡ length self.now.pipelines.states }
+        ensures placed { result ≡ record {
+          number = number;
+          place = next_place (memory_in self.now).pipelines counts.old
+              (owner_of self.now.ring.pairs point usable.now);
+          text = text;
+        } }
+        ensures counts { counts.new ≡ counted_at result.place counts.old }
+        ensures host { IfSome (owner_of self.now.ring.pairs point usable.now)
+            (λ h. h < length self.now.pipelines.states) }
+    {
+        let host = self.ring.owner(point, usable);
         Placed {
             number,
             place: next_place(&self.pipelines, counts, host),
-            text: plan.text,
+            text,
         }
     }
 }

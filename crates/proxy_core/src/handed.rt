@@ -86,13 +86,13 @@ fn front_text(texts: &mut Texts, queue: &Queue) -> Result<Option<Bytes>, AllocEr
     ensures ready { OnErr result (IsSome (front_reply queue.now.commands)) }
 {
     if let Some(reply) = queue.same_front() {
-        return Ok(Some(texts.text_of(reply)?));
+        return Ok(Some(texts.text_of(reply, reply.text_len())?));
     }
     let Ok(reply) = queue.front() else {
         return Err(AllocError);
     };
     match reply {
-        Some(reply) => Ok(Some(texts.text_of(&reply)?)),
+        Some(reply) => Ok(Some(texts.text_of(&reply, reply.text_len())?)),
         None => Ok(None),
     }
 }

@@ -271,6 +271,8 @@ impl Recorded for Core {
         self.hand_over()
     }
 
+    // Inlined, so that an event and its answer are moved once less.
+    #[inline(always)]
     fn turn(&mut self, pass: u64, event: Event) -> Result<Answer, (Refusal, Event)> {
         match Core::turn(self, pass, event) {
             Ok(answer) => Ok(answer),
@@ -371,6 +373,7 @@ impl Machine {
 }
 
 /// Makes room in a journal for one step with so many bytes of payload.
+#[inline(always)]
 pub(crate) fn make_room(journal: &mut Journal<Event, Answer>, bytes: u64) -> Result<(), Refusal>
     ensures room { OnOk result ((journal.new.room ≡ Some bytes) × (IsFull journal.old bytes → ⊥)) }
     ensures refused { IfErr result (λ r. ((r ≡ Refusal.NoMemory) × (IsFull journal.old bytes → ⊥))

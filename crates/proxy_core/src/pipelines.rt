@@ -124,8 +124,8 @@ impl Pipelines {
         }
     }
 
-    // A part waits, if it is to.
-    fn push_one(&mut self, conn: u64, command: u64, placed: Placed)
+    /// A part waits, if it is to. There is room for it.
+    pub(crate) fn push_one(&mut self, conn: u64, command: u64, placed: Placed)
         requires { MayWait placed.place self.old }
         ensures pushed { self.new.states ≡ pushed_at placed.place
             (piped_as conn command placed) self.old.states }

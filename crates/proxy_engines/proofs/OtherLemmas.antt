@@ -16,15 +16,10 @@ same_number : (a c : ℕ) → (a == c) ≡ true → (d : ℕ) → d ≢ c → (a
 same_number a c is d other = ne_eqb a d (λ e. other (sym e ∙ eqb-true a c is))
 
 of_no_host : (c h : ℕ) (event : Event) (a : Answer) → is_connection_step c event a ≡ true → is_of_host h event ≡ false
-of_no_host c h Event.Opened a is = refl
-of_no_host c h (Event.Arrived conn r) a is = refl
-of_no_host c h (Event.Finished conn) a is = refl
 of_no_host c h (Event.Taken host) a is = absurd cc
 of_no_host c h (Event.Answered host e v t) a is = absurd cc
 of_no_host c h (Event.Failed host e k t) a is = absurd cc
-of_no_host c h (Event.Swept t) a is = absurd cc
-of_no_host c h (Event.Handed conn) a is = refl
-of_no_host c h (Event.Closed conn) a is = refl
+of_no_host c h _ a is = refl
 
 of_no_other : (c d : ℕ) → d ≢ c → (event : Event) (a : Answer) → is_connection_step c event a ≡ true → is_connection_step d event a ≡ false
 of_no_other c d other Event.Opened (Answer.Opened conn) is = by (conn == c) refl
@@ -32,44 +27,23 @@ of_no_other c d other Event.Opened (Answer.Opened conn) is = by (conn == c) refl
     by : (b : Bool) → (conn == c) ≡ b → is_connection_step d Event.Opened (Answer.Opened conn) ≡ false
     by true e = rw (same_number conn c e d other) refl
     by false e = let no : is_connection_step c Event.Opened (Answer.Opened conn) ≡ false = rw e refl in let clash : true ≡ false = sym is ∙ no in absurd cc
-of_no_other c d other Event.Opened (Answer.Accepted i l n no_host busy) is = absurd cc
-of_no_other c d other Event.Opened Answer.Finishing is = absurd cc
-of_no_other c d other Event.Opened (Answer.Sent e p t) is = absurd cc
-of_no_other c d other Event.Opened (Answer.Matched trip) is = absurd cc
-of_no_other c d other Event.Opened (Answer.Lost n trip) is = absurd cc
-of_no_other c d other Event.Opened (Answer.Swept r e k) is = absurd cc
-of_no_other c d other Event.Opened (Answer.Bytes t) is = absurd cc
-of_no_other c d other Event.Opened Answer.Closed is = absurd cc
 of_no_other c d other (Event.Arrived conn r) a is = same_number conn c is d other
 of_no_other c d other (Event.Finished conn) a is = same_number conn c is d other
-of_no_other c d other (Event.Taken host) a is = absurd cc
-of_no_other c d other (Event.Answered host e v t) a is = absurd cc
-of_no_other c d other (Event.Failed host e k t) a is = absurd cc
-of_no_other c d other (Event.Swept t) a is = absurd cc
 of_no_other c d other (Event.Handed conn) a is = same_number conn c is d other
 of_no_other c d other (Event.Closed conn) a is = same_number conn c is d other
+of_no_other c d other _ _ is = absurd cc
 
 of_no_connection : (h c : ℕ) (event : Event) (a : Answer) → is_of_host h event ≡ true → is_connection_step c event a ≡ false
-of_no_connection h c Event.Opened a is = absurd cc
-of_no_connection h c (Event.Arrived conn r) a is = absurd cc
-of_no_connection h c (Event.Finished conn) a is = absurd cc
 of_no_connection h c (Event.Taken host) a is = refl
 of_no_connection h c (Event.Answered host e v t) a is = refl
 of_no_connection h c (Event.Failed host e k t) a is = refl
-of_no_connection h c (Event.Swept t) a is = absurd cc
-of_no_connection h c (Event.Handed conn) a is = absurd cc
-of_no_connection h c (Event.Closed conn) a is = absurd cc
+of_no_connection h c _ a is = absurd cc
 
 of_no_other_host : (h g : ℕ) → g ≢ h → (event : Event) → is_of_host h event ≡ true → is_of_host g event ≡ false
-of_no_other_host h g other Event.Opened is = absurd cc
-of_no_other_host h g other (Event.Arrived conn r) is = absurd cc
-of_no_other_host h g other (Event.Finished conn) is = absurd cc
 of_no_other_host h g other (Event.Taken host) is = same_number host h is g other
 of_no_other_host h g other (Event.Answered host e v t) is = same_number host h is g other
 of_no_other_host h g other (Event.Failed host e k t) is = same_number host h is g other
-of_no_other_host h g other (Event.Swept t) is = absurd cc
-of_no_other_host h g other (Event.Handed conn) is = absurd cc
-of_no_other_host h g other (Event.Closed conn) is = absurd cc
+of_no_other_host h g other _ is = absurd cc
 
 -- LISTS
 

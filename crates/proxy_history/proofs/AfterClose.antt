@@ -12,7 +12,7 @@ use Rattle.proxy_history.specs.Answer.{answer_to}
 use Rattle.proxy_history.specs.Output.{handed_text, transcript}
 use Rattle.proxy_history.specs.Own.{is_of_connection}
 use Rattle.proxy_history.specs.declared.event.Event.{Event}
-use Rattle.proxy_history.specs.declared.event.Event.TheVariants.{Opened, Arrived, Finished, Taken, Answered, Failed, Swept, Handed, Closed}
+use Rattle.proxy_history.specs.declared.event.Event.TheVariants.{Arrived, Finished, Handed, Closed}
 use Rattle.proxy_history.proofs.NoCause.{are_false}
 
 still_closed : (c : ℕ) (later before : History) → is_closed c before ≡ true → is_closed c (later ++ before) ≡ true
@@ -30,22 +30,11 @@ not_of S x c (Arrived conn request) k n = not_open x c conn k (are_false (causes
 not_of S x c (Finished conn) k n = not_open x c conn k (are_false (causes S x (Finished conn)) n).0
 not_of S x c (Handed conn) k n = not_open x c conn k (are_false (causes S x (Handed conn)) n).0
 not_of S x c (Closed conn) k n = not_open x c conn k (are_false (causes S x (Closed conn)) n).0
-not_of S x c Opened k n = refl
-not_of S x c (Taken host) k n = refl
-not_of S x c (Answered host e value t) k n = refl
-not_of S x c (Failed host e kind t) k n = refl
-not_of S x c (Swept t) k n = refl
+not_of S x c _ k n = refl
 
 no_text : (S : Setting) (x : Past) (c : ℕ) (event : Event) → is_of_connection c event ≡ false → handed_text c event (answer_to S x event) ≡ []
 no_text S x c (Handed conn) f = rw f refl
-no_text S x c Opened f = refl
-no_text S x c (Arrived conn request) f = refl
-no_text S x c (Finished conn) f = refl
-no_text S x c (Taken host) f = refl
-no_text S x c (Answered host e value t) f = refl
-no_text S x c (Failed host e kind t) f = refl
-no_text S x c (Swept t) f = refl
-no_text S x c (Closed conn) f = refl
+no_text S x c _ f = refl
 
 pub closed_gets_nothing : (S : Setting) (later before : History) (c : ℕ) → IsLegal S (later ++ before) → is_closed c before ≡ true
     → (has (is_of_connection c) later ≡ false) × (transcript c (later ++ before) ≡ transcript c before)

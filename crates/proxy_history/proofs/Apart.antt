@@ -16,7 +16,7 @@ use Rattle.proxy_history.specs.Laws.{AreApart}
 use Rattle.proxy_history.specs.declared.answer.Answer.{Answer}
 use Rattle.proxy_history.specs.declared.event.Kind.{Kind}
 use Rattle.proxy_history.specs.declared.event.Event.{Event}
-use Rattle.proxy_history.specs.declared.event.Event.TheVariants.{Opened, Arrived, Finished, Taken, Answered, Failed, Swept, Handed, Closed}
+use Rattle.proxy_history.specs.declared.event.Event.TheVariants.{Arrived, Failed}
 use Rattle.proxy_history.proofs.SentOnce.{apart_with}
 use Rattle.proxy_history.proofs.Growing.{times_grows}
 use Rattle.proxy_history.proofs.Fresh.{AreOf, placing_are_of}
@@ -110,14 +110,7 @@ as_before x s a = rw (append-nil x.parts) (record { apart = a.apart; earlier = e
 in_order_after : (S : Setting) (x : Past) (pass : ℕ) (answer : Answer) (event : Event) → AreInOrder x.steps x.parts
     → AreInOrder (record { pass = pass; event = event; answer = answer } ∷ x.steps) (x.parts ++ parts_by S x event)
 in_order_after S x pass answer (Arrived conn request) a = placed_in_order S x conn _ (plan_for request) (eq-eqb conn conn refl) a
-in_order_after S x pass answer Opened a = as_before x _ a
-in_order_after S x pass answer (Finished conn) a = as_before x _ a
-in_order_after S x pass answer (Taken host) a = as_before x _ a
-in_order_after S x pass answer (Answered host e value t) a = as_before x _ a
-in_order_after S x pass answer (Failed host e kind t) a = as_before x _ a
-in_order_after S x pass answer (Swept t) a = as_before x _ a
-in_order_after S x pass answer (Handed conn) a = as_before x _ a
-in_order_after S x pass answer (Closed conn) a = as_before x _ a
+in_order_after S x pass answer _ a = as_before x _ a
 
 pub parts_are_in_order : (S : Setting) (H : History) → AreInOrder H (past S H).parts
 parts_are_in_order S [] = record { apart = tt; earlier = tt }

@@ -17,7 +17,7 @@ use Rattle.proxy_history.specs.Waiting.{waits, waiting_parts, first, sent_by}
 use Rattle.proxy_history.specs.Arrival.{no_upstream_host, proxy_busy, before_it, parts_by, placed_by, parts_placed, placed_part, with_host, host_for, hostless}
 use Rattle.proxy_history.specs.Laws.{IsPlaced, HasArrived}
 use Rattle.proxy_history.specs.declared.event.Event.{Event}
-use Rattle.proxy_history.specs.declared.event.Event.TheVariants.{Opened, Arrived, Finished, Taken, Answered, Failed, Swept, Handed, Closed}
+use Rattle.proxy_history.specs.declared.event.Event.TheVariants.{Arrived, Taken}
 use Rattle.proxy_history.proofs.Fresh.{host_keeps_conn, host_keeps_command}
 use Rattle.proxy_history.proofs.Apart.{host_keeps_number}
 
@@ -115,14 +115,7 @@ new_by_plan S x conn request p (leave name value) e h = absurd (Contains-nil p h
 
 pub new_is : (S : Setting) (x : Past) (event : Event) (p : Part) → Contains (parts_by S x event) p → IsNew S x event p
 new_is S x (Arrived conn request) p h = new_by_plan S x conn request p (plan_for request) refl h
-new_is S x Opened p h = absurd (Contains-nil p h)
-new_is S x (Finished conn) p h = absurd (Contains-nil p h)
-new_is S x (Taken host) p h = absurd (Contains-nil p h)
-new_is S x (Answered host e value t) p h = absurd (Contains-nil p h)
-new_is S x (Failed host e kind t) p h = absurd (Contains-nil p h)
-new_is S x (Swept t) p h = absurd (Contains-nil p h)
-new_is S x (Handed conn) p h = absurd (Contains-nil p h)
-new_is S x (Closed conn) p h = absurd (Contains-nil p h)
+new_is S x _ p h = absurd (Contains-nil p h)
 
 -- the parts of an arrival, by the plan
 parts_are : (S : Setting) (x : Past) (event : Event) (p : Part) (a : IsNew S x event p) → parts_by S x event ≡ parts_placed S x a.conn (accepted_count a.conn x.steps) [] a.list
@@ -207,14 +200,7 @@ in_first (q ∷ ps) p h = Contains-append_left (q ∷ []) ps p h
 
 sent_now : (x : Past) (event : Event) (p : Part) → Contains (sent_by x event) p → Contains x.parts p
 sent_now x (Taken host) p h = Contains-filter (waits host x) x.parts p (in_first (waiting_parts host x) p h)
-sent_now x Opened p h = absurd (Contains-nil p h)
-sent_now x (Arrived conn request) p h = absurd (Contains-nil p h)
-sent_now x (Finished conn) p h = absurd (Contains-nil p h)
-sent_now x (Answered host e value t) p h = absurd (Contains-nil p h)
-sent_now x (Failed host e kind t) p h = absurd (Contains-nil p h)
-sent_now x (Swept t) p h = absurd (Contains-nil p h)
-sent_now x (Handed conn) p h = absurd (Contains-nil p h)
-sent_now x (Closed conn) p h = absurd (Contains-nil p h)
+sent_now x _ p h = absurd (Contains-nil p h)
 
 pub sent_parts_arrived : (S : Setting) (H : History) (p : Part) → Contains (past S H).sent p → Contains (past S H).parts p
 sent_parts_arrived S [] p h = h

@@ -14,7 +14,7 @@ use Rattle.proxy_history.specs.Past.{past, after}
 use Rattle.proxy_history.specs.Cause.{own_cause, causes}
 use Rattle.proxy_history.specs.Legal.{IsLegal}
 use Rattle.proxy_history.specs.declared.event.Event.{Event}
-use Rattle.proxy_history.specs.declared.event.Event.TheVariants.{Opened, Arrived, Finished, Taken, Answered, Failed, Swept, Handed, Closed}
+use Rattle.proxy_history.specs.declared.event.Event.TheVariants.{Answered}
 use Rattle.proxy_history.proofs.NoCause.{are_false, is_current}
 
 -- where a reply is accepted some part flies
@@ -39,14 +39,7 @@ came_by S x (Answered host ep value t) h e n l = elim (cases_Bool ((host == h) &
       rw i (omega (arith, fly, length-append (replies_from h e x.steps) (tree_of value ∷ [])))
   | inr i ↦ rw (i, append-nil (replies_from h e x.steps)) l
 ]
-came_by S x Opened h e n l = rw (append-nil (replies_from h e x.steps)) l
-came_by S x (Arrived conn request) h e n l = rw (append-nil (replies_from h e x.steps)) l
-came_by S x (Finished conn) h e n l = rw (append-nil (replies_from h e x.steps)) l
-came_by S x (Taken host) h e n l = rw (append-nil (replies_from h e x.steps)) l
-came_by S x (Failed host ep kind t) h e n l = rw (append-nil (replies_from h e x.steps)) l
-came_by S x (Swept t) h e n l = rw (append-nil (replies_from h e x.steps)) l
-came_by S x (Handed conn) h e n l = rw (append-nil (replies_from h e x.steps)) l
-came_by S x (Closed conn) h e n l = rw (append-nil (replies_from h e x.steps)) l
+came_by S x _ h e n l = rw (append-nil (replies_from h e x.steps)) l
 
 pub replies_were_asked : (S : Setting) (H : History) (h e : ℕ) → IsLegal S H → length (replies_from h e H) ≤ length (sent_to h e (past S H))
 replies_were_asked S [] h e legal = omega arith

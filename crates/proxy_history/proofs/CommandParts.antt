@@ -23,7 +23,7 @@ use Rattle.proxy_history.specs.Arrival.{parts_placed, placed_part, placed_by, pa
 use Rattle.proxy_history.specs.Outcome.{parts_of, is_part_of, values_of, with_value}
 use Rattle.proxy_history.specs.CommandLaws.{parts_in_plan, HasItsParts}
 use Rattle.proxy_history.specs.declared.event.Event.{Event}
-use Rattle.proxy_history.specs.declared.event.Event.TheVariants.{Opened, Arrived, Finished, Taken, Answered, Failed, Swept, Handed, Closed}
+use Rattle.proxy_history.specs.declared.event.Event.TheVariants.{Arrived}
 use Rattle.proxy_history.proofs.Fresh.{length-requests, AreOf, placing_are_of, none_of, parts_stay}
 use Rattle.proxy_history.proofs.Apart.{host_keeps_number}
 use Rattle.proxy_history.proofs.Arrived.{text_is}
@@ -63,14 +63,7 @@ not_yet_placed S x c i conn (leave name value) f = refl
 
 not_yet_by : (S : Setting) (x : Past) (c i : ℕ) (event : Event) → (is_arrival c event ≡ true → accepted_count c x.steps ≡ i → ⊥) → filter (is_part_of c i) (parts_by S x event) ≡ []
 not_yet_by S x c i (Arrived conn request) f = not_yet_placed S x c i conn (plan_for request) (λ e. f (eq-eqb conn c e))
-not_yet_by S x c i Opened f = refl
-not_yet_by S x c i (Finished conn) f = refl
-not_yet_by S x c i (Taken host) f = refl
-not_yet_by S x c i (Answered host e value t) f = refl
-not_yet_by S x c i (Failed host e kind t) f = refl
-not_yet_by S x c i (Swept t) f = refl
-not_yet_by S x c i (Handed conn) f = refl
-not_yet_by S x c i (Closed conn) f = refl
+not_yet_by S x c i _ f = refl
 
 counted_once : (b : Bool) (n i : ℕ) → (if b then n + 1 else n) ≤ i → b ≡ true → n ≡ i → ⊥
 counted_once true n i l e f = omega arith
@@ -109,14 +102,7 @@ new_parts S x c (Arrived conn asked) request k e = elim (cases_Bool (conn == c))
   | inl t ↦ parts_of_arrival S x c conn asked request k (eqb-true conn c t) (rw t at e)
   | inr t ↦ let g = rw t at e in absurd (cc g)
 ]
-new_parts S x c Opened request k e = absurd (cc e)
-new_parts S x c (Finished conn) request k e = absurd (cc e)
-new_parts S x c (Taken host) request k e = absurd (cc e)
-new_parts S x c (Answered host ep value t) request k e = absurd (cc e)
-new_parts S x c (Failed host ep kind t) request k e = absurd (cc e)
-new_parts S x c (Swept t) request k e = absurd (cc e)
-new_parts S x c (Handed conn) request k e = absurd (cc e)
-new_parts S x c (Closed conn) request k e = absurd (cc e)
+new_parts S x c _ request k e = absurd (cc e)
 
 slice_get-left : {X : Type 0} (xs ys : List X) (i : ℕ) → i < length xs → slice_get (xs ++ ys) i ≡ slice_get xs i
 slice_get-left [] ys i l = absurd (omega (arith, l))

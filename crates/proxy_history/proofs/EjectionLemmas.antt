@@ -16,33 +16,17 @@ use Rattle.proxy_history.specs.Answer.{answer_to, accepts, local_of}
 use Rattle.proxy_history.specs.EjectionLaws.{without_host, without_trips, without_hosts, IsLeftAlone}
 use Rattle.proxy_history.specs.declared.answer.Answer.TheVariants as answer
 use Rattle.proxy_history.specs.declared.event.Event.{Event}
-use Rattle.proxy_history.specs.declared.event.Event.TheVariants.{Opened, Arrived, Finished, Taken, Answered, Failed, Swept, Handed, Closed}
+use Rattle.proxy_history.specs.declared.event.Event.TheVariants.{Arrived}
 
 module _ (S : Setting) (x : Past) (marks : List Mark) where
   abbrev y : Past
   y = record x { marks = marks }
 
   same_cause : (event : Event) → own_cause S y event ≡ own_cause S x event
-  same_cause Opened = refl
-  same_cause (Arrived conn request) = refl
-  same_cause (Finished conn) = refl
-  same_cause (Taken host) = refl
-  same_cause (Answered host e value t) = refl
-  same_cause (Failed host e kind t) = refl
-  same_cause (Swept t) = refl
-  same_cause (Handed conn) = refl
-  same_cause (Closed conn) = refl
+  same_cause _ = refl
 
   same_sent : (event : Event) → sent_by y event ≡ sent_by x event
-  same_sent (Taken host) = refl
-  same_sent Opened = refl
-  same_sent (Arrived conn request) = refl
-  same_sent (Finished conn) = refl
-  same_sent (Answered host e value t) = refl
-  same_sent (Failed host e kind t) = refl
-  same_sent (Swept t) = refl
-  same_sent (Handed conn) = refl
-  same_sent (Closed conn) = refl
+  same_sent _ = refl
 
   -- with the same usable hosts each part is placed alike
   same_with : (placed : List Part) (o : Option ℕ) (p : Part) → with_host y placed o p ≡ with_host x placed o p
@@ -69,14 +53,7 @@ module _ (S : Setting) (x : Past) (marks : List Mark) where
 
   same_parts : (event : Event) → usable_flags S y ≡ usable_flags S x → parts_by S y event ≡ parts_by S x event
   same_parts (Arrived conn request) e = same_placed conn (plan_for request) e
-  same_parts Opened e = refl
-  same_parts (Finished conn) e = refl
-  same_parts (Taken host) e = refl
-  same_parts (Answered host ep value t) e = refl
-  same_parts (Failed host ep kind t) e = refl
-  same_parts (Swept t) e = refl
-  same_parts (Handed conn) e = refl
-  same_parts (Closed conn) e = refl
+  same_parts _ e = refl
 
   -- whichever hosts are usable, the parts are the same but for their hosts
   bare_is : (z : Past) (placed : List Part) (o : Option ℕ) (p : Part)
@@ -113,14 +90,7 @@ module _ (S : Setting) (x : Past) (marks : List Mark) where
   same_but_hosts : (event : Event)
       → map without_host (parts_by S y event) ≡ map without_host (parts_by S x event)
   same_but_hosts (Arrived conn request) = bare_placed conn (plan_for request)
-  same_but_hosts Opened = refl
-  same_but_hosts (Finished conn) = refl
-  same_but_hosts (Taken host) = refl
-  same_but_hosts (Answered host ep value t) = refl
-  same_but_hosts (Failed host ep kind t) = refl
-  same_but_hosts (Swept t) = refl
-  same_but_hosts (Handed conn) = refl
-  same_but_hosts (Closed conn) = refl
+  same_but_hosts _ = refl
 
   -- what an arrival tells of its parts, but for their hosts
   same_accepted : (index : ℕ) (o : Option Local) (ps qs : List Part) → map without_host ps ≡ map without_host qs
@@ -135,26 +105,12 @@ module _ (S : Setting) (x : Past) (marks : List Mark) where
       ≡ without_hosts (without_trips (answer_to S x event))
   same_answer (Arrived conn request) =
       same_accepted (accepted_count conn x.steps) (local_of (plan_for request)) (parts_by S y (Arrived conn request)) (parts_by S x (Arrived conn request)) (same_but_hosts (Arrived conn request))
-  same_answer Opened = refl
-  same_answer (Finished conn) = refl
-  same_answer (Taken host) = refl
-  same_answer (Answered host ep value t) = refl
-  same_answer (Failed host ep kind t) = refl
-  same_answer (Swept t) = refl
-  same_answer (Handed conn) = refl
-  same_answer (Closed conn) = refl
+  same_answer _ = refl
 
   same_arrival : (event : Event) → usable_flags S y ≡ usable_flags S x
       → without_trips (answer_to S y event) ≡ without_trips (answer_to S x event)
   same_arrival (Arrived conn request) e = ap (accepts (accepted_count conn x.steps) (local_of (plan_for request))) (same_parts (Arrived conn request) e)
-  same_arrival Opened e = refl
-  same_arrival (Finished conn) e = refl
-  same_arrival (Taken host) e = refl
-  same_arrival (Answered host ep value t) e = refl
-  same_arrival (Failed host ep kind t) e = refl
-  same_arrival (Swept t) e = refl
-  same_arrival (Handed conn) e = refl
-  same_arrival (Closed conn) e = refl
+  same_arrival _ e = refl
 
   left_alone : (event : Event) → IsLeftAlone S x y event
   left_alone event = record {

@@ -10,7 +10,7 @@ use Rattle.proxy_history.specs.Legal.{IsLegal}
 use Rattle.proxy_history.specs.Laws.{is_fault_in}
 use Rattle.proxy_history.specs.declared.event.Kind.{Kind}
 use Rattle.proxy_history.specs.declared.event.Event.{Event}
-use Rattle.proxy_history.specs.declared.event.Event.TheVariants.{Opened, Arrived, Finished, Taken, Answered, Failed, Swept, Handed, Closed}
+use Rattle.proxy_history.specs.declared.event.Event.TheVariants.{Failed}
 use Rattle.proxy_history.proofs.Growing.{times_grows}
 use Rattle.proxy_history.proofs.NoCause.{are_false}
 
@@ -25,28 +25,14 @@ fault_now : (S : Setting) (x : Past) (event : Event) (h e : ℕ) → own_cause S
 fault_now S x (Failed host ep kind t) h e n i =
     let a = and_parts (host == h) (ep == e) i in
     (a.0, sym (eqb-true ep e a.1) ∙ fault_is_current S x host ep t kind n ∙ ap (λ k. epoch k x.steps) (eqb-true host h a.0))
-fault_now S x Opened h e n i = absurd cc
-fault_now S x (Arrived conn request) h e n i = absurd cc
-fault_now S x (Finished conn) h e n i = absurd cc
-fault_now S x (Taken host) h e n i = absurd cc
-fault_now S x (Answered host ep value t) h e n i = absurd cc
-fault_now S x (Swept t) h e n i = absurd cc
-fault_now S x (Handed conn) h e n i = absurd cc
-fault_now S x (Closed conn) h e n i = absurd cc
+fault_now S x _ h e n i = absurd cc
 
 -- and the other way
 now_fault : (S : Setting) (x : Past) (event : Event) (h e : ℕ) → own_cause S x event ≡ None → is_fault h event ≡ true → e ≡ epoch h x.steps → is_fault_in h e event ≡ true
 now_fault S x (Failed host ep kind t) h e n i q =
     let same : ep ≡ e = fault_is_current S x host ep t kind n ∙ ap (λ k. epoch k x.steps) (eqb-true host h i) ∙ sym q in
     rw (i, eq-eqb ep e same) refl
-now_fault S x Opened h e n i q = absurd cc
-now_fault S x (Arrived conn request) h e n i q = absurd cc
-now_fault S x (Finished conn) h e n i q = absurd cc
-now_fault S x (Taken host) h e n i q = absurd cc
-now_fault S x (Answered host ep value t) h e n i q = absurd cc
-now_fault S x (Swept t) h e n i q = absurd cc
-now_fault S x (Handed conn) h e n i q = absurd cc
-now_fault S x (Closed conn) h e n i q = absurd cc
+now_fault S x _ h e n i q = absurd cc
 
 one_more : (h : ℕ) (s : Step) (H : History) → is_fault h s.event ≡ true → epoch h (s ∷ H) ≡ epoch h H + 1
 one_more h s H i = rw i refl

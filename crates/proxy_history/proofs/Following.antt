@@ -6,16 +6,10 @@ use Rattle.proxy_history.specs.Part.{Past}
 use Rattle.proxy_history.specs.Cause.{own_cause, causes}
 use Rattle.proxy_history.specs.Hosts.{HasHost}
 use Rattle.proxy_history.specs.declared.event.Event.{Event}
-use Rattle.proxy_history.specs.declared.event.Event.TheVariants.{Opened, Arrived, Finished, Taken, Answered, Failed, Swept, Handed, Closed}
+use Rattle.proxy_history.specs.declared.event.Event.TheVariants.{Answered, Failed}
 use Rattle.proxy_history.proofs.NoCause.{are_false}
 
 pub has_host : (S : Setting) (x : Past) (event : Event) → own_cause S x event ≡ None → HasHost (hosts S) event
 has_host S x (Answered host e value t) n = leb-false (hosts S) host (are_false (causes S x (Answered host e value t)) n).0
 has_host S x (Failed host e kind t) n = leb-false (hosts S) host (are_false (causes S x (Failed host e kind t)) n).0
-has_host S x Opened n = tt
-has_host S x (Arrived conn request) n = tt
-has_host S x (Finished conn) n = tt
-has_host S x (Taken host) n = tt
-has_host S x (Swept t) n = tt
-has_host S x (Handed conn) n = tt
-has_host S x (Closed conn) n = tt
+has_host S x _ n = tt

@@ -12,7 +12,7 @@ use Rattle.proxy_history.specs.Past.{after}
 use Rattle.proxy_history.specs.Arrival.{parts_placed, placed_part, placed_by, parts_by, with_host, host_for, hostless}
 use Rattle.proxy_history.specs.Outcome.{parts_of, is_part_of}
 use Rattle.proxy_history.specs.declared.event.Event.{Event}
-use Rattle.proxy_history.specs.declared.event.Event.TheVariants.{Opened, Arrived, Finished, Taken, Answered, Failed, Swept, Handed, Closed}
+use Rattle.proxy_history.specs.declared.event.Event.TheVariants.{Arrived}
 
 length_if : {X : Type 0} (n : ℕ) (b : Bool) (x : X) → n + length (if b then x ∷ [] else []) ≡ (if b then n + 1 else n)
 length_if n true x = refl
@@ -23,14 +23,7 @@ none_more n = omega arith
 
 one_request : (c n : ℕ) (event : Event) → n + length (request_by c event) ≡ (if is_arrival c event then n + 1 else n)
 one_request c n (Arrived conn request) = length_if n (conn == c) request
-one_request c n Opened = none_more n
-one_request c n (Finished conn) = none_more n
-one_request c n (Taken host) = none_more n
-one_request c n (Answered host e value t) = none_more n
-one_request c n (Failed host e kind t) = none_more n
-one_request c n (Swept t) = none_more n
-one_request c n (Handed conn) = none_more n
-one_request c n (Closed conn) = none_more n
+one_request c n _ = none_more n
 
 -- as many requests as arrivals
 pub length-requests : (c : ℕ) (H : History) → length (requests c H) ≡ accepted_count c H
@@ -83,14 +76,7 @@ placed_other S x c i conn (leave name value) l = refl
 
 others_by : (S : Setting) (x : Past) (c i : ℕ) (event : Event) → i < accepted_count c x.steps → filter (is_part_of c i) (parts_by S x event) ≡ []
 others_by S x c i (Arrived conn request) l = placed_other S x c i conn (plan_for request) l
-others_by S x c i Opened l = refl
-others_by S x c i (Finished conn) l = refl
-others_by S x c i (Taken host) l = refl
-others_by S x c i (Answered host e value t) l = refl
-others_by S x c i (Failed host e kind t) l = refl
-others_by S x c i (Swept t) l = refl
-others_by S x c i (Handed conn) l = refl
-others_by S x c i (Closed conn) l = refl
+others_by S x c i _ l = refl
 
 -- the parts of a command that arrived stay the same
 pub parts_stay : (S : Setting) (x : Past) (c i : ℕ) (s : Step) → i < accepted_count c x.steps → parts_of c i (after S s x) ≡ parts_of c i x

@@ -14,7 +14,7 @@ use Rattle.proxy_history.specs.Answer.{answer_to}
 use Rattle.proxy_history.specs.HandingLaws.{HandsOut, Handing, IsHandedOnce}
 use Rattle.proxy_history.specs.declared.answer.Answer.TheVariants as answer
 use Rattle.proxy_history.specs.declared.event.Event.{Event}
-use Rattle.proxy_history.specs.declared.event.Event.TheVariants.{Opened, Arrived, Finished, Taken, Answered, Failed, Swept, Handed, Closed}
+use Rattle.proxy_history.specs.declared.event.Event.TheVariants.{Handed}
 use Rattle.proxy_history.proofs.Growing.{times_grows}
 use Rattle.proxy_history.proofs.Beginnings.{beginning}
 use Rattle.proxy_history.proofs.Order.{has_outcome}
@@ -45,14 +45,7 @@ handed_is_its_outcome S later before s c legal e =
 
 is_handed : (c : ℕ) (event : Event) → is_handing c event ≡ true → event ≡ Handed c
 is_handed c (Handed conn) e = ap (λ z. Handed z) (eqb-true conn c e)
-is_handed c Opened e = absurd cc
-is_handed c (Arrived conn request) e = absurd cc
-is_handed c (Finished conn) e = absurd cc
-is_handed c (Taken host) e = absurd cc
-is_handed c (Answered host ep value t) e = absurd cc
-is_handed c (Failed host ep kind t) e = absurd cc
-is_handed c (Swept t) e = absurd cc
-is_handed c (Closed conn) e = absurd cc
+is_handed c _ e = absurd cc
 
 one_more : (c : ℕ) (s : Step) (before : History) → s.event ≡ Handed c
     → handed_count c (s ∷ before) ≡ handed_count c before + 1

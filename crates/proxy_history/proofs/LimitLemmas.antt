@@ -18,7 +18,7 @@ use Rattle.proxy_history.specs.Payload.{payload, payload_of}
 use Rattle.proxy_history.specs.Legal.{IsLegal}
 use Rattle.proxy_history.specs.LimitLaws.{IsWithinLimits}
 use Rattle.proxy_history.specs.declared.event.Event.{Event}
-use Rattle.proxy_history.specs.declared.event.Event.TheVariants.{Opened, Arrived, Finished, Taken, Answered, Failed, Swept, Handed, Closed}
+use Rattle.proxy_history.specs.declared.event.Event.TheVariants.{Opened, Arrived, Handed, Closed}
 use Rattle.proxy_history.proofs.NoCause.{are_false}
 use Rattle.proxy_history.proofs.Good.{waits_parts}
 use Rattle.proxy_history.proofs.Values.{is_of_parts}
@@ -97,13 +97,7 @@ closings_by S x (Closed conn) n l =
     let a = open_parts x conn (are_false (causes S x (Closed conn)) n).0 in
     omega (arith, l, one_more_below (λ c. is_closed c x.steps) conn (openings x.steps) a.0 a.1)
 closings_by S x Opened n l = omega (arith, l, grows (λ c. is_closed c x.steps) (openings x.steps), ap (closed_below x.steps) (suc_is (openings x.steps)))
-closings_by S x (Arrived conn request) n l = l
-closings_by S x (Finished conn) n l = l
-closings_by S x (Taken host) n l = l
-closings_by S x (Answered host e value t) n l = l
-closings_by S x (Failed host e kind t) n l = l
-closings_by S x (Swept t) n l = l
-closings_by S x (Handed conn) n l = l
+closings_by S x _ n l = l
 
 closings_are_closed : (S : Setting) (H : History) → IsLegal S H
     → times is_any_closing H ≤ closed_below H (openings H)
@@ -115,13 +109,7 @@ open_by : (S : Setting) (x : Past) (event : Event) → own_cause S x event ≡ N
     → (if is_opening event then openings x.steps + 1 else openings x.steps) ≤ (if is_any_closing event then times is_any_closing x.steps + 1 else times is_any_closing x.steps) + max_connections
 open_by S x Opened n l = omega (arith, leb-false max_connections (openings x.steps - times is_any_closing x.steps) (are_false (causes S x Opened) n).0)
 open_by S x (Closed conn) n l = omega (arith, l)
-open_by S x (Arrived conn request) n l = l
-open_by S x (Finished conn) n l = l
-open_by S x (Taken host) n l = l
-open_by S x (Answered host e value t) n l = l
-open_by S x (Failed host e kind t) n l = l
-open_by S x (Swept t) n l = l
-open_by S x (Handed conn) n l = l
+open_by S x _ n l = l
 
 few_open : (S : Setting) (H : History) → IsLegal S H → openings H ≤ times is_any_closing H + max_connections
 few_open S [] legal = omega arith
@@ -152,13 +140,7 @@ left_by S x c (Handed conn) n a = elim (cases_Bool (conn == c)) [
       rw t (omega (arith, here), omega (arith, a.1))
   | inr f ↦ rw f a
 ]
-left_by S x c Opened n a = a
-left_by S x c (Finished conn) n a = a
-left_by S x c (Taken host) n a = a
-left_by S x c (Answered host e value t) n a = a
-left_by S x c (Failed host e kind t) n a = a
-left_by S x c (Swept t) n a = a
-left_by S x c (Closed conn) n a = a
+left_by S x c _ n a = a
 
 few_left : (S : Setting) (H : History) (c : ℕ) → IsLegal S H → AreLeft (accepted_count c H) (handed_count c H)
 few_left S [] c legal = (omega arith, omega arith)
@@ -251,14 +233,7 @@ placed_fit S h x conn (leave name value) l = omega (arith, l)
 parts_fit : (S : Setting) (h : ℕ) (x : Past) (event : Event) → length (waiting_parts h x) ≤ max_waiting
     → before_it h x (parts_by S x event) ≤ max_waiting
 parts_fit S h x (Arrived conn request) l = placed_fit S h x conn (plan_for request) l
-parts_fit S h x Opened l = omega (arith, l)
-parts_fit S h x (Finished conn) l = omega (arith, l)
-parts_fit S h x (Taken host) l = omega (arith, l)
-parts_fit S h x (Answered host e value t) l = omega (arith, l)
-parts_fit S h x (Failed host e kind t) l = omega (arith, l)
-parts_fit S h x (Swept t) l = omega (arith, l)
-parts_fit S h x (Handed conn) l = omega (arith, l)
-parts_fit S h x (Closed conn) l = omega (arith, l)
+parts_fit S h x _ l = omega (arith, l)
 
 -- after a fault nothing of its host waits
 none_after : (S : Setting) (before : History) (s : Step) (h : ℕ) → is_fault h s.event ≡ true

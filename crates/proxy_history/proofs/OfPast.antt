@@ -12,7 +12,7 @@ use Rattle.proxy_history.specs.Arrival.{parts_by, placed_by, parts_placed, place
 use Rattle.proxy_history.specs.declared.answer.Answer.{Answer}
 use Rattle.proxy_history.specs.declared.event.Kind.{Kind}
 use Rattle.proxy_history.specs.declared.event.Event.{Event}
-use Rattle.proxy_history.specs.declared.event.Event.TheVariants.{Opened, Arrived, Finished, Taken, Answered, Failed, Swept, Handed, Closed}
+use Rattle.proxy_history.specs.declared.event.Event.TheVariants.{Arrived, Failed}
 use Rattle.proxy_history.proofs.Growing.{times_grows}
 use Rattle.proxy_history.proofs.Waiting.{AreOfPast}
 use Rattle.proxy_history.proofs.Apart.{after_failed}
@@ -43,14 +43,7 @@ placed_of_past S x conn (leave name value) = tt
 
 pub new_of_past : (S : Setting) (x : Past) (event : Event) → AreOfPast x.steps (parts_by S x event)
 new_of_past S x (Arrived conn request) = placed_of_past S x conn (plan_for request)
-new_of_past S x Opened = tt
-new_of_past S x (Finished conn) = tt
-new_of_past S x (Taken host) = tt
-new_of_past S x (Answered host e value t) = tt
-new_of_past S x (Failed host e kind t) = tt
-new_of_past S x (Swept t) = tt
-new_of_past S x (Handed conn) = tt
-new_of_past S x (Closed conn) = tt
+new_of_past S x _ = tt
 
 pub are_of_past : (S : Setting) (H : History) → AreOfPast H (past S H).parts
 are_of_past S [] = tt

@@ -16,7 +16,7 @@ use Rattle.proxy_history.specs.Answer.{answer_to}
 use Rattle.proxy_history.specs.Output.{handed_text, transcript}
 use Rattle.proxy_history.specs.Laws.{first_outcomes, HaveCome}
 use Rattle.proxy_history.specs.declared.event.Event.{Event}
-use Rattle.proxy_history.specs.declared.event.Event.TheVariants.{Opened, Arrived, Finished, Taken, Answered, Failed, Swept, Handed, Closed}
+use Rattle.proxy_history.specs.declared.event.Event.TheVariants.{Handed}
 use Rattle.proxy_history.proofs.NoCause.{are_false}
 use Rattle.proxy_history.proofs.Stays.{outcome_stays}
 
@@ -72,14 +72,7 @@ by_event S x s c (Handed conn) n m h = elim (cases_Bool (conn == c)) [
   | inl t ↦ rw (t, eqb-true conn c t) (handed_now S x s c n (rw (eqb-true conn c t) at m) h)
   | inr f ↦ rw (f) (nothing_now S x s c n h)
 ]
-by_event S x s c Opened n m h = nothing_now S x s c n h
-by_event S x s c (Arrived conn request) n m h = nothing_now S x s c n h
-by_event S x s c (Finished conn) n m h = nothing_now S x s c n h
-by_event S x s c (Taken host) n m h = nothing_now S x s c n h
-by_event S x s c (Answered host e value t) n m h = nothing_now S x s c n h
-by_event S x s c (Failed host e kind t) n m h = nothing_now S x s c n h
-by_event S x s c (Swept t) n m h = nothing_now S x s c n h
-by_event S x s c (Closed conn) n m h = nothing_now S x s c n h
+by_event S x s c _ n m h = nothing_now S x s c n h
 
 pub in_order : (S : Setting) (H : History) (c : ℕ) → IsLegal S H → (transcript c H ≡ first_outcomes (past S H) c (handed_count c H)) × HaveCome (past S H) c (handed_count c H)
 in_order S [] c p = (refl, record { each = λ i l. absurd (omega (arith, l)) })

@@ -29,7 +29,7 @@ use Rattle.proxy_history.specs.Cause.{own_cause, causes}
 use Rattle.proxy_history.specs.Legal.{IsLegal}
 use Rattle.proxy_history.specs.Laws.{IsPlaced}
 use Rattle.proxy_history.specs.declared.event.Event.{Event}
-use Rattle.proxy_history.specs.declared.event.Event.TheVariants.{Opened, Arrived, Finished, Taken, Answered, Failed, Swept, Handed, Closed}
+use Rattle.proxy_history.specs.declared.event.Event.TheVariants.{Answered}
 use Rattle.proxy_history.proofs.NoCause.{are_false}
 use Rattle.proxy_history.proofs.Arrived.{parts_have_arrived}
 
@@ -51,14 +51,7 @@ if_plain false v e = refl
 
 plain_reply_by : (S : Setting) (x : Past) (event : Event) (h e : ℕ) → own_cause S x event ≡ None → list_all is_plain_tree (reply_by h e event) ≡ true
 plain_reply_by S x (Answered host ep value t) h e n = if_plain ((host == h) && (ep == e)) (tree_of value) (plain_reply S x host ep t value n)
-plain_reply_by S x Opened h e n = refl
-plain_reply_by S x (Arrived conn request) h e n = refl
-plain_reply_by S x (Finished conn) h e n = refl
-plain_reply_by S x (Taken host) h e n = refl
-plain_reply_by S x (Failed host ep kind t) h e n = refl
-plain_reply_by S x (Swept t) h e n = refl
-plain_reply_by S x (Handed conn) h e n = refl
-plain_reply_by S x (Closed conn) h e n = refl
+plain_reply_by S x _ h e n = refl
 
 pub replies_are_plain : (S : Setting) (H : History) (h e : ℕ) → IsLegal S H → list_all is_plain_tree (replies_from h e H) ≡ true
 replies_are_plain S [] h e legal = refl

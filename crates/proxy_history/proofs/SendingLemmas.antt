@@ -17,7 +17,7 @@ use Rattle.proxy_history.specs.Output.{sent_text, upstream}
 use Rattle.proxy_history.specs.SendingLaws.{Sends, SendsNothingElse}
 use Rattle.proxy_history.specs.declared.answer.Answer.TheVariants as answer
 use Rattle.proxy_history.specs.declared.event.Event.{Event}
-use Rattle.proxy_history.specs.declared.event.Event.TheVariants.{Opened, Arrived, Finished, Taken, Answered, Failed, Swept, Handed, Closed}
+use Rattle.proxy_history.specs.declared.event.Event.TheVariants.{Taken}
 use Rattle.proxy_history.proofs.NoCause.{are_false}
 use Rattle.proxy_history.proofs.Good.{AreGood, filter_is_good, waits_parts}
 use Rattle.proxy_history.proofs.Values.{same_host, is_of_parts}
@@ -81,14 +81,7 @@ none_by : (x : Past) (event : Event) (h e : ℕ) → (event ≡ Taken h → epoc
 none_by x (Taken host) h e f =
     of_no_other h host e x (waiting_parts host x) (filter_is_good (waits host x) x.parts)
     (λ same now. f (ap (λ k. Taken k) same) (ap (λ k. epoch k x.steps) (sym same) ∙ now))
-none_by x Opened h e f = refl
-none_by x (Arrived conn request) h e f = refl
-none_by x (Finished conn) h e f = refl
-none_by x (Answered host ep value t) h e f = refl
-none_by x (Failed host ep kind t) h e f = refl
-none_by x (Swept t) h e f = refl
-none_by x (Handed conn) h e f = refl
-none_by x (Closed conn) h e f = refl
+none_by x _ h e f = refl
 
 -- what was sent to others, or in another epoch
 pub sent_to-others : (S : Setting) (before : History) (s : Step) (h e : ℕ)
@@ -137,14 +130,7 @@ text_by S x (Taken host) h e = elim (cases_Bool (host == h)) [
 
     other : (host ≡ h → epoch host x.steps ≡ e → ⊥) → filter (is_of h e) (first (waiting_parts host x)) ≡ []
     other f = of_no_other h host e x (waiting_parts host x) (filter_is_good (waits host x) x.parts) f
-text_by S x Opened h e = refl
-text_by S x (Arrived conn request) h e = refl
-text_by S x (Finished conn) h e = refl
-text_by S x (Answered host ep value t) h e = refl
-text_by S x (Failed host ep kind t) h e = refl
-text_by S x (Swept t) h e = refl
-text_by S x (Handed conn) h e = refl
-text_by S x (Closed conn) h e = refl
+text_by S x _ h e = refl
 
 pub upstream_is_what_was_sent : (S : Setting) (H : History) (h e : ℕ) → IsLegal S H
     → upstream h e H ≡ flat_map (λ (p : Part). p.text) (sent_to h e (past S H))

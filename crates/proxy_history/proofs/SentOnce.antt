@@ -12,7 +12,7 @@ use Rattle.proxy_history.specs.Waiting.{waiting_parts, waits, first, sent_by}
 use Rattle.proxy_history.specs.Laws.{AreApart}
 use Rattle.proxy_history.proofs.Good.{AreGood, filter_is_good, waits_parts}
 use Rattle.proxy_history.specs.declared.event.Event.{Event}
-use Rattle.proxy_history.specs.declared.event.Event.TheVariants.{Opened, Arrived, Finished, Taken, Answered, Failed, Swept, Handed, Closed}
+use Rattle.proxy_history.specs.declared.event.Event.TheVariants.{Taken}
 
 pub eqb_sym : (a b : ℕ) → (a == b) ≡ true → (b == a) ≡ true
 eqb_sym a b e = eq-eqb b a (sym (eqb-true a b e))
@@ -45,14 +45,7 @@ apart_with_first h x (p ∷ ps) a g = apart_with x.sent p a (waits_parts h x p g
 
 apart_after : (x : Past) (event : Event) → AreApart x.sent → AreApart (x.sent ++ sent_by x event)
 apart_after x (Taken host) a = apart_with_first host x (waiting_parts host x) a (filter_is_good (waits host x) x.parts)
-apart_after x Opened a = rw (append-nil x.sent) a
-apart_after x (Arrived conn request) a = rw (append-nil x.sent) a
-apart_after x (Finished conn) a = rw (append-nil x.sent) a
-apart_after x (Answered host e value t) a = rw (append-nil x.sent) a
-apart_after x (Failed host e kind t) a = rw (append-nil x.sent) a
-apart_after x (Swept t) a = rw (append-nil x.sent) a
-apart_after x (Handed conn) a = rw (append-nil x.sent) a
-apart_after x (Closed conn) a = rw (append-nil x.sent) a
+apart_after x _ a = rw (append-nil x.sent) a
 
 pub none_twice : (S : Setting) (H : History) → AreApart (past S H).sent
 none_twice S [] = tt

@@ -18,7 +18,7 @@ use Rattle.proxy_history.specs.Legal.{IsLegal, MayFollow}
 use Rattle.proxy_history.specs.Own.{is_connection_step, connection_steps}
 use Rattle.proxy_history.specs.StepLaws.{is_last_answer, IsAnswerTo, IsOfPresentEpoch}
 use Rattle.proxy_history.specs.declared.event.Event.{Event}
-use Rattle.proxy_history.specs.declared.event.Event.TheVariants.{Opened, Arrived, Finished, Taken, Answered, Failed, Swept, Handed, Closed}
+use Rattle.proxy_history.specs.declared.event.Event.TheVariants.{Opened, Arrived, Finished, Taken, Answered, Failed, Handed, Closed}
 use Rattle.proxy_history.specs.declared.answer.Answer.{Answer}
 use Rattle.proxy_history.specs.declared.answer.Answer.TheVariants as answer
 use Rattle.proxy_history.proofs.NoCause.{are_false, is_current}
@@ -46,15 +46,8 @@ last_of broken = refl
 last_of (read t) = elim (cases_Bool (is_command t)) [ inl c ↦ rw c (last_by_row (row_named (word (words_of t) 0)) (words_of t)) | inr f ↦ rw f refl ]
 
 answer_fits : (S : Setting) (x : Past) (event : Event) → IsAnswerTo event (answer_to S x event)
-answer_fits S x Opened = tt
 answer_fits S x (Arrived conn request) = last_of (request_of request)
-answer_fits S x (Finished conn) = tt
-answer_fits S x (Taken host) = tt
-answer_fits S x (Answered host epoch value t) = tt
-answer_fits S x (Failed host epoch kind t) = tt
-answer_fits S x (Swept t) = tt
-answer_fits S x (Handed conn) = tt
-answer_fits S x (Closed conn) = tt
+answer_fits S x _ = tt
 
 pub answers_fit : (S : Setting) (before : History) (s : Step) → IsLegal S (s ∷ before)
     → IsAnswerTo s.event s.answer
@@ -63,17 +56,12 @@ answers_fit S before s legal = subst (IsAnswerTo s.event) (sym legal.1.is_answer
 -- EPOCHS
 
 present_epoch : (S : Setting) (H : History) (event : Event) → own_cause S (past S H) event ≡ None → IsOfPresentEpoch H event (answer_to S (past S H) event)
-present_epoch S H Opened n = tt
-present_epoch S H (Arrived conn request) n = tt
-present_epoch S H (Finished conn) n = tt
 present_epoch S H (Taken host) n = refl
 present_epoch S H (Answered host e value t) n = is_current S (past S H) host e t value n
 present_epoch S H (Failed host e kind t) n =
     let a = are_false (causes S (past S H) (Failed host e kind t)) n in
     eqb-true e (epoch host H) (not-false (e == epoch host H) a.1.0)
-present_epoch S H (Swept t) n = tt
-present_epoch S H (Handed conn) n = tt
-present_epoch S H (Closed conn) n = tt
+present_epoch S H _ n = tt
 
 pub epochs_are_present : (S : Setting) (before : History) (s : Step) → IsLegal S (s ∷ before)
     → IsOfPresentEpoch before s.event s.answer
@@ -107,10 +95,7 @@ of_none_later S H c s may most = subst (λ (z : Answer). is_connection_step c s.
     by_event (Finished conn) is = of_opened c conn H (are_false (causes S (past S H) (Finished conn)) (rw is at may.has_no_cause)).0 before
     by_event (Handed conn) is = of_opened c conn H (are_false (causes S (past S H) (Handed conn)) (rw is at may.has_no_cause)).0 before
     by_event (Closed conn) is = of_opened c conn H (are_false (causes S (past S H) (Closed conn)) (rw is at may.has_no_cause)).0 before
-    by_event (Taken host) is = refl
-    by_event (Answered host epoch value t) is = refl
-    by_event (Failed host epoch kind t) is = refl
-    by_event (Swept t) is = refl
+    by_event _ is = refl
 
 pub unopened_have_no_steps : (S : Setting) (H : History) (c : ℕ) → IsLegal S H → openings H ≤ c
     → connection_steps c H ≡ []

@@ -15,7 +15,7 @@ use Rattle.proxy_history.specs.Waiting.{waiting_parts, waits, first, sent_by, se
 use Rattle.proxy_history.specs.Value.{replies, reply_to, or_lost, value_at, value_or, value_of}
 use Rattle.proxy_history.specs.Cause.{own_cause}
 use Rattle.proxy_history.specs.declared.event.Event.{Event}
-use Rattle.proxy_history.specs.declared.event.Event.TheVariants.{Opened, Arrived, Finished, Taken, Answered, Failed, Swept, Handed, Closed}
+use Rattle.proxy_history.specs.declared.event.Event.TheVariants.{Taken, Answered}
 use Rattle.proxy_history.proofs.Growing.{find_zip_stays, times_grows}
 use Rattle.proxy_history.proofs.NoCause.{is_current}
 use Rattle.proxy_history.proofs.Good.{AreGood, filter_is_good, waits_parts}
@@ -53,14 +53,7 @@ if_false b x y e = rw e refl
 
 no_reply : (S : Setting) (x : Past) (event : Event) (h e : ℕ) → own_cause S x event ≡ None → e < epoch h x.steps → reply_by h e event ≡ []
 no_reply S x (Answered host ep value t) h e n l = if_false ((host == h) && (ep == e)) _ _ (old_epoch x h e host ep l (is_current S x host ep t value n))
-no_reply S x Opened h e n l = refl
-no_reply S x (Arrived conn request) h e n l = refl
-no_reply S x (Finished conn) h e n l = refl
-no_reply S x (Taken host) h e n l = refl
-no_reply S x (Failed host ep kind t) h e n l = refl
-no_reply S x (Swept t) h e n l = refl
-no_reply S x (Handed conn) h e n l = refl
-no_reply S x (Closed conn) h e n l = refl
+no_reply S x _ h e n l = refl
 
 -- a part belongs to one host and one epoch
 pub same_host : (h k : ℕ) (o : Option ℕ) → is_host h o ≡ true → is_host k o ≡ true → h ≡ k
@@ -85,14 +78,7 @@ none_first x h e host (q ∷ ps) l g = rw (of_one x h e host q l g.0) refl
 
 none_sent : (x : Past) (event : Event) (h e : ℕ) → e < epoch h x.steps → filter (is_of h e) (sent_by x event) ≡ []
 none_sent x (Taken host) h e l = none_first x h e host (waiting_parts host x) l (filter_is_good (waits host x) x.parts)
-none_sent x Opened h e l = refl
-none_sent x (Arrived conn request) h e l = refl
-none_sent x (Finished conn) h e l = refl
-none_sent x (Answered host ep value t) h e l = refl
-none_sent x (Failed host ep kind t) h e l = refl
-none_sent x (Swept t) h e l = refl
-none_sent x (Handed conn) h e l = refl
-none_sent x (Closed conn) h e l = refl
+none_sent x _ h e l = refl
 
 same_reply : (S : Setting) (x : Past) (s : Step) (h : ℕ) (p : Part) → own_cause S x s.event ≡ None → p.epoch < epoch h x.steps → reply_to p h (after S s x) ≡ reply_to p h x
 same_reply S x s h p n l =

@@ -1,6 +1,6 @@
 -- How long the one spelling of a value is.
-use Rattle.std.proofs.Common.{◌≡◌, ◌<◌, ◌≤◌, ◌^◌, ◌*◌, ◌+◌, ℕ, suc, List, ◌∷◌, length, decimal, arith}
-use Rattle.std.proofs.lemmas.Fmt.{length-decimal-le, digits_decimal, digits_value-decimal}
+use Rattle.std.proofs.Common.{◌≡◌, ◌<◌, ◌≤◌, ◌^◌, ◌*◌, ◌+◌, ◌/◌, ◌%◌, ◌++◌, ℕ, suc, List, [], ◌∷◌, length, decimal, ap, ◌∙◌, arith}
+use Rattle.std.proofs.lemmas.Fmt.{decimal_digit, decimal_step, length-decimal-le, digits_decimal, digits_value-decimal}
 use Rattle.std.proofs.lemmas.List.{length-append}
 use Rattle.std.proofs.lemmas.Str.Parse.{digits_value_short}
 use Rattle.std.proofs.Math.Nat.{pow-suc}
@@ -14,6 +14,11 @@ length-decimal_power k n low high small =
     let some : length (decimal n) ≤ k → ⊥ =
     λ short. omega (arith, low, digits_value_short own (decimal n) k (digits_decimal own n small) short, digits_value-decimal own n small) in
     omega (arith, length-decimal-le (suc k) n (omega arith) (omega (arith, high, pow-suc 10 k)) small, some)
+
+-- a number of two digits
+pub decimal_two : (n : ℕ) → 10 ≤ n → n < 100 → decimal n ≡ (48 + n / 10) ∷ (48 + n % 10) ∷ []
+decimal_two n low high =
+    decimal_step n low (omega arith) ∙ ap (λ ds. ds ++ (48 + n % 10) ∷ []) (decimal_digit (n / 10) (omega arith))
 
 pub length_line : (kind : ℕ) (bytes : List ℕ) → length (line kind bytes) ≡ length bytes + 3
 length_line kind bytes = omega (arith, length-append (kind ∷ bytes) line_end)

@@ -9,7 +9,7 @@ use std::marker::Model;
 const MIN_TEXTS: usize = 4;
 
 // What part of the longest block the first one is.
-const FIRST_BLOCK: usize = 16;
+const FIRST_BLOCK: usize = 8;
 
 /// The room behind the texts of a block.
 ///

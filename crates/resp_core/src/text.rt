@@ -53,8 +53,9 @@ pub fn put_bulk(payload: &[u8], out: &mut Vec<u8>) -> Result<(), AllocError>
     Ok(())
 }
 
+/// Appends the one spelling of the value. Where memory is refused, a part of it may have been appended.
 #[cycle(text)]
-fn append_value(value: &Value, out: &mut Vec<u8>) -> Result<(), AllocError>
+pub(crate) fn append_value(value: &Value, out: &mut Vec<u8>) -> Result<(), AllocError>
     ensures ok { OnOk result (out.new.items ≡ out.old.items ++ text (tree_of value.now)) }
     ensures err { OnErr result (Extends out.old.items out.new.items) }
 {
@@ -105,6 +106,14 @@ fn append_count(kind: u8, count: u64, out: &mut Vec<u8>) -> Result<(), AllocErro
     ensures ok { OnOk result (out.new.items ≡ out.old.items ++ line kind (decimal count)) }
     ensures err { OnErr result (Extends out.old.items out.new.items) }
 {
+    // Most numbers have one digit or two.
+    if count < 10 {
+        return out.extend_from_slice(&[kind, b'0' + count as u8, b'\r', b'\n']);
+    }
+    if count < 100 {
+        let (tens, ones) = ((count / 10) as u8, (count % 10) as u8);
+        return out.extend_from_slice(&[kind, b'0' + tens, b'0' + ones, b'\r', b'\n']);
+    }
     let mut head = EMPTY_HEAD;
     let digits = write_digits(count, &mut head, MAX_DIGITS + 1);
     head[digits - 1] = kind;
@@ -185,6 +194,12 @@ fn signed_digits(n: i64) -> u64
 fn digits(n: u64) -> u64
     ensures { result ≡ length (decimal n) }
 {
+    if n < 10 {
+        return 1;
+    }
+    if n < 100 {
+        return 2;
+    }
     match n.checked_ilog10() {
         Some(exponent) => u64::from(exponent) + 1,
         None => 1,

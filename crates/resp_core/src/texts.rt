@@ -5,12 +5,11 @@ ghost use Rattle.resp_core.specs.Tree.{is_plain_tree};
 ghost use Rattle.resp_core.specs.Value.{tree_of};
 
 use crate::room::Room;
-use crate::text::put_text;
+use crate::text::append_value;
 use crate::value::Value;
 use bytes::Bytes;
 use std::alloc::{AllocError, Global};
 use std::marker::Model;
-use std::mem;
 
 // How many bytes a block has at most that texts share.
 const MAX_BLOCK: usize = 16_384;
@@ -48,21 +47,22 @@ impl Texts {
         }
     }
 
-    /// The one spelling of the value, which has to be plain: `Value::is_plain` tells.
+    /// The one spelling of the value, which has to be plain: `Value::is_plain` tells. `text_len` is what `Value::text_len`
+    /// says of it: memory for so many bytes is asked for at once, and with a wrong number the text is the same.
     ///
     /// Refused only for want of memory.
-    pub fn text_of(&mut self, value: &Value) -> Result<Bytes, AllocError>
+    pub fn text_of(&mut self, value: &Value, text_len: u64) -> Result<Bytes, AllocError>
         requires { IsTrue (is_plain_tree (tree_of value.now)) }
         ensures { IfOk result (λ bytes. bytes ≡ text (tree_of value.now)) }
     {
-        self.draft.clear();
-        if put_text(self.alloc, value, &mut self.draft).is_err() {
-            return Err(AllocError);
-        }
-        if self.draft.len() > MAX_SHORT {
-            let text = mem::replace(&mut self.draft, Vec::new(self.alloc));
+        if text_len > MAX_SHORT as u64 {
+            let mut text = Vec::with_capacity(self.alloc, text_len as usize)?;
+            append_value(value, &mut text)?;
             return Ok(Bytes::from_vec(text)?);
         }
+        self.draft.clear();
+        self.draft.reserve(MAX_SHORT)?;
+        append_value(value, &mut self.draft)?;
         self.room.copy_of(self.draft.as_slice())
     }
 

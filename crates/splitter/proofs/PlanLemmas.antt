@@ -11,7 +11,7 @@ use Rattle.command_table.specs.declared.Kind.TheVariants.{Echo, One, SplitGet, S
 use Rattle.splitter.specs.declared.plans.PartPlan.{PartPlan}
 use Rattle.splitter.specs.declared.plans.Join.TheVariants.{Same, Get, Set, Sum}
 use Rattle.splitter.specs.Request.{read}
-use Rattle.splitter.specs.Plan.{parts, plan_of, plan_by, plan_by_row, takes}
+use Rattle.splitter.specs.Plan.{Plan, parts, plan_of, plan_by, plan_by_row, takes}
 use Rattle.splitter.specs.Split.{Words, pairs, part_at}
 use Rattle.splitter.proofs.KnownRows.{echo_row, one_row}
 
@@ -37,8 +37,8 @@ map_twice : {A B C : Type 0} (f : B → C) (g : A → B) (xs : List A) → map f
 map_twice f g [] = refl
 map_twice f g (x ∷ xs) = ap (λ z. f (g x) ∷ z) (map_twice f g xs)
 
-pub one_is : (r : Row) (words : Words) (ps : List PartPlan) → r.kind ≡ One → ps ≡ part_at r.key_at words ∷ [] → parts Same ps ≡ plan_by r.kind r words
-one_is r words ps k e = rw k (ap (parts Same) e)
+pub one_is : (r : Row) (words : Words) (p : Plan) → r.kind ≡ One → p ≡ parts Same (part_at r.key_at words ∷ []) → p ≡ plan_by r.kind r words
+one_is r words p k e = rw k e
 
 pub get_is : (r : Row) (words : Words) (ps : List PartPlan) → r.kind ≡ SplitGet → r.key_at ≡ 1 → ps ≡ map (λ key. part_at 1 (codes "GET" ∷ key ∷ [])) (drop 1 words) → parts Get ps ≡ plan_by r.kind r words
 get_is r words ps k at e =

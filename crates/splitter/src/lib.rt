@@ -21,5 +21,5 @@ pub use laws::{
     streams_ask_one_list,
 };
 pub use planning::{plan, plan_with};
-pub use plans::{Join, Local, PartPlan, PartPlans, Plan};
+pub use plans::{Join, Local, PartPlan, PartPlans, Plan, Planned};
 pub use request::Request;

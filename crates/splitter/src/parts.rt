@@ -6,34 +6,37 @@ ghost use Rattle.resp_core.specs.Text.{text};
 ghost use Rattle.resp_core.specs.Command.{are_words, payload_of, IsArrayOf};
 ghost use Rattle.splitter.specs.Split.{pairs, part_at};
 ghost use Rattle.splitter.specs.Part.{head_of, part_of};
+ghost use Rattle.splitter.specs.Plan.{parts};
+ghost use Rattle.splitter.specs.Planned.{planned_in};
+ghost use Rattle.splitter.specs.declared.plans.Join.TheVariants.{Same};
 
 use crate::error::SplitError;
-use crate::plans::{PartPlan, PartPlans};
+use crate::plans::{PartPlan, PartPlans, Planned};
 use bytes::Bytes;
 use itoa::Buffer;
 use resp_core::{Texts, Value, Values, bulk_len, put_bulk};
 use std::alloc::{AllocError, Global};
 
-/// The one part of a command that goes whole to the host of its word `key_at`. The value has to be a command, of these
-/// words.
-pub(crate) fn whole_part(
-    alloc: Global,
+/// A command that goes whole to the host of its word `key_at`. The value has to be a command, of these words; its text has
+/// so many bytes.
+pub(crate) fn whole_part<'a>(
     texts: &mut Texts,
     command: &Value,
-    words: &Values,
+    text_len: u64,
+    words: &'a Values,
     key_at: usize,
-) -> Result<PartPlans, SplitError>
+) -> Result<Planned<'a>, SplitError>
     requires words { are_words words.now ≡ true }
     requires array { IsArrayOf words.now (tree_of command.now) }
     requires inside { key_at < length words.now }
-    ensures parts { IfOk result (λ ps. ps ≡ part_at key_at (map payload_of words.now) ∷ []) }
+    ensures parts { IfOk result
+        (λ p. planned_in p ≡ parts Same (part_at key_at (map payload_of words.now) ∷ [])) }
     ensures err { IfErr result (λ e. e ≡ SplitError.NoMemory) }
 {
-    let part = PartPlan {
-        key: words.word(key_at).clone()?,
-        text: texts.text_of(command)?,
-    };
-    Ok(PartPlans(Vec::from_array(alloc, [part])?))
+    Ok(Planned::Whole {
+        key: words.word(key_at),
+        text: texts.text_of(command, text_len)?,
+    })
 }
 
 /// A part for each word behind the first: a command of this name and that word, which is the part's key.

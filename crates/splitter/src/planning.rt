@@ -7,12 +7,12 @@ ghost use Rattle.command_table.specs.Entry.{row_of};
 ghost use Rattle.command_table.specs.Table.{rows, row_named};
 ghost use Rattle.splitter.specs.Request.{request_of};
 ghost use Rattle.splitter.specs.Plan.{plan_of, plan_by, plan_by_row, takes};
-ghost use Rattle.splitter.specs.Planned.{plan_in};
+ghost use Rattle.splitter.specs.Planned.{plan_in, planned_in};
 
 use crate::error::SplitError;
 use crate::local::{unsupported, wrong_number};
 use crate::parts::{key_parts, pair_parts, whole_part};
-use crate::plans::{Join, Local, Plan};
+use crate::plans::{Join, Local, PartPlan, PartPlans, Plan, Planned};
 use crate::request::Request;
 use bytes::Bytes;
 use command_table::{Entry, Kind, look};
@@ -27,54 +27,77 @@ pub fn plan(alloc: Global, request: &Request) -> Result<Plan, SplitError>
     ensures plan { IfOk result (λ p. plan_in p ≡ plan_of (request_of request.now)) }
     ensures err { IfErr result (λ e. e ≡ SplitError.NoMemory) }
 {
-    plan_with(alloc, &mut Texts::new(alloc), request)
+    match plan_with(alloc, &mut Texts::new(alloc), request, request.text_len())? {
+        Planned::Whole { key, text } => {
+            let part = PartPlan {
+                key: key.clone()?,
+                text,
+            };
+            Ok(Plan::Parts {
+                how: Join::Same,
+                list: PartPlans(Vec::from_array(alloc, [part])?),
+            })
+        }
+        Planned::Other(plan) => Ok(plan),
+    }
 }
 
-/// The same, for one request of many: the texts of the parts are written to `texts`. Refused 701 (no memory).
-pub fn plan_with(alloc: Global, texts: &mut Texts, request: &Request) -> Result<Plan, SplitError>
-    ensures plan { IfOk result (λ p. plan_in p ≡ plan_of (request_of request.now)) }
+/// The same, for one request of many: the texts of the parts are written to `texts`, and a command that stays whole lends
+/// its key. `text_len` is what `Request::text_len` says, and with a wrong number the plan is the same. Refused 701 (no
+/// memory).
+pub fn plan_with<'a>(
+    alloc: Global,
+    texts: &mut Texts,
+    request: &'a Request,
+    text_len: u64,
+) -> Result<Planned<'a>, SplitError>
+    ensures plan { IfOk result (λ p. planned_in p ≡ plan_of (request_of request.now)) }
     ensures err { IfErr result (λ e. e ≡ SplitError.NoMemory) }
 {
     match request {
-        Request::Broken => Ok(Plan::Leave(
+        Request::Broken => Ok(Planned::Other(Plan::Leave(
             Local::Broken,
             Value::Fault(Bytes::from_static(b"downstream protocol error")),
-        )),
+        ))),
         Request::Read(value) => match value.words() {
-            Some(words) => plan_command(alloc, texts, value, words),
-            None => Ok(Plan::Here(
+            Some(words) => plan_command(alloc, texts, value, text_len, words),
+            None => Ok(Planned::Other(Plan::Here(
                 Local::Invalid,
                 Value::Fault(Bytes::from_static(b"invalid request")),
-            )),
+            ))),
         },
     }
 }
 
 // The plan of a command, which is this value, of these words.
-fn plan_command(
+fn plan_command<'a>(
     alloc: Global,
     texts: &mut Texts,
     command: &Value,
-    words: &Values,
-) -> Result<Plan, SplitError>
+    text_len: u64,
+    words: &'a Values,
+) -> Result<Planned<'a>, SplitError>
     requires words { are_words words.now ≡ true }
     requires array { IsArrayOf words.now (tree_of command.now) }
     ensures plan { IfOk result
-        (λ p. plan_in p ≡ plan_by_row (row_named (word (map payload_of words.now) 0))
+        (λ p. planned_in p ≡ plan_by_row (row_named (word (map payload_of words.now) 0))
         (map payload_of words.now)) }
     ensures err { IfErr result (λ e. e ≡ SplitError.NoMemory) }
 {
     let name = words.word(0).as_slice();
     let Some(entry) = look(name) else {
-        return Ok(Plan::Here(Local::Unsupported, Value::Fault(unsupported(alloc, name)?)));
+        return Ok(Planned::Other(Plan::Here(
+            Local::Unsupported,
+            Value::Fault(unsupported(alloc, name)?),
+        )));
     };
     if !takes(entry, words.0.len()) {
-        return Ok(Plan::Here(
+        return Ok(Planned::Other(Plan::Here(
             Local::WrongNumber,
             Value::Fault(wrong_number(alloc, entry)?),
-        ));
+        )));
     }
-    plan_known(alloc, texts, entry, command, words)
+    plan_known(alloc, texts, entry, command, text_len, words)
 }
 
 // Whether the command may have so many words.
@@ -89,32 +112,36 @@ fn takes(entry: Entry, words: usize) -> bool
 }
 
 // The plan of a command of the table that has a right number of words.
-fn plan_known(
+fn plan_known<'a>(
     alloc: Global,
     texts: &mut Texts,
     entry: Entry,
     command: &Value,
-    words: &Values,
-) -> Result<Plan, SplitError>
+    text_len: u64,
+    words: &'a Values,
+) -> Result<Planned<'a>, SplitError>
     requires words { are_words words.now ≡ true }
     requires array { IsArrayOf words.now (tree_of command.now) }
     requires known { Contains rows (row_of entry) }
     requires takes { takes entry.kind entry.least (length words.now) ≡ true }
     ensures plan { IfOk result
-        (λ p. plan_in p ≡ plan_by entry.kind (row_of entry) (map payload_of words.now)) }
+        (λ p. planned_in p ≡ plan_by entry.kind (row_of entry) (map payload_of words.now)) }
     ensures err { IfErr result (λ e. e ≡ SplitError.NoMemory) }
 {
     let (how, list) = match entry.kind {
-        Kind::Ping => return Ok(Plan::Here(
+        Kind::Ping => return Ok(Planned::Other(Plan::Here(
             Local::Pong,
             Value::Simple(Bytes::from_static(b"PONG")),
-        )),
-        Kind::Echo => return Ok(Plan::Here(Local::Echoed, Value::Bulk(words.word(1).clone()?))),
-        Kind::Quit => return Ok(Plan::Leave(Local::Bye, Value::Simple(Bytes::from_static(b"OK")))),
-        Kind::One => (
-            Join::Same,
-            whole_part(alloc, texts, command, words, entry.key_at)?,
-        ),
+        ))),
+        Kind::Echo => return Ok(Planned::Other(Plan::Here(
+            Local::Echoed,
+            Value::Bulk(words.word(1).clone()?),
+        ))),
+        Kind::Quit => return Ok(Planned::Other(Plan::Leave(
+            Local::Bye,
+            Value::Simple(Bytes::from_static(b"OK")),
+        ))),
+        Kind::One => return whole_part(texts, command, text_len, words, entry.key_at),
         Kind::SplitGet => (
             Join::Get,
             key_parts(alloc, texts, Bytes::from_static(b"GET"), words)?,
@@ -125,7 +152,7 @@ fn plan_known(
             key_parts(alloc, texts, upper_name(alloc, entry)?, words)?,
         ),
     };
-    Ok(Plan::Parts { how, list })
+    Ok(Planned::Other(Plan::Parts { how, list }))
 }
 
 // The command's name in upper case.

@@ -77,3 +77,17 @@ pub enum Plan {
         list: PartPlans,
     },
 }
+
+/// What the proxy does with one request of many: its plan, where a command that stays whole lends its key.
+#[derive(Drop)]
+pub enum Planned<'a> {
+    /// One host answers the whole command, and what it answers is the reply.
+    Whole {
+        /// The key that says which host, a word of the request.
+        key: &'a Bytes,
+        /// The command's text: its words as an array of bulk strings, in the one spelling.
+        text: Bytes,
+    },
+    /// Any other plan.
+    Other(Plan),
+}

@@ -77,6 +77,8 @@ impl<S: Recorded> Turns for Alone<S> {
 
     ghost spent = { λ a. ⊥ };
 
+    // Inlined, so that an event and its answer are moved once less.
+    #[inline(always)]
     fn turn<R: Wait>(
         &mut self,
         _rt: &R,

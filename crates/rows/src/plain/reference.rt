@@ -67,7 +67,7 @@ impl Reference {
     ///
     /// Refused 1011 with the first setting that is out of its range, `hosts` where the ring has none; 1001 comes only
     /// where no setting is.
-    pub fn new(alloc: Global, ring: Ring, settings: Settings) -> Result<Reference, Refusal>
+    pub(crate) fn new(alloc: Global, ring: Ring, settings: Settings) -> Result<Reference, Refusal>
         ensures made { IfOk result (λ r. (r.setting ≡ setting_of ring settings) × (r.steps ≡ [])) }
         ensures refused { MatchOption (first_fault (rules_of ring settings))
             (IfErr result (λ e. e ≡ Refusal.NoMemory))
@@ -89,7 +89,7 @@ impl Reference {
     ///
     /// Refused by the first cause of the event's own that holds (1003 to 1010, 1012, 1013), else with 1002 where the journal
     /// would be full, and with 1001 where memory was refused. The event comes back then, and nothing has changed.
-    pub fn turn(&mut self, pass: u64, event: Event) -> Result<(), (Refusal, Event)>
+    pub(crate) fn turn(&mut self, pass: u64, event: Event) -> Result<(), (Refusal, Event)>
         ensures step { OnOk result ((s : TurnStep) × IsStep self.old self.new pass event s) }
         ensures event { IfErr result (λ r. r.1 ≡ event) }
         ensures cause { IfErr result (λ r. HasCause self.old event r.0) }
@@ -120,7 +120,7 @@ impl Reference {
     }
 
     /// The steps so far, the oldest first.
-    pub fn steps(&self) -> &[Turn]
+    pub(crate) fn steps(&self) -> &[Turn]
         ensures steps { result.now ≡ self.now.steps }
         ensures legal { IsLegal self.now.setting (history_in self.now) }
     {

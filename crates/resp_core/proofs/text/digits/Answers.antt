@@ -1,6 +1,6 @@
 use Rattle.std.proofs.Common.{length, decimal, sym, ap, ◌∙◌, arith}
 use Rattle.std.proofs.lemmas.Fmt.{decimal_digit}
-use Rattle.resp_core.proofs.Lengths.{length-decimal_power}
+use Rattle.resp_core.proofs.Lengths.{decimal_two, length-decimal_power}
 use Rattle.resp_core.proofs.text.digits.Goals as goal
 
 pub returns-in-Some : goal.returns-in-Some
@@ -10,3 +10,9 @@ returns-in-Some c =
 
 pub returns-in-None : goal.returns-in-None
 returns-in-None c = ap length (sym (decimal_digit 0 (omega arith))) ∙ ap (λ n. length (decimal n)) (sym c.in-None.ensures.none)
+
+pub returns-then-n-lt10 : goal.returns-then-n-lt10
+returns-then-n-lt10 c = ap length (sym (decimal_digit c.args.n (omega (arith, c.if-n-lt10.true))))
+
+pub returns-then-n-lt100 : goal.returns-then-n-lt100
+returns-then-n-lt100 c = ap length (sym (decimal_two c.args.n (omega (arith, c.if-n-lt10.false)) (omega (arith, c.if-n-lt100.true))))

@@ -1,6 +1,8 @@
-use Rattle.std.proofs.Common.{◌≡◌, [], ◌∷◌, ap, sym, ◌∙◌, true, subst}
+use Rattle.std.proofs.Common.{◌≡◌, [], ◌∷◌, ap, sym, true, subst}
 use Rattle.resp_core.specs.Tree.{Tree, is_plain_tree}
 use Rattle.resp_core.specs.Value.{tree_of}
+use Rattle.splitter.specs.Plan.{parts}
+use Rattle.splitter.specs.declared.plans.Join.TheVariants.{Same}
 use Rattle.splitter.proofs.PartTexts.{plain_words, whole_part-is}
 use Rattle.splitter.proofs.parts.whole_part.Goals as goal
 
@@ -10,6 +12,5 @@ text_of-requires c =
 
 pub returns-clause-parts : goal.returns-clause-parts
 returns-clause-parts c =
-    c.in_ok-from_array.ensures.items
-    ∙ ap (λ z. z ∷ [])
-    (whole_part-is (tree_of c.args.command.now) c.args.words.now c.in_ok-clone.field-0 c.in_ok-text_of.field-0 c.args.key_at c.requires.words c.requires.array (c.in_ok-clone.ensures.cases ∙ c.word.ensures) c.in_ok-text_of.ensures)
+    ap (λ z. parts Same (z ∷ []))
+    (whole_part-is (tree_of c.args.command.now) c.args.words.now c.word.result.now c.in_ok-text_of.field-0 c.args.key_at c.requires.words c.requires.array c.word.ensures c.in_ok-text_of.ensures)

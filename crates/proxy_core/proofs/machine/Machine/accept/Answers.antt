@@ -1,5 +1,5 @@
 use Rattle.std.proofs.lemmas.Result.{IfOk-weaker}
-use Rattle.splitter.specs.Planned.{plan_in}
+use Rattle.splitter.specs.Planned.{planned_in}
 use Rattle.proxy_history.specs.Past.{past}
 use Rattle.proxy_core.specs.Machine.{setting_in, history_in}
 use Rattle.proxy_core.proofs.Arriving.{ready_accepts, ready_pipelines, ready_tells, may_join_all, accepted_before}
@@ -16,7 +16,7 @@ accept_plan-requires-clause-open c =
 
 pub accept_plan-requires-clause-join : goal.accept_plan-requires-clause-join
 accept_plan-requires-clause-join c =
-    may_join_all c.args.self.now c.ready_to_arrive.new.self c.args.conn c.args.request.now (plan_in c.in_ok-plan.plan) c.in_ok-plan.ensures.plan c.in_ok-plan.ensures.ready
+    may_join_all c.args.self.now c.ready_to_arrive.new.self c.args.conn c.args.request.now (planned_in c.in_ok-plan.plan) c.in_ok-plan.ensures.plan c.in_ok-plan.ensures.ready
 
 pub returns-clause-accepted : goal.returns-clause-accepted
 returns-clause-accepted c =
@@ -26,6 +26,6 @@ returns-clause-accepted c =
     let ready = c.in_ok-plan.ensures.ready in
     let x = past (setting_in m) (history_in m) in
     IfOk-weaker c.accept_plan.result _ _
-    (λ a is. accepted_before m now c.accept_plan.new.self c.args.conn request (plan_in c.in_ok-plan.plan) x a c.in_ok-plan.ensures.plan ready
+    (λ a is. accepted_before m now c.accept_plan.new.self c.args.conn request (planned_in c.in_ok-plan.plan) x a c.in_ok-plan.ensures.plan ready
     (is x (ready_tells m now c.args.conn request c.requires.kept ready)))
     c.accept_plan.ensures.accepted

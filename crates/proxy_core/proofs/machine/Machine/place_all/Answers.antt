@@ -1,5 +1,4 @@
-use Rattle.std.proofs.Common.{◌≡◌, ◌<◌, ◌∷◌, ◌++◌, [], ℕ, Option, Some, length, map, refl, sym, ap, ◌∙◌, subst, arith}
-use Rattle.std.specs.Prelude.{IfSome}
+use Rattle.std.proofs.Common.{◌≡◌, ◌<◌, ◌∷◌, ◌++◌, [], ℕ, Some, length, map, refl, sym, ap, ◌∙◌, subst, arith}
 use Rattle.std.specs.Vec.Iter.{into_iter_items}
 use Rattle.std.proofs.lemmas.Grind.{common_steps}
 use Rattle.std.proofs.lemmas.List.{length-append}
@@ -14,7 +13,7 @@ use Rattle.proxy_core.specs.Places.{counted_at, next_place}
 use Rattle.proxy_core.specs.declared.place.Placed.{Placed}
 use Rattle.proxy_core.specs.Pipelines.{pipeline_at}
 use Rattle.proxy_core.specs.Machine.{setting_in, memory_in}
-use Rattle.proxy_core.proofs.Places.{AreSoFar, one_more, counted_more, all_placed}
+use Rattle.proxy_core.proofs.Places.{AreSoFar, one_more, counted_more, all_placed, within_hosts}
 use Rattle.proxy_core.proofs.machine.Machine.place_all.Goals as goal
 
 pub place_one-requires : goal.place_one-requires
@@ -25,10 +24,6 @@ place_one-requires c =
       usable = ap length c.requires.usable ∙ length-map-range_with_len (is_usable m.ejector.rules m.ejector.state) 0 m.ejector.rules.hosts ∙ c.requires.hosts;
       counts = c.loop-plan.invariant.counted.as_many;
     }
-
--- the host of the owner is one of those that there are
-inside : (host : Option ℕ) (n k : ℕ) → IfSome host (λ h. h < n) → (h : ℕ) → host ≡ Some h → n ≡ k → h < k
-inside host n k i h e f = let j : h < n = rw e at i in omega (arith, j, f)
 
 pub loop-plan-preserved : goal.loop-plan-preserved
 loop-plan-preserved c =
@@ -41,7 +36,7 @@ loop-plan-preserved c =
     let placed = c.loop-plan.placed.items in
     let counts = c.loop-plan.counts in
     let host = owner_of m.ring.pairs (point_of p.key m.ejector.rules.settings.tags) c.args.usable.now in
-    let within : (h : ℕ) → host ≡ Some h → h < length pipelines = λ h e. inside host (length pipelines) (length pipelines) c.place_one.ensures.host h e refl in
+    let within : (h : ℕ) → host ≡ Some h → h < length pipelines = within_hosts host (length pipelines) c.place_one.ensures.host in
     let number : c.len-number.result ≡ length placed = c.len-number.ensures ∙ c.loop-plan.placed.ok.0 in
     let part : Placed = record { number = length placed; place = next_place pipelines counts host; text = p.text } in
     let is : c.place_one.result ≡ part = c.place_one.ensures.placed ∙ ap (λ n. record { number = n; place = next_place pipelines counts host; text = p.text }) number in
