@@ -228,7 +228,10 @@ impl Peers {
     }
 
     /// The client's socket.
-    pub(crate) fn client_ends<'a>(&'a self, texts: &'a Texts) -> (ClientReader<'a>, ClientWriter<'a>) {
+    pub(crate) fn client_ends<'a>(
+        &'a self,
+        texts: &'a Texts,
+    ) -> (ClientReader<'a>, ClientWriter<'a>) {
         let reader = ClientReader {
             peer: &self.client,
             batch: &texts.batch,
