@@ -1,7 +1,7 @@
 //! One turn, and what it does to the caller's own steps.
 ghost use Rattle.std.specs.Prelude.{◌≡◌, ◌∷◌, [], ℕ, IfOk, IfErr, OnOk};
 ghost use Rattle.journal_core.specs.Journal.{step_by};
-ghost use Rattle.ticket_gate.specs.Journal.{StartsWith};
+ghost use Rattle.ticket_gate.specs.Journal.{AddsTurn, StartsWith};
 ghost use Rattle.splitter.specs.Plan.{is_last};
 ghost use Rattle.proxy_history.specs.History.{plan_for};
 ghost use Rattle.proxy_history.specs.Own.{connection_steps};
@@ -54,6 +54,8 @@ pub(crate) fn ask<Rt: Wait, T: CoreTurns>(
     ensures pass { T.pass turns.new ≡ T.pass turns.old }
     ensures setting { T.setting turns.new ≡ T.setting turns.old }
     ensures seen { StartsWith (T.seen turns.new) (T.seen turns.old) }
+    ensures added { IfOk result (λ a. AddsTurn (T.legal (T.setting turns.old)) (T.pass turns.old)
+        (T.seen turns.old) event a (T.seen turns.new)) }
     ensures answered { IfOk result
         (λ a. Adds (T.pass turns.old) (own_steps (T.pass turns.old) (T.seen turns.old))
         (own_steps (T.pass turns.old) (T.seen turns.new)) event a) }
@@ -81,6 +83,8 @@ pub(crate) fn tell<Rt: Wait, T: CoreTurns>(
     ensures pass { T.pass turns.new ≡ T.pass turns.old }
     ensures setting { T.setting turns.new ≡ T.setting turns.old }
     ensures seen { StartsWith (T.seen turns.new) (T.seen turns.old) }
+    ensures added { IfOk result (λ a. AddsTurn (T.legal (T.setting turns.old)) (T.pass turns.old)
+        (T.seen turns.old) event a (T.seen turns.new)) }
     ensures answered { IfOk result
         (λ a. Adds (T.pass turns.old) (own_steps (T.pass turns.old) (T.seen turns.old))
         (own_steps (T.pass turns.old) (T.seen turns.new)) event a) }
@@ -144,12 +148,10 @@ pub(crate) fn open<Rt: Wait, T: CoreTurns>(rt: &Rt, turns: &mut T) -> Result<u64
     ensures rests { IfErr result (λ r. own_steps (T.pass turns.old) (T.seen turns.new)
         ≡ own_steps (T.pass turns.old) (T.seen turns.old)) }
 {
-    match turns.turn(rt, Event::Opened) {
+    match tell(rt, turns, Event::Opened) {
         Ok(Answer::Opened { conn }) => Ok(conn),
         Ok(_) => unreachable!(),
-        Err(TurnRefusal::Busy { .. }) => unreachable!(),
-        Err(TurnRefusal::Spent { .. }) => Err(Denied::Spent),
-        Err(TurnRefusal::State { cause, .. }) => Err(Denied::By(cause)),
+        Err(denied) => Err(denied),
     }
 }
 

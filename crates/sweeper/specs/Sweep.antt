@@ -1,5 +1,5 @@
 -- A sweep that was not made, and why.
-use Rattle.std.specs.Prelude.{◌≡◌, ℕ, List}
+use Rattle.std.specs.Prelude.{◌≡◌, ℕ, List, Option, None, Some}
 use Rattle.ticket_gate.specs.Refusal.{RefusedByState}
 use Rattle.proxy_history.specs.History.{Step}
 use Rattle.proxy_history.specs.declared.event.Event.{Event}
@@ -21,3 +21,8 @@ module _ (cause : Refusal → Event → List Step → Type 0) (spent : Type 0) (
   RefusesSweep NoMemory = RefusedByState cause pass before (Swept moment) refusal.NoMemory after
   RefusesSweep JournalFull = RefusedByState cause pass before (Swept moment) refusal.JournalFull after
   RefusesSweep Spent = (after ≡ before) × spent
+
+  -- The turn of that sweep was refused, and no step of the pass was added: by the core, for this cause, or for want of tickets, where there is none.
+  abbrev pub RefusesTurn : Option Refusal → Type 0
+  RefusesTurn None = (after ≡ before) × spent
+  RefusesTurn (Some why) = RefusedByState cause pass before (Swept moment) why after

@@ -3,7 +3,7 @@ ghost use Rattle.std.specs.Prelude.{◌≡◌, IfOk, IfErr};
 ghost use Rattle.ticket_gate.specs.Journal.{AddsTurn};
 ghost use Rattle.proxy_history.specs.Answer.{counts_of};
 ghost use Rattle.proxy_history.specs.declared.event.Event.{Event};
-ghost use Rattle.sweeper.specs.Sweep.{RefusesSweep, number_of};
+ghost use Rattle.sweeper.specs.Sweep.{RefusesTurn, RefusesSweep, number_of};
 
 use ejector::Swept;
 use proxy_core::{Answer, CoreTurns, Event, Refusal};
@@ -59,7 +59,7 @@ pub fn sweep_once<R: Wait, T: CoreTurns>(
     ensures refused { IfErr result (RefusesSweep (T.cause (T.setting turns.old)) (T.spent turns.new)
         (T.pass turns.old) (T.seen turns.old) moment (T.seen turns.new)) }
 {
-    match turns.turn(rt, Event::Swept { t: moment }) {
+    match ask_sweep(rt, turns, moment) {
         Ok(
             Answer::Swept {
                 returned,
@@ -71,19 +71,36 @@ pub fn sweep_once<R: Wait, T: CoreTurns>(
             ejected,
             kept,
         }),
-        Err(
-            TurnRefusal::State {
-                cause: Refusal::NoMemory,
-                ..
-            },
-        ) => Err(SweepRefusal::NoMemory),
-        Err(
-            TurnRefusal::State {
-                cause: Refusal::JournalFull,
-                ..
-            },
-        ) => Err(SweepRefusal::JournalFull),
-        Err(TurnRefusal::Spent { .. }) => Err(SweepRefusal::Spent),
+        Err(None) => Err(SweepRefusal::Spent),
+        Err(Some(Refusal::NoMemory)) => Err(SweepRefusal::NoMemory),
+        Err(Some(Refusal::JournalFull)) => Err(SweepRefusal::JournalFull),
         Ok(_) | Err(_) => unreachable!(),
+    }
+}
+
+// The turn of a sweep. Where it was refused for want of tickets, there is no cause.
+fn ask_sweep<R: Wait, T: CoreTurns>(
+    rt: &R,
+    turns: &mut T,
+    moment: u64,
+) -> Result<Answer, Option<Refusal>>
+    ensures same { (T.home turns.new ≡ T.home turns.old) × (T.pass turns.new ≡ T.pass turns.old)
+        × (T.setting turns.new ≡ T.setting turns.old) }
+    ensures answered { IfOk result (λ answer. AddsTurn (T.legal (T.setting turns.old))
+        (T.pass turns.old) (T.seen turns.old) (Event.Swept moment) answer (T.seen turns.new)) }
+    ensures refused { IfErr result (RefusesTurn (T.cause (T.setting turns.old)) (T.spent turns.new)
+        (T.pass turns.old) (T.seen turns.old) moment (T.seen turns.new)) }
+{
+    match turns.turn(rt, Event::Swept { t: moment }) {
+        Ok(answer) => Ok(answer),
+        Err(TurnRefusal::Busy { .. }) => unreachable!(),
+        Err(TurnRefusal::Spent { event }) => {
+            drop(event);
+            Err(None)
+        }
+        Err(TurnRefusal::State { cause, event }) => {
+            drop(event);
+            Err(Some(cause))
+        }
     }
 }
