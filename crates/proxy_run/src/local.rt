@@ -1,8 +1,12 @@
 //! One client, answered from a reader to a writer, with three hosts in memory behind it.
-ghost use Rattle.std.specs.Prelude.{◌≡◌, IfOk, OnOk, false};
+ghost use Rattle.std.specs.Prelude.{◌≡◌, ◌∷◌, [], IfOk, OnOk, false};
 ghost use Rattle.std.specs.Io.Buffered.{writer_contents};
-ghost use Rattle.std.specs.Io.KnownBytes.{Keeps};
+ghost use Rattle.std.specs.Io.KnownBytes.{Keeps, append_known};
 ghost use Rattle.proxy_core.specs.Recorded.{journal_of, made_with};
+ghost use Rattle.journal_core.specs.Journal.{step_by};
+ghost use Rattle.proxy_history.specs.declared.answer.Answer.{Answer};
+ghost use Rattle.proxy_history.specs.declared.event.Event.{Event};
+ghost use Rattle.proxy_engines.specs.Client.{Carries};
 ghost use Rattle.proxy_engines.specs.OwnSteps.{own_steps};
 ghost use Rattle.proxy_engines.specs.declared.client.Stage.{Stage};
 ghost use Rattle.proxy_run.specs.Local.{RunsLocal};
@@ -33,6 +37,9 @@ const MOMENT: u64 = 0;
 /// What writes the replies to the client.
 type Output<W> = Tallied<BufWriter<W>>;
 
+/// The client's engine.
+type Client<R, W> = ClientEngine<Tallied<Announced<R>>, Output<W>>;
+
 /// Answers the one client whose bytes the reader gives, and gives back the writer, which the replies were written to.
 ///
 /// Ends Ok once a request finished the connection, or at the end of the input. Each read takes at most 16,384 bytes. The
@@ -54,15 +61,37 @@ pub fn local_run<Rt: Wait, R: Read + Drop, W: Write + Drop>(
 {
     let mut turns = Alone::new(stub_core(alloc)?, PASS);
     let mut hosts = stub_engines(alloc)?;
-    let Ok(output) = BufWriter::with_capacity(alloc, MAX_GATHERED, writer) else {
-        return Err(Ending::Memory);
-    };
-    let reader = Tallied::new(Announced::new(reader));
-    let mut client = ClientEngine::open(rt, alloc, &mut turns, reader, Tallied::new(output))?;
+    let mut client = open_client(rt, alloc, &mut turns, reader, writer)?;
     let ran = run_client(rt, &mut turns, &mut client, hosts.as_mut_slice());
     let writer = written_out(client.into_writer())?;
     ran?;
     Ok(writer)
+}
+
+// Opens the client's connection.
+fn open_client<Rt: Wait, T: CoreTurns, R: Read + Drop, W: Write + Drop>(
+    rt: &Rt,
+    alloc: Global,
+    turns: &mut T,
+    reader: R,
+    writer: W,
+) -> Result<Client<R, W>, Ending>
+    ensures pass { T.pass turns.new ≡ T.pass turns.old }
+    ensures setting { T.setting turns.new ≡ T.setting turns.old }
+    ensures opened { IfOk result (λ e. own_steps (T.pass turns.old) (T.seen turns.new)
+        ≡ step_by (T.pass turns.old) Event.Opened (Answer.Opened e.conn) ∷ own_steps
+        (T.pass turns.old) (T.seen turns.old)) }
+    ensures carries { IfOk result (λ e. Carries e
+        (own_steps (T.pass turns.old) (T.seen turns.new)) [] []) }
+    ensures ends { IfOk result (λ e. (e.inbox.left ≡ R.remaining reader)
+        × (e.outbox.held ≡ append_known (W.contents writer) [])) }
+    ensures reads { IfOk result (λ e. e.is_drained ≡ false) }
+{
+    let Ok(output) = BufWriter::with_capacity(alloc, MAX_GATHERED, writer) else {
+        return Err(Ending::Memory);
+    };
+    let reader = Tallied::new(Announced::new(reader));
+    Ok(ClientEngine::open(rt, alloc, turns, reader, Tallied::new(output))?)
 }
 
 // The writer, once it has taken all that was gathered for it.

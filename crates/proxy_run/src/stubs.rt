@@ -79,12 +79,20 @@ pub(crate) fn stub_engines(alloc: Global) -> Result<Vec<StubEngine>, Ending>
 fn stub_engine(alloc: Global, host: usize) -> Result<StubEngine, Ending>
     ensures err { IfErr result (λ e. e ≡ Memory) }
 {
-    let Ok((reader, writer)) = StubLink::new(alloc, Stub::new(alloc)).ends(alloc) else {
-        return Err(Ending::Memory);
-    };
+    let (reader, writer) = stub_ends(alloc)?;
     let mut engine = HostEngine::new(alloc, host, REPLY_MS);
     match engine.attach(Tallied::new(reader), Tallied::new(writer)) {
         Ok(()) => Ok(engine),
         Err((error, _, _)) => Err(error.into()),
+    }
+}
+
+// The two ends of a link to a host in memory whose map is empty.
+fn stub_ends(alloc: Global) -> Result<(StubReader, StubWriter), Ending>
+    ensures err { IfErr result (λ e. e ≡ Memory) }
+{
+    match StubLink::new(alloc, Stub::new(alloc)).ends(alloc) {
+        Ok(ends) => Ok(ends),
+        Err(_) => Err(Ending::Memory),
     }
 }
