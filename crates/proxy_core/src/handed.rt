@@ -1,8 +1,9 @@
 //! A reply is handed out.
-ghost use Rattle.std.specs.Prelude.{◌≡◌, length, IfOk, IfErr, IfSome, IsSome, IsTrue, OnErr};
+ghost use Rattle.std.specs.Prelude.{◌≡◌, length, Some, IfOk, IfErr, IfSome, IsSome, IsTrue, OnErr};
 ghost use Rattle.std.specs.Option.{option_map};
 ghost use Rattle.resp_core.specs.Text.{text};
 ghost use Rattle.resp_core.specs.Tree.{is_plain_tree};
+ghost use Rattle.resp_core.specs.Value.{tree_of};
 ghost use Rattle.reply_queue.specs.Queue.{front_reply};
 ghost use Rattle.proxy_history.specs.declared.answer.Answer.TheVariants as answers;
 ghost use Rattle.proxy_history.specs.declared.event.Event.TheVariants as events;
@@ -15,7 +16,7 @@ use crate::refused::Refused;
 use bytes::Bytes;
 use proxy_history::{Answer, Event, Refusal};
 use reply_queue::Queue;
-use resp_core::Texts;
+use resp_core::{Texts, Value};
 use std::alloc::AllocError;
 
 impl Machine {
@@ -86,13 +87,19 @@ fn front_text(texts: &mut Texts, queue: &Queue) -> Result<Option<Bytes>, AllocEr
     ensures ready { OnErr result (IsSome (front_reply queue.now.commands)) }
 {
     if let Some(reply) = queue.same_front() {
-        return Ok(Some(texts.text_of(reply, reply.text_len())?));
+        return some_text(texts, reply);
     }
-    let Ok(reply) = queue.front() else {
-        return Err(AllocError);
-    };
-    match reply {
-        Some(reply) => Ok(Some(texts.text_of(&reply, reply.text_len())?)),
-        None => Ok(None),
+    match queue.front() {
+        Ok(Some(reply)) => some_text(texts, &reply),
+        Ok(None) => Ok(None),
+        Err(_) => Err(AllocError),
     }
+}
+
+// The text of a reply, which has to be plain.
+fn some_text(texts: &mut Texts, reply: &Value) -> Result<Option<Bytes>, AllocError>
+    requires plain { IsTrue (is_plain_tree (tree_of reply.now)) }
+    ensures text { IfOk result (λ o. o ≡ Some (text (tree_of reply.now))) }
+{
+    Ok(Some(texts.text_of(reply, reply.text_len())?))
 }
