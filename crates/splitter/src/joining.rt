@@ -3,7 +3,7 @@ ghost use Rattle.std.specs.Prelude.{◌≡◌, ◌++◌, IfOk, IfErr, length, ma
 ghost use Rattle.std.specs.Fmt.{decimal};
 ghost use Rattle.resp_core.specs.Tree.{list, trees_of};
 ghost use Rattle.resp_core.specs.Value.{tree_of};
-ghost use Rattle.splitter.specs.Join.{join_of, MayJoin, in_place, is_done, is_whole, number_of, total, told_sum, unless_failed, upstream_protocol_error};
+ghost use Rattle.splitter.specs.Join.{join_of, MayJoin, in_place, finished_with, is_done, is_whole, number_of, total, told_sum, unless_failed, upstream_protocol_error};
 
 use crate::error::SplitError;
 use crate::plans::Join;
@@ -87,6 +87,14 @@ fn unless_failed(alloc: Global, failed: usize, value: Value) -> Result<Value, Sp
     if failed == 0 {
         return Ok(value);
     }
+    finished_with(alloc, failed)
+}
+
+// The error that tells how many parts failed.
+fn finished_with(alloc: Global, failed: usize) -> Result<Value, SplitError>
+    ensures value { IfOk result (λ v. tree_of v ≡ finished_with failed) }
+    ensures err { IfErr result (λ e. e ≡ SplitError.NoMemory) }
+{
     let mut text = Vec::new(alloc);
     text.extend_from_slice(b"finished with ")?;
     text.extend_from_slice(failed.to_string(alloc)?.as_bytes())?;
