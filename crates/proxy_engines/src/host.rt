@@ -109,7 +109,7 @@ impl<R: ReadTally + Drop, W: WriteTally + Drop> HostEngine<R, W> {
     {
         self.fault = Some(kind);
         self.line.fail(rt, turns, kind, moment)?;
-        self.link = None;
+        drop(self.link.take());
         self.fault = None;
         Ok(())
     }
@@ -131,7 +131,7 @@ impl<R: ReadTally + Drop, W: WriteTally + Drop> HostEngine<R, W> {
     {
         match Link::new(self.alloc, reader, writer) {
             Ok(link) => {
-                self.link = Some(link);
+                drop(self.link.replace(link));
                 Ok(())
             }
             Err((reader, writer)) => Err((EngineError::NoMemory, reader, writer)),
