@@ -56,6 +56,13 @@ pub(crate) struct Fault {
     pub(crate) deed: Option<Deed>,
 }
 
+impl Fault {
+    fn now(error: EngineError, core: &Core) -> Fault {
+        let deed = last_deed(core);
+        Fault { error, deed }
+    }
+}
+
 // The engines over their turns, links that hosts are still to get, and what was told on the way.
 #[derive(Drop)]
 pub(crate) struct Rig<'a> {
@@ -106,7 +113,7 @@ impl<'a> Rig<'a> {
     ) -> Result<Rig<'a>, Fail> {
         let mut rig = Rig::new(alloc, 3, ration)?;
         for _ in 0..3 {
-            rig.links.push(Link::to_stub(alloc, &[], asked)?)?;
+            rig.add_stub(alloc, &[], asked)?;
         }
         Ok(rig)
     }
@@ -117,19 +124,19 @@ impl<'a> Rig<'a> {
         rt: &Rt,
         ends: Ends<'a>,
     ) -> Result<(), EngineError> {
-        let Ends {
-            source,
-            reads,
-            sink,
-            writes,
-        } = ends;
-        let reader = Faulty::new(Tallied::new(source), reads);
-        let writer = Faulty::new(Tallied::new(sink), writes);
-        let client = ClientEngine::open(rt, rt.alloc(), &mut self.turns, reader, writer)?;
-        match self.clients.push(client) {
-            Ok(()) => Ok(()),
-            Err(_) => Err(EngineError::NoMemory),
-        }
+        let client = ends.open(rt, &mut self.turns)?;
+        self.clients.push(client).or(Err(EngineError::NoMemory))
+    }
+
+    // Keeps a link to an empty stub that serves by these acts, for the host that asks for one next.
+    pub(crate) fn add_stub(
+        &mut self,
+        alloc: Global,
+        acts: &[Act],
+        asked: &'a Taken,
+    ) -> Result<(), Fail> {
+        let link = Link::to_stub(alloc, acts, asked)?;
+        Ok(self.links.push(link)?)
     }
 
     // Whether no engine told an error.
@@ -148,10 +155,13 @@ impl<'a> Rig<'a> {
 
     // Why a turn of the test's own is refused.
     pub(crate) fn refusal<Rt: Wait>(&mut self, rt: &Rt, event: Event) -> Option<Refusal> {
-        match self.turns.turn(rt, event) {
-            Err(TurnRefusal::State { cause, .. }) => Some(cause),
+        let result = self.turns.turn(rt, event);
+        let cause = match &result {
+            Err(TurnRefusal::State { cause, .. }) => Some(*cause),
             _ => None,
-        }
+        };
+        drop(result);
+        cause
     }
 
     // One step of one client.
@@ -181,12 +191,7 @@ impl<'a> Rig<'a> {
         for client in self.clients.iter_mut() {
             match client.step(rt, &mut self.turns) {
                 Ok(progress) => has_moved |= progress == Progress::Moved,
-                Err(error) => {
-                    self.of_client = Some(Fault {
-                        error,
-                        deed: last_deed(self.turns.core()),
-                    });
-                }
+                Err(error) => self.of_client = Some(Fault::now(error, self.turns.core())),
             }
         }
         has_moved
@@ -206,12 +211,7 @@ impl<'a> Rig<'a> {
                     }
                 }
                 Ok(progress) => has_moved |= progress == Progress::Moved,
-                Err(error) => {
-                    self.of_host = Some(Fault {
-                        error,
-                        deed: last_deed(self.turns.core()),
-                    });
-                }
+                Err(error) => self.of_host = Some(Fault::now(error, self.turns.core())),
             }
         }
         Ok(has_moved)
@@ -325,6 +325,23 @@ impl<'a> Ends<'a> {
             sink,
             writes,
         }
+    }
+
+    // The engine of a connection that is opened over them.
+    fn open<Rt: Wait + AllocGlobal>(
+        self,
+        rt: &Rt,
+        turns: &mut Rationed,
+    ) -> Result<Client<'a>, EngineError> {
+        let Ends {
+            source,
+            reads,
+            sink,
+            writes,
+        } = self;
+        let reader = Faulty::new(Tallied::new(source), reads);
+        let writer = Faulty::new(Tallied::new(sink), writes);
+        ClientEngine::open(rt, rt.alloc(), turns, reader, writer)
     }
 
     // The ends of a client that never fail: it says what stands in the cell, and what it is answered is kept.
