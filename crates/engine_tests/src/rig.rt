@@ -153,6 +153,11 @@ impl<'a> Rig<'a> {
         turns.into_core()
     }
 
+    // Keeps a link to a host that says what stands in the cell, whatever it is asked.
+    pub(crate) fn add_text(&mut self, says: &'a Cell<Feed>, asked: &'a Taken) -> Result<(), Fail> {
+        Ok(self.links.push(Link::to_text(says, asked))?)
+    }
+
     // Why a turn of the test's own is refused.
     pub(crate) fn refusal<Rt: Wait>(&mut self, rt: &Rt, event: Event) -> Option<Refusal> {
         let result = self.turns.turn(rt, event);
