@@ -64,7 +64,6 @@ impl Fault {
 }
 
 // The engines over their turns, links that hosts are still to get, and what was told on the way.
-#[derive(Drop)]
 pub(crate) struct Rig<'a> {
     pub(crate) turns: Rationed,
     pub(crate) clients: Vec<Client<'a>>,
@@ -75,6 +74,22 @@ pub(crate) struct Rig<'a> {
     pub(crate) of_host: Option<Fault>,
     // How many links were asked for, had there been one or not.
     pub(crate) asked: u64,
+}
+
+// Written out, since the drop is then one call wherever a rig ends. A derived one stands whole at each of these places, and is
+// proved there.
+impl Drop for Rig<'_> {
+    fn drop(self) {
+        let Rig {
+            turns: _,
+            clients: _,
+            hosts: _,
+            links: _,
+            of_client: _,
+            of_host: _,
+            asked: _,
+        } = self;
+    }
 }
 
 // A core for so many hosts, three at most, with the points above.
@@ -90,19 +105,23 @@ impl<'a> Rig<'a> {
     // Hosts without links and no client, over turns that are refused by this ration.
     pub(crate) fn new(alloc: Global, hosts: usize, ration: Ration) -> Result<Rig<'a>, Fail> {
         let turns = Rationed::new(Alone::new(core(alloc, hosts)?, 0), ration);
-        let mut engines = Vec::new(alloc);
-        for host in 0..hosts {
-            engines.push(HostEngine::new(alloc, host, REPLY_MS))?;
-        }
-        Ok(Rig {
+        let mut rig = Rig {
             turns,
             clients: Vec::new(alloc),
-            hosts: engines,
+            hosts: Vec::new(alloc),
             links: Vec::new(alloc),
             of_client: None,
             of_host: None,
             asked: 0,
-        })
+        };
+        for host in 0..hosts {
+            rig.add_host(alloc, host)?;
+        }
+        Ok(rig)
+    }
+
+    fn add_host(&mut self, alloc: Global, host: usize) -> Result<(), Fail> {
+        Ok(self.hosts.push(HostEngine::new(alloc, host, REPLY_MS))?)
     }
 
     // Three hosts without faults, each an empty stub. What they are asked is kept together.
@@ -149,7 +168,15 @@ impl<'a> Rig<'a> {
     }
 
     pub(crate) fn into_core(self) -> Core {
-        let Rig { turns, .. } = self;
+        let Rig {
+            turns,
+            clients: _,
+            hosts: _,
+            links: _,
+            of_client: _,
+            of_host: _,
+            asked: _,
+        } = self;
         turns.into_core()
     }
 

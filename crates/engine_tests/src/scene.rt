@@ -9,7 +9,6 @@ use std::sync::Wait;
 use std::test::Fail;
 
 // What one client and one host say, and what both are told.
-#[derive(Drop)]
 pub(crate) struct Scene {
     pub(crate) client: Cell<Feed>,
     pub(crate) host: Cell<Feed>,
@@ -17,6 +16,19 @@ pub(crate) struct Scene {
     pub(crate) asked: Taken,
     // What is written to the host over a second link.
     pub(crate) asked_later: Taken,
+}
+
+// Written out, as that of a rig.
+impl Drop for Scene {
+    fn drop(self) {
+        let Scene {
+            client: _,
+            host: _,
+            answered: _,
+            asked: _,
+            asked_later: _,
+        } = self;
+    }
 }
 
 impl Scene {
