@@ -39,11 +39,12 @@ impl Times {
         texts: &Texts,
     ) -> Result<Times> {
         let mut turns = fresh_turns(alloc)?;
-        let steps_ns = serving_ns(rt, alloc, load, texts, &mut turns)?;
-        let start = Instant::now(rt)?;
-        drop(turns);
-        let end_ns = start.elapsed(rt)?.as_nanos();
-        Ok(Times { steps_ns, end_ns })
+        let steps_ns = serving_ns(rt, alloc, load, texts, &mut turns);
+        let end_ns = dropping_ns(rt, turns)?;
+        Ok(Times {
+            steps_ns: steps_ns?,
+            end_ns,
+        })
     }
 
     fn least(self, other: Times) -> Times {
@@ -67,13 +68,25 @@ struct Counts {
 impl Counts {
     // Those of one round, whose turns are counted. The opening of the connection doesn't count.
     fn of_round<R: Wait>(rt: &R, alloc: Global, load: Load, texts: &Texts) -> Result<Counts> {
-        let mut turns = fresh_turns(alloc)?;
+        let turns = fresh_turns(alloc)?;
         let peers = Peers::new(load, texts);
-        let mut scene = Scene::new(rt, alloc, &mut turns, &peers, texts)?;
-        let mut turns = Counted::new(turns);
-        let steps = scene.serve(rt, &mut turns)?;
+        let counts = Counts::of_turns(rt, alloc, turns, &peers, texts)?;
         peers.check_done(load, texts)?;
-        Ok(Counts::new(steps, &peers, turns.tried(), turns.answered()))
+        Ok(counts)
+    }
+
+    fn of_turns<R: Wait, T: CoreTurns + Drop>(
+        rt: &R,
+        alloc: Global,
+        mut turns: T,
+        peers: &Peers,
+        texts: &Texts,
+    ) -> Result<Counts> {
+        let mut scene = Scene::new(rt, alloc, &mut turns, peers, texts)?;
+        let mut turns = Counted::new(turns);
+        let steps = scene.serve(rt, &mut turns);
+        drop(scene);
+        Ok(Counts::new(steps?, peers, turns.tried(), turns.answered()))
     }
 
     fn new(steps: Sides, peers: &Peers, tried: u64, answered: u64) -> Counts {
@@ -173,11 +186,29 @@ fn serving_ns<R: Wait + Clock, T: CoreTurns>(
 ) -> Result<u128> {
     let peers = Peers::new(load, texts);
     let mut scene = Scene::new(rt, alloc, turns, &peers, texts)?;
-    let start = Instant::now(rt)?;
-    scene.serve(rt, turns)?;
-    let steps_ns = start.elapsed(rt)?.as_nanos();
+    let steps_ns = scene_ns(rt, &mut scene, turns);
+    drop(scene);
+    let steps_ns = steps_ns?;
     peers.check_done(load, texts)?;
     Ok(steps_ns)
+}
+
+// How long the steps of a scene take, in nanoseconds.
+fn scene_ns<R: Wait + Clock, T: CoreTurns>(
+    rt: &R,
+    scene: &mut Scene<'_>,
+    turns: &mut T,
+) -> Result<u128> {
+    let start = Instant::now(rt)?;
+    scene.serve(rt, turns)?;
+    Ok(start.elapsed(rt)?.as_nanos())
+}
+
+// How long it takes to drop a value, in nanoseconds.
+fn dropping_ns<C: Clock, T: Drop>(rt: &C, value: T) -> Result<u128> {
+    let start = Instant::now(rt)?;
+    drop(value);
+    Ok(start.elapsed(rt)?.as_nanos())
 }
 
 // Turns on a core of one host to which nothing has happened.

@@ -1,4 +1,5 @@
 //! The other ends of both connections: a client and a host, and sockets to them in memory.
+ghost use Rattle.std.specs.Prelude.{◌≤◌, IfOk, length};
 
 use crate::load::{Load, Texts};
 use anyhow::{Result, bail};
@@ -44,6 +45,45 @@ fn add(cell: &Cell<usize>, bytes: usize) {
     cell.set(cell.get().saturating_add(bytes));
 }
 
+/// What is left of a text that a peer sends.
+#[derive(Drop)]
+struct Unread<'a>(&'a [u8]);
+
+impl Unread<'_> {
+    // Reads at most so many bytes.
+    fn read(&mut self, most: usize, buffer: &mut [u8]) -> io::Result<usize>
+        ensures given { IfOk result (λ n. n ≤ length buffer.new) }
+    {
+        let most = most.min(self.0.len()).min(buffer.len());
+        if most == 0 {
+            return Err(io::Error::from(ErrorKind::WouldBlock));
+        }
+        let (now, later) = self.0.split_at(most);
+        buffer[..most].copy_from_slice(now);
+        self.0 = later;
+        Ok(most)
+    }
+}
+
+/// What is written to a peer.
+#[derive(Drop)]
+pub struct PeerWriter<'a> {
+    calls: &'a Calls,
+    had: &'a Cell<usize>,
+}
+
+impl Write for PeerWriter<'_> {
+    fn write(&mut self, bytes: &[u8]) -> io::Result<usize> {
+        self.calls.count_write();
+        add(self.had, bytes.len());
+        Ok(bytes.len())
+    }
+
+    fn flush(&mut self) -> io::Result<()> {
+        Ok(())
+    }
+}
+
 /// A client, which sends a batch once it has had all replies to the one before.
 #[derive(Drop)]
 pub struct ClientPeer {
@@ -87,6 +127,23 @@ impl ClientPeer {
         add(&self.wanted, self.replies_bytes);
         true
     }
+
+    /// Its socket, from which this batch is read each time.
+    pub(crate) fn reader<'a>(&'a self, batch: &'a [u8]) -> ClientReader<'a> {
+        ClientReader {
+            peer: self,
+            batch,
+            left: Unread(&[]),
+        }
+    }
+
+    /// Its socket, to which replies are written.
+    pub(crate) fn writer(&self) -> PeerWriter<'_> {
+        PeerWriter {
+            calls: &self.calls,
+            had: &self.had,
+        }
+    }
 }
 
 /// What is read from a client.
@@ -94,41 +151,16 @@ impl ClientPeer {
 pub struct ClientReader<'a> {
     peer: &'a ClientPeer,
     batch: &'a [u8],
-    left: &'a [u8],
+    left: Unread<'a>,
 }
 
 impl Read for ClientReader<'_> {
     fn read(&mut self, buffer: &mut [u8]) -> io::Result<usize> {
         self.peer.calls.count_read();
-        if self.left.is_empty() && self.peer.sends() {
-            self.left = self.batch;
+        if self.left.0.is_empty() && self.peer.sends() {
+            self.left = Unread(self.batch);
         }
-        let most = buffer.len().min(self.left.len());
-        if most == 0 {
-            return Err(io::Error::from(ErrorKind::WouldBlock));
-        }
-        let (now, later) = self.left.split_at(most);
-        buffer[..most].copy_from_slice(now);
-        self.left = later;
-        Ok(most)
-    }
-}
-
-/// What is written to a client.
-#[derive(Drop)]
-pub struct ClientWriter<'a> {
-    peer: &'a ClientPeer,
-}
-
-impl Write for ClientWriter<'_> {
-    fn write(&mut self, bytes: &[u8]) -> io::Result<usize> {
-        self.peer.calls.count_write();
-        add(&self.peer.had, bytes.len());
-        Ok(bytes.len())
-    }
-
-    fn flush(&mut self) -> io::Result<()> {
-        Ok(())
+        self.left.read(usize::MAX, buffer)
     }
 }
 
@@ -164,6 +196,23 @@ impl HostPeer {
         self.answered.set(came);
         add(&self.ready, fresh.saturating_mul(self.reply_bytes));
     }
+
+    /// Its socket, from which the replies to a batch are read again and again.
+    pub(crate) fn reader<'a>(&'a self, replies: &'a [u8]) -> HostReader<'a> {
+        HostReader {
+            peer: self,
+            replies,
+            left: Unread(&[]),
+        }
+    }
+
+    /// Its socket, to which requests are written.
+    pub(crate) fn writer(&self) -> PeerWriter<'_> {
+        PeerWriter {
+            calls: &self.calls,
+            had: &self.had,
+        }
+    }
 }
 
 /// What is read from a host.
@@ -171,43 +220,19 @@ impl HostPeer {
 pub struct HostReader<'a> {
     peer: &'a HostPeer,
     replies: &'a [u8],
-    left: &'a [u8],
+    left: Unread<'a>,
 }
 
 impl Read for HostReader<'_> {
     fn read(&mut self, buffer: &mut [u8]) -> io::Result<usize> {
         self.peer.calls.count_read();
-        if self.left.is_empty() {
-            self.left = self.replies;
+        if self.left.0.is_empty() {
+            self.left = Unread(self.replies);
         }
         let ready = self.peer.ready.get();
-        let most = buffer.len().min(self.left.len()).min(ready);
-        if most == 0 {
-            return Err(io::Error::from(ErrorKind::WouldBlock));
-        }
-        self.peer.ready.set(ready.saturating_sub(most));
-        let (now, later) = self.left.split_at(most);
-        buffer[..most].copy_from_slice(now);
-        self.left = later;
-        Ok(most)
-    }
-}
-
-/// What is written to a host.
-#[derive(Drop)]
-pub struct HostWriter<'a> {
-    peer: &'a HostPeer,
-}
-
-impl Write for HostWriter<'_> {
-    fn write(&mut self, bytes: &[u8]) -> io::Result<usize> {
-        self.peer.calls.count_write();
-        add(&self.peer.had, bytes.len());
-        Ok(bytes.len())
-    }
-
-    fn flush(&mut self) -> io::Result<()> {
-        Ok(())
+        let count = self.left.read(ready, buffer)?;
+        self.peer.ready.set(ready.saturating_sub(count));
+        Ok(count)
     }
 }
 
@@ -225,31 +250,6 @@ impl Peers {
             client: ClientPeer::new(load, texts),
             host: HostPeer::new(texts),
         }
-    }
-
-    /// The client's socket.
-    pub(crate) fn client_ends<'a>(
-        &'a self,
-        texts: &'a Texts,
-    ) -> (ClientReader<'a>, ClientWriter<'a>) {
-        let reader = ClientReader {
-            peer: &self.client,
-            batch: &texts.batch,
-            left: &[],
-        };
-        let peer = &self.client;
-        (reader, ClientWriter { peer })
-    }
-
-    /// The host's socket.
-    pub(crate) fn host_ends<'a>(&'a self, texts: &'a Texts) -> (HostReader<'a>, HostWriter<'a>) {
-        let reader = HostReader {
-            peer: &self.host,
-            replies: &texts.replies,
-            left: &[],
-        };
-        let peer = &self.host;
-        (reader, HostWriter { peer })
     }
 
     /// Fails where the host hadn't all requests, or the client not all replies to them, byte for byte as many.

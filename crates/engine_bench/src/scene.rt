@@ -1,7 +1,7 @@
 //! A client's engine and a host's, and the steps that serve the client.
 
 use crate::load::Texts;
-use crate::peers::{ClientReader, ClientWriter, HostReader, HostWriter, Peers};
+use crate::peers::{ClientReader, HostReader, PeerWriter, Peers};
 use anyhow::{Result, bail};
 use proxy_core::CoreTurns;
 use proxy_engines::{ClientEngine, HostEngine, Progress, Tallied};
@@ -23,13 +23,100 @@ pub struct Sides {
     pub host: u64,
 }
 
+/// A client's engine, and how many steps it made.
+#[derive(Drop)]
+struct ClientSide<'a> {
+    engine: ClientEngine<Tallied<ClientReader<'a>>, Tallied<PeerWriter<'a>>>,
+    steps: u64,
+}
+
+impl<'a> ClientSide<'a> {
+    // With the connection open.
+    fn new<R: Wait, T: CoreTurns>(
+        rt: &R,
+        alloc: Global,
+        turns: &mut T,
+        peers: &'a Peers,
+        texts: &'a Texts,
+    ) -> Result<ClientSide<'a>> {
+        let reader = Tallied::new(peers.client.reader(&texts.batch));
+        let writer = Tallied::new(peers.client.writer());
+        match ClientEngine::open(rt, alloc, turns, reader, writer) {
+            Ok(engine) => Ok(ClientSide { engine, steps: 0 }),
+            Err(_) => bail!("the connection was refused"),
+        }
+    }
+
+    // One step. False says that there was nothing to do.
+    fn step<R: Wait, T: CoreTurns>(&mut self, rt: &R, turns: &mut T) -> Result<bool> {
+        self.steps = self.steps.saturating_add(1);
+        match self.engine.step(rt, turns) {
+            Ok(Progress::Moved) => Ok(true),
+            Ok(Progress::Idle) => Ok(false),
+            _ => bail!("the client's engine failed"),
+        }
+    }
+
+    // Steps until there is nothing to do.
+    fn run<R: Wait, T: CoreTurns>(&mut self, rt: &R, turns: &mut T) -> Result<()> {
+        for _ in 0..MOST_STEPS {
+            if !self.step(rt, turns)? {
+                return Ok(());
+            }
+        }
+        bail!("the client's engine has no end")
+    }
+}
+
+/// A host's engine, and how many steps it made.
+#[derive(Drop)]
+struct HostSide<'a> {
+    engine: HostEngine<Tallied<HostReader<'a>>, Tallied<PeerWriter<'a>>>,
+    steps: u64,
+}
+
+impl<'a> HostSide<'a> {
+    // With the host linked.
+    fn new(alloc: Global, peers: &'a Peers, texts: &'a Texts) -> Result<HostSide<'a>> {
+        let reader = Tallied::new(peers.host.reader(&texts.replies));
+        let writer = Tallied::new(peers.host.writer());
+        let mut engine = HostEngine::new(alloc, 0, REPLY_MS);
+        match engine.attach(reader, writer) {
+            Ok(()) => Ok(HostSide { engine, steps: 0 }),
+            Err(_) => {
+                drop(engine);
+                bail!("there is no memory for a link")
+            }
+        }
+    }
+
+    // One step. False says that there was nothing to do.
+    fn step<R: Wait, T: CoreTurns>(&mut self, rt: &R, turns: &mut T) -> Result<bool> {
+        self.steps = self.steps.saturating_add(1);
+        match self.engine.step(rt, turns, MOMENT) {
+            Ok(Progress::Moved) => Ok(true),
+            Ok(Progress::Idle) => Ok(false),
+            _ => bail!("the host's engine failed"),
+        }
+    }
+
+    // Steps until there is nothing to do.
+    fn run<R: Wait, T: CoreTurns>(&mut self, rt: &R, turns: &mut T) -> Result<()> {
+        for _ in 0..MOST_STEPS {
+            if !self.step(rt, turns)? {
+                return Ok(());
+            }
+        }
+        bail!("the host's engine has no end")
+    }
+}
+
 /// Both engines, and the peers to which they speak.
 #[derive(Drop)]
 pub struct Scene<'a> {
-    client: ClientEngine<Tallied<ClientReader<'a>>, Tallied<ClientWriter<'a>>>,
-    host: HostEngine<Tallied<HostReader<'a>>, Tallied<HostWriter<'a>>>,
+    client: ClientSide<'a>,
+    host: HostSide<'a>,
     peers: &'a Peers,
-    steps: Sides,
 }
 
 impl<'a> Scene<'a> {
@@ -41,65 +128,44 @@ impl<'a> Scene<'a> {
         peers: &'a Peers,
         texts: &'a Texts,
     ) -> Result<Scene<'a>> {
-        let (reader, writer) = peers.client_ends(texts);
-        let (reader, writer) = (Tallied::new(reader), Tallied::new(writer));
-        let Ok(client) = ClientEngine::open(rt, alloc, turns, reader, writer) else {
-            bail!("the connection was refused");
-        };
-        let (reader, writer) = peers.host_ends(texts);
-        let mut host = HostEngine::new(alloc, 0, REPLY_MS);
-        if host
-            .attach(Tallied::new(reader), Tallied::new(writer))
-            .is_err()
-        {
-            bail!("there is no memory for a link");
+        let client = ClientSide::new(rt, alloc, turns, peers, texts)?;
+        match HostSide::new(alloc, peers, texts) {
+            Ok(host) => Ok(Scene {
+                client,
+                host,
+                peers,
+            }),
+            Err(error) => {
+                drop(client);
+                Err(error)
+            }
         }
-        Ok(Scene {
-            client,
-            host,
-            peers,
-            steps: Sides { client: 0, host: 0 },
-        })
     }
 
     /// Makes steps until the client has all its replies: its own while there are any to make, then the host's while there
     /// are, and those once more when the host has answered; and so on. Gives how many there were.
     pub(crate) fn serve<R: Wait, T: CoreTurns>(&mut self, rt: &R, turns: &mut T) -> Result<Sides> {
         for _ in 0..MOST_STEPS {
-            self.step_client(rt, turns)?;
+            self.client.run(rt, turns)?;
             if self.peers.client.is_done() {
-                return Ok(self.steps);
+                return Ok(self.steps());
             }
-            self.step_host(rt, turns)?;
-            self.peers.host.answer();
-            self.step_host(rt, turns)?;
+            self.serve_host(rt, turns)?;
         }
         bail!("the round has no end")
     }
 
-    // Steps of the client until there is nothing to do.
-    fn step_client<R: Wait, T: CoreTurns>(&mut self, rt: &R, turns: &mut T) -> Result<()> {
-        for _ in 0..MOST_STEPS {
-            self.steps.client = self.steps.client.saturating_add(1);
-            match self.client.step(rt, turns) {
-                Ok(Progress::Moved) => {}
-                Ok(Progress::Idle) => return Ok(()),
-                _ => bail!("the client's engine failed"),
-            }
-        }
-        bail!("the client's engine has no end")
+    // The host's steps before it answers, and those after.
+    fn serve_host<R: Wait, T: CoreTurns>(&mut self, rt: &R, turns: &mut T) -> Result<()> {
+        self.host.run(rt, turns)?;
+        self.peers.host.answer();
+        self.host.run(rt, turns)
     }
 
-    // Steps of the host until there is nothing to do.
-    fn step_host<R: Wait, T: CoreTurns>(&mut self, rt: &R, turns: &mut T) -> Result<()> {
-        for _ in 0..MOST_STEPS {
-            self.steps.host = self.steps.host.saturating_add(1);
-            match self.host.step(rt, turns, MOMENT) {
-                Ok(Progress::Moved) => {}
-                Ok(Progress::Idle) => return Ok(()),
-                _ => bail!("the host's engine failed"),
-            }
+    fn steps(&self) -> Sides {
+        Sides {
+            client: self.client.steps,
+            host: self.host.steps,
         }
-        bail!("the host's engine has no end")
     }
 }

@@ -2,7 +2,7 @@
 
 use crate::devices::{Feed, Pace};
 use crate::journal::{Deed, count};
-use crate::rig::{Ends, Fault, Link, Rig};
+use crate::rig::{Ends, Fault, Rig};
 use crate::scene::Scene;
 use crate::texts::{Exchange, GET, NOTHING, OTHER_KEYS, SET_AND_MGET};
 use crate::turns::Ration;
@@ -116,9 +116,13 @@ fn check_reader<Rt: Wait + AllocGlobal + Abort>(
     let scene = scene(rt, SET_AND_MGET);
     let mut rig = run(rt, &scene, cut)?;
     assert!(rt; is_cut(rt, &mut rig, EngineError::ReadFailed)?);
+    check_accepted(rt, &scene, &rig, whole);
+    Ok(())
+}
+
+fn check_accepted<Rt: Abort>(rt: &Rt, scene: &Scene, rig: &Rig<'_>, whole: usize) {
     assert!(rt; scene.answered.begins(SET_AND_MGET.1));
     assert_eq!(rt; count(rig.core(), Deed::Arrived), whole);
-    Ok(())
 }
 
 // After each byte of the input: what came whole before was accepted.
@@ -172,11 +176,15 @@ fn check_beside<Rt: Wait + AllocGlobal + Abort>(rt: &Rt, cut: Cut) -> Result<(),
     let scene = Scene::new(rt.alloc(), says.0, says.1);
     let mut rig = run_two(rt, &scene, cut)?;
     assert!(rt; stays_cut(rt, &mut rig)?);
+    check_answers(rt, &scene, &rig);
+    assert!(rt; is_all_gone(rt, &mut rig));
+    Ok(())
+}
+
+fn check_answers<Rt: Abort>(rt: &Rt, scene: &Scene, rig: &Rig<'_>) {
     assert!(rt; scene.answered.begins(SET_AND_MGET.1));
     assert!(rt; scene.asked_later.is(OTHER_KEYS.1));
     assert_eq!(rt; count(rig.core(), Deed::Failed), 0);
-    assert!(rt; is_all_gone(rt, &mut rig));
-    Ok(())
 }
 
 // A client that is cut after each byte read and after each byte written disturbs nobody.
@@ -192,11 +200,10 @@ fn cut_clients_leave_others(rt: HostRuntime) -> Result<(), Fail> {
 }
 
 // Of 1,030 commands whose host has no link 1,024 are accepted, one is held back, and no more is read.
-fn check_held<Rt: Wait + Abort>(rt: &Rt, scene: &Scene, rig: &Rig<'_>) -> Result<(), Fail> {
+fn check_held<Rt: Abort>(rt: &Rt, scene: &Scene, rig: &Rig<'_>) {
     assert_eq!(rt; count(rig.core(), Deed::Arrived), 1_024);
     assert_eq!(rt; scene.client.get().times, 5);
     assert_eq!(rt; scene.answered.len(), 0);
-    Ok(())
 }
 
 // Whether many steps of the first client move nothing.
@@ -210,23 +217,36 @@ fn stays_idle<Rt: Wait>(rt: &Rt, rig: &mut Rig<'_>) -> Result<bool, Fail> {
     Ok(rig.core().journal().len() == steps)
 }
 
-// Once 1,024 commands are answered nothing moves while the client takes nothing; and nothing is lost.
+// Nothing moves while the client takes nothing: at first the host has no link, and then 1,024 commands are answered.
+fn check_stopped<'a, Rt: Wait + AllocGlobal + Abort>(
+    rt: &Rt,
+    scene: &'a Scene,
+    rig: &mut Rig<'a>,
+) -> Result<(), Fail> {
+    rig.run(rt, 0)?;
+    check_held(rt, scene, rig);
+    rig.add_stub(rt.alloc(), &[], &scene.asked)?;
+    rig.run(rt, 0)?;
+    check_held(rt, scene, rig);
+    assert_eq!(rt; count(rig.core(), Deed::Answered), 1_024);
+    assert!(rt; stays_idle(rt, rig)?);
+    Ok(())
+}
+
+// Once the client takes all again, nothing is lost.
+fn check_resumed<Rt: Wait + Abort>(rt: &Rt, scene: &Scene, rig: &mut Rig<'_>) -> Result<(), Fail> {
+    scene.answered.is_shut.set(false);
+    rig.run(rt, 0)?;
+    assert!(rt; scene.answered.is_repeated(NOTHING, 1_030));
+    assert!(rt; rig.is_well());
+    Ok(())
+}
+
 #[test]
 fn clients_that_never_read_stop_all(rt: HostRuntime) -> Result<(), Fail> {
     let scene = Scene::new(rt.alloc(), Feed::repeated(GET, 1_030), Feed::open(b""));
     scene.answered.is_shut.set(true);
     let mut rig = scene.rig(&rt)?;
-    rig.run(&rt, 0)?;
-    check_held(&rt, &scene, &rig)?;
-    let link = Link::to_stub(rt.alloc(), &[], &scene.asked)?;
-    rig.links.push(link)?;
-    rig.run(&rt, 0)?;
-    check_held(&rt, &scene, &rig)?;
-    assert_eq!(rt; count(rig.core(), Deed::Answered), 1_024);
-    assert!(rt; stays_idle(&rt, &mut rig)?);
-    scene.answered.is_shut.set(false);
-    rig.run(&rt, 0)?;
-    assert!(rt; scene.answered.is_repeated(NOTHING, 1_030));
-    assert!(rt; rig.is_well());
-    Ok(())
+    check_stopped(&rt, &scene, &mut rig)?;
+    check_resumed(&rt, &scene, &mut rig)
 }

@@ -1,6 +1,7 @@
 //! What a core's journal tells of a run.
 
 use proxy_core::{Answer, Core, Event, Kind, Step, Trip};
+use std::alloc::Global;
 use std::test::Fail;
 
 // What a step was, without what it carries.
@@ -124,25 +125,25 @@ pub(crate) fn sent_in(core: &Core, epoch: u64) -> usize {
     found
 }
 
-// Appends the texts of the parts that were sent in this epoch.
-pub(crate) fn put_sent(core: &Core, epoch: u64, texts: &mut Vec<u8>) -> Result<(), Fail> {
-    let journal = core.journal();
-    for i in 0..journal.len() {
-        match journal.get(i) {
-            Some(
-                Step {
-                    answer: Answer::Sent {
-                        epoch: sent,
-                        text,
-                        ..
-                    },
-                    ..
-                },
-            ) if *sent == epoch => texts.extend_from_slice(text.as_slice())?,
-            _ => {}
-        }
+// The text of the part that was sent at this step of the journal in this epoch, if one was.
+fn sent_at(core: &Core, place: usize, epoch: u64) -> Option<&[u8]> {
+    match &core.journal().get(place)?.answer {
+        Answer::Sent {
+            epoch: sent,
+            text,
+            ..
+        } if *sent == epoch => Some(text.as_slice()),
+        _ => None,
     }
-    Ok(())
+}
+
+// The texts of the parts that were sent in this epoch.
+pub(crate) fn sent(alloc: Global, core: &Core, epoch: u64) -> Result<Vec<u8>, Fail> {
+    let mut texts = Vec::new(alloc);
+    for place in 0..core.journal().len() {
+        texts.extend_from_slice(sent_at(core, place, epoch).unwrap_or(b""))?;
+    }
+    Ok(texts)
 }
 
 // How many replies were handed out before the newest command arrived.

@@ -42,11 +42,39 @@ fn run<Rt: Wait + AllocGlobal + Abort>(
     let mut rig = opened(rt, &scene, ration)?;
     rig.run(rt, 0)?;
     assert!(rt; scene.answered.is(answers));
+    check_ended(rt, &mut rig)?;
+    Ok(rig.into_core())
+}
+
+// The client has had all, and no error was told but that of refused turns.
+fn check_ended<Rt: Wait + Abort>(rt: &Rt, rig: &mut Rig<'_>) -> Result<(), Fail> {
     assert_eq!(rt; rig.step_client(rt, 0)?, Ok(Progress::Ended));
     for fault in [rig.of_client, rig.of_host] {
         assert!(rt; fault.is_none_or(|fault| fault.error == SPENT));
     }
-    Ok(rig.into_core())
+    Ok(())
+}
+
+// A run in which this turn is refused once, and one in which six are refused from this one on.
+fn check_refused<Rt: Wait + AllocGlobal + Abort>(
+    rt: &Rt,
+    exchange: Exchange,
+    whole: &Core,
+    turn: u64,
+) -> Result<(), Fail> {
+    let once = run(rt, exchange, Ration::without(turn, 1))?;
+    assert!(rt; go_alike(&once, whole));
+    let often = run(rt, exchange, Ration::without(turn, 6))?;
+    assert!(rt; go_alike(&often, whole));
+    Ok(())
+}
+
+fn check_exchange<Rt: Wait + AllocGlobal + Abort>(rt: &Rt, exchange: Exchange) -> Result<(), Fail> {
+    let whole = run(rt, exchange, Ration::FREE)?;
+    for turn in 2..90 {
+        check_refused(rt, exchange, &whole, turn)?;
+    }
+    Ok(())
 }
 
 // Each turn is refused once, and six in a row: the answers, and what becomes of the client and of each host, are those of a run
@@ -54,13 +82,7 @@ fn run<Rt: Wait + AllocGlobal + Abort>(
 #[test]
 fn refused_turns_are_made_again(rt: HostRuntime) -> Result<(), Fail> {
     for exchange in EXCHANGES {
-        let whole = run(&rt, exchange, Ration::FREE)?;
-        for turn in 2..90 {
-            let once = run(&rt, exchange, Ration::without(turn, 1))?;
-            assert!(rt; go_alike(&once, &whole));
-            let often = run(&rt, exchange, Ration::without(turn, 6))?;
-            assert!(rt; go_alike(&often, &whole));
-        }
+        check_exchange(&rt, exchange)?;
     }
     Ok(())
 }
@@ -72,14 +94,18 @@ fn check_stopped<Rt: Wait + AllocGlobal + Abort>(rt: &Rt, turn: u64) -> Result<(
     let is_opened = rig.open(rt, pieces(&scene)).is_ok();
     assert_eq!(rt; is_opened, turn > 1);
     rig.rounds(rt, 0, 200)?;
-    let said: &[u8] = match count(rig.core(), Deed::Handed) {
+    assert!(rt; scene.answered.is(handed_out(rig.core())));
+    assert!(rt; (rig.core().journal().len() as u64) < turn);
+    Ok(())
+}
+
+// The answers that were handed out, by the journal.
+fn handed_out(core: &Core) -> &'static [u8] {
+    match count(core, Deed::Handed) {
         0 => b"",
         1 => b"+OK\r\n",
         _ => SET_AND_MGET.1,
-    };
-    assert!(rt; scene.answered.is(said));
-    assert!(rt; (rig.core().journal().len() as u64) < turn);
-    Ok(())
+    }
 }
 
 #[test]

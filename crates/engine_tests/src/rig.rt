@@ -56,8 +56,14 @@ pub(crate) struct Fault {
     pub(crate) deed: Option<Deed>,
 }
 
+impl Fault {
+    fn now(error: EngineError, core: &Core) -> Fault {
+        let deed = last_deed(core);
+        Fault { error, deed }
+    }
+}
+
 // The engines over their turns, links that hosts are still to get, and what was told on the way.
-#[derive(Drop)]
 pub(crate) struct Rig<'a> {
     pub(crate) turns: Rationed,
     pub(crate) clients: Vec<Client<'a>>,
@@ -68,6 +74,22 @@ pub(crate) struct Rig<'a> {
     pub(crate) of_host: Option<Fault>,
     // How many links were asked for, had there been one or not.
     pub(crate) asked: u64,
+}
+
+// Written out, since the drop is then one call wherever a rig ends. A derived one stands whole at each of these places, and is
+// proved there.
+impl Drop for Rig<'_> {
+    fn drop(self) {
+        let Rig {
+            turns: _,
+            clients: _,
+            hosts: _,
+            links: _,
+            of_client: _,
+            of_host: _,
+            asked: _,
+        } = self;
+    }
 }
 
 // A core for so many hosts, three at most, with the points above.
@@ -83,19 +105,23 @@ impl<'a> Rig<'a> {
     // Hosts without links and no client, over turns that are refused by this ration.
     pub(crate) fn new(alloc: Global, hosts: usize, ration: Ration) -> Result<Rig<'a>, Fail> {
         let turns = Rationed::new(Alone::new(core(alloc, hosts)?, 0), ration);
-        let mut engines = Vec::new(alloc);
-        for host in 0..hosts {
-            engines.push(HostEngine::new(alloc, host, REPLY_MS))?;
-        }
-        Ok(Rig {
+        let mut rig = Rig {
             turns,
             clients: Vec::new(alloc),
-            hosts: engines,
+            hosts: Vec::new(alloc),
             links: Vec::new(alloc),
             of_client: None,
             of_host: None,
             asked: 0,
-        })
+        };
+        for host in 0..hosts {
+            rig.add_host(alloc, host)?;
+        }
+        Ok(rig)
+    }
+
+    fn add_host(&mut self, alloc: Global, host: usize) -> Result<(), Fail> {
+        Ok(self.hosts.push(HostEngine::new(alloc, host, REPLY_MS))?)
     }
 
     // Three hosts without faults, each an empty stub. What they are asked is kept together.
@@ -106,7 +132,7 @@ impl<'a> Rig<'a> {
     ) -> Result<Rig<'a>, Fail> {
         let mut rig = Rig::new(alloc, 3, ration)?;
         for _ in 0..3 {
-            rig.links.push(Link::to_stub(alloc, &[], asked)?)?;
+            rig.add_stub(alloc, &[], asked)?;
         }
         Ok(rig)
     }
@@ -117,19 +143,19 @@ impl<'a> Rig<'a> {
         rt: &Rt,
         ends: Ends<'a>,
     ) -> Result<(), EngineError> {
-        let Ends {
-            source,
-            reads,
-            sink,
-            writes,
-        } = ends;
-        let reader = Faulty::new(Tallied::new(source), reads);
-        let writer = Faulty::new(Tallied::new(sink), writes);
-        let client = ClientEngine::open(rt, rt.alloc(), &mut self.turns, reader, writer)?;
-        match self.clients.push(client) {
-            Ok(()) => Ok(()),
-            Err(_) => Err(EngineError::NoMemory),
-        }
+        let client = ends.open(rt, &mut self.turns)?;
+        self.clients.push(client).or(Err(EngineError::NoMemory))
+    }
+
+    // Keeps a link to an empty stub that serves by these acts, for the host that asks for one next.
+    pub(crate) fn add_stub(
+        &mut self,
+        alloc: Global,
+        acts: &[Act],
+        asked: &'a Taken,
+    ) -> Result<(), Fail> {
+        let link = Link::to_stub(alloc, acts, asked)?;
+        Ok(self.links.push(link)?)
     }
 
     // Whether no engine told an error.
@@ -142,16 +168,32 @@ impl<'a> Rig<'a> {
     }
 
     pub(crate) fn into_core(self) -> Core {
-        let Rig { turns, .. } = self;
+        let Rig {
+            turns,
+            clients: _,
+            hosts: _,
+            links: _,
+            of_client: _,
+            of_host: _,
+            asked: _,
+        } = self;
         turns.into_core()
+    }
+
+    // Keeps a link to a host that says what stands in the cell, whatever it is asked.
+    pub(crate) fn add_text(&mut self, says: &'a Cell<Feed>, asked: &'a Taken) -> Result<(), Fail> {
+        Ok(self.links.push(Link::to_text(says, asked))?)
     }
 
     // Why a turn of the test's own is refused.
     pub(crate) fn refusal<Rt: Wait>(&mut self, rt: &Rt, event: Event) -> Option<Refusal> {
-        match self.turns.turn(rt, event) {
-            Err(TurnRefusal::State { cause, .. }) => Some(cause),
+        let result = self.turns.turn(rt, event);
+        let cause = match &result {
+            Err(TurnRefusal::State { cause, .. }) => Some(*cause),
             _ => None,
-        }
+        };
+        drop(result);
+        cause
     }
 
     // One step of one client.
@@ -181,12 +223,7 @@ impl<'a> Rig<'a> {
         for client in self.clients.iter_mut() {
             match client.step(rt, &mut self.turns) {
                 Ok(progress) => has_moved |= progress == Progress::Moved,
-                Err(error) => {
-                    self.of_client = Some(Fault {
-                        error,
-                        deed: last_deed(self.turns.core()),
-                    });
-                }
+                Err(error) => self.of_client = Some(Fault::now(error, self.turns.core())),
             }
         }
         has_moved
@@ -206,12 +243,7 @@ impl<'a> Rig<'a> {
                     }
                 }
                 Ok(progress) => has_moved |= progress == Progress::Moved,
-                Err(error) => {
-                    self.of_host = Some(Fault {
-                        error,
-                        deed: last_deed(self.turns.core()),
-                    });
-                }
+                Err(error) => self.of_host = Some(Fault::now(error, self.turns.core())),
             }
         }
         Ok(has_moved)
@@ -325,6 +357,23 @@ impl<'a> Ends<'a> {
             sink,
             writes,
         }
+    }
+
+    // The engine of a connection that is opened over them.
+    fn open<Rt: Wait + AllocGlobal>(
+        self,
+        rt: &Rt,
+        turns: &mut Rationed,
+    ) -> Result<Client<'a>, EngineError> {
+        let Ends {
+            source,
+            reads,
+            sink,
+            writes,
+        } = self;
+        let reader = Faulty::new(Tallied::new(source), reads);
+        let writer = Faulty::new(Tallied::new(sink), writes);
+        ClientEngine::open(rt, rt.alloc(), turns, reader, writer)
     }
 
     // The ends of a client that never fail: it says what stands in the cell, and what it is answered is kept.

@@ -1,16 +1,14 @@
 //! One client before one host, with what each says and what each is told.
 
 use crate::devices::{Feed, Taken};
-use crate::rig::{Ends, Link, Rig};
+use crate::rig::{Ends, Rig};
 use crate::turns::Ration;
 use std::alloc::Global;
 use std::cell::Cell;
 use std::sync::Wait;
 use std::test::Fail;
-use stub_server::Act;
 
 // What one client and one host say, and what both are told.
-#[derive(Drop)]
 pub(crate) struct Scene {
     pub(crate) client: Cell<Feed>,
     pub(crate) host: Cell<Feed>,
@@ -18,6 +16,19 @@ pub(crate) struct Scene {
     pub(crate) asked: Taken,
     // What is written to the host over a second link.
     pub(crate) asked_later: Taken,
+}
+
+// Written out, as that of a rig.
+impl Drop for Scene {
+    fn drop(self) {
+        let Scene {
+            client: _,
+            host: _,
+            answered: _,
+            asked: _,
+            asked_later: _,
+        } = self;
+    }
 }
 
 impl Scene {
@@ -38,22 +49,15 @@ impl Scene {
         Ok(rig)
     }
 
-    // The same with a link to the host, which says what it says whatever it is asked.
-    pub(crate) fn linked<'a, Rt: Wait + AllocGlobal>(&'a self, rt: &Rt) -> Result<Rig<'a>, Fail> {
-        let mut rig = self.rig(rt)?;
-        rig.links.push(Link::to_text(&self.host, &self.asked))?;
-        Ok(rig)
-    }
-
-    // The same with a link to a stub that serves by these acts.
-    pub(crate) fn before_stub<'a, Rt: Wait + AllocGlobal>(
+    // The same with a link to the host, which says what it says whatever it is asked, once nothing moves at this moment.
+    pub(crate) fn linked<'a, Rt: Wait + AllocGlobal>(
         &'a self,
         rt: &Rt,
-        acts: &[Act],
+        moment: u64,
     ) -> Result<Rig<'a>, Fail> {
         let mut rig = self.rig(rt)?;
-        rig.links
-            .push(Link::to_stub(rt.alloc(), acts, &self.asked)?)?;
+        rig.add_text(&self.host, &self.asked)?;
+        rig.run(rt, moment)?;
         Ok(rig)
     }
 }
