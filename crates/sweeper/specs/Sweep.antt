@@ -23,6 +23,6 @@ module _ (cause : Refusal → Event → List Step → Type 0) (spent : Type 0) (
   RefusesSweep Spent = (after ≡ before) × spent
 
   -- The turn of that sweep was refused, and no step of the pass was added: by the core, for this cause, or for want of tickets, where there is none.
-  abbrev pub RefusesTurn : Option Refusal → Type 0
-  RefusesTurn None = (after ≡ before) × spent
-  RefusesTurn (Some why) = RefusedByState cause pass before (Swept moment) why after
+  abbrev pub RefusesFor : Option Refusal → Type 0
+  RefusesFor None = (after ≡ before) × spent
+  RefusesFor (Some why) = RefusedByState cause pass before (Swept moment) why after

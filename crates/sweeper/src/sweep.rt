@@ -3,7 +3,7 @@ ghost use Rattle.std.specs.Prelude.{◌≡◌, IfOk, IfErr};
 ghost use Rattle.ticket_gate.specs.Journal.{AddsTurn};
 ghost use Rattle.proxy_history.specs.Answer.{counts_of};
 ghost use Rattle.proxy_history.specs.declared.event.Event.{Event};
-ghost use Rattle.sweeper.specs.Sweep.{RefusesTurn, RefusesSweep, number_of};
+ghost use Rattle.sweeper.specs.Sweep.{RefusesFor, RefusesSweep, number_of};
 
 use ejector::Swept;
 use proxy_core::{Answer, CoreTurns, Event, Refusal};
@@ -88,7 +88,7 @@ fn ask_sweep<R: Wait, T: CoreTurns>(
         × (T.setting turns.new ≡ T.setting turns.old) }
     ensures answered { IfOk result (λ answer. AddsTurn (T.legal (T.setting turns.old))
         (T.pass turns.old) (T.seen turns.old) (Event.Swept moment) answer (T.seen turns.new)) }
-    ensures refused { IfErr result (RefusesTurn (T.cause (T.setting turns.old)) (T.spent turns.new)
+    ensures refused { IfErr result (RefusesFor (T.cause (T.setting turns.old)) (T.spent turns.new)
         (T.pass turns.old) (T.seen turns.old) moment (T.seen turns.new)) }
 {
     match turns.turn(rt, Event::Swept { t: moment }) {
