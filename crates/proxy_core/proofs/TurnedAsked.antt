@@ -21,7 +21,9 @@ use Rattle.proxy_history.specs.declared.event.Event.TheVariants.{Answered}
 use Rattle.proxy_history.proofs.CallerLemmas.{times-length, IsPlainIfAny, IsPlainIfAny-outcome as outcome_is_plain}
 use Rattle.proxy_core.specs.Connections.{AreAwaited, connections_of, connection_at, reply_in}
 use Rattle.proxy_core.specs.Pipelines.{PipelineState, pipeline_of, pipelines_of, next_owner, lost_owners, pipeline_at, no_pipeline}
+use Rattle.proxy_core.specs.Core.{detector_state}
 use Rattle.proxy_core.specs.Machine.{setting_in, memory_in, history_in, IsKept}
+use Rattle.proxy_core.specs.Memory.{Memory}
 use Rattle.proxy_core.specs.declared.connection.Connection.{Connection}
 use Rattle.proxy_core.specs.declared.machine.Machine.{Machine}
 use Rattle.proxy_core.proofs.ConnectionFacts.{connection_at-open, connection_at-not_open, front_reply-queue_of}
@@ -143,3 +145,7 @@ asked_reply m c kept =
 -- its epoch is that of the history
 pub epoch_is : (m : Machine) (h : ℕ) → IsKept m → h < hosts (setting_in m) → (pipeline_at h m.pipelines.states).epoch ≡ epoch h (history_in m)
 epoch_is m h kept l = ap (λ (q : PipelineState). q.epoch) (at_host m h kept l)
+
+-- what outlier detection knows is what the history determines
+pub asked_detection : (m : Machine) → IsKept m → m.ejector.state ≡ detector_state (record { setting = setting_in m; steps = m.journal.steps })
+asked_detection m kept = ap (λ (z : Memory). z.hosts) kept.memory

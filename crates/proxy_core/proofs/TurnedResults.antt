@@ -1,11 +1,14 @@
 -- What the result of a turn is, where its event is known.
-use Rattle.std.proofs.Common.{◌≡◌, ℕ, Result, Ok, Err, IfOk, IfErr, OnOk, Some, sym, subst}
+use Rattle.std.proofs.Common.{◌≡◌, ℕ, Result, Ok, Err, IfOk, IfErr, OnOk, OnErr, Some, refl, sym, subst}
 use Rattle.std.proofs.lemmas.Result.{IfOk-weaker}
+use Rattle.proxy_history.specs.Legal.{IsCause}
+use Rattle.proxy_history.specs.Proxy.{IsStep, Proxy}
+use Rattle.proxy_history.specs.Proxy as Reference
 use Rattle.proxy_history.specs.declared.answer.Answer.{Answer}
 use Rattle.proxy_history.specs.declared.event.Event.{Event}
 use Rattle.proxy_history.specs.declared.refusal.Refusal.{Refusal}
 use Rattle.proxy_core.specs.Memory.{Memory}
-use Rattle.proxy_core.specs.Machine.{IsDone, IsKept, IsSame, HasCauseIn}
+use Rattle.proxy_core.specs.Machine.{IsDone, IsKept, IsSame, HasCauseIn, setting_in}
 use Rattle.proxy_core.specs.Core.{IsMade, IsLeft, IsSettled, with_step}
 use Rattle.proxy_core.specs.declared.machine.Machine.{Machine}
 use Rattle.proxy_core.specs.declared.machine.Done.{Done}
@@ -63,3 +66,36 @@ all_three P Q R (Err r) p q s = tt
 pub if_ok : (P : Type 0) (r : Result Done Refusal) → OnOk r P → IfOk r (λ d. P)
 if_ok P (Ok d) p = p
 if_ok P (Err r) p = tt
+
+-- THE CORE'S TURN
+
+-- a machine as contracts see its core
+abbrev pub proxy_of : Machine → Proxy
+proxy_of m = record { setting = setting_in m; steps = m.journal.steps }
+
+pub if_kept : (r : Result Answer Refused) (old new : Machine) (pass : ℕ) (event : Event) → IfOk r (λ a. IsMade old new pass event a)
+    → IfErr r (λ x. IsLeft old new event x) → IsKept new
+if_kept (Ok a) old new pass event made left = made.is_kept
+if_kept (Err x) old new pass event made left = left.is_kept
+
+pub if_step : (r : Result Answer Refused) (old new : Machine) (k : Proxy) (pass : ℕ) (event : Event) → proxy_of old ≡ k
+    → IfOk r (λ a. IsMade old new pass event a) → IfOk r (λ a. IsStep k (proxy_of new) pass event (record { pass = pass; event = event; answer = a }))
+if_step (Ok a) old new k pass event same made =
+    subst (λ (z : Proxy). IsStep z (proxy_of new) pass event (record { pass = pass; event = event; answer = a })) same
+    (record { pass_is = refl; event_is = refl; may_follow = made.may_follow; history = made.history; setting = made.setting })
+if_step (Err x) old new k pass event same made = tt
+
+pub if_event : (r : Result Answer Refused) (old new : Machine) (event : Event) → IfErr r (λ x. IsLeft old new event x) → IfErr r (λ x. x.event ≡ event)
+if_event (Ok a) old new event left = tt
+if_event (Err x) old new event left = left.is_event
+
+pub if_cause : (r : Result Answer Refused) (old new : Machine) (k : Proxy) (event : Event) → proxy_of old ≡ k → IfErr r (λ x. IsLeft old new event x)
+    → IfErr r (λ x. IsCause k.setting (Reference.history_in k) event x.cause)
+if_cause (Ok a) old new k event same left = tt
+if_cause (Err x) old new k event same left = subst (λ (z : Proxy). IsCause z.setting (Reference.history_in z) event x.cause) same left.cause
+
+pub if_same : (r : Result Answer Refused) (old new : Machine) (k : Proxy) (event : Event) → proxy_of old ≡ k → IfErr r (λ x. IsLeft old new event x)
+    → OnErr r (proxy_of new ≡ k)
+if_same (Ok a) old new k event same left = tt
+if_same (Err x) old new k event same left =
+    subst (λ (z : Proxy). proxy_of new ≡ z) same (λ i. record { setting = left.setting i; steps = left.steps i })

@@ -1,0 +1,25 @@
+use Rattle.std.proofs.Common.{◌∙◌, ap}
+use Rattle.proxy_core.proofs.TurnedResults.{if_cause, if_event, if_kept, if_same, if_step, proxy_of}
+use Rattle.proxy_core.proofs.machine.Core.turn.Goals as goal
+
+pub invariant_of-self : goal.invariant_of-self
+invariant_of-self c = if_kept c.turn.result _ c.turn.new.self c.args.pass c.args.event c.turn.ensures.answered c.turn.ensures.refused
+
+pub returns-clause-step : goal.returns-clause-step
+returns-clause-step c =
+    if_step c.turn.result _ c.turn.new.self c.args.self.now c.args.pass c.args.event (ap proxy_of c.deref_mut.ensures.value ∙ c.self.view_is)
+    c.turn.ensures.answered
+
+pub returns-clause-legal : goal.returns-clause-legal
+returns-clause-legal c = (if_kept c.turn.result _ c.turn.new.self c.args.pass c.args.event c.turn.ensures.answered c.turn.ensures.refused).legal
+
+pub returns-clause-event : goal.returns-clause-event
+returns-clause-event c = if_event c.turn.result _ c.turn.new.self c.args.event c.turn.ensures.refused
+
+pub returns-clause-cause : goal.returns-clause-cause
+returns-clause-cause c =
+    if_cause c.turn.result _ c.turn.new.self c.args.self.now c.args.event (ap proxy_of c.deref_mut.ensures.value ∙ c.self.view_is) c.turn.ensures.refused
+
+pub returns-clause-err : goal.returns-clause-err
+returns-clause-err c =
+    if_same c.turn.result _ c.turn.new.self c.args.self.now c.args.event (ap proxy_of c.deref_mut.ensures.value ∙ c.self.view_is) c.turn.ensures.refused
