@@ -12,3 +12,6 @@ returns-clause-tag c on tag t =
 pub returns-clause-whole : goal.returns-clause-whole
 returns-clause-whole c untagged =
     c.point_at.ensures ∙ ap (λ digest. point_in digest 0) c.digest.ensures ∙ ap point_of_bytes (c.hashed_part.ensures.whole untagged)
+
+pub returns-clause-value : goal.returns-clause-value
+returns-clause-value c = c.point_at.ensures ∙ ap (λ digest. point_in digest 0) c.digest.ensures ∙ ap point_of_bytes c.hashed_part.ensures.value
