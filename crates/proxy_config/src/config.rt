@@ -1,10 +1,12 @@
 //! The settings.
-ghost use Rattle.std.specs.Prelude.{◌≡◌, IfOk, IfErr, map};
+ghost use Rattle.std.specs.Prelude.{◌≡◌, ℕ, IfOk, IfErr, map, max};
+ghost use Rattle.serde_json.specs.Find.{get};
 ghost use Rattle.serde_json.specs.View.{view};
 ghost use Rattle.ketama.specs.Ketama.{IsKetamaRing};
 ghost use Rattle.proxy_config.specs.File.{AllFit, IsSettings, IsRefusal, IsFaultOf, MemoryOr};
 ghost use Rattle.proxy_config.specs.RingParts.{AreRingParts};
-ghost use Rattle.proxy_config.specs.Table.{keys};
+ghost use Rattle.proxy_config.specs.Table.{IsNumberOr, MaxMs, keys, name_of};
+ghost use Rattle.proxy_config.specs.Told.{IsFault};
 ghost use Rattle.proxy_config.specs.Values.{values_of};
 
 use crate::entry::{address, flag, number};
@@ -143,7 +145,7 @@ impl Config {
         let tags = flag(file, "tags", false)?;
         let interval_ms = number(file, "interval_ms", 1, 3_600_000, 10_000)?;
         let base_ms = number(file, "base_ms", 1, 3_600_000, 30_000)?;
-        let max_ms = number(file, "max_ms", base_ms, 86_400_000, base_ms.max(300_000))?;
+        let max_ms = max_ms(file, base_ms)?;
         let max_percent = number(file, "max_percent", 0, 100, 10)?;
         let consecutive = number(file, "consecutive", 0, 1_000_000, 5)?;
         let success_hosts = number(file, "success_hosts", 1, 65, 5)?;
@@ -168,6 +170,17 @@ impl Config {
             panic_percent,
         })
     }
+}
+
+// The number at `max_ms`, which is `base_ms` at least.
+fn max_ms(file: &Value, base_ms: u32) -> Result<u32, ConfigError>
+    ensures ok { IfOk result (λ n. IsNumberOr (max base_ms 300000) base_ms 86400000
+        (get (name_of MaxMs) (view file.now)) n) }
+    ensures fault { IfErr result (λ e. IsFault e (name_of MaxMs)) }
+    ensures none { IfErr result (λ _. (n : ℕ) → ¬ IsNumberOr (max base_ms 300000) base_ms 86400000
+        (get (name_of MaxMs) (view file.now)) n) }
+{
+    number(file, "max_ms", base_ms, 86_400_000, base_ms.max(300_000))
 }
 
 fn copy_of(alloc: Global, name: &HostName) -> Result<HostName, ConfigError>

@@ -93,7 +93,7 @@ returns-in_err-max_ms-clause-refused c =
     let t : MemoryOr (IsFaultOf file) e = told file MaxMs e c.in_err-max_ms.ensures.fault (first_fault file (Listen ∷ Hosts ∷ Weights ∷ Workers ∷ ReplyMs ∷ Tags ∷ IntervalMs ∷ BaseMs ∷ []) MaxMs (MaxPercent ∷ Consecutive ∷ SuccessHosts ∷ RequestVolume ∷ Factor ∷ PanicPercent ∷ []) v refl (c.in_ok-listen.ensures.ok, (c.in_ok-hosts.ensures.ok, (w_fit, (c.in_ok-workers.ensures.ok, (c.in_ok-reply_ms.ensures.ok, (c.in_ok-tags.ensures.ok, (c.in_ok-interval_ms.ensures.ok, (c.in_ok-base_ms.ensures.ok, tt)))))))) (λ w fit f.
     let (_, (_, (_, (_, (_, (_, (_, (base_fits, _)))))))) = fit in
     let same = one_number 30000 1 3600000 (get (name_of BaseMs) file) w.base_ms v.base_ms base_fits c.in_ok-base_ms.ensures.ok in
-    c.in_err-max_ms.ensures.none w.max_ms (rw c.max.ensures (subst (λ b. IsNumberOr (max b 300000) b 86400000 (get (name_of MaxMs) file) w.max_ms) same f)))) in
+    c.in_err-max_ms.ensures.none w.max_ms (subst (λ b. IsNumberOr (max b 300000) b 86400000 (get (name_of MaxMs) file) w.max_ms) same f))) in
     search (rules, t)
 
 pub returns-in_err-max_percent-clause-refused : goal.returns-in_err-max_percent-clause-refused
@@ -102,7 +102,7 @@ returns-in_err-max_percent-clause-refused c =
     let e = c.in_err-max_percent.field-0.0 in
     let v : Values = record { listen = c.in_ok-listen.listen; hosts = c.in_ok-hosts.hosts.items; weights = c.in_ok-weights.weights.items; workers = c.in_ok-workers.workers; reply_ms = c.in_ok-reply_ms.reply_ms; tags = c.in_ok-tags.tags; interval_ms = c.in_ok-interval_ms.interval_ms; base_ms = c.in_ok-base_ms.base_ms; max_ms = c.in_ok-max_ms.max_ms; max_percent = 0; consecutive = 0; success_hosts = 0; request_volume = 0; factor = 0; panic_percent = 0 } in
     let w_fit : Fits Weights (get (name_of Weights) file) v = rw (← c.deref.ensures.value) (c.in_ok-weights.ensures.ok) in
-    let m : Fits MaxMs (get (name_of MaxMs) file) v = rw (← c.max.ensures) (c.in_ok-max_ms.ensures.ok) in
+    let m : Fits MaxMs (get (name_of MaxMs) file) v = c.in_ok-max_ms.ensures.ok in
     let t : MemoryOr (IsFaultOf file) e = told file MaxPercent e c.in_err-max_percent.ensures.fault (first_fault file (Listen ∷ Hosts ∷ Weights ∷ Workers ∷ ReplyMs ∷ Tags ∷ IntervalMs ∷ BaseMs ∷ MaxMs ∷ []) MaxPercent (Consecutive ∷ SuccessHosts ∷ RequestVolume ∷ Factor ∷ PanicPercent ∷ []) v refl (c.in_ok-listen.ensures.ok, (c.in_ok-hosts.ensures.ok, (w_fit, (c.in_ok-workers.ensures.ok, (c.in_ok-reply_ms.ensures.ok, (c.in_ok-tags.ensures.ok, (c.in_ok-interval_ms.ensures.ok, (c.in_ok-base_ms.ensures.ok, (m, tt))))))))) (λ w fit f. c.in_err-max_percent.ensures.none w.max_percent f)) in
     search (rules, t)
 
@@ -112,7 +112,7 @@ returns-in_err-consecutive-clause-refused c =
     let e = c.in_err-consecutive.field-0.0 in
     let v : Values = record { listen = c.in_ok-listen.listen; hosts = c.in_ok-hosts.hosts.items; weights = c.in_ok-weights.weights.items; workers = c.in_ok-workers.workers; reply_ms = c.in_ok-reply_ms.reply_ms; tags = c.in_ok-tags.tags; interval_ms = c.in_ok-interval_ms.interval_ms; base_ms = c.in_ok-base_ms.base_ms; max_ms = c.in_ok-max_ms.max_ms; max_percent = c.in_ok-max_percent.max_percent; consecutive = 0; success_hosts = 0; request_volume = 0; factor = 0; panic_percent = 0 } in
     let w_fit : Fits Weights (get (name_of Weights) file) v = rw (← c.deref.ensures.value) (c.in_ok-weights.ensures.ok) in
-    let m : Fits MaxMs (get (name_of MaxMs) file) v = rw (← c.max.ensures) (c.in_ok-max_ms.ensures.ok) in
+    let m : Fits MaxMs (get (name_of MaxMs) file) v = c.in_ok-max_ms.ensures.ok in
     let t : MemoryOr (IsFaultOf file) e = told file Consecutive e c.in_err-consecutive.ensures.fault (first_fault file (Listen ∷ Hosts ∷ Weights ∷ Workers ∷ ReplyMs ∷ Tags ∷ IntervalMs ∷ BaseMs ∷ MaxMs ∷ MaxPercent ∷ []) Consecutive (SuccessHosts ∷ RequestVolume ∷ Factor ∷ PanicPercent ∷ []) v refl (c.in_ok-listen.ensures.ok, (c.in_ok-hosts.ensures.ok, (w_fit, (c.in_ok-workers.ensures.ok, (c.in_ok-reply_ms.ensures.ok, (c.in_ok-tags.ensures.ok, (c.in_ok-interval_ms.ensures.ok, (c.in_ok-base_ms.ensures.ok, (m, (c.in_ok-max_percent.ensures.ok, tt)))))))))) (λ w fit f. c.in_err-consecutive.ensures.none w.consecutive f)) in
     search (rules, t)
 
@@ -122,7 +122,7 @@ returns-in_err-success_hosts-clause-refused c =
     let e = c.in_err-success_hosts.field-0.0 in
     let v : Values = record { listen = c.in_ok-listen.listen; hosts = c.in_ok-hosts.hosts.items; weights = c.in_ok-weights.weights.items; workers = c.in_ok-workers.workers; reply_ms = c.in_ok-reply_ms.reply_ms; tags = c.in_ok-tags.tags; interval_ms = c.in_ok-interval_ms.interval_ms; base_ms = c.in_ok-base_ms.base_ms; max_ms = c.in_ok-max_ms.max_ms; max_percent = c.in_ok-max_percent.max_percent; consecutive = c.in_ok-consecutive.consecutive; success_hosts = 0; request_volume = 0; factor = 0; panic_percent = 0 } in
     let w_fit : Fits Weights (get (name_of Weights) file) v = rw (← c.deref.ensures.value) (c.in_ok-weights.ensures.ok) in
-    let m : Fits MaxMs (get (name_of MaxMs) file) v = rw (← c.max.ensures) (c.in_ok-max_ms.ensures.ok) in
+    let m : Fits MaxMs (get (name_of MaxMs) file) v = c.in_ok-max_ms.ensures.ok in
     let t : MemoryOr (IsFaultOf file) e = told file SuccessHosts e c.in_err-success_hosts.ensures.fault (first_fault file (Listen ∷ Hosts ∷ Weights ∷ Workers ∷ ReplyMs ∷ Tags ∷ IntervalMs ∷ BaseMs ∷ MaxMs ∷ MaxPercent ∷ Consecutive ∷ []) SuccessHosts (RequestVolume ∷ Factor ∷ PanicPercent ∷ []) v refl (c.in_ok-listen.ensures.ok, (c.in_ok-hosts.ensures.ok, (w_fit, (c.in_ok-workers.ensures.ok, (c.in_ok-reply_ms.ensures.ok, (c.in_ok-tags.ensures.ok, (c.in_ok-interval_ms.ensures.ok, (c.in_ok-base_ms.ensures.ok, (m, (c.in_ok-max_percent.ensures.ok, (c.in_ok-consecutive.ensures.ok, tt))))))))))) (λ w fit f. c.in_err-success_hosts.ensures.none w.success_hosts f)) in
     search (rules, t)
 
@@ -132,7 +132,7 @@ returns-in_err-request_volume-clause-refused c =
     let e = c.in_err-request_volume.field-0.0 in
     let v : Values = record { listen = c.in_ok-listen.listen; hosts = c.in_ok-hosts.hosts.items; weights = c.in_ok-weights.weights.items; workers = c.in_ok-workers.workers; reply_ms = c.in_ok-reply_ms.reply_ms; tags = c.in_ok-tags.tags; interval_ms = c.in_ok-interval_ms.interval_ms; base_ms = c.in_ok-base_ms.base_ms; max_ms = c.in_ok-max_ms.max_ms; max_percent = c.in_ok-max_percent.max_percent; consecutive = c.in_ok-consecutive.consecutive; success_hosts = c.in_ok-success_hosts.success_hosts; request_volume = 0; factor = 0; panic_percent = 0 } in
     let w_fit : Fits Weights (get (name_of Weights) file) v = rw (← c.deref.ensures.value) (c.in_ok-weights.ensures.ok) in
-    let m : Fits MaxMs (get (name_of MaxMs) file) v = rw (← c.max.ensures) (c.in_ok-max_ms.ensures.ok) in
+    let m : Fits MaxMs (get (name_of MaxMs) file) v = c.in_ok-max_ms.ensures.ok in
     let t : MemoryOr (IsFaultOf file) e = told file RequestVolume e c.in_err-request_volume.ensures.fault (first_fault file (Listen ∷ Hosts ∷ Weights ∷ Workers ∷ ReplyMs ∷ Tags ∷ IntervalMs ∷ BaseMs ∷ MaxMs ∷ MaxPercent ∷ Consecutive ∷ SuccessHosts ∷ []) RequestVolume (Factor ∷ PanicPercent ∷ []) v refl (c.in_ok-listen.ensures.ok, (c.in_ok-hosts.ensures.ok, (w_fit, (c.in_ok-workers.ensures.ok, (c.in_ok-reply_ms.ensures.ok, (c.in_ok-tags.ensures.ok, (c.in_ok-interval_ms.ensures.ok, (c.in_ok-base_ms.ensures.ok, (m, (c.in_ok-max_percent.ensures.ok, (c.in_ok-consecutive.ensures.ok, (c.in_ok-success_hosts.ensures.ok, tt)))))))))))) (λ w fit f. c.in_err-request_volume.ensures.none w.request_volume f)) in
     search (rules, t)
 
@@ -142,7 +142,7 @@ returns-in_err-factor-clause-refused c =
     let e = c.in_err-factor.field-0.0 in
     let v : Values = record { listen = c.in_ok-listen.listen; hosts = c.in_ok-hosts.hosts.items; weights = c.in_ok-weights.weights.items; workers = c.in_ok-workers.workers; reply_ms = c.in_ok-reply_ms.reply_ms; tags = c.in_ok-tags.tags; interval_ms = c.in_ok-interval_ms.interval_ms; base_ms = c.in_ok-base_ms.base_ms; max_ms = c.in_ok-max_ms.max_ms; max_percent = c.in_ok-max_percent.max_percent; consecutive = c.in_ok-consecutive.consecutive; success_hosts = c.in_ok-success_hosts.success_hosts; request_volume = c.in_ok-request_volume.request_volume; factor = 0; panic_percent = 0 } in
     let w_fit : Fits Weights (get (name_of Weights) file) v = rw (← c.deref.ensures.value) (c.in_ok-weights.ensures.ok) in
-    let m : Fits MaxMs (get (name_of MaxMs) file) v = rw (← c.max.ensures) (c.in_ok-max_ms.ensures.ok) in
+    let m : Fits MaxMs (get (name_of MaxMs) file) v = c.in_ok-max_ms.ensures.ok in
     let t : MemoryOr (IsFaultOf file) e = told file Factor e c.in_err-factor.ensures.fault (first_fault file (Listen ∷ Hosts ∷ Weights ∷ Workers ∷ ReplyMs ∷ Tags ∷ IntervalMs ∷ BaseMs ∷ MaxMs ∷ MaxPercent ∷ Consecutive ∷ SuccessHosts ∷ RequestVolume ∷ []) Factor (PanicPercent ∷ []) v refl (c.in_ok-listen.ensures.ok, (c.in_ok-hosts.ensures.ok, (w_fit, (c.in_ok-workers.ensures.ok, (c.in_ok-reply_ms.ensures.ok, (c.in_ok-tags.ensures.ok, (c.in_ok-interval_ms.ensures.ok, (c.in_ok-base_ms.ensures.ok, (m, (c.in_ok-max_percent.ensures.ok, (c.in_ok-consecutive.ensures.ok, (c.in_ok-success_hosts.ensures.ok, (c.in_ok-request_volume.ensures.ok, tt))))))))))))) (λ w fit f. c.in_err-factor.ensures.none w.factor f)) in
     search (rules, t)
 
@@ -152,6 +152,6 @@ returns-in_err-panic_percent-clause-refused c =
     let e = c.in_err-panic_percent.field-0.0 in
     let v : Values = record { listen = c.in_ok-listen.listen; hosts = c.in_ok-hosts.hosts.items; weights = c.in_ok-weights.weights.items; workers = c.in_ok-workers.workers; reply_ms = c.in_ok-reply_ms.reply_ms; tags = c.in_ok-tags.tags; interval_ms = c.in_ok-interval_ms.interval_ms; base_ms = c.in_ok-base_ms.base_ms; max_ms = c.in_ok-max_ms.max_ms; max_percent = c.in_ok-max_percent.max_percent; consecutive = c.in_ok-consecutive.consecutive; success_hosts = c.in_ok-success_hosts.success_hosts; request_volume = c.in_ok-request_volume.request_volume; factor = c.in_ok-factor.factor; panic_percent = 0 } in
     let w_fit : Fits Weights (get (name_of Weights) file) v = rw (← c.deref.ensures.value) (c.in_ok-weights.ensures.ok) in
-    let m : Fits MaxMs (get (name_of MaxMs) file) v = rw (← c.max.ensures) (c.in_ok-max_ms.ensures.ok) in
+    let m : Fits MaxMs (get (name_of MaxMs) file) v = c.in_ok-max_ms.ensures.ok in
     let t : MemoryOr (IsFaultOf file) e = told file PanicPercent e c.in_err-panic_percent.ensures.fault (first_fault file (Listen ∷ Hosts ∷ Weights ∷ Workers ∷ ReplyMs ∷ Tags ∷ IntervalMs ∷ BaseMs ∷ MaxMs ∷ MaxPercent ∷ Consecutive ∷ SuccessHosts ∷ RequestVolume ∷ Factor ∷ []) PanicPercent ([]) v refl (c.in_ok-listen.ensures.ok, (c.in_ok-hosts.ensures.ok, (w_fit, (c.in_ok-workers.ensures.ok, (c.in_ok-reply_ms.ensures.ok, (c.in_ok-tags.ensures.ok, (c.in_ok-interval_ms.ensures.ok, (c.in_ok-base_ms.ensures.ok, (m, (c.in_ok-max_percent.ensures.ok, (c.in_ok-consecutive.ensures.ok, (c.in_ok-success_hosts.ensures.ok, (c.in_ok-request_volume.ensures.ok, (c.in_ok-factor.ensures.ok, tt)))))))))))))) (λ w fit f. c.in_err-panic_percent.ensures.none w.panic_percent f)) in
     search (rules, t)

@@ -83,3 +83,15 @@ returns-in-Err-Refused-clause-refused c = λ _.
     (λ held r. subst (λ (n : ℕ). IsFault i.array held c.in-Err-Refused.place n) (sym c.at-error.ensures.number) (e held (shown_reads i.array held i.progress r)))
     (c.at-error.ensures.offset ∙ c.saturating_add.ensures) h in
     (stands_told (state_of i.array i.consumed i.progress i.refusal) (state_of i.array i.consumed c.new.result (Some c.at-error.result)) refl b ts c.at-error.result refl w h, w))
+
+pub returns-in-Ok-Some-clause-none : goal.returns-in-Ok-Some-clause-none
+returns-in-Ok-Some-clause-none c = tt
+
+pub returns-in-Ok-Some-clause-rests : goal.returns-in-Ok-Some-clause-rests
+returns-in-Ok-Some-clause-rests c = tt
+
+pub returns-in-Ok-Some-clause-none_same : goal.returns-in-Ok-Some-clause-none_same
+returns-in-Ok-Some-clause-none_same c = tt
+
+pub returns-in-Ok-Some-clause-few : goal.returns-in-Ok-Some-clause-few
+returns-in-Ok-Some-clause-few c = tt
