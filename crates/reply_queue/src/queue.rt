@@ -188,7 +188,7 @@ impl Queue {
         requires { IsSome (front_reply self.old.commands) }
         ensures { self.new ≡ without_front self.old }
     {
-        let _command = self.commands.pop_front();
+        drop(self.commands.pop_front());
         self.popped += 1;
     }
 }
