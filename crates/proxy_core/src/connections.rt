@@ -253,7 +253,7 @@ fn finish_one(connection: &mut Option<Connection>)
 fn close_one(connection: &mut Option<Connection>)
     ensures { connection.new ≡ None }
 {
-    *connection = None;
+    drop(connection.take());
 }
 
 // The reply to the oldest command of the connection, if it is open, is handed out.
@@ -313,6 +313,7 @@ fn accept_own_one(
         × (connection.new ≡ connection.old)) }
 {
     let Some(connection) = connection else {
+        drop(value);
         return Err(Refusal::NoSuchConnection);
     };
     match queue_own(&mut connection.queue, value) {

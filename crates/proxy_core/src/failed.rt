@@ -92,6 +92,7 @@ impl Machine {
         let lost = self.ready_to_fail(host, epoch)?;
         self.connections.fail(&lost);
         let parts = lost.waiting.len() as u64 + lost.flying.len() as u64;
+        drop(lost);
         let trip = faulted(&mut self.ejector, host, kind, parts, t);
         Ok(Done {
             answer: Answer::Lost { parts, trip },

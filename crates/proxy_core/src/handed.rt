@@ -71,11 +71,9 @@ impl Machine {
             let left = connection.queue.left() as u64;
             return Err(Refusal::NotReady { left });
         };
+        make_room(&mut self.journal, text.len() as u64)?;
         let shared = text.clone()?;
-        match make_room(&mut self.journal, text.len() as u64) {
-            Ok(()) => Ok((text, shared)),
-            Err(cause) => Err(cause),
-        }
+        Ok((text, shared))
     }
 }
 
@@ -90,7 +88,11 @@ fn front_text(texts: &mut Texts, queue: &Queue) -> Result<Option<Bytes>, AllocEr
         return some_text(texts, reply);
     }
     match queue.front() {
-        Ok(Some(reply)) => some_text(texts, &reply),
+        Ok(Some(reply)) => {
+            let text = some_text(texts, &reply);
+            drop(reply);
+            text
+        }
         Ok(None) => Ok(None),
         Err(_) => Err(AllocError),
     }

@@ -22,7 +22,7 @@ use journal_core::{Journal, JournalError, Step};
 use ketama::{MAX_HOSTS, Ring};
 use proxy_history::{Answer, Event, Refusal};
 use resp_core::Texts;
-use std::alloc::{AllocError, Global};
+use std::alloc::Global;
 use std::boxed::Box;
 use std::marker::Model;
 use std::snapshot::Snapshot;
@@ -68,7 +68,7 @@ impl Core {
             (λ field. IsErrOf result (Refusal.BadSettings field)) }
     {
         match Ejector::new(alloc, ring.hosts(), settings) {
-            Ok(ejector) => Ok(Core::with(alloc, ring, ejector)?),
+            Ok(ejector) => Core::with(alloc, ring, ejector),
             Err(EjectError::BadSettings { field }) => Err(Refusal::BadSettings { field }),
             Err(EjectError::NoMemory) => Err(Refusal::NoMemory),
         }
@@ -102,15 +102,17 @@ impl Core {
             return Err(Refusal::BadSettings { field });
         }
         match Ejector::new_from(alloc, from.into_detection()) {
-            Ok(ejector) => Ok(Core::with(alloc, ring, ejector)?),
+            Ok(ejector) => Core::with(alloc, ring, ejector),
             Err(_) => Err(Refusal::NoMemory),
         }
     }
 
     // A core with an empty journal that goes on from where outlier detection stands.
-    fn with(alloc: Global, ring: Ring, ejector: Ejector) -> Result<Core, AllocError>
+    fn with(alloc: Global, ring: Ring, ejector: Ejector) -> Result<Core, Refusal>
         requires { ejector.rules.hosts ≡ ring.hosts }
-        ensures { IfOk result (λ c. (c.setting ≡ setting_from ring ejector) × (c.steps ≡ [])) }
+        ensures made { IfOk result (λ c. (c.setting ≡ setting_from ring ejector)
+            × (c.steps ≡ [])) }
+        ensures refused { IfErr result (λ e. e ≡ Refusal.NoMemory) }
     {
         let rules = ejector.rules();
         let pipelines = Pipelines::new(alloc, rules.hosts)?;
@@ -124,9 +126,13 @@ impl Core {
             pipelines,
             texts: Texts::new(alloc),
         };
-        Ok(Core {
-            machine: Box::new(alloc, machine)?,
-        })
+        match Box::new(alloc, machine) {
+            Ok(machine) => Ok(Core { machine }),
+            Err(refused) => {
+                drop(refused);
+                Err(Refusal::NoMemory)
+            }
+        }
     }
 
     /// What another core needs to go on from here: the state of outlier detection after all steps so far, with the number of
@@ -193,7 +199,10 @@ impl Core {
     {
         match self.turn(pass, event) {
             Ok(answer) => Ok(answer),
-            Err(refused) => Err(refused.cause),
+            Err(Refused { cause, event }) => {
+                drop(event);
+                Err(cause)
+            }
         }
     }
 

@@ -1,4 +1,5 @@
 use Rattle.std.proofs.Common.{◌≡◌, [], None, sym, ap, ◌∙◌, subst}
+use Rattle.std.proofs.lemmas.Result.{IfOk-weaker}
 use Rattle.ketama.specs.Continuum.{Continuum}
 use Rattle.ejector.specs.Ejector.{Ejection}
 use Rattle.ejector.specs.Opening.{IsOpening}
@@ -14,8 +15,8 @@ detected-handed k ring e setting steps opening =
     let same : k ≡ record { setting = setting_from ring e; steps = [] } = λ i. record { setting = setting i; steps = steps i } in
     ap detector_state same ∙ opening_first e.rules e.state opening
 
-pub returns-in_ok-with-in-Ok-clause-rules : goal.returns-in_ok-with-in-Ok-clause-rules
-returns-in_ok-with-in-Ok-clause-rules c =
+pub returns-in-Ok-clause-rules : goal.returns-in-Ok-clause-rules
+returns-in-Ok-clause-rules c =
     let R = rules_of c.args.ring c.args.settings in
     let from = c.args.from.detection in
     let hosts : c.hosts.result ≡ c.args.ring.hosts = c.hosts.ensures.value in
@@ -24,11 +25,30 @@ returns-in_ok-with-in-Ok-clause-rules c =
     ∙ ap (first_difference (record { hosts = c.hosts.result; settings = c.args.settings })) (sym c.rules.ensures.rules)
     ∙ sym c.first_difference.ensures ∙ c.in_default.is in
     let made : c.in-Ok.ejector ≡ from = c.in-Ok.ensures.made ∙ c.into_detection.ensures in
-    ap (λ z. z.rules) c.in_ok-with-in-Ok.ensures.0 ∙ ap (λ (e : Ejection). e.rules) made ∙ sym (no_difference R from.rules none)
+    let same = ap (λ (e : Ejection). e.rules) made ∙ sym (no_difference R from.rules none) in
+    IfOk-weaker c.with.result _ _ (λ k is. ap (λ z. z.rules) is.0 ∙ same) c.with.ensures.made
 
-pub returns-in_ok-with-in-Ok-clause-state : goal.returns-in_ok-with-in-Ok-clause-state
-returns-in_ok-with-in-Ok-clause-state c =
+pub returns-in-Ok-clause-state : goal.returns-in-Ok-clause-state
+returns-in-Ok-clause-state c =
     let made : c.in-Ok.ejector ≡ c.args.from.detection = c.in-Ok.ensures.made ∙ c.into_detection.ensures in
     let opening = subst (λ (e : Ejection). IsOpening e.rules e.state) (sym made) c.rules.ensures.opening in
-    detected-handed _ c.args.ring c.in-Ok.ejector c.in_ok-with-in-Ok.ensures.0 c.in_ok-with-in-Ok.ensures.1 opening
-    ∙ ap (λ (e : Ejection). e.state) made
+    let same = ap (λ (e : Ejection). e.state) made in
+    IfOk-weaker c.with.result _ _ (λ k is. detected-handed k c.args.ring c.in-Ok.ejector is.0 is.1 opening ∙ same) c.with.ensures.made
+
+pub returns-in-Err-clause-made : goal.returns-in-Err-clause-made
+returns-in-Err-clause-made c = tt
+
+pub returns-in-Err-clause-rules : goal.returns-in-Err-clause-rules
+returns-in-Err-clause-rules c = tt
+
+pub returns-in-Err-clause-state : goal.returns-in-Err-clause-state
+returns-in-Err-clause-state c = tt
+
+pub returns-in-Some-clause-made : goal.returns-in-Some-clause-made
+returns-in-Some-clause-made c = tt
+
+pub returns-in-Some-clause-rules : goal.returns-in-Some-clause-rules
+returns-in-Some-clause-rules c = tt
+
+pub returns-in-Some-clause-state : goal.returns-in-Some-clause-state
+returns-in-Some-clause-state c = tt

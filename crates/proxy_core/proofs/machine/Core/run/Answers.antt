@@ -47,3 +47,9 @@ returns-clause-legal c =
     let before = subst (λ (k : Proxy). IsLegal k.setting (history_in k)) c.self.view_is c.self.invariant.legal in
     subst (λ (T : Setting). IsLegal T (history_in c.loop-pass.self)) (sym i.setting)
     (IsLegal-run c.args.self.now.setting (history_in c.args.self.now) c.loop-pass.yielded c.loop-pass.answers.items (history_in c.loop-pass.self) before i.run)
+
+pub returns-clause-refused : goal.returns-clause-refused
+returns-clause-refused c = tt
+
+pub returns-clause-err : goal.returns-clause-err
+returns-clause-err c = tt

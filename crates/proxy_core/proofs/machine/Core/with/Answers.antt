@@ -9,7 +9,7 @@ use Rattle.proxy_core.proofs.machine.Core.with.Goals as goal
 pub invariant_of-result : goal.invariant_of-result
 invariant_of-result c =
     let hosts = ap (λ (z : Rules). z.hosts) c.rules-rules.ensures.rules ∙ c.requires in
-    subst IsKept (sym c.in_ok-new.ensures.ok)
+    subst IsKept (sym c.in-Ok.ensures.ok)
     (fresh_kept _ c.new-2.ensures.steps c.new-2.ensures.bytes (ap (λ (t : ConnectionTable). t.numbered) c.new-3.ensures) (ap (λ (t : ConnectionTable). t.closed) c.new-3.ensures)
     (c.in_ok-pipelines.ensures ∙ ap (λ n. replicate n no_pipeline) hosts)
     c.requires c.of.ensures c.rules-rules.ensures.range c.rules-rules.ensures.opening)

@@ -1,0 +1,10 @@
+use Rattle.proxy_core.proofs.machine.Machine.ready_to_take.Goals as goal
+
+pub returns-in_default-clause-ready : goal.returns-in_default-clause-ready
+returns-in_default-clause-ready c = tt
+
+pub returns-then-host-len-clause-ready : goal.returns-then-host-len-clause-ready
+returns-then-host-len-clause-ready c = tt
+
+pub returns-clause-refused : goal.returns-clause-refused
+returns-clause-refused c = tt
