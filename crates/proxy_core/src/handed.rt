@@ -71,9 +71,17 @@ impl Machine {
             let left = connection.queue.left() as u64;
             return Err(Refusal::NotReady { left });
         };
-        make_room(&mut self.journal, text.len() as u64)?;
-        let shared = text.clone()?;
-        Ok((text, shared))
+        if let Err(cause) = make_room(&mut self.journal, text.len() as u64) {
+            drop(text);
+            return Err(cause);
+        }
+        match text.clone() {
+            Ok(shared) => Ok((text, shared)),
+            Err(_) => {
+                drop(text);
+                Err(Refusal::NoMemory)
+            }
+        }
     }
 }
 
@@ -103,5 +111,8 @@ fn some_text(texts: &mut Texts, reply: &Value) -> Result<Option<Bytes>, AllocErr
     requires plain { IsTrue (is_plain_tree (tree_of reply.now)) }
     ensures text { IfOk result (λ o. o ≡ Some (text (tree_of reply.now))) }
 {
-    Ok(Some(texts.text_of(reply, reply.text_len())?))
+    match texts.text_of(reply, reply.text_len()) {
+        Ok(text) => Ok(Some(text)),
+        Err(error) => Err(error),
+    }
 }
