@@ -1,6 +1,8 @@
-use Rattle.proxy_engines.proofs.IdleLemmas.{if_ok}
-use Rattle.std.proofs.Common.{refl}
+use Rattle.std.proofs.Common.{false, ap, refl}
+use Rattle.proxy_engines.specs.Client.{Client}
+use Rattle.proxy_engines.proofs.ClientMoves.{same_goes}
 use Rattle.proxy_engines.proofs.HostMoves.{starts_same}
+use Rattle.proxy_engines.proofs.IdleLemmas.{if_ok}
 use Rattle.proxy_engines.proofs.client.ClientEngine.step.Goals as goal
 
 pub returns-in-Closed-true-clause-pass : goal.returns-in-Closed-true-clause-pass
@@ -77,3 +79,30 @@ returns-in-Closed-false-clause-read_failed g c = tt
 
 pub returns-in-Closed-false-clause-write_failed : goal.returns-in-Closed-false-clause-write_failed
 returns-in-Closed-false-clause-write_failed g c = tt
+
+pub returns-in-Closed-true-clause-goes : goal.returns-in-Closed-true-clause-goes
+returns-in-Closed-true-clause-goes g c = (false, same_goes _ _ _ refl)
+
+pub returns-in-Closed-true-clause-idle : goal.returns-in-Closed-true-clause-idle
+returns-in-Closed-true-clause-idle g c = λ e. absurd cc
+
+pub returns-in-Closed-true-clause-ended : goal.returns-in-Closed-true-clause-ended
+returns-in-Closed-true-clause-ended g c = λ e. absurd cc
+
+pub returns-in-Closed-false-clause-goes : goal.returns-in-Closed-false-clause-goes
+returns-in-Closed-false-clause-goes g c = (false, same_goes _ _ _ refl)
+
+pub returns-in-Closed-false-clause-idle : goal.returns-in-Closed-false-clause-idle
+returns-in-Closed-false-clause-idle g c = λ e. absurd cc
+
+pub returns-in-Closed-false-clause-cut : goal.returns-in-Closed-false-clause-cut
+returns-in-Closed-false-clause-cut g c = λ e. absurd cc
+
+pub returns-in_ok-cut-in-Failed-clause-ended : goal.returns-in_ok-cut-in-Failed-clause-ended
+returns-in_ok-cut-in-Failed-clause-ended g c = λ e. absurd cc
+
+pub returns-in_ok-cut-in-Failed-clause-idle : goal.returns-in_ok-cut-in-Failed-clause-idle
+returns-in_ok-cut-in-Failed-clause-idle g c = λ e. absurd cc
+
+pub returns-in_ok-cut-in-Failed-clause-cut : goal.returns-in_ok-cut-in-Failed-clause-cut
+returns-in_ok-cut-in-Failed-clause-cut g c = λ _. ap (λ (e : Client). e.stage) c.in_ok-cut-in-Failed.ensures.ok
