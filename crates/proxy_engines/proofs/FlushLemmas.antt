@@ -1,5 +1,5 @@
 -- A writer that passes on what it gathered moves nothing of what an engine carries.
-use Rattle.std.proofs.Common.{◌≡◌, ℕ, Bool, false, true, List, [], ◌++◌, Option, Some, None, append-nil, refl}
+use Rattle.std.proofs.Common.{◌≡◌, ℕ, Bool, false, true, List, [], Option, Some, None, append-nil, refl}
 use Rattle.std.specs.Io.KnownBytes.{Appends, Keeps}
 use Rattle.splitter.specs.Request.{Request}
 use Rattle.splitter.specs.declared.request.Request.{Request as Request'}

@@ -374,5 +374,9 @@ fresh_carries host reply_ms H none =
       none_came = λ e l. nothing_came e;
     }
 
+-- a list starts with itself
+pub starts_same : {X : Type 0} (a : List X) → StartsWith a a
+starts_same a = ([], sym (append-nil a))
+
 pub starts_then : {X : Type 0} (a b c : List X) → StartsWith b a → StartsWith c b → StartsWith c a
 starts_then a b c p q = (p.0 ++ q.0, q.1 ∙ ap (λ z. z ++ q.0) p.1 ∙ append_assoc a p.0 q.0)

@@ -1,5 +1,5 @@
 -- Lists that are related place by place.
-use Rattle.std.specs.Prelude.{List, [], ◌∷◌, ◌++◌}
+use Rattle.std.specs.Prelude.{List, [], ◌∷◌}
 use Rattle.std.specs.List.{AllZip}
 
 -- what follows place by place follows for the lists

@@ -95,7 +95,10 @@ pub(crate) fn tell<Rt: Wait, T: CoreTurns>(
 {
     match ask(rt, turns, event) {
         Ok(answer) => Ok(answer),
-        Err((denied, _)) => Err(denied),
+        Err((denied, event)) => {
+            drop(event);
+            Err(denied)
+        }
     }
 }
 

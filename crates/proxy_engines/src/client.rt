@@ -603,8 +603,13 @@ impl<R: ReadTally + Drop, W: WriteTally + Drop> ClientEngine<R, W> {
             ≡ own_steps (T.pass turns.old) (T.seen turns.old))
             × ((e ≡ EngineError.NoMemory) ⊎ ((n : ℕ) × (e ≡ EngineError.TurnRefused n)))) }
     {
-        let Ok(inbox) = Inbox::new(alloc, reader, Limits::CLIENT) else {
-            return Err(EngineError::NoMemory);
+        let inbox = match Inbox::new(alloc, reader, Limits::CLIENT) {
+            Ok(inbox) => inbox,
+            Err(reader) => {
+                drop(reader);
+                drop(writer);
+                return Err(EngineError::NoMemory);
+            }
         };
         match open(rt, turns) {
             Ok(conn) => Ok(ClientEngine {
@@ -617,7 +622,11 @@ impl<R: ReadTally + Drop, W: WriteTally + Drop> ClientEngine<R, W> {
                 stage: Stage::Open,
                 is_drained: false,
             }),
-            Err(denied) => Err(denied.error()),
+            Err(denied) => {
+                drop(inbox);
+                drop(writer);
+                Err(denied.error())
+            }
         }
     }
 
@@ -625,7 +634,14 @@ impl<R: ReadTally + Drop, W: WriteTally + Drop> ClientEngine<R, W> {
     pub fn into_writer(self) -> W
         ensures { W.contents result ≡ self.outbox.held }
     {
-        let ClientEngine { outbox, .. } = self;
+        let ClientEngine {
+            inbox,
+            outbox,
+            next,
+            ..
+        } = self;
+        drop(inbox);
+        drop(next);
         outbox.into_writer()
     }
 }

@@ -9,3 +9,12 @@ returns-clause-goes g c =
           (closed_goes _ (g.T.Turns.pass c.args.turns.now) w.in-Ok.field-0 _ (rw (← c.self.view_is) at c.requires.stage) (rw (← c.self.view_is) at c.requires.nothing) (rw (← c.self.view_is) at c.requires.handed))
       | in-Err w ↦ rw (w.result-is, w.self-is, ← c.self.view_is) (same_goes _ _ _ w.in-Err.ensures.rests)
     ]
+
+pub returns-clause-pass : goal.returns-clause-pass
+returns-clause-pass g c = c.tell.ensures.pass
+
+pub returns-clause-setting : goal.returns-clause-setting
+returns-clause-setting g c = c.tell.ensures.setting
+
+pub returns-clause-seen : goal.returns-clause-seen
+returns-clause-seen g c = c.tell.ensures.seen

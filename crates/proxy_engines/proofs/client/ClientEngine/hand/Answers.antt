@@ -13,3 +13,36 @@ returns-in-Err-By-NotReady-clause-goes g c = same_goes _ _ _ c.in-Err-By-NotRead
 
 pub returns-in-Err-clause-goes : goal.returns-in-Err-clause-goes
 returns-in-Err-clause-goes g c = (false, same_goes _ _ _ c.in-Err.ensures.rests)
+
+pub returns-in-Err-By-NotReady-clause-pass : goal.returns-in-Err-By-NotReady-clause-pass
+returns-in-Err-By-NotReady-clause-pass g c = c.tell.ensures.pass
+
+pub returns-in-Err-By-NotReady-clause-setting : goal.returns-in-Err-By-NotReady-clause-setting
+returns-in-Err-By-NotReady-clause-setting g c = c.tell.ensures.setting
+
+pub returns-in-Err-By-NotReady-clause-seen : goal.returns-in-Err-By-NotReady-clause-seen
+returns-in-Err-By-NotReady-clause-seen g c = c.tell.ensures.seen
+
+pub returns-in-Err-clause-pass : goal.returns-in-Err-clause-pass
+returns-in-Err-clause-pass g c = c.tell.ensures.pass
+
+pub returns-in-Err-clause-setting : goal.returns-in-Err-clause-setting
+returns-in-Err-clause-setting g c = c.tell.ensures.setting
+
+pub returns-in-Err-clause-seen : goal.returns-in-Err-clause-seen
+returns-in-Err-clause-seen g c = c.tell.ensures.seen
+
+pub returns-in-Ok-Bytes-clause-pass : goal.returns-in-Ok-Bytes-clause-pass
+returns-in-Ok-Bytes-clause-pass g c = c.tell.ensures.pass
+
+pub returns-in-Ok-Bytes-clause-setting : goal.returns-in-Ok-Bytes-clause-setting
+returns-in-Ok-Bytes-clause-setting g c = c.tell.ensures.setting
+
+pub returns-in-Ok-Bytes-clause-seen : goal.returns-in-Ok-Bytes-clause-seen
+returns-in-Ok-Bytes-clause-seen g c = c.tell.ensures.seen
+
+pub returns-in-Ok-Bytes-clause-err : goal.returns-in-Ok-Bytes-clause-err
+returns-in-Ok-Bytes-clause-err g c = tt
+
+pub returns-in-Err-By-NotReady-clause-err : goal.returns-in-Err-By-NotReady-clause-err
+returns-in-Err-By-NotReady-clause-err g c = tt

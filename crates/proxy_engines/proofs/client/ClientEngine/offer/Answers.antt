@@ -1,6 +1,7 @@
 use Rattle.std.proofs.Common.{◌≡◌, ◌∙◌, IfOk, Some, false, refl, sym, ap}
 use Rattle.proxy_engines.proofs.ClientMoves.{arrived_on, arrived_last, unanswered_goes}
 use Rattle.proxy_engines.proofs.client.ClientEngine.offer.Goals as goal
+use Rattle.proxy_engines.proofs.HostMoves.{starts_same}
 use Rattle.proxy_engines.proofs.client.ClientEngine.offer.Goals.{in-By-Crowded, in_default-denied}
 
 pub returns-then-is_last-clause-goes : goal.returns-then-is_last-clause-goes
@@ -26,3 +27,48 @@ returns-after-denied-clause-goes g c =
       | in_default-denied w ↦ rw w.result-is tt
     ] in
     rw (back, c.self.view_is) (unanswered_goes c.args.self.now _ _ _ c.in-Err.ensures.rests unmoved)
+
+pub returns-after-denied-clause-pass : goal.returns-after-denied-clause-pass
+returns-after-denied-clause-pass g c = c.arrive.ensures.pass
+
+pub returns-after-denied-clause-setting : goal.returns-after-denied-clause-setting
+returns-after-denied-clause-setting g c = c.arrive.ensures.setting
+
+pub returns-after-denied-clause-seen : goal.returns-after-denied-clause-seen
+returns-after-denied-clause-seen g c = c.arrive.ensures.seen
+
+pub returns-else-is_last-clause-pass : goal.returns-else-is_last-clause-pass
+returns-else-is_last-clause-pass g c = c.arrive.ensures.pass
+
+pub returns-else-is_last-clause-setting : goal.returns-else-is_last-clause-setting
+returns-else-is_last-clause-setting g c = c.arrive.ensures.setting
+
+pub returns-else-is_last-clause-seen : goal.returns-else-is_last-clause-seen
+returns-else-is_last-clause-seen g c = c.arrive.ensures.seen
+
+pub returns-then-is_last-clause-pass : goal.returns-then-is_last-clause-pass
+returns-then-is_last-clause-pass g c = c.arrive.ensures.pass
+
+pub returns-then-is_last-clause-setting : goal.returns-then-is_last-clause-setting
+returns-then-is_last-clause-setting g c = c.arrive.ensures.setting
+
+pub returns-then-is_last-clause-seen : goal.returns-then-is_last-clause-seen
+returns-then-is_last-clause-seen g c = c.arrive.ensures.seen
+
+pub returns-in_default-clause-pass : goal.returns-in_default-clause-pass
+returns-in_default-clause-pass g c = refl
+
+pub returns-in_default-clause-setting : goal.returns-in_default-clause-setting
+returns-in_default-clause-setting g c = refl
+
+pub returns-in_default-clause-seen : goal.returns-in_default-clause-seen
+returns-in_default-clause-seen g c = starts_same _
+
+pub returns-then-is_last-clause-err : goal.returns-then-is_last-clause-err
+returns-then-is_last-clause-err g c = tt
+
+pub returns-else-is_last-clause-err : goal.returns-else-is_last-clause-err
+returns-else-is_last-clause-err g c = tt
+
+pub returns-in_default-clause-err : goal.returns-in_default-clause-err
+returns-in_default-clause-err g c = tt

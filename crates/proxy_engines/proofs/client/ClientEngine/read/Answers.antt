@@ -1,8 +1,9 @@
-use Rattle.std.proofs.Common.{true, false}
+use Rattle.std.proofs.Common.{true, false, refl}
 use Rattle.proxy_engines.specs.Moves.{told_by_step}
 use Rattle.proxy_engines.proofs.ClientMoves.{read_goes, goes_some, told_then}
 use Rattle.proxy_engines.proofs.IdleLemmas.{given_still}
 use Rattle.proxy_engines.proofs.MoveLemmas.{step-err}
+use Rattle.proxy_engines.proofs.HostMoves.{starts_same}
 use Rattle.proxy_engines.proofs.client.ClientEngine.read.Goals as goal
 
 pub returns-in-End-clause-goes : goal.returns-in-End-clause-goes
@@ -46,3 +47,66 @@ pub stop_reading-requires-in-End-clause-all : goal.stop_reading-requires-in-End-
 stop_reading-requires-in-End-clause-all g c =
     let all = rw (← c.self.view_is) at c.requires.all in
     given_still _ c.read_once.new.self all (c.read_once.ensures.end c.in-End.is).0 c.read_once.ensures.values
+
+pub returns-in-End-clause-pass : goal.returns-in-End-clause-pass
+returns-in-End-clause-pass g c = c.stop_reading-in-End.ensures.pass
+
+pub returns-in-End-clause-setting : goal.returns-in-End-clause-setting
+returns-in-End-clause-setting g c = c.stop_reading-in-End.ensures.setting
+
+pub returns-in-End-clause-seen : goal.returns-in-End-clause-seen
+returns-in-End-clause-seen g c = c.stop_reading-in-End.ensures.seen
+
+pub returns-in-Moved-clause-pass : goal.returns-in-Moved-clause-pass
+returns-in-Moved-clause-pass g c = refl
+
+pub returns-in-Moved-clause-setting : goal.returns-in-Moved-clause-setting
+returns-in-Moved-clause-setting g c = refl
+
+pub returns-in-Moved-clause-seen : goal.returns-in-Moved-clause-seen
+returns-in-Moved-clause-seen g c = starts_same _
+
+pub returns-in-Paused-clause-pass : goal.returns-in-Paused-clause-pass
+returns-in-Paused-clause-pass g c = refl
+
+pub returns-in-Paused-clause-setting : goal.returns-in-Paused-clause-setting
+returns-in-Paused-clause-setting g c = refl
+
+pub returns-in-Paused-clause-seen : goal.returns-in-Paused-clause-seen
+returns-in-Paused-clause-seen g c = starts_same _
+
+pub returns-in_err-cut-in-Failed-clause-pass : goal.returns-in_err-cut-in-Failed-clause-pass
+returns-in_err-cut-in-Failed-clause-pass g c = c.cut.ensures.pass
+
+pub returns-in_err-cut-in-Failed-clause-setting : goal.returns-in_err-cut-in-Failed-clause-setting
+returns-in_err-cut-in-Failed-clause-setting g c = c.cut.ensures.setting
+
+pub returns-in_err-cut-in-Failed-clause-seen : goal.returns-in_err-cut-in-Failed-clause-seen
+returns-in_err-cut-in-Failed-clause-seen g c = c.cut.ensures.seen
+
+pub returns-in_ok-cut-in-Failed-clause-pass : goal.returns-in_ok-cut-in-Failed-clause-pass
+returns-in_ok-cut-in-Failed-clause-pass g c = c.cut.ensures.pass
+
+pub returns-in_ok-cut-in-Failed-clause-setting : goal.returns-in_ok-cut-in-Failed-clause-setting
+returns-in_ok-cut-in-Failed-clause-setting g c = c.cut.ensures.setting
+
+pub returns-in_ok-cut-in-Failed-clause-seen : goal.returns-in_ok-cut-in-Failed-clause-seen
+returns-in_ok-cut-in-Failed-clause-seen g c = c.cut.ensures.seen
+
+pub returns-then-self-clause-pass : goal.returns-then-self-clause-pass
+returns-then-self-clause-pass g c = c.stop_reading.ensures.pass
+
+pub returns-then-self-clause-setting : goal.returns-then-self-clause-setting
+returns-then-self-clause-setting g c = c.stop_reading.ensures.setting
+
+pub returns-then-self-clause-seen : goal.returns-then-self-clause-seen
+returns-then-self-clause-seen g c = c.stop_reading.ensures.seen
+
+pub returns-then-self-clause-goes : goal.returns-then-self-clause-goes
+returns-then-self-clause-goes g c = c.stop_reading.ensures.goes
+
+pub returns-in-Moved-clause-err : goal.returns-in-Moved-clause-err
+returns-in-Moved-clause-err g c = tt
+
+pub returns-in-Paused-clause-err : goal.returns-in-Paused-clause-err
+returns-in-Paused-clause-err g c = tt

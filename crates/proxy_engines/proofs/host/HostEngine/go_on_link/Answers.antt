@@ -1,9 +1,9 @@
-use Rattle.std.proofs.Common.{Some, None, true, false, ap, refl}
+use Rattle.std.proofs.Common.{Some, None, true, false, ap, refl, ◌∙◌}
 use Rattle.std.proofs.lemmas.Result.{err_from_is_err_and}
 use Rattle.proxy_history.specs.declared.refusal.Refusal.{Refusal}
 use Rattle.proxy_engines.specs.Faults.{told_by_moves}
 use Rattle.proxy_engines.specs.HostStep.{HostState}
-use Rattle.proxy_engines.proofs.HostMoves.{some_told}
+use Rattle.proxy_engines.proofs.HostMoves.{some_told, starts_then}
 use Rattle.proxy_engines.proofs.HostLemmas.{works_on, works_left, works_fault, unasked_here}
 use Rattle.proxy_engines.proofs.host.HostEngine.go_on_link.Goals as goal
 
@@ -55,3 +55,72 @@ returns-in-Some-error-clause-works g c =
     rw (← c.self.view_is, c.in-Some.is)
     (works_fault _ _ _ (record { line = c.attend.new.line; link = Some c.attend.new.self; fault = Some c.in-Fault.kind }) c.give_up.new.self c.in-Fault.kind (Some c.in-Some-error.error) _ _ _ c.args.moment went.0 _ went.1
     (rw c.attend.ensures.pass at fails) no_link no_fault (rw c.in-Some-error.is at cause) refl)
+
+pub returns-in-Moved-clause-pass : goal.returns-in-Moved-clause-pass
+returns-in-Moved-clause-pass g c = c.attend.ensures.pass
+
+pub returns-in-Moved-clause-setting : goal.returns-in-Moved-clause-setting
+returns-in-Moved-clause-setting g c = c.attend.ensures.setting
+
+pub returns-in-Moved-clause-seen : goal.returns-in-Moved-clause-seen
+returns-in-Moved-clause-seen g c = c.attend.ensures.seen
+
+pub returns-in-Still-clause-pass : goal.returns-in-Still-clause-pass
+returns-in-Still-clause-pass g c = c.attend.ensures.pass
+
+pub returns-in-Still-clause-setting : goal.returns-in-Still-clause-setting
+returns-in-Still-clause-setting g c = c.attend.ensures.setting
+
+pub returns-in-Still-clause-seen : goal.returns-in-Still-clause-seen
+returns-in-Still-clause-seen g c = c.attend.ensures.seen
+
+pub returns-in-None-clause-pass : goal.returns-in-None-clause-pass
+returns-in-None-clause-pass g c = c.give_up.ensures.pass ∙ c.attend.ensures.pass
+
+pub returns-in-None-clause-setting : goal.returns-in-None-clause-setting
+returns-in-None-clause-setting g c = c.give_up.ensures.setting ∙ c.attend.ensures.setting
+
+pub returns-in-None-clause-seen : goal.returns-in-None-clause-seen
+returns-in-None-clause-seen g c = starts_then _ _ _ c.attend.ensures.seen c.give_up.ensures.seen
+
+pub returns-in-Some-error-clause-pass : goal.returns-in-Some-error-clause-pass
+returns-in-Some-error-clause-pass g c = c.give_up.ensures.pass ∙ c.attend.ensures.pass
+
+pub returns-in-Some-error-clause-setting : goal.returns-in-Some-error-clause-setting
+returns-in-Some-error-clause-setting g c = c.give_up.ensures.setting ∙ c.attend.ensures.setting
+
+pub returns-in-Some-error-clause-seen : goal.returns-in-Some-error-clause-seen
+returns-in-Some-error-clause-seen g c = starts_then _ _ _ c.attend.ensures.seen c.give_up.ensures.seen
+
+pub returns-in_err-attend-clause-pass : goal.returns-in_err-attend-clause-pass
+returns-in_err-attend-clause-pass g c = c.attend.ensures.pass
+
+pub returns-in_err-attend-clause-setting : goal.returns-in_err-attend-clause-setting
+returns-in_err-attend-clause-setting g c = c.attend.ensures.setting
+
+pub returns-in_err-attend-clause-seen : goal.returns-in_err-attend-clause-seen
+returns-in_err-attend-clause-seen g c = c.attend.ensures.seen
+
+pub returns-in_err-give_up-in-Fault-clause-pass : goal.returns-in_err-give_up-in-Fault-clause-pass
+returns-in_err-give_up-in-Fault-clause-pass g c = c.give_up.ensures.pass ∙ c.attend.ensures.pass
+
+pub returns-in_err-give_up-in-Fault-clause-setting : goal.returns-in_err-give_up-in-Fault-clause-setting
+returns-in_err-give_up-in-Fault-clause-setting g c = c.give_up.ensures.setting ∙ c.attend.ensures.setting
+
+pub returns-in_err-give_up-in-Fault-clause-seen : goal.returns-in_err-give_up-in-Fault-clause-seen
+returns-in_err-give_up-in-Fault-clause-seen g c = starts_then _ _ _ c.attend.ensures.seen c.give_up.ensures.seen
+
+pub returns-in-Some-error-clause-needs_link : goal.returns-in-Some-error-clause-needs_link
+returns-in-Some-error-clause-needs_link g c = tt
+
+pub returns-in-Some-error-clause-all : goal.returns-in-Some-error-clause-all
+returns-in-Some-error-clause-all g c = tt
+
+pub returns-in-Some-error-clause-recorded : goal.returns-in-Some-error-clause-recorded
+returns-in-Some-error-clause-recorded g c = tt
+
+pub returns-in-Some-error-clause-in_time : goal.returns-in-Some-error-clause-in_time
+returns-in-Some-error-clause-in_time g c = tt
+
+pub returns-in-Some-error-clause-idle : goal.returns-in-Some-error-clause-idle
+returns-in-Some-error-clause-idle g c = tt

@@ -24,3 +24,48 @@ returns-clause-steps g c =
 
 pub returns-clause-seen : goal.returns-clause-seen
 returns-clause-seen g c = starts_then (g.T.Turns.seen c.args.turns.now) (g.T.Turns.seen c.give_up.new.turns) (g.T.Turns.seen c.go_on-2.new.turns) c.give_up.ensures.seen c.go_on-2.ensures.seen
+
+pub returns-in_default-clause-pass : goal.returns-in_default-clause-pass
+returns-in_default-clause-pass g c = c.go_on.ensures.pass
+
+pub returns-in_default-clause-setting : goal.returns-in_default-clause-setting
+returns-in_default-clause-setting g c = c.go_on.ensures.setting
+
+pub returns-in_default-clause-seen : goal.returns-in_default-clause-seen
+returns-in_default-clause-seen g c = c.go_on.ensures.seen
+
+pub returns-in_err-give_up-clause-pass : goal.returns-in_err-give_up-clause-pass
+returns-in_err-give_up-clause-pass g c = c.give_up.ensures.pass
+
+pub returns-in_err-give_up-clause-setting : goal.returns-in_err-give_up-clause-setting
+returns-in_err-give_up-clause-setting g c = c.give_up.ensures.setting
+
+pub returns-in_err-give_up-clause-seen : goal.returns-in_err-give_up-clause-seen
+returns-in_err-give_up-clause-seen g c = c.give_up.ensures.seen
+
+pub returns-in_err-progress-clause-pass : goal.returns-in_err-progress-clause-pass
+returns-in_err-progress-clause-pass g c = c.go_on-2.ensures.pass ∙ c.give_up.ensures.pass
+
+pub returns-in_err-progress-clause-setting : goal.returns-in_err-progress-clause-setting
+returns-in_err-progress-clause-setting g c = c.go_on-2.ensures.setting ∙ c.give_up.ensures.setting
+
+pub returns-in_err-progress-clause-seen : goal.returns-in_err-progress-clause-seen
+returns-in_err-progress-clause-seen g c = starts_then _ _ _ c.give_up.ensures.seen c.go_on-2.ensures.seen
+
+pub returns-clause-pass : goal.returns-clause-pass
+returns-clause-pass g c = c.go_on-2.ensures.pass ∙ c.give_up.ensures.pass
+
+pub returns-clause-setting : goal.returns-clause-setting
+returns-clause-setting g c = c.go_on-2.ensures.setting ∙ c.give_up.ensures.setting
+
+pub returns-in_default-clause-needs_link : goal.returns-in_default-clause-needs_link
+returns-in_default-clause-needs_link g c = c.go_on.ensures.needs_link
+
+pub returns-in_default-clause-recorded : goal.returns-in_default-clause-recorded
+returns-in_default-clause-recorded g c = c.go_on.ensures.recorded
+
+pub returns-in_default-clause-in_time : goal.returns-in_default-clause-in_time
+returns-in_default-clause-in_time g c = c.go_on.ensures.in_time
+
+pub returns-in_default-clause-idle : goal.returns-in_default-clause-idle
+returns-in_default-clause-idle g c = c.go_on.ensures.idle

@@ -1,5 +1,5 @@
 use Rattle.std.proofs.Common.{refl, true, false}
-use Rattle.proxy_engines.proofs.HostMoves.{stays_on, taken_on, taken_astray}
+use Rattle.proxy_engines.proofs.HostMoves.{stays_on, taken_on, taken_astray, starts_same}
 use Rattle.proxy_engines.proofs.line.Line.take.Goals as goal
 
 pub returns-then-is_err-clause-goes : goal.returns-then-is_err-clause-goes
@@ -27,3 +27,48 @@ returns-in-Err-clause-goes g c = λ k. (false, rw (c.reserve.ensures.items, ← 
 
 pub returns-then-self-clause-goes : goal.returns-then-self-clause-goes
 returns-then-self-clause-goes g c = λ k. (false, stays_on _ k _ _ c.args.moment refl)
+
+pub returns-else-epoch-self-clause-pass : goal.returns-else-epoch-self-clause-pass
+returns-else-epoch-self-clause-pass g c = c.tell.ensures.pass
+
+pub returns-else-epoch-self-clause-setting : goal.returns-else-epoch-self-clause-setting
+returns-else-epoch-self-clause-setting g c = c.tell.ensures.setting
+
+pub returns-else-epoch-self-clause-seen : goal.returns-else-epoch-self-clause-seen
+returns-else-epoch-self-clause-seen g c = c.tell.ensures.seen
+
+pub returns-then-epoch-self-clause-pass : goal.returns-then-epoch-self-clause-pass
+returns-then-epoch-self-clause-pass g c = c.tell.ensures.pass
+
+pub returns-then-epoch-self-clause-setting : goal.returns-then-epoch-self-clause-setting
+returns-then-epoch-self-clause-setting g c = c.tell.ensures.setting
+
+pub returns-then-epoch-self-clause-seen : goal.returns-then-epoch-self-clause-seen
+returns-then-epoch-self-clause-seen g c = c.tell.ensures.seen
+
+pub returns-then-is_err-clause-pass : goal.returns-then-is_err-clause-pass
+returns-then-is_err-clause-pass g c = refl
+
+pub returns-then-is_err-clause-setting : goal.returns-then-is_err-clause-setting
+returns-then-is_err-clause-setting g c = refl
+
+pub returns-then-is_err-clause-seen : goal.returns-then-is_err-clause-seen
+returns-then-is_err-clause-seen g c = starts_same _
+
+pub returns-in-Err-clause-pass : goal.returns-in-Err-clause-pass
+returns-in-Err-clause-pass g c = c.tell.ensures.pass
+
+pub returns-in-Err-clause-setting : goal.returns-in-Err-clause-setting
+returns-in-Err-clause-setting g c = c.tell.ensures.setting
+
+pub returns-in-Err-clause-seen : goal.returns-in-Err-clause-seen
+returns-in-Err-clause-seen g c = c.tell.ensures.seen
+
+pub returns-then-self-clause-pass : goal.returns-then-self-clause-pass
+returns-then-self-clause-pass g c = refl
+
+pub returns-then-self-clause-setting : goal.returns-then-self-clause-setting
+returns-then-self-clause-setting g c = refl
+
+pub returns-then-self-clause-seen : goal.returns-then-self-clause-seen
+returns-then-self-clause-seen g c = starts_same _

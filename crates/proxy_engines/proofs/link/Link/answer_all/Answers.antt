@@ -33,3 +33,60 @@ pub returns-in-Still-clause-goes : goal.returns-in-Still-clause-goes
 returns-in-Still-clause-goes g c =
     let (goes, _, _, _, _, pass, _, _) = c.loop.invariant in
     told_still _ _ _ _ _ _ _ _ _ _ _ goes (rw pass at (rw c.in-Still.is at c.in_ok-fault.ensures.goes))
+
+pub returns-in-Still-clause-pass : goal.returns-in-Still-clause-pass
+returns-in-Still-clause-pass g c = let (_, _, _, _, _, pass, _, _) = c.loop.invariant in c.answer_next.ensures.pass ∙ pass
+
+pub returns-in-Still-clause-setting : goal.returns-in-Still-clause-setting
+returns-in-Still-clause-setting g c = let (_, _, _, _, _, _, setting, _) = c.loop.invariant in c.answer_next.ensures.setting ∙ setting
+
+pub returns-in-Still-clause-seen : goal.returns-in-Still-clause-seen
+returns-in-Still-clause-seen g c = let (_, _, _, _, _, _, _, seen) = c.loop.invariant in starts_then _ _ _ seen c.answer_next.ensures.seen
+
+pub returns-in-Still-clause-reads : goal.returns-in-Still-clause-reads
+returns-in-Still-clause-reads g c = let (_, _, reads, _, _, _, _, _) = c.loop.invariant in c.answer_next.ensures.reads ∙ reads
+
+pub returns-in-Still-clause-writes : goal.returns-in-Still-clause-writes
+returns-in-Still-clause-writes g c = let (_, _, _, writes, _, _, _, _) = c.loop.invariant in c.answer_next.ensures.writes ∙ writes
+
+pub returns-in_default-clause-pass : goal.returns-in_default-clause-pass
+returns-in_default-clause-pass g c = let (_, _, _, _, _, pass, _, _) = c.loop.invariant in c.answer_next.ensures.pass ∙ pass
+
+pub returns-in_default-clause-setting : goal.returns-in_default-clause-setting
+returns-in_default-clause-setting g c = let (_, _, _, _, _, _, setting, _) = c.loop.invariant in c.answer_next.ensures.setting ∙ setting
+
+pub returns-in_default-clause-seen : goal.returns-in_default-clause-seen
+returns-in_default-clause-seen g c = let (_, _, _, _, _, _, _, seen) = c.loop.invariant in starts_then _ _ _ seen c.answer_next.ensures.seen
+
+pub returns-in_default-clause-reads : goal.returns-in_default-clause-reads
+returns-in_default-clause-reads g c = let (_, _, reads, _, _, _, _, _) = c.loop.invariant in c.answer_next.ensures.reads ∙ reads
+
+pub returns-in_default-clause-writes : goal.returns-in_default-clause-writes
+returns-in_default-clause-writes g c = let (_, _, _, writes, _, _, _, _) = c.loop.invariant in c.answer_next.ensures.writes ∙ writes
+
+pub returns-in_err-fault-clause-pass : goal.returns-in_err-fault-clause-pass
+returns-in_err-fault-clause-pass g c = let (_, _, _, _, _, pass, _, _) = c.loop.invariant in c.answer_next.ensures.pass ∙ pass
+
+pub returns-in_err-fault-clause-setting : goal.returns-in_err-fault-clause-setting
+returns-in_err-fault-clause-setting g c = let (_, _, _, _, _, _, setting, _) = c.loop.invariant in c.answer_next.ensures.setting ∙ setting
+
+pub returns-in_err-fault-clause-seen : goal.returns-in_err-fault-clause-seen
+returns-in_err-fault-clause-seen g c = let (_, _, _, _, _, _, _, seen) = c.loop.invariant in starts_then _ _ _ seen c.answer_next.ensures.seen
+
+pub returns-in_err-fault-clause-reads : goal.returns-in_err-fault-clause-reads
+returns-in_err-fault-clause-reads g c = let (_, _, reads, _, _, _, _, _) = c.loop.invariant in c.answer_next.ensures.reads ∙ reads
+
+pub returns-in_err-fault-clause-writes : goal.returns-in_err-fault-clause-writes
+returns-in_err-fault-clause-writes g c = let (_, _, _, writes, _, _, _, _) = c.loop.invariant in c.answer_next.ensures.writes ∙ writes
+
+pub returns-in-Still-clause-err : goal.returns-in-Still-clause-err
+returns-in-Still-clause-err g c = tt
+
+pub returns-in-Still-clause-plain : goal.returns-in-Still-clause-plain
+returns-in-Still-clause-plain g c = tt
+
+pub returns-in_default-clause-err : goal.returns-in_default-clause-err
+returns-in_default-clause-err g c = tt
+
+pub returns-in_default-clause-plain : goal.returns-in_default-clause-plain
+returns-in_default-clause-plain g c = tt

@@ -1,5 +1,5 @@
 use Rattle.std.proofs.Common.{◌≡◌, ◌⊎◌, ◌∙◌, [], sym, subst}
-use Rattle.proxy_engines.proofs.HostMoves.{told_both, told_either}
+use Rattle.proxy_engines.proofs.HostMoves.{told_both, told_either, starts_then}
 use Rattle.proxy_history.specs.declared.event.Event.{Event}
 use Rattle.proxy_history.specs.declared.refusal.Refusal.{Refusal}
 use Rattle.proxy_engines.specs.Device.{Counts, HasRisen}
@@ -35,3 +35,81 @@ returns-clause-goes g c = rw c.or.ensures.is (told_either _ _ _ _ _ _ _ _ _ _ c.
 
 pub returns-clause-in_time : goal.returns-clause-in_time
 returns-clause-in_time g c = λ _. not_late c.receive.new.line c.args.moment c.is_late.result c.if-is_late.false c.is_late.ensures
+
+pub returns-in_err-received-clause-pass : goal.returns-in_err-received-clause-pass
+returns-in_err-received-clause-pass g c = c.receive.ensures.pass ∙ c.send.ensures.pass
+
+pub returns-in_err-received-clause-setting : goal.returns-in_err-received-clause-setting
+returns-in_err-received-clause-setting g c = c.receive.ensures.setting ∙ c.send.ensures.setting
+
+pub returns-in_err-received-clause-seen : goal.returns-in_err-received-clause-seen
+returns-in_err-received-clause-seen g c = starts_then _ _ _ c.send.ensures.seen c.receive.ensures.seen
+
+pub returns-in_err-sent-clause-pass : goal.returns-in_err-sent-clause-pass
+returns-in_err-sent-clause-pass g c = c.send.ensures.pass
+
+pub returns-in_err-sent-clause-setting : goal.returns-in_err-sent-clause-setting
+returns-in_err-sent-clause-setting g c = c.send.ensures.setting
+
+pub returns-in_err-sent-clause-seen : goal.returns-in_err-sent-clause-seen
+returns-in_err-sent-clause-seen g c = c.send.ensures.seen
+
+pub returns-then-is_fault-clause-pass : goal.returns-then-is_fault-clause-pass
+returns-then-is_fault-clause-pass g c = c.send.ensures.pass
+
+pub returns-then-is_fault-clause-setting : goal.returns-then-is_fault-clause-setting
+returns-then-is_fault-clause-setting g c = c.send.ensures.setting
+
+pub returns-then-is_fault-clause-seen : goal.returns-then-is_fault-clause-seen
+returns-then-is_fault-clause-seen g c = c.send.ensures.seen
+
+pub returns-then-is_fault-2-clause-pass : goal.returns-then-is_fault-2-clause-pass
+returns-then-is_fault-2-clause-pass g c = c.receive.ensures.pass ∙ c.send.ensures.pass
+
+pub returns-then-is_fault-2-clause-setting : goal.returns-then-is_fault-2-clause-setting
+returns-then-is_fault-2-clause-setting g c = c.receive.ensures.setting ∙ c.send.ensures.setting
+
+pub returns-then-is_fault-2-clause-seen : goal.returns-then-is_fault-2-clause-seen
+returns-then-is_fault-2-clause-seen g c = starts_then _ _ _ c.send.ensures.seen c.receive.ensures.seen
+
+pub returns-then-is_late-clause-pass : goal.returns-then-is_late-clause-pass
+returns-then-is_late-clause-pass g c = c.receive.ensures.pass ∙ c.send.ensures.pass
+
+pub returns-then-is_late-clause-setting : goal.returns-then-is_late-clause-setting
+returns-then-is_late-clause-setting g c = c.receive.ensures.setting ∙ c.send.ensures.setting
+
+pub returns-then-is_late-clause-seen : goal.returns-then-is_late-clause-seen
+returns-then-is_late-clause-seen g c = starts_then _ _ _ c.send.ensures.seen c.receive.ensures.seen
+
+pub returns-clause-pass : goal.returns-clause-pass
+returns-clause-pass g c = c.receive.ensures.pass ∙ c.send.ensures.pass
+
+pub returns-clause-setting : goal.returns-clause-setting
+returns-clause-setting g c = c.receive.ensures.setting ∙ c.send.ensures.setting
+
+pub returns-clause-seen : goal.returns-clause-seen
+returns-clause-seen g c = starts_then _ _ _ c.send.ensures.seen c.receive.ensures.seen
+
+pub returns-then-is_fault-clause-err : goal.returns-then-is_fault-clause-err
+returns-then-is_fault-clause-err g c = tt
+
+pub returns-then-is_fault-clause-plain : goal.returns-then-is_fault-clause-plain
+returns-then-is_fault-clause-plain g c = tt
+
+pub returns-then-is_fault-2-clause-err : goal.returns-then-is_fault-2-clause-err
+returns-then-is_fault-2-clause-err g c = tt
+
+pub returns-then-is_fault-2-clause-plain : goal.returns-then-is_fault-2-clause-plain
+returns-then-is_fault-2-clause-plain g c = tt
+
+pub returns-then-is_late-clause-err : goal.returns-then-is_late-clause-err
+returns-then-is_late-clause-err g c = tt
+
+pub returns-then-is_late-clause-plain : goal.returns-then-is_late-clause-plain
+returns-then-is_late-clause-plain g c = tt
+
+pub returns-clause-err : goal.returns-clause-err
+returns-clause-err g c = tt
+
+pub returns-clause-plain : goal.returns-clause-plain
+returns-clause-plain g c = tt

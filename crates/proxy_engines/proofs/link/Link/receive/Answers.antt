@@ -1,5 +1,5 @@
 use Rattle.std.proofs.Common.{◌∙◌, Some, sym, refl}
-use Rattle.proxy_engines.proofs.HostMoves.{told_both, told_either}
+use Rattle.proxy_engines.proofs.HostMoves.{told_both, told_either, starts_then}
 use Rattle.proxy_engines.proofs.FaultLemmas.{fault_later, either_still}
 use Rattle.proxy_engines.proofs.MoveLemmas.{moves-err, as_faulty}
 use Rattle.proxy_engines.proofs.link.Link.receive.Goals as goal
@@ -34,3 +34,81 @@ returns-clause-goes g c =
     rw (c.or-2.ensures.is, c.or.ensures.is)
     (told_either _ _ _ _ _ _ _ _ _ _ _ c.in_ok-after.after (told_either _ _ _ _ _ _ _ _ _ _ c.in_ok-before.before c.listen-heard.result c.in_ok-before.ensures.goes (c.listen-heard.ensures.goes _ _ _))
     (rw c.answer_all.ensures.pass at c.in_ok-after.ensures.goes))
+
+pub returns-in_err-before-clause-pass : goal.returns-in_err-before-clause-pass
+returns-in_err-before-clause-pass g c = c.answer_all.ensures.pass
+
+pub returns-in_err-before-clause-setting : goal.returns-in_err-before-clause-setting
+returns-in_err-before-clause-setting g c = c.answer_all.ensures.setting
+
+pub returns-in_err-before-clause-seen : goal.returns-in_err-before-clause-seen
+returns-in_err-before-clause-seen g c = c.answer_all.ensures.seen
+
+pub returns-then-is_fault-clause-pass : goal.returns-then-is_fault-clause-pass
+returns-then-is_fault-clause-pass g c = c.answer_all.ensures.pass
+
+pub returns-then-is_fault-clause-setting : goal.returns-then-is_fault-clause-setting
+returns-then-is_fault-clause-setting g c = c.answer_all.ensures.setting
+
+pub returns-then-is_fault-clause-seen : goal.returns-then-is_fault-clause-seen
+returns-then-is_fault-clause-seen g c = c.answer_all.ensures.seen
+
+pub returns-then-is_fault-2-clause-pass : goal.returns-then-is_fault-2-clause-pass
+returns-then-is_fault-2-clause-pass g c = c.answer_all.ensures.pass
+
+pub returns-then-is_fault-2-clause-setting : goal.returns-then-is_fault-2-clause-setting
+returns-then-is_fault-2-clause-setting g c = c.answer_all.ensures.setting
+
+pub returns-then-is_fault-2-clause-seen : goal.returns-then-is_fault-2-clause-seen
+returns-then-is_fault-2-clause-seen g c = c.answer_all.ensures.seen
+
+pub returns-in_err-after-clause-pass : goal.returns-in_err-after-clause-pass
+returns-in_err-after-clause-pass g c = c.answer_all-2.ensures.pass ∙ c.answer_all.ensures.pass
+
+pub returns-in_err-after-clause-setting : goal.returns-in_err-after-clause-setting
+returns-in_err-after-clause-setting g c = c.answer_all-2.ensures.setting ∙ c.answer_all.ensures.setting
+
+pub returns-in_err-after-clause-seen : goal.returns-in_err-after-clause-seen
+returns-in_err-after-clause-seen g c = starts_then _ _ _ c.answer_all.ensures.seen c.answer_all-2.ensures.seen
+
+pub returns-then-is_fault-3-clause-pass : goal.returns-then-is_fault-3-clause-pass
+returns-then-is_fault-3-clause-pass g c = c.answer_all-2.ensures.pass ∙ c.answer_all.ensures.pass
+
+pub returns-then-is_fault-3-clause-setting : goal.returns-then-is_fault-3-clause-setting
+returns-then-is_fault-3-clause-setting g c = c.answer_all-2.ensures.setting ∙ c.answer_all.ensures.setting
+
+pub returns-then-is_fault-3-clause-seen : goal.returns-then-is_fault-3-clause-seen
+returns-then-is_fault-3-clause-seen g c = starts_then _ _ _ c.answer_all.ensures.seen c.answer_all-2.ensures.seen
+
+pub returns-clause-pass : goal.returns-clause-pass
+returns-clause-pass g c = c.answer_all-2.ensures.pass ∙ c.answer_all.ensures.pass
+
+pub returns-clause-setting : goal.returns-clause-setting
+returns-clause-setting g c = c.answer_all-2.ensures.setting ∙ c.answer_all.ensures.setting
+
+pub returns-clause-seen : goal.returns-clause-seen
+returns-clause-seen g c = starts_then _ _ _ c.answer_all.ensures.seen c.answer_all-2.ensures.seen
+
+pub returns-then-is_fault-clause-err : goal.returns-then-is_fault-clause-err
+returns-then-is_fault-clause-err g c = tt
+
+pub returns-then-is_fault-clause-plain : goal.returns-then-is_fault-clause-plain
+returns-then-is_fault-clause-plain g c = tt
+
+pub returns-then-is_fault-2-clause-err : goal.returns-then-is_fault-2-clause-err
+returns-then-is_fault-2-clause-err g c = tt
+
+pub returns-then-is_fault-2-clause-plain : goal.returns-then-is_fault-2-clause-plain
+returns-then-is_fault-2-clause-plain g c = tt
+
+pub returns-then-is_fault-3-clause-err : goal.returns-then-is_fault-3-clause-err
+returns-then-is_fault-3-clause-err g c = tt
+
+pub returns-then-is_fault-3-clause-plain : goal.returns-then-is_fault-3-clause-plain
+returns-then-is_fault-3-clause-plain g c = tt
+
+pub returns-clause-err : goal.returns-clause-err
+returns-clause-err g c = tt
+
+pub returns-clause-plain : goal.returns-clause-plain
+returns-clause-plain g c = tt

@@ -1,0 +1,108 @@
+use Rattle.std.proofs.Common.{false, ap, refl}
+use Rattle.proxy_engines.specs.Client.{Client}
+use Rattle.proxy_engines.proofs.ClientMoves.{same_goes}
+use Rattle.proxy_engines.proofs.HostMoves.{starts_same}
+use Rattle.proxy_engines.proofs.IdleLemmas.{if_ok}
+use Rattle.proxy_engines.proofs.client.ClientEngine.step.Goals as goal
+
+pub returns-in-Closed-true-clause-pass : goal.returns-in-Closed-true-clause-pass
+returns-in-Closed-true-clause-pass g c = refl
+
+pub returns-in-Closed-true-clause-setting : goal.returns-in-Closed-true-clause-setting
+returns-in-Closed-true-clause-setting g c = refl
+
+pub returns-in-Closed-true-clause-seen : goal.returns-in-Closed-true-clause-seen
+returns-in-Closed-true-clause-seen g c = starts_same _
+
+pub returns-in-Closed-false-clause-pass : goal.returns-in-Closed-false-clause-pass
+returns-in-Closed-false-clause-pass g c = refl
+
+pub returns-in-Closed-false-clause-setting : goal.returns-in-Closed-false-clause-setting
+returns-in-Closed-false-clause-setting g c = refl
+
+pub returns-in-Closed-false-clause-seen : goal.returns-in-Closed-false-clause-seen
+returns-in-Closed-false-clause-seen g c = starts_same _
+
+pub returns-in_err-cut-in-Failed-clause-pass : goal.returns-in_err-cut-in-Failed-clause-pass
+returns-in_err-cut-in-Failed-clause-pass g c = c.cut.ensures.pass
+
+pub returns-in_err-cut-in-Failed-clause-setting : goal.returns-in_err-cut-in-Failed-clause-setting
+returns-in_err-cut-in-Failed-clause-setting g c = c.cut.ensures.setting
+
+pub returns-in_err-cut-in-Failed-clause-seen : goal.returns-in_err-cut-in-Failed-clause-seen
+returns-in_err-cut-in-Failed-clause-seen g c = c.cut.ensures.seen
+
+pub returns-in_ok-cut-in-Failed-clause-pass : goal.returns-in_ok-cut-in-Failed-clause-pass
+returns-in_ok-cut-in-Failed-clause-pass g c = c.cut.ensures.pass
+
+pub returns-in_ok-cut-in-Failed-clause-setting : goal.returns-in_ok-cut-in-Failed-clause-setting
+returns-in_ok-cut-in-Failed-clause-setting g c = c.cut.ensures.setting
+
+pub returns-in_ok-cut-in-Failed-clause-seen : goal.returns-in_ok-cut-in-Failed-clause-seen
+returns-in_ok-cut-in-Failed-clause-seen g c = c.cut.ensures.seen
+
+pub returns-in-Open-clause-pass : goal.returns-in-Open-clause-pass
+returns-in-Open-clause-pass g c = c.go_on.ensures.pass
+
+pub returns-in-Open-clause-setting : goal.returns-in-Open-clause-setting
+returns-in-Open-clause-setting g c = c.go_on.ensures.setting
+
+pub returns-in-Open-clause-seen : goal.returns-in-Open-clause-seen
+returns-in-Open-clause-seen g c = c.go_on.ensures.seen
+
+pub returns-in-Open-clause-goes : goal.returns-in-Open-clause-goes
+returns-in-Open-clause-goes g c = c.go_on.ensures.goes
+
+pub returns-in-Open-clause-ended : goal.returns-in-Open-clause-ended
+returns-in-Open-clause-ended g c = c.go_on.ensures.ended
+
+pub returns-in-Open-clause-read_failed : goal.returns-in-Open-clause-read_failed
+returns-in-Open-clause-read_failed g c = c.go_on.ensures.read_failed
+
+pub returns-in-Open-clause-write_failed : goal.returns-in-Open-clause-write_failed
+returns-in-Open-clause-write_failed g c = c.go_on.ensures.write_failed
+
+pub returns-in-Open-clause-idle : goal.returns-in-Open-clause-idle
+returns-in-Open-clause-idle g c = c.go_on.ensures.idle
+
+pub returns-in-Open-clause-cut : goal.returns-in-Open-clause-cut
+returns-in-Open-clause-cut g c = if_ok _ _ c.go_on.result (λ p never cut. absurd (never cut)) c.go_on.ensures.cut
+
+pub returns-in-Closed-true-clause-read_failed : goal.returns-in-Closed-true-clause-read_failed
+returns-in-Closed-true-clause-read_failed g c = tt
+
+pub returns-in-Closed-true-clause-write_failed : goal.returns-in-Closed-true-clause-write_failed
+returns-in-Closed-true-clause-write_failed g c = tt
+
+pub returns-in-Closed-false-clause-read_failed : goal.returns-in-Closed-false-clause-read_failed
+returns-in-Closed-false-clause-read_failed g c = tt
+
+pub returns-in-Closed-false-clause-write_failed : goal.returns-in-Closed-false-clause-write_failed
+returns-in-Closed-false-clause-write_failed g c = tt
+
+pub returns-in-Closed-true-clause-goes : goal.returns-in-Closed-true-clause-goes
+returns-in-Closed-true-clause-goes g c = (false, same_goes _ _ _ refl)
+
+pub returns-in-Closed-true-clause-idle : goal.returns-in-Closed-true-clause-idle
+returns-in-Closed-true-clause-idle g c = λ e. absurd cc
+
+pub returns-in-Closed-true-clause-ended : goal.returns-in-Closed-true-clause-ended
+returns-in-Closed-true-clause-ended g c = λ e. absurd cc
+
+pub returns-in-Closed-false-clause-goes : goal.returns-in-Closed-false-clause-goes
+returns-in-Closed-false-clause-goes g c = (false, same_goes _ _ _ refl)
+
+pub returns-in-Closed-false-clause-idle : goal.returns-in-Closed-false-clause-idle
+returns-in-Closed-false-clause-idle g c = λ e. absurd cc
+
+pub returns-in-Closed-false-clause-cut : goal.returns-in-Closed-false-clause-cut
+returns-in-Closed-false-clause-cut g c = λ e. absurd cc
+
+pub returns-in_ok-cut-in-Failed-clause-ended : goal.returns-in_ok-cut-in-Failed-clause-ended
+returns-in_ok-cut-in-Failed-clause-ended g c = λ e. absurd cc
+
+pub returns-in_ok-cut-in-Failed-clause-idle : goal.returns-in_ok-cut-in-Failed-clause-idle
+returns-in_ok-cut-in-Failed-clause-idle g c = λ e. absurd cc
+
+pub returns-in_ok-cut-in-Failed-clause-cut : goal.returns-in_ok-cut-in-Failed-clause-cut
+returns-in_ok-cut-in-Failed-clause-cut g c = λ _. ap (λ (e : Client). e.stage) c.in_ok-cut-in-Failed.ensures.ok

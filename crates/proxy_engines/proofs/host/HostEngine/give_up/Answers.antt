@@ -1,0 +1,25 @@
+use Rattle.proxy_engines.proofs.host.HostEngine.give_up.Goals as goal
+
+pub returns-in_err-fail-clause-pass : goal.returns-in_err-fail-clause-pass
+returns-in_err-fail-clause-pass g c = c.fail.ensures.pass
+
+pub returns-in_err-fail-clause-setting : goal.returns-in_err-fail-clause-setting
+returns-in_err-fail-clause-setting g c = c.fail.ensures.setting
+
+pub returns-in_err-fail-clause-seen : goal.returns-in_err-fail-clause-seen
+returns-in_err-fail-clause-seen g c = c.fail.ensures.seen
+
+pub returns-clause-pass : goal.returns-clause-pass
+returns-clause-pass g c = c.fail.ensures.pass
+
+pub returns-clause-setting : goal.returns-clause-setting
+returns-clause-setting g c = c.fail.ensures.setting
+
+pub returns-clause-seen : goal.returns-clause-seen
+returns-clause-seen g c = c.fail.ensures.seen
+
+pub returns-clause-err : goal.returns-clause-err
+returns-clause-err g c = tt
+
+pub returns-clause-kept : goal.returns-clause-kept
+returns-clause-kept g c = tt
