@@ -1,6 +1,5 @@
 //! On what a row's proxies stand: the ring and the settings.
 
-use crate::again::again;
 use crate::plain::Reference;
 use crate::text::{number, unknown};
 use anyhow::{Result, bail};
@@ -62,7 +61,10 @@ impl Setting {
 
     /// A core on this setting, made again where there was no memory.
     pub(crate) fn core(&self, alloc: Global) -> Result<Core, Refusal> {
-        again!(self.one_core(alloc))
+        match self.one_core(alloc) {
+            Err(Refusal::NoMemory) => self.one_core(alloc),
+            made => made,
+        }
     }
 
     fn one_core(&self, alloc: Global) -> Result<Core, Refusal> {
@@ -71,7 +73,10 @@ impl Setting {
 
     /// A core on this setting that goes on from another, made again where there was no memory.
     pub(crate) fn core_from(&self, alloc: Global, core: &Core) -> Result<Core, Refusal> {
-        again!(self.one_core_from(alloc, core.hand_over()))
+        match self.one_core_from(alloc, core.hand_over()) {
+            Err(Refusal::NoMemory) => self.one_core_from(alloc, core.hand_over()),
+            made => made,
+        }
     }
 
     fn one_core_from(&self, alloc: Global, from: Handover) -> Result<Core, Refusal> {
@@ -80,7 +85,10 @@ impl Setting {
 
     /// A plain program on this setting, made again where there was no memory.
     pub(crate) fn plain(&self, alloc: Global) -> Result<Reference, Refusal> {
-        again!(self.one_plain(alloc))
+        match self.one_plain(alloc) {
+            Err(Refusal::NoMemory) => self.one_plain(alloc),
+            made => made,
+        }
     }
 
     fn one_plain(&self, alloc: Global) -> Result<Reference, Refusal> {
