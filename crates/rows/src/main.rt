@@ -11,6 +11,7 @@ mod plain;
 mod proxies;
 mod script;
 mod series;
+mod shown;
 mod subject;
 mod text;
 mod values;

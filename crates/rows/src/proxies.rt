@@ -11,24 +11,30 @@ mod random_runs;
 mod run;
 pub mod setting;
 
-use self::agreement::Answers;
+use self::agreement::agreement;
 use self::answers::{all_refusals, refusal_text};
 use self::events::event_of;
 use self::outcome::outcome;
-use self::questions::{core_answer, plain_answer};
+use self::proxy::Proxy;
+use self::questions::{core_answer, is_question, plain_answer};
 use self::random::Numbers;
 use self::random_runs::{Randomly, run_each};
 use self::run::Run;
 use self::setting::Setting;
+use crate::again::again;
 use crate::plain::Reference;
+use crate::shown::shown;
 use crate::text::{first_word, number};
 use anyhow::{Result, bail};
-use proxy_core::{Core, Event, Refusal};
+use proxy_core::{Core, Refusal};
 use std::alloc::Global;
 use std::mem;
 
 // The pass of a row's events, until an action names another.
 const FIRST_PASS: u64 = 7;
+
+// What is told of a proxy that was made.
+const MADE: &str = "made";
 
 /// The core, the plain program, or both, on one setting.
 #[derive(Drop)]
@@ -45,22 +51,37 @@ pub struct Proxies {
 impl Proxies {
     /// Begins a row. The name is `core`, `plain` or `both`, and the arguments are those of a setting.
     pub(crate) fn open(alloc: Global, name: &str, arguments: &str) -> Result<Proxies> {
-        let setting = Setting::read(alloc, arguments)?;
-        let core = match name {
-            "plain" => None,
-            _ => Some(setting.core(alloc)?),
-        };
-        let plain = match name {
-            "core" => None,
-            _ => Some(setting.plain(alloc)?),
-        };
-        Ok(Proxies {
-            core,
+        Proxies::on(alloc, name, Setting::read(alloc, arguments)?)
+    }
+
+    /// The proxies of this name on a setting.
+    pub(crate) fn on(alloc: Global, name: &str, setting: Setting) -> Result<Proxies> {
+        let mut proxies = Proxies {
+            core: None,
             other: None,
-            plain,
+            plain: None,
             pass: FIRST_PASS,
             run: None,
-        })
+        };
+        let made = proxies.make(alloc, name, &setting);
+        drop(setting);
+        match made {
+            Ok(()) => Ok(proxies),
+            Err(cause) => {
+                drop(proxies);
+                Err(cause)
+            }
+        }
+    }
+
+    fn make(&mut self, alloc: Global, name: &str, setting: &Setting) -> Result<()> {
+        if name != "plain" {
+            drop(self.core.replace(setting.core(alloc)?));
+        }
+        if name != "core" {
+            drop(self.plain.replace(setting.plain(alloc)?));
+        }
+        Ok(())
     }
 
     /// Makes one action: an event, a question, or one of these.
@@ -77,22 +98,11 @@ impl Proxies {
             "run" => self.begin_run(alloc),
             "end" => self.end_run(alloc),
             "random" => self.random(alloc, rest),
-            "random_runs" => {
-                let (seeds, events) = first_word(rest);
-                run_each(alloc, number(seeds)?, number(events)?)
-            }
+            "random_runs" => run_each(alloc, rest),
             "refusals" => all_refusals(alloc),
             "hand_over" => self.hand_over(alloc, rest),
             "other" => self.turn_to_other(alloc),
-            "hosts"
-            | "epoch"
-            | "is_out"
-            | "in_panic"
-            | "journal"
-            | "pass_of"
-            | "counts"
-            | "twice"
-            | "counts_of" => { self.question(alloc, line) }
+            _ if is_question(name) => self.question(alloc, line),
             _ => self.event(alloc, line),
         }
     }
@@ -100,33 +110,34 @@ impl Proxies {
     // Begins anew where nothing is wrong with the setting.
     fn begin(&mut self, alloc: Global, arguments: &str) -> Result<String> {
         let setting = Setting::read(alloc, arguments)?;
-        let core = match &mut self.core {
-            Some(core) => Some(begun(alloc, core, setting.core(alloc))?),
-            None => None,
-        };
-        let plain = match &mut self.plain {
-            Some(plain) => Some(begun(alloc, plain, setting.plain(alloc))?),
-            None => None,
-        };
-        Answers { core, plain }.text(alloc)
+        let core = begun(alloc, &mut self.core, setting.core(alloc));
+        let plain = begun(alloc, &mut self.plain, setting.plain(alloc));
+        drop(setting);
+        agreement(alloc, core, plain)
     }
 
     // Makes a core that goes on from this one, and tells how long this one's journal is.
     fn hand_over(&mut self, alloc: Global, arguments: &str) -> Result<String> {
-        let setting = Setting::read(alloc, arguments)?;
         let Some(core) = &self.core else {
             bail!("only a core hands over");
         };
         let handover = core.hand_over();
         let (steps, bytes) = (handover.steps(), handover.bytes());
-        let told = match setting.core_from(alloc, core) {
-            Ok(other) => {
-                self.other = Some(other);
-                String::from_str(alloc, "made")?
+        let setting = Setting::read(alloc, arguments)?;
+        let made = setting.core_from(alloc, core);
+        drop(setting);
+        let told = self.keep_other(alloc, made)?;
+        shown(alloc, format_args!("{steps} steps, {bytes} bytes, {told}"))
+    }
+
+    fn keep_other(&mut self, alloc: Global, made: Result<Core, Refusal>) -> Result<String> {
+        match made {
+            Ok(core) => {
+                drop(self.other.replace(core));
+                shown(alloc, MADE)
             }
-            Err(cause) => refusal_text(alloc, cause)?,
-        };
-        Ok(format!(in alloc; "{steps} steps, {bytes} bytes, {told}")?)
+            Err(cause) => refusal_text(alloc, cause),
+        }
     }
 
     fn turn_to_other(&mut self, alloc: Global) -> Result<String> {
@@ -140,23 +151,18 @@ impl Proxies {
     }
 
     fn begin_run(&mut self, alloc: Global) -> Result<String> {
-        self.run = Some(Run::new(alloc));
+        drop(self.run.replace(Run::new(alloc)));
         Ok(String::new(alloc))
     }
 
     fn end_run(&mut self, alloc: Global) -> Result<String> {
-        let Some(run) = mem::replace(&mut self.run, None) else {
+        let Some(run) = self.run.take() else {
             bail!("no run has begun");
         };
-        let core = match &mut self.core {
-            Some(core) => Some(run.on_core(alloc, core)?),
-            None => None,
-        };
-        let plain = match &mut self.plain {
-            Some(plain) => Some(run.on_plain(alloc, plain)?),
-            None => None,
-        };
-        Answers { core, plain }.text(alloc)
+        let core = run.on_core(alloc, &mut self.core);
+        let plain = run.on_plain(alloc, &mut self.plain);
+        drop(run);
+        agreement(alloc, core, plain)
     }
 
     fn random(&mut self, alloc: Global, words: &str) -> Result<String> {
@@ -165,25 +171,31 @@ impl Proxies {
             numbers: Numbers(number(seed)?),
             events: number(events)?,
         };
+        match self.run_randomly(alloc, run)? {
+            Ok(_) => shown(alloc, "none differs"),
+            Err(text) => Ok(text),
+        }
+    }
+
+    /// How many steps there are behind random events, or the first of them whose answers differ.
+    pub(crate) fn run_randomly(
+        &mut self,
+        alloc: Global,
+        run: Randomly,
+    ) -> Result<Result<usize, String>> {
         let (Some(core), Some(plain)) = (&mut self.core, &mut self.plain) else {
             bail!("random events need the core and the plain program");
         };
         match run.first_difference(alloc, core, plain)? {
-            Some(text) => Ok(text),
-            None => Ok(String::from_str(alloc, "none differs")?),
+            Some(text) => Ok(Err(text)),
+            None => Ok(Ok(core.journal().len())),
         }
     }
 
     fn question(&self, alloc: Global, question: &str) -> Result<String> {
-        let core = match &self.core {
-            Some(core) => Some(core_answer(alloc, core, question)?),
-            None => None,
-        };
-        let plain = match &self.plain {
-            Some(plain) => plain_answer(alloc, plain, question)?,
-            None => None,
-        };
-        Answers { core, plain }.text(alloc)
+        let core = core_answer(alloc, &self.core, question);
+        let plain = plain_answer(alloc, &self.plain, question);
+        agreement(alloc, core, plain)
     }
 
     // Takes one event, or adds it to the run that has begun.
@@ -192,33 +204,40 @@ impl Proxies {
             run.add(alloc, self.pass, line)?;
             return Ok(String::new(alloc));
         }
-        let core = match &mut self.core {
-            Some(core) => Some(outcome(alloc, core, self.pass, made(alloc, line)?)?),
-            None => None,
-        };
-        let plain = match &mut self.plain {
-            Some(plain) => Some(outcome(alloc, plain, self.pass, made(alloc, line)?)?),
-            None => None,
-        };
-        Answers { core, plain }.text(alloc)
+        let core = taken_by(alloc, &mut self.core, self.pass, line);
+        let plain = taken_by(alloc, &mut self.plain, self.pass, line);
+        agreement(alloc, core, plain)
     }
 }
 
-// Puts the new proxy in the place of the old one, where there is a new one.
-fn begun<P: Drop>(alloc: Global, proxy: &mut P, fresh: Result<P, Refusal>) -> Result<String> {
+// Puts the new proxy in the place of the old one, if there is one and nothing is wrong with the setting.
+fn begun<P: Drop>(
+    alloc: Global,
+    proxy: &mut Option<P>,
+    fresh: Result<P, Refusal>,
+) -> Result<Option<String>> {
+    if proxy.is_none() {
+        return Ok(None);
+    }
     match fresh {
         Ok(fresh) => {
-            *proxy = fresh;
-            Ok(String::from_str(alloc, "made")?)
+            drop(proxy.replace(fresh));
+            Ok(Some(shown(alloc, MADE)?))
         }
-        Err(cause) => refusal_text(alloc, cause),
+        Err(cause) => Ok(Some(refusal_text(alloc, cause)?)),
     }
 }
 
-// The event of the line, made again where it failed, since memory may have been refused.
-fn made(alloc: Global, line: &str) -> Result<Event> {
-    match event_of(alloc, line) {
-        Ok(event) => Ok(event),
-        Err(_) => event_of(alloc, line),
-    }
+// What the proxy makes of the event of the line, if there is a proxy.
+fn taken_by<P: Proxy>(
+    alloc: Global,
+    proxy: &mut Option<P>,
+    pass: u64,
+    line: &str,
+) -> Result<Option<String>> {
+    let Some(proxy) = proxy else {
+        return Ok(None);
+    };
+    let event = again!(event_of(alloc, line))?;
+    Ok(Some(outcome(alloc, proxy, pass, event)?))
 }

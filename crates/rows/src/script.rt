@@ -1,5 +1,6 @@
 //! The script: rows, their actions, and what is printed beside them.
 
+use crate::again::again;
 use crate::series::Series;
 use crate::subject::Subject;
 use crate::text::{first_word, number};
@@ -9,10 +10,21 @@ use std::alloc::Global;
 /// Prints each line of the script, and behind an action ` => ` and its answer.
 pub(crate) fn play(rt: &impl Print, alloc: Global, text: &str) -> Result<()> {
     let mut subject = None;
+    let played = play_lines(rt, alloc, text, &mut subject);
+    drop(subject);
+    played
+}
+
+fn play_lines(
+    rt: &impl Print,
+    alloc: Global,
+    text: &str,
+    subject: &mut Option<Subject>,
+) -> Result<()> {
     let mut line_number = 0u64;
     for line in text.lines() {
         line_number = line_number.saturating_add(1);
-        let answer = read_line(alloc, &mut subject, line).context(format_args!(
+        let answer = read_line(alloc, subject, line).context(format_args!(
             "line {line_number} of the script"
         ))?;
         if answer.is_empty() {
@@ -31,7 +43,7 @@ fn read_line(alloc: Global, subject: &mut Option<Subject>, line: &str) -> Result
     }
     if let Some(row) = line.strip_prefix("row ") {
         let (_, words) = first_word(row);
-        *subject = Some(opened(alloc, words)?);
+        drop(subject.replace(again!(Subject::open(alloc, words))?));
         return Ok(String::new(alloc));
     }
     let Some(subject) = subject else {
@@ -40,14 +52,6 @@ fn read_line(alloc: Global, subject: &mut Option<Subject>, line: &str) -> Result
     match line.strip_prefix("repeat ") {
         Some(words) => repeated(alloc, subject, words),
         None => subject.act(alloc, line),
-    }
-}
-
-// What the row is about, made again where it failed, since memory may have been refused.
-fn opened(alloc: Global, words: &str) -> Result<Subject> {
-    match Subject::open(alloc, words) {
-        Ok(subject) => Ok(subject),
-        Err(_) => Subject::open(alloc, words),
     }
 }
 

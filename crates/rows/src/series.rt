@@ -1,9 +1,9 @@
 //! The answers to an action that is made many times.
 
 use crate::again::again;
+use crate::shown::shown;
 use anyhow::Result;
 use std::alloc::Global;
-use std::mem;
 
 /// Answers in their order, told by runs: how many are equal, or differ in that their first number counts up.
 #[derive(Drop)]
@@ -36,13 +36,21 @@ impl Series {
     /// Adds an answer.
     pub(crate) fn add(&mut self, answer: String) -> Result<()> {
         match &mut self.run {
-            Some(run) if run.goes_on_with(answer.as_str()) => run.add(answer),
-            run => {
-                let fresh = Run::of(self.alloc, answer)?;
-                if let Some(run) = mem::replace(run, Some(fresh)) {
-                    run.tell(self.alloc, &mut self.ended)?;
-                }
+            Some(run) if run.goes_on_with(answer.as_str()) => {
+                run.add(answer);
+                Ok(())
             }
+            _ => self.begin(answer),
+        }
+    }
+
+    // Begins a run with the answer, which ends the run that there is.
+    fn begin(&mut self, answer: String) -> Result<()> {
+        let fresh = Run::of(self.alloc, answer)?;
+        if let Some(run) = self.run.replace(fresh) {
+            let told = run.tell(self.alloc, &mut self.ended);
+            drop(run);
+            told?;
         }
         Ok(())
     }
@@ -61,7 +69,7 @@ impl Series {
 impl Run {
     fn of(alloc: Global, answer: String) -> Result<Run> {
         Ok(Run {
-            first: again!(String::from_str(alloc, answer.as_str()))?,
+            first: shown(alloc, answer.as_str())?,
             last: answer,
             count: 1,
             counts_up: false,
@@ -86,7 +94,7 @@ impl Run {
 
     // Appends the run behind others.
     fn tell(&self, alloc: Global, text: &mut String) -> Result<()> {
-        let told = again!(self.text(alloc))?;
+        let told = self.text(alloc)?;
         if !text.is_empty() {
             again!(text.push_str("; "))?;
         }
@@ -95,13 +103,12 @@ impl Run {
     }
 
     fn text(&self, alloc: Global) -> Result<String> {
-        let (count, first) = (self.count, &self.first);
-        let mut text = format!(in alloc; "{count} times {first}")?;
+        let (count, first, last) = (self.count, &self.first, &self.last);
         if self.counts_up {
-            let last = &self.last;
-            write!(text, " to {last}")?;
+            shown(alloc, format_args!("{count} times {first} to {last}"))
+        } else {
+            shown(alloc, format_args!("{count} times {first}"))
         }
-        Ok(text)
     }
 }
 
@@ -127,27 +134,36 @@ struct Numbered<'a> {
 
 impl<'a> Numbered<'a> {
     fn of(text: &'a str) -> Option<Numbered<'a>> {
-        let bytes = text.as_bytes();
-        let start = bytes.iter().position(|byte| byte.is_ascii_digit())?;
-        let (before, rest) = bytes.split_at_checked(start)?;
-        let digits = rest
-            .iter()
-            .position(|byte| !byte.is_ascii_digit())
-            .unwrap_or(rest.len());
-        let (number, behind) = rest.split_at_checked(digits)?;
+        let (before, rest) = cut_at(text.as_bytes(), true);
+        let (digits, behind) = cut_at(rest, false);
+        if digits.is_empty() {
+            return None;
+        }
         Some(Numbered {
             before,
-            number: number_of(number),
+            number: number_of(digits),
             behind,
         })
     }
 }
 
+// The text up to its first digit, or to its first byte that is none, and what stands behind.
+fn cut_at(text: &[u8], digit: bool) -> (&[u8], &[u8]) {
+    for at in 0..text.len() {
+        if text[at].is_ascii_digit() == digit {
+            return text.split_at(at);
+        }
+    }
+    text.split_at(text.len())
+}
+
 // The number that the digits are; the greatest where it has no room.
 fn number_of(digits: &[u8]) -> u64 {
-    digits.iter().fold(0u64, |number, digit| {
-        number
+    let mut number = 0u64;
+    for digit in digits {
+        number = number
             .saturating_mul(10)
-            .saturating_add(u64::from(digit.saturating_sub(b'0')))
-    })
+            .saturating_add(u64::from(digit.saturating_sub(b'0')));
+    }
+    number
 }

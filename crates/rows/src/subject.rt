@@ -1,19 +1,50 @@
 //! What a row is about.
 
-use crate::parts::Part;
+use crate::parts::reader::ReaderSubject;
+use crate::parts::{
+    ejection, files, journal, messages, pipe, plans, queue, rates, ring, stub, table,
+};
 use crate::proxies::Proxies;
-use crate::text::first_word;
+use crate::text::{first_word, unknown};
 use anyhow::{Result, bail};
+use ejector::Ejector;
+use journal_core::Journal;
+use ketama::Ring;
+use reply_queue::Queue;
 use std::alloc::Global;
+use stub_server::Stub;
+use upstream_pipe::Pipe;
 
-/// What the actions of a row are made on. Each stands in a block of its own, so that who holds a subject needn't know how
-/// large the largest of them is.
+/// What the actions of a row are made on. What has a state stands in a block of its own, so that who holds a subject
+/// needn't know how large the largest of them is.
 #[derive(Drop)]
 pub enum Subject {
     /// The core, the plain program, or both.
     Proxies(Box<Proxies>),
-    /// A part of a proxy.
-    Part(Box<Part>),
+    /// A reader of a stream, and values.
+    Reader(Box<ReaderSubject>),
+    /// The table of commands.
+    Table,
+    /// Plans and joins.
+    Plans,
+    /// A connection's queue, which is empty at first.
+    Queue(Box<Queue>),
+    /// A host's pipe, which is empty at first.
+    Pipe(Box<Pipe>),
+    /// A journal, which is empty at first. Its events and answers are numbers here.
+    Journal(Box<Journal<u64, u64>>),
+    /// The host in memory, which has no keys at first.
+    Stub(Box<Stub>),
+    /// The ring that the row made last, and keys.
+    Ring(Box<Option<Ring>>),
+    /// Success rates.
+    Rates,
+    /// Outlier detection: the ejector that the row made last.
+    Ejector(Box<Option<Ejector>>),
+    /// Settings files.
+    Files,
+    /// The texts of refusals.
+    Messages,
 }
 
 impl Subject {
@@ -21,30 +52,58 @@ impl Subject {
     pub(crate) fn open(alloc: Global, words: &str) -> Result<Subject> {
         let (name, arguments) = first_word(words);
         match name {
-            "core" | "plain" | "both" => of_proxies(alloc, Proxies::open(alloc, name, arguments)?),
-            _ => of_part(alloc, Part::open(alloc, name, arguments)?),
+            "core" | "plain" | "both" => Subject::proxies(alloc, name, arguments),
+            "table" => Ok(Subject::Table),
+            "plans" => Ok(Subject::Plans),
+            "rates" => Ok(Subject::Rates),
+            "settings" => Ok(Subject::Files),
+            "messages" => Ok(Subject::Messages),
+            _ => Subject::with_state(alloc, name, arguments),
         }
+    }
+
+    fn proxies(alloc: Global, name: &str, arguments: &str) -> Result<Subject> {
+        let proxies = boxed(alloc, Proxies::open(alloc, name, arguments)?)?;
+        Ok(Subject::Proxies(proxies))
+    }
+
+    // The part of this name, which has a state.
+    fn with_state(alloc: Global, name: &str, arguments: &str) -> Result<Subject> {
+        Ok(match name {
+            "reader" => Subject::Reader(boxed(alloc, ReaderSubject::open(alloc, arguments)?)?),
+            "queue" => Subject::Queue(boxed(alloc, Queue::new(alloc))?),
+            "pipe" => Subject::Pipe(boxed(alloc, Pipe::new(alloc))?),
+            "journal" => Subject::Journal(boxed(alloc, Journal::new(alloc))?),
+            "stub" => Subject::Stub(boxed(alloc, Stub::new(alloc))?),
+            "ring" => Subject::Ring(boxed(alloc, None)?),
+            "ejector" => Subject::Ejector(boxed(alloc, None)?),
+            _ => return unknown("subject", name),
+        })
     }
 
     /// Makes one action, and gives its answer in words.
     pub(crate) fn act(&mut self, alloc: Global, line: &str) -> Result<String> {
         match self {
             Subject::Proxies(proxies) => proxies.act(alloc, line),
-            Subject::Part(part) => part.act(alloc, line),
+            Subject::Reader(reader) => reader.act(alloc, line),
+            Subject::Table => table::act(alloc, line),
+            Subject::Plans => plans::act(alloc, line),
+            Subject::Queue(queue) => queue::act(alloc, queue, line),
+            Subject::Pipe(pipe) => pipe::act(alloc, pipe, line),
+            Subject::Journal(journal) => journal::act(alloc, journal, line),
+            Subject::Stub(stub) => stub::act(alloc, stub, line),
+            Subject::Ring(ring) => ring::act(alloc, ring, line),
+            Subject::Rates => rates::act(alloc, line),
+            Subject::Ejector(ejector) => ejection::act(alloc, ejector, line),
+            Subject::Files => files::act(alloc, line),
+            Subject::Messages => messages::act(alloc, line),
         }
     }
 }
 
-fn of_proxies(alloc: Global, proxies: Proxies) -> Result<Subject> {
-    match Box::new(alloc, proxies) {
-        Ok(proxies) => Ok(Subject::Proxies(proxies)),
-        Err(_) => bail!("no memory for a row"),
-    }
-}
-
-fn of_part(alloc: Global, part: Part) -> Result<Subject> {
-    match Box::new(alloc, part) {
-        Ok(part) => Ok(Subject::Part(part)),
+fn boxed<T: Drop>(alloc: Global, value: T) -> Result<Box<T>> {
+    match Box::new(alloc, value) {
+        Ok(boxed) => Ok(boxed),
         Err(_) => bail!("no memory for a row"),
     }
 }

@@ -11,6 +11,11 @@ pub(crate) fn first_word(line: &str) -> (&str, &str) {
     line.split_once(' ').unwrap_or((line, ""))
 }
 
+/// The failure where a word names nothing of this kind.
+pub(crate) fn unknown<T>(kind: &str, word: &str) -> Result<T> {
+    bail!("no {kind} is named {word:?}")
+}
+
 /// The number that a word is.
 pub(crate) fn number<N: FromStr>(word: &str) -> Result<N>
 where

@@ -19,16 +19,41 @@ const BIG_REST: usize = 7 + 1_023 * 65_536 + 10;
 
 /// The value of a text in RESP2 with escapes, or behind `simple` a simple string of any bytes.
 pub(crate) fn value_of(alloc: Global, text: &str) -> Result<Value> {
-    if let Some(line) = text.strip_prefix("simple ") {
-        let bytes = unescaped(alloc, line)?;
-        return Ok(Value::Simple(Bytes::from_vec(bytes)?));
+    match text.strip_prefix("simple ") {
+        Some(line) => Ok(Value::Simple(bytes_of(alloc, line)?)),
+        None => read_value(alloc, text),
     }
-    let bytes = unescaped(alloc, text)?;
-    let mut reader = Reader::new(alloc, Limits::HOST);
-    reader.feed(bytes.as_slice())?;
+}
+
+/// The bytes of a text with escapes.
+pub(crate) fn bytes_of(alloc: Global, text: &str) -> Result<Bytes> {
+    Ok(Bytes::from_vec(unescaped(alloc, text)?)?)
+}
+
+fn read_value(alloc: Global, text: &str) -> Result<Value> {
+    let mut reader = fed_reader(alloc, text)?;
+    let value = first_value(&mut reader);
+    drop(reader);
+    value
+}
+
+fn first_value(reader: &mut Reader) -> Result<Value> {
     match reader.next_value()? {
         Some(value) => Ok(value),
         None => bail!("the value is cut off"),
+    }
+}
+
+/// A reader that was fed a text with escapes.
+pub(crate) fn fed_reader(alloc: Global, text: &str) -> Result<Reader> {
+    let bytes = unescaped(alloc, text)?;
+    let mut reader = Reader::new(alloc, Limits::HOST);
+    match reader.feed(bytes.as_slice()) {
+        Ok(()) => Ok(reader),
+        Err(refusal) => {
+            drop(reader);
+            Err(refusal.into())
+        }
     }
 }
 
@@ -39,32 +64,33 @@ pub(crate) fn request_of(alloc: Global, words: &str) -> Result<Request> {
     match kind {
         "broken" => Ok(Request::Broken),
         "value" => Ok(Request::Read(value_of(alloc, rest)?)),
-        "many" => {
-            let (name, keys) = first_word(rest);
-            many(alloc, name, number(keys)?)
-        }
+        "many" => many(alloc, rest),
         "bytes" => big(alloc, number(rest)?),
-        _ => command(alloc, words),
+        _ => Ok(Request::Read(command(alloc, words)?)),
     }
 }
 
 /// The command of these words.
-pub(crate) fn command(alloc: Global, line: &str) -> Result<Request> {
+pub(crate) fn command(alloc: Global, line: &str) -> Result<Value> {
     let mut words = Vec::new(alloc);
     for word in line.split(' ') {
-        words.push(Value::Bulk(Bytes::from_vec(word_bytes(alloc, word)?)?))?;
+        words.push(bulk(alloc, word)?)?;
     }
-    Ok(Request::Read(Value::List(Values(words))))
+    Ok(Value::List(Values(words)))
 }
 
-// The command with the key `a` so many times.
-fn many(alloc: Global, name: &str, keys: usize) -> Result<Request> {
-    let mut words = Vec::new(alloc);
-    words.push(Value::Bulk(Bytes::from_vec(word_bytes(alloc, name)?)?))?;
-    for _ in 0..keys {
-        words.push(Value::Bulk(Bytes::from_static(b"a")))?;
-    }
-    Ok(Request::Read(Value::List(Values(words))))
+/// The bulk string of a word.
+pub(crate) fn bulk(alloc: Global, word: &str) -> Result<Value> {
+    Ok(Value::Bulk(Bytes::from_vec(word_bytes(alloc, word)?)?))
+}
+
+// The command of this name with the key `a` so many times.
+fn many(alloc: Global, words: &str) -> Result<Request> {
+    let (name, keys) = first_word(words);
+    let mut members = Vec::new(alloc);
+    put_copies(alloc, &mut members, 1, bulk(alloc, name)?)?;
+    put_copies(alloc, &mut members, number(keys)?, bulk(alloc, "a")?)?;
+    Ok(Request::Read(Value::List(Values(members))))
 }
 
 // A list of bulk strings of zeros, whose text has so many bytes.
@@ -76,12 +102,33 @@ fn big(alloc: Global, length: usize) -> Result<Request> {
         bail!("a request of so many bytes");
     }
     let mut members = Vec::new(alloc);
-    members.push(zeros(alloc, first)?)?;
-    let rest = zeros(alloc, BIG_PAYLOAD)?;
-    for _ in 1..BIG_MEMBERS {
-        members.push(rest.share(alloc)?)?;
-    }
+    put_copies(alloc, &mut members, 1, zeros(alloc, first)?)?;
+    put_copies(
+        alloc,
+        &mut members,
+        BIG_MEMBERS - 1,
+        zeros(alloc, BIG_PAYLOAD)?,
+    )?;
     Ok(Request::Read(Value::List(Values(members))))
+}
+
+/// Appends a value so many times.
+pub(crate) fn put_copies(
+    alloc: Global,
+    members: &mut Vec<Value>,
+    count: usize,
+    value: Value,
+) -> Result<()> {
+    let put = put_shared(alloc, members, count, &value);
+    drop(value);
+    put
+}
+
+fn put_shared(alloc: Global, members: &mut Vec<Value>, count: usize, value: &Value) -> Result<()> {
+    for _ in 0..count {
+        members.push(value.share(alloc)?)?;
+    }
+    Ok(())
 }
 
 fn zeros(alloc: Global, count: usize) -> Result<Value> {

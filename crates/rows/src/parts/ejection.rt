@@ -1,52 +1,39 @@
 //! Rows of outlier detection.
 
-use super::answers::{refusal_words, shown};
 use super::marks;
 use crate::again::again;
-use crate::proxies::answers::trip_name;
-use crate::proxies::setting::set_field;
+use crate::proxies::answers::bad_settings;
+use crate::proxies::setting::{set_field, set_tags};
 use crate::series::Series;
-use crate::text::{first_word, number};
+use crate::shown::{refusal_words, shown};
+use crate::text::{first_word, number, unknown};
 use anyhow::{Result, bail};
 use ejector::{EjectError, Ejector, Settings};
 use std::alloc::Global;
 use std::ops::RangeInclusive;
 
-/// The ejector that a row made last.
-#[derive(Drop)]
-pub struct EjectorSubject {
-    ejector: Option<Ejector>,
+/// Makes one action on the ejector that a row made last: `new HOSTS KEY=N ..`, or what `told` takes.
+pub(crate) fn act(alloc: Global, ejector: &mut Option<Ejector>, line: &str) -> Result<String> {
+    let (verb, rest) = first_word(line);
+    if verb == "new" {
+        return make(alloc, ejector, rest);
+    }
+    match ejector {
+        Some(ejector) => told(alloc, ejector, verb, rest),
+        None => bail!("no ejector is made"),
+    }
 }
 
-impl EjectorSubject {
-    /// Begins a row.
-    pub(crate) fn open() -> EjectorSubject {
-        EjectorSubject { ejector: None }
-    }
-
-    /// Makes one action: `new HOSTS KEY=N ..`, or what `told` takes.
-    pub(crate) fn act(&mut self, alloc: Global, line: &str) -> Result<String> {
-        let (verb, rest) = first_word(line);
-        if verb == "new" {
-            return self.make(alloc, rest);
+fn make(alloc: Global, kept: &mut Option<Ejector>, words: &str) -> Result<String> {
+    let (hosts, fields) = first_word(words);
+    let hosts = number(hosts)?;
+    let settings = settings_of(fields)?;
+    match again!(Ejector::new(alloc, hosts, settings)) {
+        Ok(ejector) => {
+            drop(kept.replace(ejector));
+            shown(alloc, "Ok")
         }
-        match &mut self.ejector {
-            Some(ejector) => told(alloc, ejector, verb, rest),
-            None => bail!("no ejector is made"),
-        }
-    }
-
-    fn make(&mut self, alloc: Global, words: &str) -> Result<String> {
-        let (hosts, fields) = first_word(words);
-        let hosts = number(hosts)?;
-        let settings = settings_of(fields)?;
-        match again!(Ejector::new(alloc, hosts, settings)) {
-            Ok(ejector) => {
-                self.ejector = Some(ejector);
-                shown(alloc, "Ok")
-            }
-            Err(error) => again!(error_text(alloc, error)),
-        }
+        Err(error) => error_text(alloc, error),
     }
 }
 
@@ -56,8 +43,7 @@ fn settings_of(fields: &str) -> Result<Settings> {
     for field in fields.split_whitespace() {
         match field.split_once('=') {
             Some((key, text)) => set_field(&mut settings, key, number(text)?)?,
-            None if field == "tags" => settings.tags = true,
-            None => bail!("{field:?} is no field"),
+            None => set_tags(&mut settings, field)?,
         }
     }
     Ok(settings)
@@ -72,12 +58,9 @@ fn told(alloc: Global, ejector: &mut Ejector, verb: &str, words: &str) -> Result
         "bad" => results(alloc, ejector, false, words),
         "mixed" => mixed(alloc, ejector, words),
         "sweep" => sweep(alloc, ejector, number(words)?),
-        "marks" => {
-            let tally = marks::played(ejector, words)?;
-            again!(tally.text(alloc))
-        }
+        "marks" => marks::played(alloc, ejector, words),
         "go_on" => go_on(alloc, ejector),
-        _ => again!(seen(alloc, ejector, verb, words)),
+        _ => seen(alloc, ejector, verb, words),
     }
 }
 
@@ -88,14 +71,14 @@ fn go_on(alloc: Global, ejector: &mut Ejector) -> Result<String> {
             *ejector = next;
             shown(alloc, "Ok")
         }
-        Err(error) => again!(error_text(alloc, error)),
+        Err(error) => error_text(alloc, error),
     }
 }
 
 // What leaves the ejector as it is: `is_out HOST`, `usable HOST`, `multiplier HOST`, `all_usable`, `in_panic`, `rules`.
 fn seen(alloc: Global, ejector: &Ejector, verb: &str, words: &str) -> Result<String> {
     match verb {
-        "all_usable" => all_usable(alloc, ejector),
+        "all_usable" => again!(all_usable(alloc, ejector)),
         "in_panic" => shown(alloc, ejector.in_panic()),
         "rules" => rules_text(alloc, ejector),
         _ => seen_of(alloc, ejector, verb, number(words)?),
@@ -110,7 +93,7 @@ fn seen_of(alloc: Global, ejector: &Ejector, verb: &str, host: usize) -> Result<
         "is_out" => shown(alloc, ejector.is_out(host)),
         "usable" => shown(alloc, ejector.usable(host)),
         "multiplier" => shown(alloc, ejector.multiplier(host)),
-        _ => bail!("an ejector takes no action {verb:?}"),
+        _ => unknown("action", verb),
     }
 }
 
@@ -157,8 +140,8 @@ fn result(
         bail!("there is no host {host}");
     }
     match again!(ejector.result(host, ok, moment)) {
-        Ok(trip) => shown(alloc, trip_name(trip)),
-        Err(error) => again!(error_text(alloc, error)),
+        Ok(trip) => shown(alloc, format_args!("{trip:?}")),
+        Err(error) => error_text(alloc, error),
     }
 }
 
@@ -171,7 +154,7 @@ fn sweep(alloc: Global, ejector: &mut Ejector, moment: u64) -> Result<String> {
                 format_args!("returned {returned}, ejected {ejected}, kept {kept}"),
             )
         }
-        Err(error) => again!(error_text(alloc, error)),
+        Err(error) => error_text(alloc, error),
     }
 }
 
@@ -196,16 +179,13 @@ fn listed(alloc: Global, truths: &[bool]) -> Result<String> {
 fn rules_text(alloc: Global, ejector: &Ejector) -> Result<String> {
     let rules = ejector.rules();
     let fault = rules.first_fault();
-    Ok(format!(in alloc; "{rules:?}, fault {fault:?}")?)
+    shown(alloc, format_args!("{rules:?}, fault {fault:?}"))
 }
 
 // The error's number and name, and the field by its key.
 fn error_text(alloc: Global, error: EjectError) -> Result<String> {
     match error {
-        EjectError::BadSettings { field } => {
-            let number = error.number();
-            Ok(format!(in alloc; "{number} BadSettings {field}")?)
-        }
+        EjectError::BadSettings { field } => bad_settings(alloc, error.number(), field),
         EjectError::NoMemory => refusal_words(alloc, error.number(), &error),
     }
 }

@@ -2,7 +2,8 @@
 
 use crate::again::again;
 use crate::series::Series;
-use crate::text::{first_word, number, put_escaped, unescaped};
+use crate::shown::{escaped, shown};
+use crate::text::{first_word, number, unescaped, unknown};
 use anyhow::{Result, bail};
 use proxy_config::{ConfigError, check_line};
 use std::alloc::Global;
@@ -22,7 +23,7 @@ fn told(alloc: Global, line: &str) -> Result<String> {
         "cuts" => beginnings(alloc, rest),
         "nested" => nested(alloc, number(rest)?),
         "long" => long(alloc, number(rest)?),
-        _ => bail!("a settings file takes no action {verb:?}"),
+        _ => unknown("action", verb),
     }
 }
 
@@ -30,7 +31,7 @@ fn told(alloc: Global, line: &str) -> Result<String> {
 fn told_of(alloc: Global, bytes: &[u8]) -> Result<String> {
     match checked(alloc, bytes)? {
         Ok(line) => escaped(alloc, line.as_bytes()),
-        Err(words) => Ok(format!(in alloc; "settings: {words}")?),
+        Err(words) => shown(alloc, format_args!("settings: {words}")),
     }
 }
 
@@ -43,24 +44,19 @@ fn checked(alloc: Global, bytes: &[u8]) -> Result<Result<String, &'static str>> 
     }
 }
 
-fn escaped(alloc: Global, bytes: &[u8]) -> Result<String> {
-    let mut text = String::new(alloc);
-    put_escaped(&mut text, bytes)?;
-    Ok(text)
-}
-
 fn many_values(alloc: Global, words: &str) -> Result<String> {
     let (key, values) = first_word(words);
     let mut series = Series::new(alloc);
     for value in values.split(' ') {
-        let file = file_with(alloc, key, value)?;
-        series.add(told_of(alloc, file.as_bytes())?)?;
+        series.add(told_with(alloc, key, value)?)?;
     }
     series.text()
 }
 
-fn file_with(alloc: Global, key: &str, value: &str) -> Result<String> {
-    Ok(format!(in alloc; "{{\"hosts\":[\"127.0.0.1:7001\"],\"{key}\":{value}}}")?)
+// What is told of a file that gives one host, and this value at this key.
+fn told_with(alloc: Global, key: &str, value: &str) -> Result<String> {
+    let file = format!(in alloc; "{{\"hosts\":[\"127.0.0.1:7001\"],\"{key}\":{value}}}")?;
+    told_of(alloc, file.as_bytes())
 }
 
 fn beginnings(alloc: Global, text: &str) -> Result<String> {
@@ -73,23 +69,22 @@ fn beginnings(alloc: Global, text: &str) -> Result<String> {
 }
 
 fn nested(alloc: Global, depth: usize) -> Result<String> {
-    let mut value = String::new(alloc);
-    for _ in 0..depth {
-        value.push('[')?;
-    }
-    for _ in 0..depth {
-        value.push(']')?;
-    }
-    let file = file_with(alloc, "workers", value.as_str())?;
-    told_of(alloc, file.as_bytes())
+    let (opening, closing) = (of_one(alloc, '[', depth)?, of_one(alloc, ']', depth)?);
+    let value = format!(in alloc; "{opening}{closing}")?;
+    told_with(alloc, "workers", value.as_str())
 }
 
 fn long(alloc: Global, len: usize) -> Result<String> {
-    let mut value = String::from_str(alloc, "\"")?;
-    for _ in 0..len {
-        value.push('x')?;
+    let letters = of_one(alloc, 'x', len)?;
+    let value = format!(in alloc; "\"{letters}\"")?;
+    told_with(alloc, "listen", value.as_str())
+}
+
+// This letter so many times.
+fn of_one(alloc: Global, letter: char, count: usize) -> Result<String> {
+    let mut text = String::new(alloc);
+    for _ in 0..count {
+        text.push(letter)?;
     }
-    value.push('"')?;
-    let file = file_with(alloc, "listen", value.as_str())?;
-    told_of(alloc, file.as_bytes())
+    Ok(text)
 }

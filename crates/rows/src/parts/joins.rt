@@ -2,7 +2,8 @@
 ghost use Rattle.std.specs.Prelude.{IsTrue};
 ghost use Rattle.splitter.specs.Join.{MayJoin};
 
-use anyhow::{Result, bail};
+use crate::text::unknown;
+use anyhow::Result;
 use splitter::Join;
 
 /// The join of this name.
@@ -12,7 +13,7 @@ pub(crate) fn join_of(name: &str) -> Result<Join> {
         "Get" => Ok(Join::Get),
         "Set" => Ok(Join::Set),
         "Sum" => Ok(Join::Sum),
-        _ => bail!("no join is named {name:?}"),
+        _ => unknown("join", name),
     }
 }
 

@@ -3,22 +3,24 @@
 //! `outside/ejection_marks.py` makes the same marks, and reckons by the rules what has to come out.
 
 use crate::proxies::random::Numbers;
+use crate::shown::shown;
 use crate::text::{first_word, number};
 use anyhow::Result;
 use ejector::{Ejector, Swept, Trip};
 use std::alloc::Global;
 
-/// What came of results and sweeps, in sums, and a number that each answer and each state on the way goes into.
+// What came of results and sweeps, in sums, and a number that each answer and each state on the way goes into.
 #[derive(Clone, Copy)]
-pub struct Tally {
+struct Tally {
     results: [u64; 3],
     sweeps: u64,
     swept: [u64; 3],
     check: u32,
 }
 
-/// Gives the ejector the marks of the words `SEED MARKS MOMENT`, the first at that moment or later.
-pub(crate) fn played(ejector: &mut Ejector, words: &str) -> Result<Tally> {
+/// Gives the ejector the marks of the words `SEED MARKS MOMENT`, the first at that moment or later, and tells what came of
+/// them.
+pub(crate) fn played(alloc: Global, ejector: &mut Ejector, words: &str) -> Result<String> {
     let (seed, rest) = first_word(words);
     let (marks, moment) = first_word(rest);
     let mut numbers = Numbers(number(seed)?);
@@ -30,7 +32,7 @@ pub(crate) fn played(ejector: &mut Ejector, words: &str) -> Result<Tally> {
         tally.take(ejector, &mut numbers, moment);
         tally.look(ejector);
     }
-    Ok(tally)
+    tally.text(alloc)
 }
 
 impl Tally {
@@ -95,18 +97,15 @@ impl Tally {
         self.check = self.check.wrapping_mul(31).wrapping_add(code);
     }
 
-    /// The tally in words.
-    pub(crate) fn text(&self, alloc: Global) -> Result<String> {
+    fn text(&self, alloc: Global) -> Result<String> {
         let [none, ejected, kept] = self.results;
         let [returned, out, stayed] = self.swept;
         let (sweeps, check) = (self.sweeps, self.check);
-        let mut text = format!(in alloc;
-            "results: {none} None, {ejected} Ejected, {kept} Kept; {sweeps} sweeps: "
-        )?;
-        write!(
-            text,
-            "returned {returned}, ejected {out}, kept {stayed}; check {check}"
-        )?;
-        Ok(text)
+        shown(
+            alloc,
+            format_args!(
+                "results: {none} None, {ejected} Ejected, {kept} Kept; {sweeps} sweeps: returned {returned}, ejected {out}, kept {stayed}; check {check}"
+            ),
+        )
     }
 }

@@ -13,15 +13,11 @@ use std::fmt::Display;
 use stub_server::StubError;
 use upstream_pipe::PipeRefusal;
 
+// The refusals' numbers and texts.
 macro_rules! messages {
-    ($alloc:expr, $($refusal:expr),+) => {{
-        let mut text = String::new($alloc);
-        $(
-            let refusal = $refusal;
-            put_message(&mut text, refusal.number(), &refusal)?;
-        )+
-        Ok(text)
-    }};
+    ($alloc:expr, $($refusal:expr),+) => {
+        listed($alloc, &[$(($refusal.number(), $refusal)),+])
+    };
 }
 
 /// Gives the refusals of what the line names: `reader`, `ring`, `ejector`, `pipe`, `splitter`, `queue`, `journal`, `stub`.
@@ -43,13 +39,15 @@ fn refusals_of(alloc: Global, name: &str) -> Result<String> {
     }
 }
 
-// Appends a refusal's number and text behind others.
-fn put_message(text: &mut String, number: u16, refusal: &impl Display) -> Result<()> {
-    if !text.is_empty() {
-        text.push_str("; ")?;
+fn listed<R: Display>(alloc: Global, refusals: &[(u16, R)]) -> Result<String> {
+    let mut text = String::new(alloc);
+    for (number, refusal) in refusals {
+        if !text.is_empty() {
+            text.push_str("; ")?;
+        }
+        write!(text, "{number} {refusal}")?;
     }
-    write!(text, "{number} {refusal}")?;
-    Ok(())
+    Ok(text)
 }
 
 fn of_reader(alloc: Global) -> Result<String> {

@@ -2,12 +2,12 @@
 
 use super::joins::{join_of, may_join};
 use super::pieces::repeated;
-use super::spelling::{spelling, values_of};
+use super::spelling::{spelled, spelling, values_of};
 use crate::again::again;
-use crate::text::{first_word, put_escaped, word_bytes};
-use crate::values::request_of;
+use crate::shown::shown;
+use crate::text::{first_word, put_escaped, unknown};
+use crate::values::{bulk, put_copies, request_of};
 use anyhow::{Result, bail};
-use bytes::Bytes;
 use resp_core::{Value, Values};
 use splitter::{Join, Local, PartPlan, Plan, Request, join, plan};
 use std::alloc::Global;
@@ -24,15 +24,20 @@ pub(crate) fn act(alloc: Global, line: &str) -> Result<String> {
 fn told(alloc: Global, line: &str) -> Result<String> {
     let (verb, rest) = first_word(line);
     match verb {
-        "plan" => planned(alloc, &command_of(alloc, rest)?),
-        "value" | "broken" => planned(alloc, &request_of(alloc, line)?),
+        "plan" => planned(alloc, command_of(alloc, rest)?),
+        "value" | "broken" => planned(alloc, request_of(alloc, line)?),
         "join" => joined(alloc, rest),
-        _ => bail!("plans take no action {verb:?}"),
+        _ => unknown("action", verb),
     }
 }
 
-fn planned(alloc: Global, request: &Request) -> Result<String> {
-    plan_text(alloc, &plan(alloc, request)?)
+fn planned(alloc: Global, request: Request) -> Result<String> {
+    let plan = plan(alloc, &request);
+    drop(request);
+    let plan = plan?;
+    let text = plan_text(alloc, &plan);
+    drop(plan);
+    text
 }
 
 // The command of these words.
@@ -46,11 +51,7 @@ fn command_of(alloc: Global, words: &str) -> Result<Request> {
 
 fn put_words(alloc: Global, members: &mut Vec<Value>, word: &str) -> Result<()> {
     let (count, word) = repeated(word);
-    let bytes = Bytes::from_vec(word_bytes(alloc, word)?)?;
-    for _ in 0..count {
-        members.push(Value::Bulk(bytes.clone()?))?;
-    }
-    Ok(())
+    put_copies(alloc, members, count, bulk(alloc, word)?)
 }
 
 fn plan_text(alloc: Global, plan: &Plan) -> Result<String> {
@@ -63,7 +64,7 @@ fn plan_text(alloc: Global, plan: &Plan) -> Result<String> {
 
 fn own_answer(alloc: Global, plan: &str, local: Local, value: &Value) -> Result<String> {
     let text = spelling(alloc, value)?;
-    Ok(format!(in alloc; "{plan} {local:?} {text}")?)
+    shown(alloc, format_args!("{plan} {local:?} {text}"))
 }
 
 // The join, and the key and the text of each part.
@@ -105,6 +106,5 @@ fn joined(alloc: Global, words: &str) -> Result<String> {
     if !may_join(how, values.len()) {
         bail!("no join of so many values");
     }
-    let value = join(alloc, how, values.as_slice())?;
-    spelling(alloc, &value)
+    spelled(alloc, join(alloc, how, values.as_slice())?)
 }

@@ -2,9 +2,9 @@
 ghost use Rattle.std.specs.Prelude.{◌≤◌, All, IsTrue};
 ghost use Rattle.std.specs.Option.{ForSome};
 
-use super::answers::shown;
 use crate::again::again;
-use crate::text::{first_word, number};
+use crate::shown::shown;
+use crate::text::{first_word, number, unknown};
 use anyhow::{Result, bail};
 use rate_core::{is_outlier, rate};
 use std::alloc::Global;
@@ -15,7 +15,7 @@ pub(crate) fn act(alloc: Global, line: &str) -> Result<String> {
     match verb {
         "rate" => share(alloc, rest),
         "is_outlier" => outlier(alloc, rest),
-        _ => bail!("rates take no action {verb:?}"),
+        _ => unknown("action", verb),
     }
 }
 

@@ -1,13 +1,12 @@
 //! Rows of a reader: what it gives of a stream, however the stream is cut, and what is told of values.
 
-use super::answers::{refusal_words, shown};
 use super::pieces::stream_of;
-use super::spelling::spelling;
+use super::spelling::spelled_or_nothing;
 use crate::again::again;
-use crate::text::{first_word, put_escaped, unescaped};
-use crate::values::value_of;
-use anyhow::{Result, bail};
-use bytes::Bytes;
+use crate::shown::{escaped, refusal_words, shown};
+use crate::text::{first_word, put_escaped, unescaped, unknown};
+use crate::values::{bytes_of, value_of};
+use anyhow::Result;
 use resp_core::{Limits, Reader, RespError, Value, put_text};
 use std::alloc::Global;
 
@@ -27,7 +26,7 @@ impl ReaderSubject {
         let limits = match arguments {
             "client" => Limits::CLIENT,
             "host" => Limits::HOST,
-            _ => bail!("no limits are those of {arguments:?}"),
+            _ => return unknown("kind of reader", arguments),
         };
         Ok(ReaderSubject {
             limits,
@@ -49,16 +48,13 @@ impl ReaderSubject {
     // What leaves the row's reader as it is.
     fn told(&self, alloc: Global, verb: &str, rest: &str) -> Result<String> {
         match verb {
-            "held" => {
-                let held = self.reader.held();
-                Ok(format!(in alloc; "{held} bytes")?)
-            }
+            "held" => shown(alloc, format_args!("{} bytes", self.reader.held())),
             "read" => self.read(alloc, rest),
-            "measure" => measured(alloc, &value_of(alloc, rest)?),
-            "simple" => measured(alloc, &Value::Simple(line_of(alloc, rest)?)),
-            "error" => measured(alloc, &Value::Fault(line_of(alloc, rest)?)),
-            "words" => words_text(alloc, &value_of(alloc, rest)?),
-            _ => bail!("a reader takes no action {verb:?}"),
+            "measure" => measured(alloc, value_of(alloc, rest)?),
+            "simple" => measured(alloc, Value::Simple(bytes_of(alloc, rest)?)),
+            "error" => measured(alloc, Value::Fault(bytes_of(alloc, rest)?)),
+            "words" => words_text(alloc, value_of(alloc, rest)?),
+            _ => unknown("action", verb),
         }
     }
 
@@ -66,15 +62,14 @@ impl ReaderSubject {
         let piece = again!(unescaped(alloc, text))?;
         match again!(self.reader.feed(piece.as_slice())) {
             Ok(()) => shown(alloc, "Ok"),
-            Err(refusal) => again!(refusal_words(alloc, refusal.number(), &refusal)),
+            Err(refusal) => refusal_words(alloc, refusal.number(), &refusal),
         }
     }
 
     fn next(&mut self, alloc: Global) -> Result<String> {
         match again!(self.reader.next_value()) {
-            Ok(Some(value)) => again!(spelling(alloc, &value)),
-            Ok(None) => shown(alloc, "nothing"),
-            Err(refusal) => again!(refusal_words(alloc, refusal.number(), &refusal)),
+            Ok(value) => spelled_or_nothing(alloc, value),
+            Err(refusal) => refusal_words(alloc, refusal.number(), &refusal),
         }
     }
 
@@ -84,37 +79,49 @@ impl ReaderSubject {
         let stream = stream_of(alloc, words)?;
         let stream = stream.as_slice();
         let told = self.read_in_pieces(alloc, stream, stream.len())?;
-        for length in piece_lengths(stream.len()) {
-            let text = self.read_in_pieces(alloc, stream, *length)?;
-            if told.as_str() != text.as_str() {
-                return Ok(format!(in alloc; "DIFFER: {told}, in pieces of {length}: {text}")?);
-            }
+        if let Some(length) = self.differing_length(alloc, stream, told.as_str())? {
+            return shown(alloc, format_args!("{told}, DIFFERS in pieces of {length}"));
         }
-        for place in 0..places(stream.len()) {
-            let text = self.read_cut_at(alloc, stream, place)?;
-            if told.as_str() != text.as_str() {
-                return Ok(format!(in alloc; "DIFFER: {told}, cut at {place}: {text}")?);
-            }
+        if let Some(place) = self.differing_place(alloc, stream, told.as_str())? {
+            return shown(alloc, format_args!("{told}, DIFFERS cut at {place}"));
         }
         Ok(told)
     }
 
-    fn read_in_pieces(&self, alloc: Global, stream: &[u8], length: usize) -> Result<String> {
-        let mut reader = Reader::new(alloc, self.limits);
-        let mut reading = Reading::new(alloc);
-        for piece in stream.chunks(length.max(1)) {
-            reading.take_piece(alloc, &mut reader, piece)?;
+    // A length of pieces in which the stream isn't read so.
+    fn differing_length(&self, alloc: Global, stream: &[u8], told: &str) -> Result<Option<usize>> {
+        for length in piece_lengths(stream.len()) {
+            let text = self.read_in_pieces(alloc, stream, *length)?;
+            if text.as_str() != told {
+                return Ok(Some(*length));
+            }
         }
-        reading.text(alloc, stream)
+        Ok(None)
+    }
+
+    // A place such that the stream, cut in two there, isn't read so.
+    fn differing_place(&self, alloc: Global, stream: &[u8], told: &str) -> Result<Option<usize>> {
+        for place in 0..places(stream.len()) {
+            let text = self.read_cut_at(alloc, stream, place)?;
+            if text.as_str() != told {
+                return Ok(Some(place));
+            }
+        }
+        Ok(None)
+    }
+
+    fn read_in_pieces(&self, alloc: Global, stream: &[u8], length: usize) -> Result<String> {
+        let mut reading = Reading::new(alloc, self.limits);
+        let text = reading.of_pieces(alloc, stream, length);
+        drop(reading);
+        text
     }
 
     fn read_cut_at(&self, alloc: Global, stream: &[u8], place: usize) -> Result<String> {
-        let mut reader = Reader::new(alloc, self.limits);
-        let mut reading = Reading::new(alloc);
-        let (front, back) = stream.split_at(place.min(stream.len()));
-        reading.take_piece(alloc, &mut reader, front)?;
-        reading.take_piece(alloc, &mut reader, back)?;
-        reading.text(alloc, stream)
+        let mut reading = Reading::new(alloc, self.limits);
+        let text = reading.of_two(alloc, stream, place);
+        drop(reading);
+        text
     }
 }
 
@@ -132,35 +139,53 @@ fn places(bytes: usize) -> usize {
     if bytes <= SHOWN { bytes } else { 0 }
 }
 
-// What a reader gives of a stream: the values, written one behind the other, and then the refusal, if one comes.
+// A reader, and what it gave of a stream: the values, written one behind the other, and then the refusal, if one came.
 #[derive(Drop)]
 struct Reading {
+    reader: Reader,
     written: Vec<u8>,
     refusal: Option<RespError>,
 }
 
 impl Reading {
     // Of nothing.
-    fn new(alloc: Global) -> Reading {
+    fn new(alloc: Global, limits: Limits) -> Reading {
         Reading {
+            reader: Reader::new(alloc, limits),
             written: Vec::new(alloc),
             refusal: None,
         }
     }
 
-    // Feeds one piece and takes what came with it, if the reader takes any more.
-    fn take_piece(&mut self, alloc: Global, reader: &mut Reader, piece: &[u8]) -> Result<()> {
-        if again!(reader.feed(piece)).is_ok() {
-            self.take_values(alloc, reader, piece.len())?;
+    // What is told of the stream where it comes in pieces of this length.
+    fn of_pieces(&mut self, alloc: Global, stream: &[u8], length: usize) -> Result<String> {
+        for piece in stream.chunks(length.max(1)) {
+            self.take_piece(alloc, piece)?;
         }
-        Ok(())
+        self.text(alloc, stream)
+    }
+
+    // What is told of the stream where it is cut in two at this place.
+    fn of_two(&mut self, alloc: Global, stream: &[u8], place: usize) -> Result<String> {
+        let (front, back) = stream.split_at(place.min(stream.len()));
+        self.take_piece(alloc, front)?;
+        self.take_piece(alloc, back)?;
+        self.text(alloc, stream)
+    }
+
+    // Feeds one piece and takes what came with it, if the reader takes any more.
+    fn take_piece(&mut self, alloc: Global, piece: &[u8]) -> Result<()> {
+        match again!(self.reader.feed(piece)) {
+            Ok(()) => self.take_values(alloc, piece.len()),
+            Err(_) => Ok(()),
+        }
     }
 
     // Takes the values that have come, which are no more than the bytes of the piece and one.
-    fn take_values(&mut self, alloc: Global, reader: &mut Reader, most: usize) -> Result<()> {
+    fn take_values(&mut self, alloc: Global, most: usize) -> Result<()> {
         for _ in 0..=most {
-            match again!(reader.next_value()) {
-                Ok(Some(value)) => self.write(alloc, &value)?,
+            match again!(self.reader.next_value()) {
+                Ok(Some(value)) => self.write(alloc, value)?,
                 Ok(None) => break,
                 Err(refusal) => {
                     self.refusal = Some(refusal);
@@ -172,59 +197,76 @@ impl Reading {
     }
 
     // Writes a value that shares its bytes with this one.
-    fn write(&mut self, alloc: Global, value: &Value) -> Result<()> {
-        let shared = value.share(alloc)?;
-        if shared.is_plain() {
-            put_text(alloc, &shared, &mut self.written)?;
+    fn write(&mut self, alloc: Global, value: Value) -> Result<()> {
+        let shared = value.share(alloc);
+        drop(value);
+        let shared = shared?;
+        let put = self.put(alloc, &shared);
+        drop(shared);
+        put
+    }
+
+    fn put(&mut self, alloc: Global, value: &Value) -> Result<()> {
+        if value.is_plain() {
+            put_text(alloc, value, &mut self.written)?;
         }
         Ok(())
     }
 
     // What was written, by its length where it is long, and then the refusal.
     fn text(&self, alloc: Global, stream: &[u8]) -> Result<String> {
-        let mut text = String::new(alloc);
-        match self.written.len() {
-            0..=SHOWN => put_escaped(&mut text, self.written.as_slice())?,
-            length if stream.starts_with(self.written.as_slice()) => {
-                write!(text, "{length} bytes as they came")?;
+        match self.refusal {
+            Some(refusal) => {
+                let refusal = refusal_words(alloc, refusal.number(), &refusal)?;
+                self.text_and(alloc, stream, refusal)
             }
-            length => write!(text, "{length} other bytes")?,
+            None if self.written.is_empty() => shown(alloc, "nothing"),
+            None => self.written_text(alloc, stream),
         }
-        if let Some(refusal) = self.refusal {
-            if !text.is_empty() {
-                text.push_str(" then ")?;
+    }
+
+    // What was written, if anything was, and then the refusal.
+    fn text_and(&self, alloc: Global, stream: &[u8], refusal: String) -> Result<String> {
+        if self.written.is_empty() {
+            return Ok(refusal);
+        }
+        let written = self.written_text(alloc, stream)?;
+        shown(alloc, format_args!("{written} then {refusal}"))
+    }
+
+    fn written_text(&self, alloc: Global, stream: &[u8]) -> Result<String> {
+        let written = self.written.as_slice();
+        match written.len() {
+            0..=SHOWN => escaped(alloc, written),
+            length if stream.starts_with(written) => {
+                shown(alloc, format_args!("{length} bytes as they came"))
             }
-            text.push_str(refusal_words(alloc, refusal.number(), &refusal)?.as_str())?;
+            length => shown(alloc, format_args!("{length} other bytes")),
         }
-        if text.is_empty() {
-            text.push_str("nothing")?;
-        }
-        Ok(text)
     }
 }
 
-fn line_of(alloc: Global, text: &str) -> Result<Bytes> {
-    Ok(Bytes::from_vec(unescaped(alloc, text)?)?)
+// Whether the value can be written, and the length of its spelling.
+fn measured(alloc: Global, value: Value) -> Result<String> {
+    let not = if value.is_plain() { "" } else { "not " };
+    let length = value.text_len();
+    drop(value);
+    shown(alloc, format_args!("{not}plain, {length} bytes"))
 }
 
-// Whether the value can be written, and the length of its spelling.
-fn measured(alloc: Global, value: &Value) -> Result<String> {
-    let kind = if value.is_plain() {
-        "plain"
-    } else {
-        "not plain"
-    };
-    let length = value.text_len();
-    Ok(format!(in alloc; "{kind}, {length} bytes")?)
+fn words_text(alloc: Global, value: Value) -> Result<String> {
+    let text = words_in_quotes(alloc, &value);
+    drop(value);
+    text
 }
 
 // The words of a command, each in quotes.
-fn words_text(alloc: Global, value: &Value) -> Result<String> {
+fn words_in_quotes(alloc: Global, value: &Value) -> Result<String> {
     let Some(words) = value.words() else {
-        return Ok(String::from_str(alloc, "no words")?);
+        return shown(alloc, "no words");
     };
     let count = words.0.len();
-    let mut text = format!(in alloc; "{count} words")?;
+    let mut text = shown(alloc, format_args!("{count} words"))?;
     for at in 0..count {
         text.push_str(" '")?;
         put_escaped(&mut text, words.word(at).as_slice())?;

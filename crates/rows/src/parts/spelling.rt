@@ -1,30 +1,49 @@
 //! Values in their one spelling.
 
-use crate::text::{put_escaped, unescaped};
+use crate::again::again;
+use crate::shown::{escaped, shown};
+use crate::values::fed_reader;
 use anyhow::Result;
-use resp_core::{Limits, Reader, Value, put_text};
+use resp_core::{Reader, Value, put_text};
 use std::alloc::Global;
 
 /// The value's one spelling, with escapes.
 pub(crate) fn spelling(alloc: Global, value: &Value) -> Result<String> {
-    let mut text = String::new(alloc);
     if !value.is_plain() {
-        text.push_str("not plain")?;
-        return Ok(text);
+        return shown(alloc, "not plain");
     }
     let mut bytes = Vec::new(alloc);
     put_text(alloc, value, &mut bytes)?;
-    put_escaped(&mut text, bytes.as_slice())?;
-    Ok(text)
+    escaped(alloc, bytes.as_slice())
+}
+
+/// The same of a value that nobody needs any more.
+pub(crate) fn spelled(alloc: Global, value: Value) -> Result<String> {
+    let text = again!(spelling(alloc, &value));
+    drop(value);
+    text
+}
+
+/// The same, or that there is none.
+pub(crate) fn spelled_or_nothing(alloc: Global, value: Option<Value>) -> Result<String> {
+    match value {
+        Some(value) => spelled(alloc, value),
+        None => shown(alloc, "nothing"),
+    }
 }
 
 /// The values of a text with escapes, as far as they are whole.
 pub(crate) fn values_of(alloc: Global, text: &str) -> Result<Vec<Value>> {
-    let bytes = unescaped(alloc, text)?;
-    let mut reader = Reader::new(alloc, Limits::HOST);
-    reader.feed(bytes.as_slice())?;
+    let mut reader = fed_reader(alloc, text)?;
+    let values = all_values(alloc, &mut reader, text.len());
+    drop(reader);
+    values
+}
+
+// The values that have come, which are no more than the bytes.
+fn all_values(alloc: Global, reader: &mut Reader, most: usize) -> Result<Vec<Value>> {
     let mut values = Vec::new(alloc);
-    for _ in 0..bytes.len() {
+    for _ in 0..most {
         match reader.next_value()? {
             Some(value) => values.push(value)?,
             None => break,

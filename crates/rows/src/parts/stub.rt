@@ -1,71 +1,59 @@
 //! Rows of the host in memory.
 
-use super::answers::{refusal_words, shown};
-use super::spelling::spelling;
+use super::spelling::spelled;
 use crate::again::again;
-use crate::text::first_word;
-use crate::values::{command, request_of};
-use anyhow::{Result, bail};
-use proxy_core::Request;
+use crate::shown::{refusal_words, shown};
+use crate::text::{first_word, unknown};
+use crate::values::{command, value_of};
+use anyhow::Result;
+use resp_core::Value;
 use std::alloc::Global;
 use stub_server::{Act, Response, Stub};
 
-/// The host of a row, which has no keys at first.
-#[derive(Drop)]
-pub struct StubSubject {
-    stub: Stub,
+/// Makes one action: `ask WORDS` or `value VALUE`, a request whose answer is told; `script ACTS`; or `serve WORDS`, a
+/// request that is served by the script, of which the answer is told, or what stands for none.
+pub(crate) fn act(alloc: Global, stub: &mut Stub, line: &str) -> Result<String> {
+    let (verb, rest) = first_word(line);
+    match verb {
+        "ask" => ask(alloc, stub, again!(command(alloc, rest))?),
+        "value" => ask(alloc, stub, again!(value_of(alloc, rest))?),
+        "script" => script(alloc, stub, rest),
+        "serve" => serve(alloc, stub, again!(command(alloc, rest))?),
+        _ => unknown("action", verb),
+    }
 }
 
-impl StubSubject {
-    /// Begins a row.
-    pub(crate) fn open(alloc: Global) -> StubSubject {
-        StubSubject {
-            stub: Stub::new(alloc),
-        }
+fn ask(alloc: Global, stub: &mut Stub, request: Value) -> Result<String> {
+    let answer = again!(stub.answer(&request));
+    drop(request);
+    match answer {
+        Ok(answer) => spelled(alloc, answer),
+        Err(refusal) => refusal_words(alloc, refusal.number(), &refusal),
     }
+}
 
-    /// Makes one action: `ask WORDS` or `value VALUE`, a request whose answer is told; `script ACTS`; or `serve WORDS`, a
-    /// request that is served by the script, of which the answer is told, or what stands for none.
-    pub(crate) fn act(&mut self, alloc: Global, line: &str) -> Result<String> {
-        let (verb, rest) = first_word(line);
-        match verb {
-            "ask" => self.ask(alloc, again!(command(alloc, rest))?),
-            "value" => self.ask(alloc, again!(request_of(alloc, line))?),
-            "script" => self.script(alloc, rest),
-            "serve" => self.serve(alloc, again!(command(alloc, rest))?),
-            _ => bail!("a host takes no action {verb:?}"),
-        }
+fn script(alloc: Global, stub: &mut Stub, words: &str) -> Result<String> {
+    let acts = again!(acts_of(alloc, words))?;
+    let count = acts.len();
+    stub.script(acts);
+    shown(alloc, format_args!("{count} acts"))
+}
+
+fn serve(alloc: Global, stub: &mut Stub, request: Value) -> Result<String> {
+    let response = again!(stub.serve(&request));
+    drop(request);
+    match response {
+        Ok(response) => response_text(alloc, response),
+        Err(refusal) => refusal_words(alloc, refusal.number(), &refusal),
     }
+}
 
-    fn ask(&mut self, alloc: Global, request: Request) -> Result<String> {
-        let Request::Read(request) = request else {
-            bail!("no value is asked");
-        };
-        match again!(self.stub.answer(&request)) {
-            Ok(answer) => again!(spelling(alloc, &answer)),
-            Err(refusal) => again!(refusal_words(alloc, refusal.number(), &refusal)),
-        }
-    }
-
-    fn script(&mut self, alloc: Global, words: &str) -> Result<String> {
-        let acts = again!(acts_of(alloc, words))?;
-        let count = acts.len();
-        self.stub.script(acts);
-        shown(alloc, format_args!("{count} acts"))
-    }
-
-    fn serve(&mut self, alloc: Global, request: Request) -> Result<String> {
-        let Request::Read(request) = request else {
-            bail!("no value is served");
-        };
-        let told = match again!(self.stub.serve(&request)) {
-            Ok(Response::Answer(answer)) => return again!(spelling(alloc, &answer)),
-            Ok(Response::Silence) => "silence",
-            Ok(Response::End) => "end",
-            Ok(Response::Garbage) => "garbage",
-            Err(refusal) => return again!(refusal_words(alloc, refusal.number(), &refusal)),
-        };
-        shown(alloc, told)
+fn response_text(alloc: Global, response: Response) -> Result<String> {
+    match response {
+        Response::Answer(answer) => spelled(alloc, answer),
+        Response::Silence => shown(alloc, "silence"),
+        Response::End => shown(alloc, "end"),
+        Response::Garbage => shown(alloc, "garbage"),
     }
 }
 
@@ -76,13 +64,17 @@ fn acts_of(alloc: Global, words: &str) -> Result<Vec<Act>> {
         return Ok(acts);
     }
     for word in words.split(' ') {
-        acts.push(match word {
-            "Reply" => Act::Reply,
-            "Hold" => Act::Hold,
-            "Drop" => Act::Drop,
-            "Garble" => Act::Garble,
-            _ => bail!("{word:?} is no act"),
-        })?;
+        acts.push(act_of(word)?)?;
     }
     Ok(acts)
+}
+
+fn act_of(name: &str) -> Result<Act> {
+    match name {
+        "Reply" => Ok(Act::Reply),
+        "Hold" => Ok(Act::Hold),
+        "Drop" => Ok(Act::Drop),
+        "Garble" => Ok(Act::Garble),
+        _ => unknown("act", name),
+    }
 }

@@ -2,8 +2,9 @@
 
 use crate::again::again;
 use crate::series::Series;
-use crate::text::{first_word, word_bytes};
-use anyhow::{Result, bail};
+use crate::shown::shown;
+use crate::text::{first_word, unknown, word_bytes};
+use anyhow::Result;
 use command_table::look;
 use std::alloc::Global;
 
@@ -13,7 +14,7 @@ pub(crate) fn act(alloc: Global, line: &str) -> Result<String> {
     match verb {
         "look" => again!(entry_text(alloc, rest)),
         "alike" => again!(runs(alloc, rest)),
-        _ => bail!("the table takes no action {verb:?}"),
+        _ => unknown("action", verb),
     }
 }
 
@@ -21,10 +22,13 @@ pub(crate) fn act(alloc: Global, line: &str) -> Result<String> {
 fn entry_text(alloc: Global, word: &str) -> Result<String> {
     let name = word_bytes(alloc, word)?;
     match look(name.as_slice()) {
-        None => Ok(String::from_str(alloc, "None")?),
+        None => shown(alloc, "None"),
         Some(entry) => {
             let (kind, name, least, key_at) = (entry.kind, entry.name, entry.least, entry.key_at);
-            Ok(format!(in alloc; "{kind:?} {name}, least {least}, key_at {key_at}")?)
+            shown(
+                alloc,
+                format_args!("{kind:?} {name}, least {least}, key_at {key_at}"),
+            )
         }
     }
 }
@@ -40,11 +44,14 @@ fn runs(alloc: Global, names: &str) -> Result<String> {
 // The same without the name, which has to be the table's but for its case.
 fn kind_text(alloc: Global, name: &str) -> Result<String> {
     match look(name.as_bytes()) {
-        None => Ok(String::from_str(alloc, "None")?),
+        None => shown(alloc, "None"),
         Some(entry) if !entry.name.eq_ignore_ascii_case(name) => entry_text(alloc, name),
         Some(entry) => {
             let (kind, least, key_at) = (entry.kind, entry.least, entry.key_at);
-            Ok(format!(in alloc; "{kind:?}, least {least}, key_at {key_at}")?)
+            shown(
+                alloc,
+                format_args!("{kind:?}, least {least}, key_at {key_at}"),
+            )
         }
     }
 }

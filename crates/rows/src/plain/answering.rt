@@ -48,13 +48,17 @@ pub(crate) fn accepted(
     let Ok(plan) = plan(alloc, request) else {
         return Err(AllocError);
     };
-    match plan {
-        Plan::Here(name, _) | Plan::Leave(name, _) => Ok(own(index, name)),
-        Plan::Parts { list, .. } => {
-            let placed = placed_parts(alloc, ring, tags, steps, replay, conn, &list)?;
-            Ok(counted(index, &placed))
-        }
-    }
+    let answer = match &plan {
+        Plan::Here(name, _) | Plan::Leave(name, _) => Ok(own(index, *name)),
+        Plan::Parts { list, .. } => match placed_parts(
+            alloc, ring, tags, steps, replay, conn, list,
+        ) {
+            Ok(placed) => Ok(counted(index, &placed)),
+            Err(refused) => Err(refused),
+        },
+    };
+    drop(plan);
+    answer
 }
 
 // A command that the proxy answers itself.
@@ -203,7 +207,9 @@ pub(crate) fn handed_out(
     let mut text = Vec::new(alloc);
     match outcome(alloc, steps, replay, conn, index) {
         Ok(Some(value)) => {
-            if put_text(alloc, &value, &mut text).is_err() {
+            let put = put_text(alloc, &value, &mut text);
+            drop(value);
+            if put.is_err() {
                 return Err(AllocError);
             }
         }

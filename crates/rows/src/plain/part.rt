@@ -4,7 +4,7 @@ use bytes::Bytes;
 use std::alloc::AllocError;
 
 /// Why a part got a value at its arrival.
-#[derive(Clone, Copy, Debug, PartialEq, Eq, Drop)]
+#[derive(Clone, Copy, Drop)]
 pub(crate) enum AtOnce {
     /// No usable host owns its key.
     NoHost,

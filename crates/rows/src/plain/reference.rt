@@ -232,7 +232,10 @@ fn has_outcome(
         (λ has. has ≡ is_some (outcome conn index (past_of_scan steps.now [] replay.now))) }
 {
     match outcome(alloc, steps, replay, conn, index) {
-        Ok(Some(_)) => Ok(true),
+        Ok(Some(value)) => {
+            drop(value);
+            Ok(true)
+        }
         Ok(None) => Ok(false),
         Err(_) => Err(AllocError),
     }

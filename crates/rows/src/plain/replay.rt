@@ -68,7 +68,10 @@ fn ejector(alloc: Global, ring: &Ring, settings: Settings) -> Result<Ejector, Al
     ensures { IfOk result (λ e. (e.rules ≡ rules_of ring.now settings)
         × (e.state ≡ fresh_state e.rules)) }
 {
-    Ejector::new(alloc, ring.hosts(), settings).map_err(|_| AllocError)
+    match Ejector::new(alloc, ring.hosts(), settings) {
+        Ok(ejector) => Ok(ejector),
+        Err(_) => Err(AllocError),
+    }
 }
 
 // Takes one more event, which came behind the steps.
@@ -115,13 +118,15 @@ fn parts_by(
     let Event::Arrived { conn, request } = event else {
         return Ok(Vec::new(alloc));
     };
-    match plan(alloc, request) {
-        Ok(Plan::Parts { list, .. }) => placed_parts(
-            alloc, ring, tags, steps, replay, *conn, &list,
-        ),
-        Ok(_) => Ok(Vec::new(alloc)),
-        Err(_) => Err(AllocError),
-    }
+    let Ok(plan) = plan(alloc, request) else {
+        return Err(AllocError);
+    };
+    let parts = match &plan {
+        Plan::Parts { list, .. } => placed_parts(alloc, ring, tags, steps, replay, *conn, list),
+        _ => Ok(Vec::new(alloc)),
+    };
+    drop(plan);
+    parts
 }
 
 // The part that the event sends, if it sends one.

@@ -21,7 +21,7 @@ use splitter::Request;
 pub(crate) type Turn = Step<Event, Answer>;
 
 /// Which events are counted.
-#[derive(Clone, Copy, Debug, PartialEq, Eq)]
+#[derive(Clone, Copy)]
 pub(crate) enum Wanted {
     Opening,
     AnyClosing,

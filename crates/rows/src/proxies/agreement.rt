@@ -1,36 +1,28 @@
 //! Whether the core and the plain program give one answer.
 
+use crate::shown::shown;
 use anyhow::Result;
 use std::alloc::Global;
 
-/// The answers to one action, of those on which it was made.
-#[derive(Drop)]
-pub struct Answers {
-    /// The core's.
-    pub core: Option<String>,
-    /// The plain program's.
-    pub plain: Option<String>,
+/// The one answer of those on which an action was made, or both answers where they differ.
+pub(crate) fn agreement(
+    alloc: Global,
+    core: Result<Option<String>>,
+    plain: Result<Option<String>>,
+) -> Result<String> {
+    match (core?, plain?) {
+        (Some(core), Some(plain)) => agreed(alloc, core, plain),
+        (Some(core), None) => Ok(core),
+        (None, Some(plain)) => Ok(plain),
+        (None, None) => Ok(String::new(alloc)),
+    }
 }
 
-impl Answers {
-    /// Whether there are two answers, which aren't the same.
-    pub(crate) fn differ(&self) -> bool {
-        match (&self.core, &self.plain) {
-            (Some(core), Some(plain)) => core.as_str() != plain.as_str(),
-            _ => false,
-        }
-    }
-
-    /// The one answer, or both where they differ.
-    pub(crate) fn text(self, alloc: Global) -> Result<String> {
-        let differ = self.differ();
-        match (self.core, self.plain) {
-            (Some(core), Some(plain)) if differ => {
-                Ok(format!(in alloc; "DIFFER: core {core}, plain {plain}")?)
-            }
-            (Some(core), _) => Ok(core),
-            (None, Some(plain)) => Ok(plain),
-            (None, None) => Ok(String::new(alloc)),
-        }
+/// The one answer of both, or the two.
+pub(crate) fn agreed(alloc: Global, core: String, plain: String) -> Result<String> {
+    if core.as_str() == plain.as_str() {
+        Ok(core)
+    } else {
+        shown(alloc, format_args!("DIFFER: core {core}, plain {plain}"))
     }
 }

@@ -1,8 +1,8 @@
 //! Events of the script.
 
-use crate::text::{first_word, number};
+use crate::text::{first_word, number, unknown};
 use crate::values::{request_of, value_of};
-use anyhow::{Result, bail};
+use anyhow::Result;
 use proxy_core::{Event, Kind};
 use std::alloc::Global;
 
@@ -10,52 +10,65 @@ use std::alloc::Global;
 /// fault behind its kind.
 pub(crate) fn event_of(alloc: Global, line: &str) -> Result<Event> {
     let (name, fields) = first_word(line);
-    let (first, rest) = first_word(fields);
     match name {
         "Opened" => Ok(Event::Opened),
-        "Arrived" => Ok(Event::Arrived {
-            conn: number(first)?,
-            request: request_of(alloc, rest)?,
-        }),
-        "Finished" => Ok(Event::Finished {
-            conn: number(first)?,
-        }),
-        "Taken" => Ok(Event::Taken {
-            host: number(first)?,
-        }),
-        "Answered" => answered(alloc, number(first)?, rest),
-        "Failed" => failed(number(first)?, rest),
-        "Swept" => Ok(Event::Swept { t: number(first)? }),
-        "Handed" => Ok(Event::Handed {
-            conn: number(first)?,
-        }),
-        "Closed" => Ok(Event::Closed {
-            conn: number(first)?,
-        }),
-        _ => bail!("no event is named {name:?}"),
+        "Arrived" => arrived(alloc, fields),
+        "Answered" => answered(alloc, fields),
+        "Failed" => failed(fields),
+        "Taken" => taken(fields),
+        _ => event_of_number(name, number(fields)?),
     }
 }
 
-fn answered(alloc: Global, host: usize, fields: &str) -> Result<Event> {
-    let (epoch, rest) = first_word(fields);
+fn arrived(alloc: Global, fields: &str) -> Result<Event> {
+    let (conn, request) = first_word(fields);
+    let conn = number(conn)?;
+    let request = request_of(alloc, request)?;
+    Ok(Event::Arrived { conn, request })
+}
+
+fn answered(alloc: Global, fields: &str) -> Result<Event> {
+    let (host, rest) = first_word(fields);
+    let (epoch, rest) = first_word(rest);
     let (moment, value) = first_word(rest);
+    let (host, epoch, t) = (number(host)?, number(epoch)?, number(moment)?);
+    let value = value_of(alloc, value)?;
     Ok(Event::Answered {
         host,
-        epoch: number(epoch)?,
-        value: value_of(alloc, value)?,
-        t: number(moment)?,
+        epoch,
+        value,
+        t,
     })
 }
 
-fn failed(host: usize, fields: &str) -> Result<Event> {
-    let (epoch, rest) = first_word(fields);
+fn failed(fields: &str) -> Result<Event> {
+    let (host, rest) = first_word(fields);
+    let (epoch, rest) = first_word(rest);
     let (kind, moment) = first_word(rest);
+    let (host, epoch, t) = (number(host)?, number(epoch)?, number(moment)?);
+    let kind = kind_of(kind)?;
     Ok(Event::Failed {
         host,
-        epoch: number(epoch)?,
-        kind: kind_of(kind)?,
-        t: number(moment)?,
+        epoch,
+        kind,
+        t,
     })
+}
+
+fn taken(host: &str) -> Result<Event> {
+    let host = number(host)?;
+    Ok(Event::Taken { host })
+}
+
+// The event of this name whose only field is a connection or a moment.
+fn event_of_number(name: &str, field: u64) -> Result<Event> {
+    match name {
+        "Finished" => Ok(Event::Finished { conn: field }),
+        "Handed" => Ok(Event::Handed { conn: field }),
+        "Closed" => Ok(Event::Closed { conn: field }),
+        "Swept" => Ok(Event::Swept { t: field }),
+        _ => unknown("event", name),
+    }
 }
 
 fn kind_of(name: &str) -> Result<Kind> {
@@ -64,6 +77,6 @@ fn kind_of(name: &str) -> Result<Kind> {
         "Dropped" => Ok(Kind::Dropped),
         "Late" => Ok(Kind::Late),
         "Garbled" => Ok(Kind::Garbled),
-        _ => bail!("no fault is named {name:?}"),
+        _ => unknown("fault", name),
     }
 }

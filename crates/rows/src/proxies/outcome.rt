@@ -2,8 +2,10 @@
 
 use super::answers::{answer_text, refusal_text};
 use super::proxy::Proxy;
+use crate::again::again;
+use crate::shown::shown;
 use anyhow::Result;
-use proxy_core::{Answer, Event, Refusal};
+use proxy_core::{Answer, Event, Refusal, Step};
 use std::alloc::Global;
 
 /// Takes an event, once more where it found no memory, and gives the answer or the refusal in words.
@@ -17,20 +19,27 @@ pub(crate) fn outcome<P: Proxy>(
 ) -> Result<String> {
     let before = proxy.steps();
     let turn = turned(proxy, pass, event);
-    match told(alloc, proxy, pass, before, &turn) {
-        Ok(text) => Ok(text),
-        Err(_) => told(alloc, proxy, pass, before, &turn),
-    }
+    let text = again!(told(alloc, proxy, pass, before, &turn));
+    drop(turn);
+    text
 }
 
 fn turned<P: Proxy>(proxy: &mut P, pass: u64, event: Event) -> Result<Option<Answer>, Refusal> {
     match proxy.turn(pass, event) {
+        Err((Refusal::NoMemory, event)) => without_event(proxy.turn(pass, event)),
+        turn => without_event(turn),
+    }
+}
+
+fn without_event(
+    turn: Result<Option<Answer>, (Refusal, Event)>,
+) -> Result<Option<Answer>, Refusal> {
+    match turn {
         Ok(answer) => Ok(answer),
-        Err((Refusal::NoMemory, event)) => match proxy.turn(pass, event) {
-            Ok(answer) => Ok(answer),
-            Err((cause, _)) => Err(cause),
-        },
-        Err((cause, _)) => Err(cause),
+        Err((cause, event)) => {
+            drop(event);
+            Err(cause)
+        }
     }
 }
 
@@ -41,25 +50,45 @@ fn told<P: Proxy>(
     before: usize,
     turn: &Result<Option<Answer>, Refusal>,
 ) -> Result<String> {
+    let step = proxy.step(before);
+    let mut text = turn_text(alloc, turn, step)?;
     let added = proxy.steps().saturating_sub(before);
-    let (mut text, fault) = match (turn, proxy.step(before)) {
-        (Err(cause), None) => (refusal_text(alloc, *cause)?, ""),
-        (Err(cause), Some(_)) => (refusal_text(alloc, *cause)?, ", but a step was added"),
-        (Ok(_), None) => (
-            String::from_str(alloc, "answered")?,
-            ", but no step was added",
-        ),
+    text.push_str(fault(turn, step, added, pass))?;
+    Ok(text)
+}
+
+// The refusal, or the answer, which stands in the step where the call doesn't tell it.
+fn turn_text(
+    alloc: Global,
+    turn: &Result<Option<Answer>, Refusal>,
+    step: Option<&Step<Event, Answer>>,
+) -> Result<String> {
+    match (turn, step) {
+        (Err(cause), _) => refusal_text(alloc, *cause),
+        (Ok(Some(answer)), _) => answer_text(alloc, answer),
+        (Ok(None), Some(step)) => answer_text(alloc, &step.answer),
+        (Ok(None), None) => shown(alloc, "answered"),
+    }
+}
+
+// What is wrong with the steps that were added.
+fn fault(
+    turn: &Result<Option<Answer>, Refusal>,
+    step: Option<&Step<Event, Answer>>,
+    added: usize,
+    pass: u64,
+) -> &'static str {
+    match (turn, step) {
+        (Err(_), None) => "",
+        (Err(_), Some(_)) => ", but a step was added",
+        (Ok(_), None) => ", but no step was added",
         (Ok(answer), Some(step)) => {
-            let answer = answer.as_ref().unwrap_or(&step.answer);
-            let is_its_step = added == 1 && step.pass == pass && step.answer == *answer;
-            let fault = if is_its_step {
+            let is_told = answer.is_none() || answer.as_ref() == Some(&step.answer);
+            if is_told && added == 1 && step.pass == pass {
                 ""
             } else {
                 ", but its step is another"
-            };
-            (answer_text(alloc, answer)?, fault)
+            }
         }
-    };
-    text.push_str(fault)?;
-    Ok(text)
+    }
 }

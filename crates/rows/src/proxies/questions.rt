@@ -2,35 +2,64 @@
 
 use super::proxy::Proxy;
 use crate::plain::Reference;
-use crate::text::{first_word, number};
+use crate::shown::shown;
+use crate::text::{first_word, number, unknown};
 use anyhow::{Result, bail};
 use proxy_core::Core;
 use proxy_stats::{Counts, HostCounts, counts};
 use std::alloc::Global;
 
-/// The core's answer to `hosts`, `epoch HOST`, `is_out HOST`, `in_panic`, `journal`, `pass_of STEP`, `counts`, `twice` (the
+// What is asked.
+const QUESTIONS: [&str; 9] = [
+    "hosts",
+    "epoch",
+    "is_out",
+    "in_panic",
+    "journal",
+    "pass_of",
+    "counts",
+    "twice",
+    "counts_of",
+];
+
+/// Whether a question has this name.
+pub(crate) fn is_question(name: &str) -> bool {
+    QUESTIONS.contains(&name)
+}
+
+/// The answer of the core, if there is one, to `hosts`, `epoch HOST`, `is_out HOST`, `in_panic`, `journal`, `pass_of STEP`, `counts`, `twice` (the
 /// counts joined with themselves) or `counts_of HOST`.
-pub(crate) fn core_answer(alloc: Global, core: &Core, question: &str) -> Result<String> {
+pub(crate) fn core_answer(
+    alloc: Global,
+    core: &Option<Core>,
+    question: &str,
+) -> Result<Option<String>> {
+    match core {
+        Some(core) => Ok(Some(answer(alloc, core, question)?)),
+        None => Ok(None),
+    }
+}
+
+fn answer(alloc: Global, core: &Core, question: &str) -> Result<String> {
     let (name, rest) = first_word(question);
     match name {
-        "hosts" => {
-            let hosts = core.hosts();
-            Ok(format!(in alloc; "{hosts}")?)
-        }
+        "hosts" => shown(alloc, core.hosts()),
         "in_panic" => yes_or_no(alloc, core.in_panic()),
-        "journal" => {
-            let steps = core.journal().len();
-            let bytes = core.journal().bytes();
-            Ok(format!(in alloc; "{steps} steps, {bytes} bytes")?)
-        }
+        "journal" => journal_text(alloc, core),
         "counts" => counts_text(alloc, &counts(core)),
-        "twice" => {
-            let counts = counts(core);
-            counts_text(alloc, &counts.plus(&counts))
-        }
+        "twice" => twice(alloc, &counts(core)),
         "pass_of" => pass_of(alloc, core, number(rest)?),
         _ => host_answer(alloc, core, name, number(rest)?),
     }
+}
+
+fn journal_text(alloc: Global, core: &Core) -> Result<String> {
+    let (steps, bytes) = (core.journal().len(), core.journal().bytes());
+    shown(alloc, format_args!("{steps} steps, {bytes} bytes"))
+}
+
+fn twice(alloc: Global, counts: &Counts) -> Result<String> {
+    counts_text(alloc, &counts.plus(counts))
 }
 
 fn host_answer(alloc: Global, core: &Core, name: &str, host: usize) -> Result<String> {
@@ -38,13 +67,10 @@ fn host_answer(alloc: Global, core: &Core, name: &str, host: usize) -> Result<St
         bail!("there is no host {host}");
     }
     match name {
-        "epoch" => {
-            let epoch = core.epoch(host);
-            Ok(format!(in alloc; "{epoch}")?)
-        }
+        "epoch" => shown(alloc, core.epoch(host)),
         "is_out" => yes_or_no(alloc, core.is_out(host)),
         "counts_of" => host_text(alloc, counts(core).hosts.get(host)),
-        _ => bail!("{name:?} is no question"),
+        _ => unknown("question", name),
     }
 }
 
@@ -71,9 +97,12 @@ fn counts_text(alloc: Global, counts: &Counts) -> Result<String> {
         wrong_number,
         broken,
     ] = local;
-    Ok(format!(in alloc;
-        "accepted {accepted} handed {handed} sent {sent} answered {answered} lost {lost} ejections {ejections} kept {kept} no_host {no_host} busy {busy} local {pong} {echoed} {bye} {invalid} {unsupported} {wrong_number} {broken}"
-    )?)
+    shown(
+        alloc,
+        format_args!(
+            "accepted {accepted} handed {handed} sent {sent} answered {answered} lost {lost} ejections {ejections} kept {kept} no_host {no_host} busy {busy} local {pong} {echoed} {bye} {invalid} {unsupported} {wrong_number} {broken}"
+        ),
+    )
 }
 
 fn host_text(alloc: Global, counts: Option<&HostCounts>) -> Result<String> {
@@ -86,32 +115,31 @@ fn host_text(alloc: Global, counts: Option<&HostCounts>) -> Result<String> {
         faults,
         lost,
     } = *counts;
-    Ok(format!(in alloc; "sent {sent} answered {answered} faults {faults} lost {lost}")?)
+    shown(
+        alloc,
+        format_args!("sent {sent} answered {answered} faults {faults} lost {lost}"),
+    )
 }
 
-/// The plain program's answer to `pass_of STEP`. It answers no other question.
+/// The answer of the plain program, if there is one, to `pass_of STEP`. It answers no other question.
 pub(crate) fn plain_answer(
     alloc: Global,
-    plain: &Reference,
+    plain: &Option<Reference>,
     question: &str,
 ) -> Result<Option<String>> {
-    match question.strip_prefix("pass_of ") {
-        Some(step) => Ok(Some(pass_of(alloc, plain, number(step)?)?)),
-        None => Ok(None),
+    match (plain, question.strip_prefix("pass_of ")) {
+        (Some(plain), Some(step)) => Ok(Some(pass_of(alloc, plain, number(step)?)?)),
+        _ => Ok(None),
     }
 }
 
 fn pass_of<P: Proxy>(alloc: Global, proxy: &P, step: usize) -> Result<String> {
     match proxy.step(step) {
-        Some(step) => {
-            let pass = step.pass;
-            Ok(format!(in alloc; "{pass}")?)
-        }
+        Some(step) => shown(alloc, step.pass),
         None => bail!("there is no step {step}"),
     }
 }
 
 fn yes_or_no(alloc: Global, answer: bool) -> Result<String> {
-    let word = if answer { "yes" } else { "no" };
-    Ok(String::from_str(alloc, word)?)
+    shown(alloc, if answer { "yes" } else { "no" })
 }

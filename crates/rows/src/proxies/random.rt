@@ -72,7 +72,7 @@ impl Numbers {
         if self.chance(40) {
             return Ok(Request::Broken);
         }
-        command(alloc, self.one_of(&COMMANDS))
+        Ok(Request::Read(command(alloc, self.one_of(&COMMANDS))?))
     }
 
     // The host's epoch, and now and then the next one.

@@ -1,10 +1,15 @@
 //! Runs of random events, on the core and on the plain program side by side.
 
-use super::agreement::Answers;
+use super::Proxies;
+use super::agreement::agreed;
 use super::outcome::outcome;
+use super::proxy::Proxy;
 use super::random::Numbers;
 use super::setting::Setting;
+use crate::again::again;
 use crate::plain::Reference;
+use crate::shown::shown;
+use crate::text::{first_word, number};
 use anyhow::Result;
 use proxy_core::{Core, Event};
 use std::alloc::Global;
@@ -31,33 +36,46 @@ impl Randomly {
     ) -> Result<Option<String>> {
         let mut numbers = self.numbers;
         for t in 0..self.events {
-            let epochs = epochs(core);
-            let (other, _) = made(alloc, numbers, epochs, t)?;
-            let (one, rest) = made(alloc, numbers, epochs, t)?;
-            numbers = rest;
-            let answers = Answers {
-                core: Some(outcome(alloc, core, PASS, one)?),
-                plain: Some(outcome(alloc, plain, PASS, other)?),
+            let draw = Draw {
+                numbers,
+                epochs: epochs(core),
+                t,
             };
-            if answers.differ() {
-                let text = answers.text(alloc)?;
-                return Ok(Some(format!(in alloc; "event {t} {text}")?));
+            let (from_core, rest) = draw.taken_by(alloc, core)?;
+            let (from_plain, _) = draw.taken_by(alloc, plain)?;
+            if from_core.as_str() != from_plain.as_str() {
+                return difference(alloc, t, from_core, from_plain);
             }
+            numbers = rest;
         }
         Ok(None)
     }
 }
 
-// An event and the numbers behind it, made again where it failed, since memory may have been refused.
-fn made(alloc: Global, numbers: Numbers, epochs: [u64; 3], t: u64) -> Result<(Event, Numbers)> {
-    let mut rest = numbers;
-    match rest.event(alloc, epochs, t) {
-        Ok(event) => Ok((event, rest)),
-        Err(_) => {
-            let mut rest = numbers;
-            let event = rest.event(alloc, epochs, t)?;
-            Ok((event, rest))
-        }
+fn difference(alloc: Global, t: u64, core: String, plain: String) -> Result<Option<String>> {
+    let text = agreed(alloc, core, plain)?;
+    Ok(Some(shown(alloc, format_args!("event {t} {text}"))?))
+}
+
+// From what a random event is made.
+#[derive(Clone, Copy)]
+struct Draw {
+    numbers: Numbers,
+    epochs: [u64; 3],
+    t: u64,
+}
+
+impl Draw {
+    // What the proxy makes of the event, and the numbers behind it.
+    fn taken_by<P: Proxy>(self, alloc: Global, proxy: &mut P) -> Result<(String, Numbers)> {
+        let (event, rest) = again!(self.event(alloc))?;
+        Ok((outcome(alloc, proxy, PASS, event)?, rest))
+    }
+
+    fn event(self, alloc: Global) -> Result<(Event, Numbers)> {
+        let mut numbers = self.numbers;
+        let event = numbers.event(alloc, self.epochs, self.t)?;
+        Ok((event, numbers))
     }
 }
 
@@ -70,29 +88,31 @@ fn epochs(core: &Core) -> [u64; 3] {
     }
 }
 
-/// Makes so many random events on fresh proxies for each of the seeds 1 to `seeds`, each with random settings. Tells how
-/// many were answered, or the first whose answers differ.
-pub(crate) fn run_each(alloc: Global, seeds: u64, events: u64) -> Result<String> {
+/// Makes random events on fresh proxies for each of the seeds from 1 on, each with random settings: the words are how many
+/// seeds and how many events. Tells how many were answered, or the first whose answers differ.
+pub(crate) fn run_each(alloc: Global, words: &str) -> Result<String> {
+    let (seeds, events) = first_word(words);
+    let (seeds, events): (u64, u64) = (number(seeds)?, number(events)?);
     let mut answered = 0usize;
     for seed in 1..=seeds {
         match run_seed(alloc, seed, events)? {
             Ok(steps) => answered = answered.saturating_add(steps),
-            Err(text) => return Ok(format!(in alloc; "seed {seed}, {text}")?),
+            Err(text) => return shown(alloc, format_args!("seed {seed}, {text}")),
         }
     }
     let all = seeds.saturating_mul(events);
-    Ok(format!(in alloc; "{answered} of {all} answered, none differs")?)
+    shown(
+        alloc,
+        format_args!("{answered} of {all} answered, none differs"),
+    )
 }
 
 // How many of a seed's events were answered, or the first whose answers differ.
 fn run_seed(alloc: Global, seed: u64, events: u64) -> Result<Result<usize, String>> {
     let mut numbers = Numbers(0x9e37_79b9_7f4a_7c15 ^ (seed << 20));
     let setting = Setting::of(alloc, numbers.settings())?;
-    let mut core = setting.core(alloc)?;
-    let mut plain = setting.plain(alloc)?;
-    let run = Randomly { numbers, events };
-    match run.first_difference(alloc, &mut core, &mut plain)? {
-        Some(text) => Ok(Err(text)),
-        None => Ok(Ok(core.journal().len())),
-    }
+    let mut proxies = Proxies::on(alloc, "both", setting)?;
+    let told = proxies.run_randomly(alloc, Randomly { numbers, events });
+    drop(proxies);
+    told
 }

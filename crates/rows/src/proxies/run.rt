@@ -1,6 +1,6 @@
 //! A list of events that are taken by one call.
 
-use super::answers::{answer_text, refusal_text};
+use super::answers::{answer_text, put_answer, refusal_text};
 use super::events::event_of;
 use super::outcome::outcome;
 use crate::again::again;
@@ -29,14 +29,16 @@ impl Run {
         Ok(())
     }
 
-    /// Gives the events to the core in one call, again where there was no memory for it: the answers in words.
-    pub(crate) fn on_core(&self, alloc: Global, core: &mut Core) -> Result<String> {
+    /// Gives the events to the core, if there is one, in one call, again where there was no memory for it: the answers in
+    /// words.
+    pub(crate) fn on_core(&self, alloc: Global, core: &mut Option<Core>) -> Result<Option<String>> {
+        let Some(core) = core else {
+            return Ok(None);
+        };
         let answers = again!(self.taken_by(alloc, core))?;
-        let mut text = String::new(alloc);
-        for answer in &answers {
-            put_answer(&mut text, one_text(alloc, answer)?.as_str())?;
-        }
-        Ok(text)
+        let text = all_answers(alloc, answers.as_slice());
+        drop(answers);
+        Ok(Some(text?))
     }
 
     fn taken_by(&self, alloc: Global, core: &mut Core) -> Result<Vec<Result<Answer, Refusal>>> {
@@ -51,15 +53,30 @@ impl Run {
         Ok(pairs)
     }
 
-    /// Gives the events to the plain program, one after another: the answers in words.
-    pub(crate) fn on_plain(&self, alloc: Global, plain: &mut Reference) -> Result<String> {
+    /// Gives the events to the plain program, if there is one, one after another: the answers in words.
+    pub(crate) fn on_plain(
+        &self,
+        alloc: Global,
+        plain: &mut Option<Reference>,
+    ) -> Result<Option<String>> {
+        let Some(plain) = plain else {
+            return Ok(None);
+        };
         let mut text = String::new(alloc);
         for (pass, line) in &self.lines {
             let event = event_of(alloc, line.as_str())?;
-            put_answer(&mut text, outcome(alloc, plain, *pass, event)?.as_str())?;
+            put_answer(&mut text, outcome(alloc, plain, *pass, event)?)?;
         }
-        Ok(text)
+        Ok(Some(text))
     }
+}
+
+fn all_answers(alloc: Global, answers: &[Result<Answer, Refusal>]) -> Result<String> {
+    let mut text = String::new(alloc);
+    for answer in answers {
+        put_answer(&mut text, one_text(alloc, answer)?)?;
+    }
+    Ok(text)
 }
 
 fn one_text(alloc: Global, answer: &Result<Answer, Refusal>) -> Result<String> {
@@ -67,12 +84,4 @@ fn one_text(alloc: Global, answer: &Result<Answer, Refusal>) -> Result<String> {
         Ok(answer) => answer_text(alloc, answer),
         Err(cause) => refusal_text(alloc, *cause),
     }
-}
-
-fn put_answer(text: &mut String, answer: &str) -> Result<()> {
-    if !text.is_empty() {
-        text.push_str("; ")?;
-    }
-    text.push_str(answer)?;
-    Ok(())
 }

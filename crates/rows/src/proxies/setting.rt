@@ -1,11 +1,12 @@
 //! On what a row's proxies stand: the ring and the settings.
 
 use crate::plain::Reference;
-use crate::text::number;
+use crate::text::{number, unknown};
 use anyhow::{Result, bail};
 use ketama::{HostName, Ring, RingError};
 use proxy_core::{Core, Handover, Refusal, Settings};
 use std::alloc::Global;
+use std::mem;
 
 // On this ring the key `abc` belongs to host 0, `a` to host 1 and the empty key to host 2.
 const POINTS: &[(u32, usize)] = &[(2_555_380_112, 0), (3_111_502_092, 1), (3_649_838_548, 2)];
@@ -43,12 +44,17 @@ impl Setting {
 
     fn set(&mut self, alloc: Global, argument: &str) -> Result<()> {
         match argument.split_once('=') {
-            Some(("hosts", hosts)) => self.hosts = number(hosts)?,
-            Some(("points", points)) => self.points = points_of(alloc, points)?,
-            Some(("weights", weights)) => self.weights = Some(weights_of(alloc, weights)?),
-            Some((key, text)) => set_field(&mut self.settings, key, number(text)?)?,
-            None if argument == "tags" => self.settings.tags = true,
-            None => bail!("{argument:?} is no argument"),
+            Some((key, text)) => self.set_key(alloc, key, text),
+            None => set_tags(&mut self.settings, argument),
+        }
+    }
+
+    fn set_key(&mut self, alloc: Global, key: &str, text: &str) -> Result<()> {
+        match key {
+            "hosts" => self.hosts = number(text)?,
+            "points" => drop(mem::replace(&mut self.points, points_of(alloc, text)?)),
+            "weights" => drop(self.weights.replace(weights_of(alloc, text)?)),
+            _ => set_field(&mut self.settings, key, number(text)?)?,
         }
         Ok(())
     }
@@ -95,7 +101,10 @@ impl Setting {
             Some(weights) => numbered_ring(alloc, weights.as_slice()),
             None => Ring::of_points(alloc, self.hosts, self.points.as_slice()),
         };
-        ring.map_err(|_| Refusal::NoMemory)
+        match ring {
+            Ok(ring) => Ok(ring),
+            Err(_) => Err(Refusal::NoMemory),
+        }
     }
 }
 
@@ -103,18 +112,25 @@ impl Setting {
 pub(crate) fn numbered_ring(alloc: Global, weights: &[u32]) -> Result<Ring, RingError> {
     let mut names = Vec::with_capacity(alloc, weights.len())?;
     for host in 0..weights.len() {
-        let name = format!(in alloc; "host-{host}")?;
-        names
-            .push(HostName::read(alloc, name.as_bytes())?)
-            .map_err(|_| RingError::NoMemory)?;
+        if names.push(numbered_name(alloc, host)?).is_err() {
+            return Err(RingError::NoMemory);
+        }
     }
     Ring::build(alloc, names.as_slice(), weights)
+}
+
+fn numbered_name(alloc: Global, host: usize) -> Result<HostName, RingError> {
+    let name = format!(in alloc; "host-{host}")?;
+    HostName::read(alloc, name.as_bytes())
 }
 
 /// The weights of a list `N,..`, or of `none`.
 pub(crate) fn weights_of(alloc: Global, text: &str) -> Result<Vec<u32>> {
     let mut weights = Vec::new(alloc);
-    for word in text.split(',').filter(|word| *word != "none") {
+    if text == "none" {
+        return Ok(weights);
+    }
+    for word in text.split(',') {
         weights.push(number(word)?)?;
     }
     Ok(weights)
@@ -147,7 +163,16 @@ pub(crate) fn set_field(settings: &mut Settings, key: &str, n: u32) -> Result<()
         "request_volume" => settings.request_volume = n,
         "factor" => settings.factor = n,
         "panic_percent" => settings.panic_percent = n,
-        _ => bail!("no setting is named {key:?}"),
+        _ => return unknown("setting", key),
     }
+    Ok(())
+}
+
+/// Sets `tags`, the one setting that is a word.
+pub(crate) fn set_tags(settings: &mut Settings, word: &str) -> Result<()> {
+    if word != "tags" {
+        return unknown("setting", word);
+    }
+    settings.tags = true;
     Ok(())
 }
