@@ -1,8 +1,6 @@
 //! What a core's journal tells of a run.
 
 use proxy_core::{Answer, Core, Event, Kind, Step, Trip};
-use std::alloc::Global;
-use std::test::Fail;
 
 // What a step was, without what it carries.
 #[derive(Clone, Copy, Debug, PartialEq, Eq)]
@@ -137,13 +135,27 @@ fn sent_at(core: &Core, place: usize, epoch: u64) -> Option<&[u8]> {
     }
 }
 
-// The texts of the parts that were sent in this epoch.
-pub(crate) fn sent(alloc: Global, core: &Core, epoch: u64) -> Result<Vec<u8>, Fail> {
-    let mut texts = Vec::new(alloc);
+// How many bytes the parts that were sent in this epoch have.
+pub(crate) fn sent_len(core: &Core, epoch: u64) -> usize {
+    let mut len = 0usize;
     for place in 0..core.journal().len() {
-        texts.extend_from_slice(sent_at(core, place, epoch).unwrap_or(b""))?;
+        len = len.saturating_add(sent_at(core, place, epoch).unwrap_or(b"").len());
     }
-    Ok(texts)
+    len
+}
+
+// Whether these bytes are a beginning of the parts that were sent in this epoch.
+pub(crate) fn begins_sent(core: &Core, epoch: u64, bytes: &[u8]) -> bool {
+    let mut left = bytes;
+    for place in 0..core.journal().len() {
+        let text = sent_at(core, place, epoch).unwrap_or(b"");
+        let (now, later) = left.split_at(text.len().min(left.len()));
+        if !text.starts_with(now) {
+            return false;
+        }
+        left = later;
+    }
+    left.is_empty()
 }
 
 // How many replies were handed out before the newest command arrived.

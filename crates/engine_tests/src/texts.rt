@@ -6,8 +6,10 @@ pub(crate) type Exchange = (&'static [u8], &'static [u8]);
 // A SET of 27 bytes and an MGET of 35.
 pub(crate) const SET_AND_MGET: Exchange = (
     b"*3\r\n$3\r\nSET\r\n$1\r\na\r\n$1\r\n1\r\n*4\r\n$4\r\nMGET\r\n$1\r\na\r\n$1\r\nb\r\n$1\r\na\r\n",
-    b"+OK\r\n*3\r\n$1\r\n1\r\n$-1\r\n$1\r\n1\r\n",
+    BOTH_ANSWERS,
 );
+
+pub(crate) const BOTH_ANSWERS: &[u8] = b"+OK\r\n*3\r\n$1\r\n1\r\n$-1\r\n$1\r\n1\r\n";
 
 // Commands of keys that no other client has.
 pub(crate) const OTHER_KEYS: Exchange = (
