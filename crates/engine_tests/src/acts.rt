@@ -25,18 +25,14 @@ pub(crate) enum Act {
     IsShut(bool),
     // A host that asks for a link gets this one, once those before it are given.
     Links(Link),
-    // The same for so many links to empty stubs that never fail.
-    Stubs(usize),
     // A host that is no stub says this from now on.
     HostSays(Feed),
     // All are stepped in turn at this moment, until nothing moves.
     Runs(u64),
-    // Each host makes one step at this moment.
-    HostsStep(u64),
     // The first client makes so many steps: each says this, and nothing is recorded.
     Steps(Progress, u32),
-    // The first host makes one step, which says this.
-    HostSteps(Progress),
+    // The first host makes one step at this moment, which says this.
+    HostSteps(u64, Progress),
     // The only host's link of this epoch is refused, which does this to it.
     LinkRefused(u64, Trip),
     // The first connection's event of this deed is refused.
@@ -68,8 +64,6 @@ pub(crate) enum Act {
     DidAtMost(Deed, usize),
     // The only fault is this one, of epoch 0: its kind, how many parts it lost, and its moment.
     Lost(Kind, u64, u64),
-    // There is no fault.
-    LostNothing,
     // So many parts were answered or lost.
     AnsweredOrLost(usize),
     // So many steps were recorded since this was last seen.
@@ -84,39 +78,39 @@ pub(crate) enum Act {
     HandedBefore(usize),
 }
 
-// What came in place of what a scene expects.
-#[derive(Clone, Copy, Debug)]
-pub(crate) enum Came {
-    Nobody,
-    NoEnd,
-    NoSuchAct,
-    Error(EngineError),
-    // Another text of so many bytes.
-    Text { len: usize },
-    Count(usize),
-    Step(Result<Progress, EngineError>),
-    Told(Option<Told>),
-    Loss(Option<Loss>),
-    Trip(Option<(u64, Trip)>),
-    Refusal(Option<Refusal>),
+// What came in place of what an act expects, and how many, or the number of an error.
+#[derive(Clone, Copy)]
+pub(crate) struct Came {
+    what: &'static str,
+    number: u64,
 }
 
-impl From<EngineError> for Came {
-    fn from(error: EngineError) -> Came {
-        Came::Error(error)
-    }
-}
-
-// The act that failed, counted from 0, and what came.
+// An act that failed, counted from 0, and what came.
 #[derive(Clone, Copy, Debug)]
 pub(crate) struct Fault {
     act: usize,
-    came: Came,
+    came: &'static str,
+    number: u64,
 }
 
 // What came, unless it is right.
-fn unless(is_right: bool, came: Came) -> Result<(), Came> {
-    if is_right { Ok(()) } else { Err(came) }
+fn unless(is_right: bool, what: &'static str, number: u64) -> Result<(), Came> {
+    if is_right {
+        Ok(())
+    } else {
+        Err(Came { what, number })
+    }
+}
+
+// What an engine's error is to an act.
+fn made(outcome: Result<(), EngineError>) -> Result<(), Came> {
+    match outcome {
+        Ok(()) => Ok(()),
+        Err(error) => Err(Came {
+            what: "an error",
+            number: u64::from(error.number()),
+        }),
+    }
 }
 
 // Plays a scene before so many hosts, one or three.
@@ -125,8 +119,10 @@ pub(crate) fn play<Rt: Wait + AllocGlobal>(
     hosts: usize,
     acts: &[Act],
 ) -> Result<(), Fault> {
-    drop(record(rt, hosts, Ration::FREE, acts)?);
-    Ok(())
+    match record(rt, hosts, Ration::FREE, acts) {
+        Ok(core) => Ok(drop(core)),
+        Err(fault) => Err(fault),
+    }
 }
 
 // The same by turns of this ration: the core, at the end.
@@ -139,9 +135,10 @@ pub(crate) fn record<Rt: Wait + AllocGlobal>(
     let stage = Stage::new(rt.alloc());
     match Rig::new(rt.alloc(), &stage, hosts, ration) {
         Ok(rig) => rig.played(rt, acts),
-        Err(error) => Err(Fault {
+        Err(_) => Err(Fault {
             act: 0,
-            came: Came::Error(error),
+            came: "no memory",
+            number: 0,
         }),
     }
 }
@@ -157,8 +154,12 @@ impl<'a> Rig<'a> {
 
     fn play<Rt: Wait + AllocGlobal>(&mut self, rt: &Rt, acts: &[Act]) -> Result<(), Fault> {
         for (place, act) in acts.iter().enumerate() {
-            if let Err(came) = self.act(rt, *act) {
-                return Err(Fault { act: place, came });
+            if let Err(Came { what, number }) = self.act(rt, *act) {
+                return Err(Fault {
+                    act: place,
+                    came: what,
+                    number,
+                });
             }
         }
         Ok(())
@@ -166,52 +167,22 @@ impl<'a> Rig<'a> {
 
     fn act<Rt: Wait + AllocGlobal>(&mut self, rt: &Rt, act: Act) -> Result<(), Came> {
         match act {
-            Act::Opens(says, ends) => Ok(self.open(rt, says, ends)?),
-            Act::CannotOpen(error) => self.see_unopened(rt, error),
-            Act::Says(feed) => Ok(self.stage.first.says.set(feed)),
-            Act::IsShut(is_shut) => Ok(self.stage.first.took.is_shut.set(is_shut)),
-            Act::Links(link) => Ok(self.add_link(link)?),
-            Act::Stubs(count) => Ok(self.add_stubs(count)?),
-            Act::HostSays(feed) => Ok(self.stage.host.set(feed)),
-            Act::Runs(moment) => {
-                let has_ended = self.run(rt, moment)?;
-                unless(has_ended, Came::NoEnd)
-            }
-            Act::HostsStep(moment) => {
-                let _ = self.step_hosts(rt, moment)?;
-                Ok(())
-            }
+            Act::Opens(says, ends) => made(self.open(rt, says, ends)),
+            Act::CannotOpen(error) => see_error(self.open(rt, Feed::Open(b""), Ends::FREE), error),
+            Act::Links(link) => made(self.add_link(link)),
+            Act::Runs(moment) => see_end(self.run(rt, moment)),
             Act::Steps(progress, times) => self.see_steps(rt, progress, times),
-            Act::HostSteps(progress) => see_step(self.step_host(rt, 0), progress),
+            Act::HostSteps(moment, progress) => see_step(self.step_host(rt, moment), progress),
             Act::LinkRefused(epoch, trip) => self.see_trip(rt, epoch, trip),
-            Act::IsRefused(deed, refusal) => self.see_refusal(rt, deed, refusal),
-            Act::ClientTold(told) => unless(self.of_client == told, Came::Told(self.of_client)),
-            Act::HostTold(told) => unless(self.of_host == told, Came::Told(self.of_host)),
-            Act::OnlyTold(error) => {
-                see_only(self.of_client, error)?;
-                see_only(self.of_host, error)
+            Act::IsRefused(deed, refusal) => {
+                see_refusal(self.refusal(rt, event_of(deed)), Some(refusal))
             }
+            Act::ClientTold(told) => see_told(self.of_client, told),
+            Act::HostTold(told) => see_told(self.of_host, told),
+            Act::OnlyTold(error) => see_only(self.of_client, self.of_host, error),
             Act::Recorded(steps) => self.see_recorded(steps),
-            _ => see(self.stage, self.core(), act),
+            _ => on_stage(self.stage, self.core(), act),
         }
-    }
-
-    fn see_unopened<Rt: Wait + AllocGlobal>(
-        &mut self,
-        rt: &Rt,
-        error: EngineError,
-    ) -> Result<(), Came> {
-        match self.open(rt, Feed::Open(b""), Ends::FREE) {
-            Ok(()) => Err(Came::Nobody),
-            Err(came) => unless(came == error, Came::Error(came)),
-        }
-    }
-
-    fn add_stubs(&mut self, count: usize) -> Result<(), EngineError> {
-        for _ in 0..count {
-            self.add_link(Link::STUB)?;
-        }
-        Ok(())
     }
 
     fn see_steps<Rt: Wait>(
@@ -234,20 +205,9 @@ impl<'a> Rig<'a> {
             kind: Kind::Refused,
             t: 4,
         };
-        let refusal = self.refusal(rt, failed);
-        unless(refusal.is_none(), Came::Refusal(refusal))?;
-        let came = last_trip(self.core());
-        unless(came == Some((epoch, trip)), Came::Trip(came))
-    }
-
-    fn see_refusal<Rt: Wait>(
-        &mut self,
-        rt: &Rt,
-        deed: Deed,
-        refusal: Refusal,
-    ) -> Result<(), Came> {
-        let came = self.refusal(rt, event_of(deed));
-        unless(came == Some(refusal), Came::Refusal(came))
+        see_refusal(self.refusal(rt, failed), None)?;
+        let is_right = last_trip(self.core()) == Some((epoch, trip));
+        unless(is_right, "another trip", epoch)
     }
 
     fn see_recorded(&mut self, steps: usize) -> Result<(), Came> {
@@ -258,9 +218,12 @@ impl<'a> Rig<'a> {
     }
 }
 
-// Sees what was said and done, without a step.
-fn see(stage: &Stage, core: &Core, act: Act) -> Result<(), Came> {
+// What needs no step: devices are told how to go on, and what was said and done is seen.
+fn on_stage(stage: &Stage, core: &Core, act: Act) -> Result<(), Came> {
     match act {
+        Act::Says(feed) => Ok(stage.first.says.set(feed)),
+        Act::HostSays(feed) => Ok(stage.host.set(feed)),
+        Act::IsShut(is_shut) => Ok(stage.first.took.is_shut.set(is_shut)),
         Act::Took(text) => see_text(&stage.first.took, text),
         Act::SecondTook(text) => see_text(&stage.second.took, text),
         Act::Asked(text) => see_text(&stage.asked, text),
@@ -278,40 +241,74 @@ fn see_journal(core: &Core, act: Act) -> Result<(), Came> {
         Act::Did(deed, times) => see_count(count(core, deed), times),
         Act::DidAtMost(deed, times) => see_at_most(count(core, deed), times),
         Act::Lost(kind, parts, t) => see_loss(core, kind, parts, t),
-        Act::LostNothing => unless(last_loss(core).is_none(), Came::Loss(last_loss(core))),
         Act::AnsweredOrLost(parts) => see_ends(core, parts),
         Act::RecordedBelow(steps) => see_at_most(core.journal().len(), steps.saturating_sub(1)),
         Act::Sent(epoch, parts) => see_count(sent_in(core, epoch), parts),
         Act::HandedBefore(replies) => see_count(handed_before_last_arrival(core), replies),
-        _ => Err(Came::NoSuchAct),
+        _ => unless(false, "no such act", 0),
     }
 }
 
-fn see_step(
-    came: Option<Result<Progress, EngineError>>,
-    progress: Progress,
-) -> Result<(), Came> {
-    match came {
-        Some(came) => unless(came == Ok(progress), Came::Step(came)),
-        None => Err(Came::Nobody),
+fn see_step(came: Option<Result<Progress, EngineError>>, progress: Progress) -> Result<(), Came> {
+    let (what, number) = match came {
+        None => ("no engine", 0),
+        Some(Err(error)) => ("an error", u64::from(error.number())),
+        Some(Ok(Progress::Moved)) => ("Moved", 0),
+        Some(Ok(Progress::Idle)) => ("Idle", 0),
+        Some(Ok(Progress::NeedsLink)) => ("NeedsLink", 0),
+        Some(Ok(Progress::Cut)) => ("Cut", 0),
+        Some(Ok(Progress::Ended)) => ("Ended", 0),
+    };
+    unless(came == Some(Ok(progress)), what, number)
+}
+
+fn see_end(has_ended: Result<bool, EngineError>) -> Result<(), Came> {
+    match has_ended {
+        Ok(has_ended) => unless(has_ended, "a run without an end", 0),
+        Err(error) => made(Err(error)),
     }
 }
 
-fn see_only(told: Option<Told>, error: EngineError) -> Result<(), Came> {
-    let is_right = told.is_none_or(|told| told.error == error);
-    unless(is_right, Came::Told(told))
+fn see_error(came: Result<(), EngineError>, error: EngineError) -> Result<(), Came> {
+    if came == Err(error) {
+        Ok(())
+    } else {
+        made(came)?;
+        Err(Came {
+            what: "no error",
+            number: 0,
+        })
+    }
+}
+
+fn see_refusal(came: Option<Refusal>, refusal: Option<Refusal>) -> Result<(), Came> {
+    let number = came.map_or(0, |refusal| u64::from(refusal.number()));
+    unless(came == refusal, "a refusal", number)
+}
+
+fn see_told(came: Option<Told>, told: Option<Told>) -> Result<(), Came> {
+    let number = came.map_or(0, |told| u64::from(told.error.number()));
+    unless(came == told, "an error, or none, or at another step", number)
+}
+
+fn see_only(one: Option<Told>, other: Option<Told>, error: EngineError) -> Result<(), Came> {
+    for told in [one, other] {
+        let came = told.map_or(error, |told| told.error);
+        unless(came == error, "an error", u64::from(came.number()))?;
+    }
+    Ok(())
 }
 
 fn see_count(came: usize, count: usize) -> Result<(), Came> {
-    unless(came == count, Came::Count(came))
+    unless(came == count, "so many", came as u64)
 }
 
 fn see_at_most(came: usize, count: usize) -> Result<(), Came> {
-    unless(came <= count, Came::Count(came))
+    unless(came <= count, "so many", came as u64)
 }
 
 fn see_text(taken: &Taken, text: Text) -> Result<(), Came> {
-    unless(taken.is(text), Came::Text { len: taken.len() })
+    unless(taken.is(text), "another text, of so many bytes", taken.len() as u64)
 }
 
 // The first client took the text that stands at the number of handed replies.
@@ -319,7 +316,7 @@ fn see_handed(taken: &Taken, core: &Core, texts: &[&'static [u8]]) -> Result<(),
     let handed = count(core, Deed::Handed);
     match texts.get(handed) {
         Some(text) => see_text(taken, Text::All(text)),
-        None => Err(Came::Count(handed)),
+        None => unless(false, "so many", handed as u64),
     }
 }
 
@@ -330,9 +327,9 @@ fn see_loss(core: &Core, kind: Kind, parts: u64, t: u64) -> Result<(), Came> {
         parts,
         t,
     });
-    let came = last_loss(core);
-    unless(came == loss, Came::Loss(came))?;
-    see_count(count(core, Deed::Failed), 1)
+    let number = count(core, Deed::Failed);
+    let is_right = last_loss(core) == loss && number == 1;
+    unless(is_right, "another fault, or so many", number as u64)
 }
 
 fn see_ends(core: &Core, parts: usize) -> Result<(), Came> {
@@ -352,7 +349,7 @@ fn see_beginning(taken: &Taken, core: &Core, epoch: u64) -> Result<(), Came> {
         Ok(bytes) => begins_sent(core, epoch, bytes.as_slice()),
         Err(_) => false,
     };
-    unless(is_right, Came::Text { len: taken.len() })
+    unless(is_right, "another text, of so many bytes", taken.len() as u64)
 }
 
 // The first connection's event that is such a deed.

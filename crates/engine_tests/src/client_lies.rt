@@ -4,7 +4,7 @@ use crate::acts::{Act, Fault, play};
 use crate::devices::{Feed, Text};
 use crate::journal::Deed;
 use crate::rig::{Ends, Link, Told};
-use crate::texts::{GET, NOTHING, OTHER_KEYS, SET_AND_MGET};
+use crate::texts::{Exchange, GET, NOTHING, OTHER_KEYS, PINGS, SET_AND_MGET};
 use proxy_core::Refusal;
 use proxy_engines::{EngineError, Progress};
 use std::process::Abort;
@@ -22,20 +22,18 @@ const READ_FAILED: Option<Told> = Some(Told {
     deed: Some(Deed::Closed),
 });
 
-// A client whose writer takes so many bytes, just `said`, so many at a call at most, and is closed.
+// A client whose writer takes just `said`, and is closed.
 fn check_writer<Rt: Wait + AllocGlobal>(
     rt: &Rt,
-    (writes, writing): (u64, usize),
+    asked: &'static [u8],
+    ends: Ends,
     said: &'static [u8],
 ) -> Result<(), Fault> {
-    let ends = Ends {
-        writes,
-        writing,
-        ..Ends::FREE
-    };
     let scene = [
-        Act::Stubs(3),
-        Act::Opens(Feed::Whole(SET_AND_MGET.0), ends),
+        Act::Links(Link::STUB),
+        Act::Links(Link::STUB),
+        Act::Links(Link::STUB),
+        Act::Opens(Feed::Whole(asked), ends),
         Act::Runs(0),
         Act::Took(Text::All(said)),
         Act::ClientTold(WRITE_FAILED),
@@ -45,60 +43,119 @@ fn check_writer<Rt: Wait + AllocGlobal>(
     play(rt, 3, &scene)
 }
 
-// After each byte of the output but the last: the client took the output's first bytes, and no more. A write that takes nothing
-// of what it is given is a failure too.
-#[test]
-fn failing_writers_cut(rt: HostRuntime) -> Result<(), Fail> {
-    assert_eq!(rt; EngineError::WriteFailed.number(), 1403);
-    let answers = SET_AND_MGET.1;
-    assert_eq!(rt; answers.len(), 28);
+// After each byte of the output but the last, whatever it takes at a call: the client took the output's first bytes, and no
+// more.
+fn check_writers<Rt: Wait + AllocGlobal>(
+    rt: &Rt,
+    (asked, answers): Exchange,
+) -> Result<(), Fault> {
     for len in 0..answers.len() {
-        let said = answers.split_at(len).0;
-        check_writer(&rt, (len as u64, Ends::ALL), said)?;
-        check_writer(&rt, (len as u64, 1), said)?;
+        for writing in [Ends::ALL, 1] {
+            let ends = Ends {
+                writes: len as u64,
+                writing,
+                ..Ends::FREE
+            };
+            check_writer(rt, asked, ends, answers.split_at(len).0)?;
+        }
     }
-    check_writer(&rt, (1_000, 0), b"")?;
     Ok(())
 }
 
-// A client whose reader fails after so many bytes, so many at a call at most: so many commands were accepted, and nothing is
-// answered that wasn't asked.
-fn check_reader<Rt: Wait + AllocGlobal>(
-    rt: &Rt,
-    (reads, reading): (u64, usize),
-    whole: usize,
-) -> Result<(), Fault> {
+// A write that takes nothing of what it is given is a failure too.
+#[test]
+fn failing_writers_cut(rt: HostRuntime) -> Result<(), Fail> {
+    assert_eq!(rt; EngineError::WriteFailed.number(), 1403);
+    assert_eq!(rt; (PINGS.1.len(), SET_AND_MGET.1.len()), (14, 28));
+    check_writers(&rt, PINGS)?;
+    check_writers(&rt, SET_AND_MGET)?;
     let ends = Ends {
-        reads,
-        reading,
+        writes: 1_000,
+        writing: 0,
         ..Ends::FREE
     };
+    check_writer(&rt, SET_AND_MGET.0, ends, b"")?;
+    Ok(())
+}
+
+// A client whose reader fails: so many commands were accepted, and what is answered is a beginning of this.
+fn check_reader<Rt: Wait + AllocGlobal>(
+    rt: &Rt,
+    asked: &'static [u8],
+    ends: Ends,
+    (whole, answers): (usize, &'static [u8]),
+) -> Result<(), Fault> {
     let scene = [
-        Act::Stubs(3),
-        Act::Opens(Feed::Whole(SET_AND_MGET.0), ends),
+        Act::Links(Link::STUB),
+        Act::Links(Link::STUB),
+        Act::Links(Link::STUB),
+        Act::Opens(Feed::Whole(asked), ends),
         Act::Runs(0),
         Act::ClientTold(READ_FAILED),
         Act::Did(Deed::Closed, 1),
         Act::Steps(Progress::Cut, 3),
-        Act::Took(Text::BeginningOf(SET_AND_MGET.1)),
+        Act::Took(Text::BeginningOf(answers)),
         Act::Did(Deed::Arrived, whole),
     ];
     play(rt, 3, &scene)
 }
 
-// After each byte of the input: what came whole before was accepted.
+// After each byte of the input, whatever it gives at a call: what came whole before was accepted, and nothing is answered that
+// wasn't asked. The places are those behind each command and its answer.
+fn check_readers<Rt: Wait + AllocGlobal>(
+    rt: &Rt,
+    (asked, answers): Exchange,
+    [first, second]: [(usize, usize); 2],
+) -> Result<(), Fault> {
+    for len in 0..=asked.len() {
+        let (whole, said) = if len < first.0 {
+            (0, 0)
+        } else if len < second.0 {
+            (1, first.1)
+        } else {
+            (2, second.1)
+        };
+        for reading in [Ends::ALL, 1] {
+            let ends = Ends {
+                reads: len as u64,
+                reading,
+                ..Ends::FREE
+            };
+            let answers = answers.split_at(said.min(answers.len())).0;
+            check_reader(rt, asked, ends, (whole, answers))?;
+        }
+    }
+    Ok(())
+}
+
 #[test]
 fn failing_readers_cut(rt: HostRuntime) -> Result<(), Fail> {
     assert_eq!(rt; EngineError::ReadFailed.number(), 1402);
-    for len in 0..=SET_AND_MGET.0.len() {
-        let whole = match len {
-            0..27 => 0,
-            27..62 => 1,
-            _ => 2,
-        };
-        check_reader(&rt, (len as u64, Ends::ALL), whole)?;
-        check_reader(&rt, (len as u64, 1), whole)?;
-    }
+    check_readers(&rt, PINGS, [(14, 7), (28, 14)])?;
+    check_readers(&rt, SET_AND_MGET, [(27, 5), (62, 28)])?;
+    Ok(())
+}
+
+// Ends that fail behind the last byte don't fail.
+const PINGS_IN_TIME: &[Act] = &[
+    Act::Opens(
+        Feed::Whole(b"*1\r\n$4\r\nPING\r\n*1\r\n$4\r\nPING\r\n"),
+        Ends {
+            reads: 100,
+            writes: 14,
+            reading: Ends::ALL,
+            writing: Ends::ALL,
+        },
+    ),
+    Act::Runs(0),
+    Act::Took(Text::All(b"+PONG\r\n+PONG\r\n")),
+    Act::ClientTold(None),
+    Act::Steps(Progress::Ended, 2),
+];
+
+#[test]
+fn ends_that_last_are_enough(rt: HostRuntime) -> Result<(), Fail> {
+    play(&rt, 1, PINGS_IN_TIME)?;
     Ok(())
 }
 
@@ -106,7 +163,9 @@ fn failing_readers_cut(rt: HostRuntime) -> Result<(), Fail> {
 // gets all answers.
 fn check_beside<Rt: Wait + AllocGlobal>(rt: &Rt, ends: Ends) -> Result<(), Fault> {
     let scene = [
-        Act::Stubs(3),
+        Act::Links(Link::STUB),
+        Act::Links(Link::STUB),
+        Act::Links(Link::STUB),
         Act::Opens(Feed::Whole(SET_AND_MGET.0), ends),
         Act::Opens(Feed::Whole(OTHER_KEYS.0), SLOW),
         Act::Runs(0),

@@ -56,15 +56,11 @@ impl Feed {
 // Gives what stands in a cell, so many bytes a call at most.
 #[derive(Drop)]
 pub(crate) struct Source<'a> {
-    feed: &'a Cell<Feed>,
-    most: usize,
+    pub(crate) feed: &'a Cell<Feed>,
+    pub(crate) most: usize,
 }
 
-impl<'a> Source<'a> {
-    pub(crate) fn new(feed: &'a Cell<Feed>, most: usize) -> Source<'a> {
-        Source { feed, most }
-    }
-
+impl Source<'_> {
     // At most so many of the bytes that come next, which are given by that, or a pause.
     fn give(&self, most: usize) -> io::Result<&'static [u8]> {
         let feed = self.feed.get();
@@ -80,10 +76,8 @@ impl<'a> Source<'a> {
             }
         }
     }
-}
 
-impl Read for Source<'_> {
-    fn read(&mut self, buffer: &mut [u8]) -> io::Result<usize> {
+    fn fill(&self, buffer: &mut [u8]) -> io::Result<usize> {
         let given = self.give(self.most.min(buffer.len()))?;
         for (place, byte) in buffer.iter_mut().zip(given) {
             *place = *byte;
@@ -164,67 +158,41 @@ impl Taken {
     }
 }
 
-// Keeps what it takes, so many bytes a call at most.
+// What a client or a host says: what a stub answers, or a text whatever it is asked.
 #[derive(Drop)]
-pub(crate) struct Sink<'a> {
-    taken: &'a Taken,
-    most: usize,
-}
-
-impl<'a> Sink<'a> {
-    pub(crate) fn new(taken: &'a Taken, most: usize) -> Sink<'a> {
-        Sink { taken, most }
-    }
-}
-
-impl Write for Sink<'_> {
-    fn write(&mut self, bytes: &[u8]) -> io::Result<usize> {
-        if self.taken.is_shut.get() {
-            return Err(io::Error::from(ErrorKind::WouldBlock));
-        }
-        let most = self.most.min(bytes.len());
-        self.taken.keep(&bytes[..most])?;
-        Ok(most)
-    }
-
-    fn flush(&mut self) -> io::Result<()> {
-        Ok(())
-    }
-}
-
-// What a host says: what a stub answers, or a text whatever it is asked.
-#[derive(Drop)]
-pub(crate) enum HostReader<'a> {
+pub(crate) enum Reader<'a> {
     Stub(StubReader),
     Text(Source<'a>),
 }
 
-impl Read for HostReader<'_> {
+impl Read for Reader<'_> {
     fn read(&mut self, buffer: &mut [u8]) -> io::Result<usize> {
         match self {
-            HostReader::Stub(stub) => stub.read(buffer),
-            HostReader::Text(source) => source.read(buffer),
+            Reader::Stub(stub) => stub.read(buffer),
+            Reader::Text(source) => source.fill(buffer),
         }
     }
 }
 
-// What a host is asked: it is kept, once the stub took it, if there is one.
+// Keeps what a client or a host is told, so many bytes a call at most, or what its stub took, if it has one.
 #[derive(Drop)]
-pub(crate) struct HostWriter<'a> {
+pub(crate) struct Writer<'a> {
     pub(crate) stub: Option<StubWriter>,
-    pub(crate) sink: Sink<'a>,
+    pub(crate) taken: &'a Taken,
+    pub(crate) most: usize,
 }
 
-impl Write for HostWriter<'_> {
+impl Write for Writer<'_> {
     fn write(&mut self, bytes: &[u8]) -> io::Result<usize> {
-        match &mut self.stub {
-            Some(stub) => {
-                let most = stub.write(bytes)?;
-                self.sink.taken.keep(&bytes[..most])?;
-                Ok(most)
-            }
-            None => self.sink.write(bytes),
+        if self.taken.is_shut.get() {
+            return Err(io::Error::from(ErrorKind::WouldBlock));
         }
+        let most = match &mut self.stub {
+            Some(stub) => stub.write(bytes)?,
+            None => self.most.min(bytes.len()),
+        };
+        self.taken.keep(&bytes[..most])?;
+        Ok(most)
     }
 
     fn flush(&mut self) -> io::Result<()> {

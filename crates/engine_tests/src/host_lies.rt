@@ -111,7 +111,7 @@ const GREATEST: &[Act] = &[
     Act::HostSays(Feed::Open(b"\r\n")),
     Act::Runs(3),
     Act::Took(Text::Long(8_388_608, b"*9\r\n$1040384\r\n000", b"000\r\n")),
-    Act::LostNothing,
+    Act::Did(Deed::Failed, 0),
 ];
 
 // The last has a byte more, and the reply is refused.
@@ -151,7 +151,7 @@ const LATE_REPLY: &[Act] = &[
     Act::Recorded(3),
     Act::Runs(5_009),
     Act::Recorded(0),
-    Act::HostsStep(5_010),
+    Act::HostSteps(5_010, Progress::Moved),
     Act::Lost(Kind::Late, 1, 5_010),
     Act::Recorded(1),
     Act::Runs(5_010),
@@ -251,12 +251,12 @@ const ASKS_FOR_LINKS: &[Act] = &[
     Act::Opens(Feed::Open(b""), Ends::FREE),
     Act::Says(Feed::Open(b"*1\r\n$4\r\nPING\r\n")),
     Act::Runs(0),
-    Act::HostSteps(Progress::Idle),
+    Act::HostSteps(0, Progress::Idle),
     Act::Says(Feed::Open(GET)),
     Act::Runs(0),
-    Act::HostSteps(Progress::NeedsLink),
+    Act::HostSteps(0, Progress::NeedsLink),
     Act::Runs(0),
-    Act::HostSteps(Progress::NeedsLink),
+    Act::HostSteps(0, Progress::NeedsLink),
     // A link that ends at the second command.
     Act::Links(Link {
         to: Peer::Stub(&[Serves::Reply, Serves::Drop]),
@@ -264,14 +264,14 @@ const ASKS_FOR_LINKS: &[Act] = &[
         writes: u64::MAX,
     }),
     Act::Runs(0),
-    Act::HostSteps(Progress::Idle),
+    Act::HostSteps(0, Progress::Idle),
     Act::Says(Feed::Open(GET)),
     Act::Runs(0),
-    Act::HostSteps(Progress::Idle),
+    Act::HostSteps(0, Progress::Idle),
     Act::Did(Deed::Failed, 1),
     Act::Says(Feed::Open(GET)),
     Act::Runs(0),
-    Act::HostSteps(Progress::NeedsLink),
+    Act::HostSteps(0, Progress::NeedsLink),
     Act::Took(Text::All(b"+PONG\r\n$-1\r\n-upstream failure\r\n")),
 ];
 

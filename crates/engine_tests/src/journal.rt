@@ -3,7 +3,7 @@
 use proxy_core::{Answer, Core, Event, Kind, Step, Trip};
 
 // What a step was, without what it carries.
-#[derive(Clone, Copy, Debug, PartialEq, Eq)]
+#[derive(Clone, Copy, PartialEq)]
 pub(crate) enum Deed {
     Opened,
     Arrived,
@@ -33,7 +33,7 @@ impl Deed {
 }
 
 // A fault of a link, as the journal has it.
-#[derive(Clone, Copy, Debug, PartialEq, Eq)]
+#[derive(Clone, Copy, PartialEq)]
 pub(crate) struct Loss {
     pub(crate) kind: Kind,
     pub(crate) epoch: u64,
@@ -184,22 +184,21 @@ pub(crate) fn handed_before_last_arrival(core: &Core) -> usize {
 }
 
 // Steps that come in the same order whoever comes first: those of one deed, and of one host if it is a host's.
-#[derive(Clone, Copy, Debug, PartialEq, Eq)]
+#[derive(Clone, Copy)]
 struct Kin {
     deed: Deed,
     host: Option<usize>,
 }
 
 impl Kin {
-    fn of(event: &Event) -> Kin {
+    fn is_of(self, event: &Event) -> bool {
         let host = match event {
             Event::Taken { host } | Event::Answered { host, .. } | Event::Failed { host, .. } => {
                 Some(*host)
             }
             _ => None,
         };
-        let deed = Deed::of(event);
-        Kin { deed, host }
+        Deed::of(event) == self.deed && host == self.host
     }
 
     // The answer to the first of these steps from a place on, and the place behind it.
@@ -207,7 +206,7 @@ impl Kin {
         let journal = core.journal();
         for i in from..journal.len() {
             if let Some(step) = journal.get(i) {
-                if Kin::of(&step.event) == self {
+                if self.is_of(&step.event) {
                     return Some((&step.answer, i.saturating_add(1)));
                 }
             }

@@ -3,7 +3,7 @@
 use crate::acts::{Act, Fault, record};
 use crate::devices::{Feed, Text};
 use crate::journal::go_alike;
-use crate::rig::Ends;
+use crate::rig::{Ends, Link};
 use crate::texts::{BOTH_ANSWERS, EXCHANGES, Exchange, SET_AND_MGET};
 use crate::turns::Ration;
 use proxy_core::Core;
@@ -30,7 +30,9 @@ fn run<Rt: Wait + AllocGlobal>(
     ration: Ration,
 ) -> Result<Core, Fault> {
     let scene = [
-        Act::Stubs(3),
+        Act::Links(Link::STUB),
+        Act::Links(Link::STUB),
+        Act::Links(Link::STUB),
         Act::Opens(Feed::Whole(text), PIECES),
         Act::Runs(0),
         Act::Took(Text::All(answers)),
@@ -88,7 +90,9 @@ fn check_stopped<Rt: Wait + AllocGlobal>(rt: &Rt, turn: u64) -> Result<(), Fault
         Act::CannotOpen(SPENT)
     };
     let scene = [
-        Act::Stubs(3),
+        Act::Links(Link::STUB),
+        Act::Links(Link::STUB),
+        Act::Links(Link::STUB),
         opens,
         Act::Runs(0),
         Act::TookHanded(HANDED),

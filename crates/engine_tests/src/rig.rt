@@ -1,7 +1,7 @@
 //! Clients and hosts over one core, stepped in turn until nothing moves.
 ghost use Rattle.std.specs.Prelude.{◌≡◌, [], IfOk, None};
 
-use crate::devices::{Feed, HostReader, HostWriter, Sink, Source, Taken};
+use crate::devices::{Feed, Reader, Source, Taken, Writer};
 use crate::journal::{Deed, last_deed};
 use crate::stage::{Stage, Visitor};
 use crate::turns::{Ration, Rationed};
@@ -13,9 +13,27 @@ use std::sync::Wait;
 use stub_server::{Act as Serves, Stub, StubLink, StubReader, StubWriter};
 use ticket_gate::{Alone, TurnRefusal, Turns};
 
-type Client<'a> = ClientEngine<Faulty<Tallied<Source<'a>>>, Faulty<Tallied<Sink<'a>>>>;
+type Input<'a> = Faulty<Tallied<Reader<'a>>>;
 
-type Host<'a> = HostEngine<Faulty<Tallied<HostReader<'a>>>, Faulty<Tallied<HostWriter<'a>>>>;
+type Output<'a> = Faulty<Tallied<Writer<'a>>>;
+
+type Host<'a> = HostEngine<Input<'a>, Output<'a>>;
+
+// An end of the proxy.
+enum Engine<'a> {
+    Client(ClientEngine<Input<'a>, Output<'a>>),
+    Host(Host<'a>),
+}
+
+// Written out, as that of a rig.
+impl Drop for Engine<'_> {
+    fn drop(self) {
+        match self {
+            Engine::Client(client) => drop(client),
+            Engine::Host(host) => drop(host),
+        }
+    }
+}
 
 // After how many milliseconds a reply is late.
 pub(crate) const REPLY_MS: u64 = 5_000;
@@ -82,7 +100,7 @@ impl Link {
 }
 
 // An error that an engine's step answered, and the newest step of the journal right after it.
-#[derive(Clone, Copy, Debug, PartialEq, Eq)]
+#[derive(Clone, Copy, PartialEq)]
 pub(crate) struct Told {
     pub(crate) error: EngineError,
     pub(crate) deed: Option<Deed>,
@@ -99,8 +117,9 @@ impl Told {
 pub(crate) struct Rig<'a> {
     pub(crate) stage: &'a Stage,
     turns: Rationed,
-    clients: Vec<Client<'a>>,
-    hosts: Vec<Host<'a>>,
+    // So many hosts, and behind them the clients.
+    engines: Vec<Engine<'a>>,
+    hosts: usize,
     // The links that hosts get, in this order, and how many they got.
     links: Vec<Link>,
     given: usize,
@@ -117,15 +136,18 @@ impl Drop for Rig<'_> {
     fn drop(self) {
         let Rig {
             stage: _,
-            turns: _,
-            clients: _,
+            turns,
+            engines,
             hosts: _,
-            links: _,
+            links,
             given: _,
             of_client: _,
             of_host: _,
             seen: _,
         } = self;
+        drop(engines);
+        drop(links);
+        drop(turns);
     }
 }
 
@@ -152,23 +174,29 @@ impl<'a> Rig<'a> {
         let mut rig = Rig {
             stage,
             turns,
-            clients: Vec::new(alloc),
-            hosts: Vec::new(alloc),
+            engines: Vec::new(alloc),
+            hosts,
             links: Vec::new(alloc),
             given: 0,
             of_client: None,
             of_host: None,
             seen: 0,
         };
-        for host in 0..hosts {
-            rig.add_host(alloc, host)?;
+        match rig.add_hosts(alloc) {
+            Ok(()) => Ok(rig),
+            Err(error) => Err(error),
         }
-        Ok(rig)
     }
 
-    fn add_host(&mut self, alloc: Global, host: usize) -> Result<(), EngineError> {
-        let host = HostEngine::new(alloc, host, REPLY_MS);
-        self.hosts.push(host).or(Err(EngineError::NoMemory))
+    fn add_hosts(&mut self, alloc: Global) -> Result<(), EngineError> {
+        for host in 0..self.hosts {
+            self.add(Engine::Host(HostEngine::new(alloc, host, REPLY_MS)))?;
+        }
+        Ok(())
+    }
+
+    fn add(&mut self, engine: Engine<'a>) -> Result<(), EngineError> {
+        self.engines.push(engine).or(Err(EngineError::NoMemory))
     }
 
     // Opens a connection.
@@ -178,12 +206,21 @@ impl<'a> Rig<'a> {
         visitor: &'a Visitor,
         ends: Ends,
     ) -> Result<(), EngineError> {
-        let reader = Source::new(&visitor.says, ends.reading);
+        let reader = Reader::Text(Source {
+            feed: &visitor.says,
+            most: ends.reading,
+        });
+        let writer = Writer {
+            stub: None,
+            taken: &visitor.took,
+            most: ends.writing,
+        };
         let reader = Faulty::new(Tallied::new(reader), ends.reads);
-        let writer = Sink::new(&visitor.took, ends.writing);
         let writer = Faulty::new(Tallied::new(writer), ends.writes);
-        let client = ClientEngine::open(rt, rt.alloc(), &mut self.turns, reader, writer)?;
-        self.clients.push(client).or(Err(EngineError::NoMemory))
+        match ClientEngine::open(rt, rt.alloc(), &mut self.turns, reader, writer) {
+            Ok(client) => self.add(Engine::Client(client)),
+            Err(error) => Err(error),
+        }
     }
 
     // Opens the connection of the next of two clients, who says this. If that is refused it is made again, once.
@@ -194,7 +231,7 @@ impl<'a> Rig<'a> {
         ends: Ends,
     ) -> Result<(), EngineError> {
         let stage = self.stage;
-        let visitor = if self.clients.is_empty() {
+        let visitor = if self.engines.len() == self.hosts {
             &stage.first
         } else {
             &stage.second
@@ -219,14 +256,16 @@ impl<'a> Rig<'a> {
         let Rig {
             stage: _,
             turns,
-            clients: _,
+            engines,
             hosts: _,
-            links: _,
+            links,
             given: _,
             of_client: _,
             of_host: _,
             seen: _,
         } = self;
+        drop(engines);
+        drop(links);
         turns.into_core()
     }
 
@@ -241,56 +280,61 @@ impl<'a> Rig<'a> {
         cause
     }
 
+    // One step of the engine at this place, at this moment, if there is one.
+    fn step_at<Rt: Wait>(
+        &mut self,
+        rt: &Rt,
+        place: usize,
+        moment: u64,
+    ) -> Option<Result<Progress, EngineError>> {
+        match self.engines.get_mut(place)? {
+            Engine::Client(client) => Some(client.step(rt, &mut self.turns)),
+            Engine::Host(host) => Some(host.step(rt, &mut self.turns, moment)),
+        }
+    }
+
     // One step of the first client, if there is one.
     pub(crate) fn step_client<Rt: Wait>(
         &mut self,
         rt: &Rt,
     ) -> Option<Result<Progress, EngineError>> {
-        let client = self.clients.first_mut()?;
-        Some(client.step(rt, &mut self.turns))
+        self.step_at(rt, self.hosts, 0)
     }
 
-    // One step of the first host, if there is one.
+    // One step of the first host at this moment, if there is one.
     pub(crate) fn step_host<Rt: Wait>(
         &mut self,
         rt: &Rt,
         moment: u64,
     ) -> Option<Result<Progress, EngineError>> {
-        let host = self.hosts.first_mut()?;
-        Some(host.step(rt, &mut self.turns, moment))
+        self.step_at(rt, 0, moment)
     }
 
-    // One step of each client. False says that none moved; a step that is refused is no move.
-    fn step_clients<Rt: Wait>(&mut self, rt: &Rt) -> bool {
-        let mut has_moved = false;
-        for client in self.clients.iter_mut() {
-            match client.step(rt, &mut self.turns) {
-                Ok(progress) => has_moved |= progress == Progress::Moved,
-                Err(error) => self.of_client = Some(Told::now(error, self.turns.core())),
-            }
-        }
-        has_moved
-    }
-
-    // One step of each host at this moment. Where one needs a link it gets the next of those that are left. False says that
-    // none moved.
-    pub(crate) fn step_hosts<Rt: Wait + AllocGlobal>(
+    // One step of each host and of each client at this moment. Where a host needs a link it gets the next of those that are
+    // left. False says that none moved; a step that is refused is no move.
+    fn step<Rt: Wait + AllocGlobal>(
         &mut self,
         rt: &Rt,
         moment: u64,
     ) -> Result<bool, EngineError> {
         let mut has_moved = false;
-        for host in self.hosts.iter_mut() {
-            match host.step(rt, &mut self.turns, moment) {
-                Ok(Progress::NeedsLink) => {
-                    if let Some(link) = self.links.get(self.given) {
-                        attach(rt.alloc(), host, self.stage, *link, self.given == 0)?;
-                        self.given = self.given.saturating_add(1);
-                        has_moved = true;
+        for engine in self.engines.iter_mut() {
+            match engine {
+                Engine::Client(client) => match client.step(rt, &mut self.turns) {
+                    Ok(progress) => has_moved |= progress == Progress::Moved,
+                    Err(error) => self.of_client = Some(Told::now(error, self.turns.core())),
+                },
+                Engine::Host(host) => match host.step(rt, &mut self.turns, moment) {
+                    Ok(Progress::NeedsLink) => {
+                        if let Some(link) = self.links.get(self.given) {
+                            attach(rt.alloc(), host, self.stage, *link, self.given == 0)?;
+                            self.given = self.given.saturating_add(1);
+                            has_moved = true;
+                        }
                     }
-                }
-                Ok(progress) => has_moved |= progress == Progress::Moved,
-                Err(error) => self.of_host = Some(Told::now(error, self.turns.core())),
+                    Ok(progress) => has_moved |= progress == Progress::Moved,
+                    Err(error) => self.of_host = Some(Told::now(error, self.turns.core())),
+                },
             }
         }
         Ok(has_moved)
@@ -304,9 +348,7 @@ impl<'a> Rig<'a> {
     ) -> Result<bool, EngineError> {
         let mut quiet = 0u32;
         for _ in 0..1_000_000 {
-            let clients = self.step_clients(rt);
-            let hosts = self.step_hosts(rt, moment)?;
-            quiet = if clients || hosts {
+            quiet = if self.step(rt, moment)? {
                 0
             } else {
                 quiet.saturating_add(1)
@@ -349,18 +391,19 @@ fn link_ends<'a>(
     alloc: Global,
     stage: &'a Stage,
     peer: Peer,
-    asked: &'a Taken,
-) -> Result<(HostReader<'a>, HostWriter<'a>), EngineError> {
-    let sink = Sink::new(asked, Ends::ALL);
+    taken: &'a Taken,
+) -> Result<(Reader<'a>, Writer<'a>), EngineError> {
+    let most = Ends::ALL;
     match peer {
         Peer::Stub(acts) => {
             let (reader, writer) = stub(alloc, acts)?;
             let stub = Some(writer);
-            Ok((HostReader::Stub(reader), HostWriter { stub, sink }))
+            Ok((Reader::Stub(reader), Writer { stub, taken, most }))
         }
         Peer::Text => {
-            let source = Source::new(&stage.host, Ends::ALL);
-            Ok((HostReader::Text(source), HostWriter { stub: None, sink }))
+            let feed = &stage.host;
+            let stub = None;
+            Ok((Reader::Text(Source { feed, most }), Writer { stub, taken, most }))
         }
     }
 }

@@ -11,6 +11,12 @@ pub(crate) const SET_AND_MGET: Exchange = (
 
 pub(crate) const BOTH_ANSWERS: &[u8] = b"+OK\r\n*3\r\n$1\r\n1\r\n$-1\r\n$1\r\n1\r\n";
 
+// Two PINGs of 14 bytes, and two answers of 7.
+pub(crate) const PINGS: Exchange = (
+    b"*1\r\n$4\r\nPING\r\n*1\r\n$4\r\nPING\r\n",
+    b"+PONG\r\n+PONG\r\n",
+);
+
 // Commands of keys that no other client has.
 pub(crate) const OTHER_KEYS: Exchange = (
     b"*3\r\n$3\r\nSET\r\n$3\r\nabc\r\n$1\r\n1\r\n*4\r\n$4\r\nMGET\r\n$3\r\nabc\r\n$0\r\n\r\n$3\r\nabc\r\n",
