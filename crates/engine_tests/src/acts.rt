@@ -76,6 +76,9 @@ pub(crate) enum Act {
     WroteSent,
     // So many replies were handed out before the newest command arrived.
     HandedBefore(usize),
+
+    // The number of an error.
+    IsNumbered(EngineError, u16),
 }
 
 // What came in place of what an act expects, and how many, or the number of an error.
@@ -185,12 +188,7 @@ impl<'a> Rig<'a> {
         }
     }
 
-    fn see_steps<Rt: Wait>(
-        &mut self,
-        rt: &Rt,
-        progress: Progress,
-        times: u32,
-    ) -> Result<(), Came> {
+    fn see_steps<Rt: Wait>(&mut self, rt: &Rt, progress: Progress, times: u32) -> Result<(), Came> {
         let steps = self.core().journal().len();
         for _ in 0..times {
             see_step(self.step_client(rt), progress)?;
@@ -245,6 +243,7 @@ fn see_journal(core: &Core, act: Act) -> Result<(), Came> {
         Act::RecordedBelow(steps) => see_at_most(core.journal().len(), steps.saturating_sub(1)),
         Act::Sent(epoch, parts) => see_count(sent_in(core, epoch), parts),
         Act::HandedBefore(replies) => see_count(handed_before_last_arrival(core), replies),
+        Act::IsNumbered(error, number) => see_count(error.number().into(), number.into()),
         _ => unless(false, "no such act", 0),
     }
 }
@@ -288,7 +287,11 @@ fn see_refusal(came: Option<Refusal>, refusal: Option<Refusal>) -> Result<(), Ca
 
 fn see_told(came: Option<Told>, told: Option<Told>) -> Result<(), Came> {
     let number = came.map_or(0, |told| u64::from(told.error.number()));
-    unless(came == told, "an error, or none, or at another step", number)
+    unless(
+        came == told,
+        "an error, or none, or at another step",
+        number,
+    )
 }
 
 fn see_only(one: Option<Told>, other: Option<Told>, error: EngineError) -> Result<(), Came> {
@@ -308,7 +311,11 @@ fn see_at_most(came: usize, count: usize) -> Result<(), Came> {
 }
 
 fn see_text(taken: &Taken, text: Text) -> Result<(), Came> {
-    unless(taken.is(text), "another text, of so many bytes", taken.len() as u64)
+    unless(
+        taken.is(text),
+        "another text, of so many bytes",
+        taken.len() as u64,
+    )
 }
 
 // The first client took the text that stands at the number of handed replies.
@@ -339,17 +346,23 @@ fn see_ends(core: &Core, parts: usize) -> Result<(), Came> {
 
 // Each part was written once at most, as it was sent: over the second link whole.
 fn see_sent(stage: &Stage, core: &Core) -> Result<(), Came> {
-    see_beginning(&stage.asked, core, 0)?;
-    see_beginning(&stage.asked_later, core, 1)?;
-    see_count(stage.asked_later.len(), sent_len(core, 1))
+    let len = stage.asked_later.len();
+    let is_right = is_sent(&stage.asked, core, 0)
+        && is_sent(&stage.asked_later, core, 1)
+        && len == sent_len(core, 1);
+    unless(
+        is_right,
+        "another text, later one of so many bytes",
+        len as u64,
+    )
 }
 
-fn see_beginning(taken: &Taken, core: &Core, epoch: u64) -> Result<(), Came> {
-    let is_right = match taken.bytes.try_borrow() {
+// Whether a beginning of the parts that were sent in this epoch was taken.
+fn is_sent(taken: &Taken, core: &Core, epoch: u64) -> bool {
+    match taken.bytes.try_borrow() {
         Ok(bytes) => begins_sent(core, epoch, bytes.as_slice()),
         Err(_) => false,
-    };
-    unless(is_right, "another text, of so many bytes", taken.len() as u64)
+    }
 }
 
 // The first connection's event that is such a deed.

@@ -7,7 +7,6 @@ use crate::rig::{Ends, Link, Told};
 use crate::texts::{Exchange, GET, NOTHING, OTHER_KEYS, PINGS, SET_AND_MGET};
 use proxy_core::Refusal;
 use proxy_engines::{EngineError, Progress};
-use std::process::Abort;
 use std::sync::Wait;
 use std::test::Fail;
 
@@ -37,19 +36,21 @@ fn check_writer<Rt: Wait + AllocGlobal>(
         Act::Runs(0),
         Act::Took(Text::All(said)),
         Act::ClientTold(WRITE_FAILED),
+        Act::IsNumbered(EngineError::WriteFailed, 1403),
         Act::Did(Deed::Closed, 1),
         Act::Steps(Progress::Cut, 3),
     ];
     play(rt, 3, &scene)
 }
 
-// After each byte of the output but the last, whatever it takes at a call: the client took the output's first bytes, and no
-// more.
+// After each byte of an output of so many bytes but the last, whatever it takes at a call: the client took the output's first
+// bytes, and no more.
 fn check_writers<Rt: Wait + AllocGlobal>(
     rt: &Rt,
     (asked, answers): Exchange,
+    bytes: usize,
 ) -> Result<(), Fault> {
-    for len in 0..answers.len() {
+    for len in 0..bytes.min(answers.len()) {
         for writing in [Ends::ALL, 1] {
             let ends = Ends {
                 writes: len as u64,
@@ -65,10 +66,8 @@ fn check_writers<Rt: Wait + AllocGlobal>(
 // A write that takes nothing of what it is given is a failure too.
 #[test]
 fn failing_writers_cut(rt: HostRuntime) -> Result<(), Fail> {
-    assert_eq!(rt; EngineError::WriteFailed.number(), 1403);
-    assert_eq!(rt; (PINGS.1.len(), SET_AND_MGET.1.len()), (14, 28));
-    check_writers(&rt, PINGS)?;
-    check_writers(&rt, SET_AND_MGET)?;
+    check_writers(&rt, PINGS, 14)?;
+    check_writers(&rt, SET_AND_MGET, 28)?;
     let ends = Ends {
         writes: 1_000,
         writing: 0,
@@ -92,6 +91,7 @@ fn check_reader<Rt: Wait + AllocGlobal>(
         Act::Opens(Feed::Whole(asked), ends),
         Act::Runs(0),
         Act::ClientTold(READ_FAILED),
+        Act::IsNumbered(EngineError::ReadFailed, 1402),
         Act::Did(Deed::Closed, 1),
         Act::Steps(Progress::Cut, 3),
         Act::Took(Text::BeginningOf(answers)),
@@ -130,7 +130,6 @@ fn check_readers<Rt: Wait + AllocGlobal>(
 
 #[test]
 fn failing_readers_cut(rt: HostRuntime) -> Result<(), Fail> {
-    assert_eq!(rt; EngineError::ReadFailed.number(), 1402);
     check_readers(&rt, PINGS, [(14, 7), (28, 14)])?;
     check_readers(&rt, SET_AND_MGET, [(27, 5), (62, 28)])?;
     Ok(())

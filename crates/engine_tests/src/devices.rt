@@ -76,14 +76,6 @@ impl Source<'_> {
             }
         }
     }
-
-    fn fill(&self, buffer: &mut [u8]) -> io::Result<usize> {
-        let given = self.give(self.most.min(buffer.len()))?;
-        for (place, byte) in buffer.iter_mut().zip(given) {
-            *place = *byte;
-        }
-        Ok(given.len().min(buffer.len()))
-    }
 }
 
 // A text that a writer has to have taken.
@@ -159,27 +151,53 @@ impl Taken {
 }
 
 // What a client or a host says: what a stub answers, or a text whatever it is asked.
-#[derive(Drop)]
 pub(crate) enum Reader<'a> {
     Stub(StubReader),
     Text(Source<'a>),
+}
+
+// Written out, as that of a rig.
+impl Drop for Reader<'_> {
+    fn drop(self) {
+        match self {
+            Reader::Stub(stub) => drop(stub),
+            Reader::Text(_) => {}
+        }
+    }
 }
 
 impl Read for Reader<'_> {
     fn read(&mut self, buffer: &mut [u8]) -> io::Result<usize> {
         match self {
             Reader::Stub(stub) => stub.read(buffer),
-            Reader::Text(source) => source.fill(buffer),
+            Reader::Text(source) => {
+                let given = source.give(source.most.min(buffer.len()))?;
+                for (place, byte) in buffer.iter_mut().zip(given) {
+                    *place = *byte;
+                }
+                Ok(given.len().min(buffer.len()))
+            }
         }
     }
 }
 
 // Keeps what a client or a host is told, so many bytes a call at most, or what its stub took, if it has one.
-#[derive(Drop)]
 pub(crate) struct Writer<'a> {
     pub(crate) stub: Option<StubWriter>,
     pub(crate) taken: &'a Taken,
     pub(crate) most: usize,
+}
+
+// Written out, as that of a rig.
+impl Drop for Writer<'_> {
+    fn drop(self) {
+        let Writer {
+            stub,
+            taken: _,
+            most: _,
+        } = self;
+        drop(stub);
+    }
 }
 
 impl Write for Writer<'_> {

@@ -73,8 +73,7 @@ fn check_refused<Rt: Wait + AllocGlobal + Abort>(
 #[test]
 fn refused_turns_are_made_again(rt: HostRuntime) -> Result<(), Fail> {
     for exchange in EXCHANGES {
-        let whole = run(&rt, exchange, Ration::FREE)?;
-        check_refused(&rt, exchange, &whole)?;
+        check_refused(&rt, *exchange, &run(&rt, *exchange, Ration::FREE)?)?;
     }
     Ok(())
 }

@@ -312,11 +312,7 @@ impl<'a> Rig<'a> {
 
     // One step of each host and of each client at this moment. Where a host needs a link it gets the next of those that are
     // left. False says that none moved; a step that is refused is no move.
-    fn step<Rt: Wait + AllocGlobal>(
-        &mut self,
-        rt: &Rt,
-        moment: u64,
-    ) -> Result<bool, EngineError> {
+    fn step<Rt: Wait + AllocGlobal>(&mut self, rt: &Rt, moment: u64) -> Result<bool, EngineError> {
         let mut has_moved = false;
         for engine in self.engines.iter_mut() {
             match engine {
@@ -382,7 +378,11 @@ fn attach<'a>(
     let writer = Faulty::new(Tallied::new(writer), link.writes);
     match host.attach(reader, writer) {
         Ok(()) => Ok(()),
-        Err((error, _, _)) => Err(error),
+        Err((error, reader, writer)) => {
+            drop(reader);
+            drop(writer);
+            Err(error)
+        }
     }
 }
 
@@ -403,7 +403,10 @@ fn link_ends<'a>(
         Peer::Text => {
             let feed = &stage.host;
             let stub = None;
-            Ok((Reader::Text(Source { feed, most }), Writer { stub, taken, most }))
+            Ok((
+                Reader::Text(Source { feed, most }),
+                Writer { stub, taken, most },
+            ))
         }
     }
 }
@@ -418,6 +421,9 @@ fn stub(alloc: Global, acts: &[Serves]) -> Result<(StubReader, StubWriter), Engi
     stub.script(script);
     match StubLink::new(alloc, stub).ends(alloc) {
         Ok(ends) => Ok(ends),
-        Err(_) => Err(EngineError::NoMemory),
+        Err(refused) => {
+            drop(refused);
+            Err(EngineError::NoMemory)
+        }
     }
 }

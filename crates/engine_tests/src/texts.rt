@@ -24,7 +24,7 @@ pub(crate) const OTHER_KEYS: Exchange = (
 );
 
 // Local answers, one of a reader that refuses its bytes, a last command, and commands of one host and of several.
-pub(crate) const EXCHANGES: [Exchange; 6] = [
+pub(crate) const EXCHANGES: &[Exchange] = &[
     SET_AND_MGET,
     (
         b"*3\r\n$5\r\nblpop\r\n$1\r\nk\r\n$1\r\n0\r\n*1\r\n$4\r\nping\r\n",
