@@ -6,153 +6,116 @@ use std::io;
 use std::io::{ErrorKind, Read, Write};
 use stub_server::{StubReader, StubWriter};
 
-// How a device goes: how many bytes pass at a call, at most, and with what it pauses before each call that passes any.
-#[derive(Clone, Copy, Debug, PartialEq, Eq)]
-pub(crate) struct Pace {
-    pub(crate) most: usize,
-    pub(crate) pause: Option<ErrorKind>,
-}
-
-impl Pace {
-    pub(crate) const FREE: Pace = Pace {
-        most: 100_000,
-        pause: None,
-    };
-
-    // At most so many bytes a call, without pauses.
-    pub(crate) fn of(most: usize) -> Pace {
-        Pace { most, pause: None }
-    }
-
-    // The same with a pause before each call.
-    pub(crate) fn with(self, pause: ErrorKind) -> Pace {
-        Pace {
-            pause: Some(pause),
-            ..self
-        }
-    }
-}
-
-// A pace, and whether the pause before the next call is over.
-#[derive(Drop)]
-struct Walk {
-    pace: Pace,
-    is_rested: bool,
-}
-
-impl Walk {
-    fn new(pace: Pace) -> Walk {
-        Walk {
-            pace,
-            is_rested: false,
-        }
-    }
-
-    // How many bytes may pass at this call, or the pause before it.
-    fn go(&mut self) -> io::Result<usize> {
-        if let Some(kind) = self.pace.pause {
-            self.is_rested = !self.is_rested;
-            if self.is_rested {
-                return Err(io::Error::from(kind));
-            }
-        }
-        Ok(self.pace.most)
-    }
-}
-
-// What a reader gives: a text; another one so many times, each after a pause; and then the end, or pauses.
+// What a reader gives.
 #[derive(Clone, Copy)]
-pub(crate) struct Feed {
-    pub(crate) now: &'static [u8],
-    pub(crate) later: &'static [u8],
-    pub(crate) times: u32,
-    pub(crate) ends: bool,
+pub(crate) enum Feed {
+    // A text, and then the end.
+    Whole(&'static [u8]),
+    // A text, and then pauses.
+    Open(&'static [u8]),
+    // A text; another one so many times, each after a pause; and then pauses.
+    Then(&'static [u8], &'static [u8], u32),
 }
 
 impl Feed {
-    // A text in one piece, and then the end.
-    pub(crate) fn whole(text: &'static [u8]) -> Feed {
-        Feed {
-            now: text,
-            later: &[],
-            times: 0,
-            ends: true,
+    // How many times the other text is still to come.
+    pub(crate) fn times(self) -> u32 {
+        match self {
+            Feed::Then(_, _, times) => times,
+            _ => 0,
         }
     }
 
-    // A text in one piece, and then pauses.
-    pub(crate) fn open(text: &'static [u8]) -> Feed {
-        Feed {
-            ends: false,
-            ..Feed::whole(text)
+    // What comes next without a pause: nothing is the end.
+    fn now(self) -> io::Result<&'static [u8]> {
+        match self {
+            Feed::Whole(text) => Ok(text),
+            Feed::Open([]) | Feed::Then([], _, _) => Err(io::Error::from(ErrorKind::WouldBlock)),
+            Feed::Open(text) | Feed::Then(text, _, _) => Ok(text),
         }
     }
 
-    // A text so many times, and then pauses.
-    pub(crate) fn repeated(text: &'static [u8], times: u32) -> Feed {
-        Feed {
-            now: &[],
-            later: text,
-            times,
-            ends: false,
+    // The same once so much of what came next is left.
+    fn with(self, left: &'static [u8]) -> Feed {
+        match self {
+            Feed::Whole(_) => Feed::Whole(left),
+            Feed::Open(_) => Feed::Open(left),
+            Feed::Then(_, later, times) => Feed::Then(left, later, times),
         }
     }
 
-    // The same behind another text.
-    pub(crate) fn behind(self, text: &'static [u8]) -> Feed {
-        Feed { now: text, ..self }
-    }
-
-    // At most so many of the bytes that come next, which are given by that, or a pause.
-    fn give(&mut self, most: usize) -> io::Result<&'static [u8]> {
-        if self.now.is_empty() && self.times > 0 {
-            self.now = self.later;
-            self.times -= 1;
-            return Err(io::Error::from(ErrorKind::WouldBlock));
+    // The same after a pause.
+    fn rested(self) -> Feed {
+        match self {
+            Feed::Then([], later, times) if times > 0 => Feed::Then(later, later, times - 1),
+            feed => feed,
         }
-        if self.now.is_empty() && !self.ends {
-            return Err(io::Error::from(ErrorKind::WouldBlock));
-        }
-        let (given, left) = self.now.split_at(most.min(self.now.len()));
-        self.now = left;
-        Ok(given)
     }
 }
 
-// Gives what stands in a cell, at its pace.
+// Gives what stands in a cell, so many bytes a call at most.
 #[derive(Drop)]
 pub(crate) struct Source<'a> {
-    feed: &'a Cell<Feed>,
-    walk: Walk,
+    pub(crate) feed: &'a Cell<Feed>,
+    pub(crate) most: usize,
 }
 
-impl<'a> Source<'a> {
-    pub(crate) fn new(feed: &'a Cell<Feed>, pace: Pace) -> Source<'a> {
-        Source {
-            feed,
-            walk: Walk::new(pace),
+impl Source<'_> {
+    // At most so many of the bytes that come next, which are given by that, or a pause.
+    fn give(&self, most: usize) -> io::Result<&'static [u8]> {
+        let feed = self.feed.get();
+        match feed.now() {
+            Ok(now) => {
+                let (given, left) = now.split_at(most.min(now.len()));
+                self.feed.set(feed.with(left));
+                Ok(given)
+            }
+            Err(pause) => {
+                self.feed.set(feed.rested());
+                Err(pause)
+            }
         }
     }
 }
 
-impl Read for Source<'_> {
-    fn read(&mut self, buffer: &mut [u8]) -> io::Result<usize> {
-        let most = self.walk.go()?.min(buffer.len());
-        let mut feed = self.feed.get();
-        let given = feed.give(most);
-        self.feed.set(feed);
-        let given = given?;
-        for (place, byte) in buffer.iter_mut().zip(given) {
-            *place = *byte;
+// A text that a writer has to have taken.
+#[derive(Clone, Copy)]
+pub(crate) enum Text {
+    // Just this.
+    All(&'static [u8]),
+    // A beginning of this.
+    BeginningOf(&'static [u8]),
+    // This one so many times, then another one, and nothing else.
+    Times(&'static [u8], usize, &'static [u8]),
+    // So many bytes, of which the first and the last are these.
+    Long(usize, &'static [u8], &'static [u8]),
+}
+
+impl Text {
+    fn is(self, taken: &[u8]) -> bool {
+        match self {
+            Text::All(text) => taken == text,
+            Text::BeginningOf(text) => text.starts_with(taken),
+            Text::Times(text, times, last) => is_repeated(taken, text, times, last),
+            Text::Long(len, first, last) => {
+                taken.len() == len && taken.starts_with(first) && taken.ends_with(last)
+            }
         }
-        Ok(given.len().min(buffer.len()))
     }
+}
+
+// Whether these bytes are a text so many times and then another one.
+fn is_repeated(bytes: &[u8], text: &[u8], times: usize, last: &[u8]) -> bool {
+    let (front, behind) = bytes.split_at(text.len().saturating_mul(times).min(bytes.len()));
+    front.len() == text.len().saturating_mul(times)
+        && front.chunks(text.len().max(1)).all(|piece| piece == text)
+        && behind == last
 }
 
 // What a writer took, and whether it takes nothing for now.
 #[derive(Drop)]
 pub(crate) struct Taken {
-    bytes: RefCell<Vec<u8>>,
+    pub(crate) bytes: RefCell<Vec<u8>>,
     pub(crate) is_shut: Cell<bool>,
 }
 
@@ -164,58 +127,12 @@ impl Taken {
         }
     }
 
-    // Whether just these bytes were taken.
-    pub(crate) fn is(&self, bytes: &[u8]) -> bool {
+    // Whether this text was taken.
+    pub(crate) fn is(&self, text: Text) -> bool {
         match self.bytes.try_borrow() {
-            Ok(taken) => taken.as_slice() == bytes,
+            Ok(taken) => text.is(taken.as_slice()),
             Err(_) => false,
         }
-    }
-
-    // Whether what was taken is a beginning of these bytes.
-    pub(crate) fn begins(&self, bytes: &[u8]) -> bool {
-        match self.bytes.try_borrow() {
-            Ok(taken) => bytes.starts_with(taken.as_slice()),
-            Err(_) => false,
-        }
-    }
-
-    // Whether what was taken begins with these bytes.
-    pub(crate) fn starts_with(&self, bytes: &[u8]) -> bool {
-        match self.bytes.try_borrow() {
-            Ok(taken) => taken.as_slice().starts_with(bytes),
-            Err(_) => false,
-        }
-    }
-
-    // Whether what was taken ends with these bytes.
-    pub(crate) fn ends_with(&self, bytes: &[u8]) -> bool {
-        match self.bytes.try_borrow() {
-            Ok(taken) => taken.as_slice().ends_with(bytes),
-            Err(_) => false,
-        }
-    }
-
-    // Whether a text was taken so many times, then another one, and nothing else.
-    pub(crate) fn is_repeated_before(&self, text: &[u8], times: usize, last: &[u8]) -> bool {
-        match self.bytes.try_borrow() {
-            Ok(taken) => {
-                let front = text.len().saturating_mul(times);
-                match taken.get(..front) {
-                    Some(front) if taken.len() == front.len().saturating_add(last.len()) => {
-                        front.chunks(text.len().max(1)).all(|piece| piece == text)
-                            && taken.as_slice().ends_with(last)
-                    }
-                    _ => false,
-                }
-            }
-            Err(_) => false,
-        }
-    }
-
-    // Whether a text was taken so many times, and nothing else.
-    pub(crate) fn is_repeated(&self, text: &[u8], times: usize) -> bool {
-        self.is_repeated_before(text, times, b"")
     }
 
     pub(crate) fn len(&self) -> usize {
@@ -233,70 +150,67 @@ impl Taken {
     }
 }
 
-// Keeps what it takes, at its pace.
-#[derive(Drop)]
-pub(crate) struct Sink<'a> {
-    taken: &'a Taken,
-    walk: Walk,
-}
-
-impl<'a> Sink<'a> {
-    pub(crate) fn new(taken: &'a Taken, pace: Pace) -> Sink<'a> {
-        Sink {
-            taken,
-            walk: Walk::new(pace),
-        }
-    }
-}
-
-impl Write for Sink<'_> {
-    fn write(&mut self, bytes: &[u8]) -> io::Result<usize> {
-        if self.taken.is_shut.get() {
-            return Err(io::Error::from(ErrorKind::WouldBlock));
-        }
-        let most = self.walk.go()?.min(bytes.len());
-        self.taken.keep(&bytes[..most])?;
-        Ok(most)
-    }
-
-    fn flush(&mut self) -> io::Result<()> {
-        Ok(())
-    }
-}
-
-// What a host says: what a stub answers, or a text whatever it is asked.
-#[derive(Drop)]
-pub(crate) enum HostReader<'a> {
+// What a client or a host says: what a stub answers, or a text whatever it is asked.
+pub(crate) enum Reader<'a> {
     Stub(StubReader),
     Text(Source<'a>),
 }
 
-impl Read for HostReader<'_> {
-    fn read(&mut self, buffer: &mut [u8]) -> io::Result<usize> {
+// Written out, as that of a rig.
+impl Drop for Reader<'_> {
+    fn drop(self) {
         match self {
-            HostReader::Stub(stub) => stub.read(buffer),
-            HostReader::Text(source) => source.read(buffer),
+            Reader::Stub(stub) => drop(stub),
+            Reader::Text(_) => {}
         }
     }
 }
 
-// What a host is asked: it is kept, once the stub took it, if there is one.
-#[derive(Drop)]
-pub(crate) struct HostWriter<'a> {
-    pub(crate) stub: Option<StubWriter>,
-    pub(crate) sink: Sink<'a>,
+impl Read for Reader<'_> {
+    fn read(&mut self, buffer: &mut [u8]) -> io::Result<usize> {
+        match self {
+            Reader::Stub(stub) => stub.read(buffer),
+            Reader::Text(source) => {
+                let given = source.give(source.most.min(buffer.len()))?;
+                for (place, byte) in buffer.iter_mut().zip(given) {
+                    *place = *byte;
+                }
+                Ok(given.len().min(buffer.len()))
+            }
+        }
+    }
 }
 
-impl Write for HostWriter<'_> {
+// Keeps what a client or a host is told, so many bytes a call at most, or what its stub took, if it has one.
+pub(crate) struct Writer<'a> {
+    pub(crate) stub: Option<StubWriter>,
+    pub(crate) taken: &'a Taken,
+    pub(crate) most: usize,
+}
+
+// Written out, as that of a rig.
+impl Drop for Writer<'_> {
+    fn drop(self) {
+        let Writer {
+            stub,
+            taken: _,
+            most: _,
+        } = self;
+        drop(stub);
+    }
+}
+
+impl Write for Writer<'_> {
     fn write(&mut self, bytes: &[u8]) -> io::Result<usize> {
-        match &mut self.stub {
-            Some(stub) => {
-                let most = stub.write(bytes)?;
-                self.sink.taken.keep(&bytes[..most])?;
-                Ok(most)
-            }
-            None => self.sink.write(bytes),
+        if self.taken.is_shut.get() {
+            return Err(io::Error::from(ErrorKind::WouldBlock));
         }
+        let most = match &mut self.stub {
+            Some(stub) => stub.write(bytes)?,
+            None => self.most.min(bytes.len()),
+        };
+        self.taken.keep(&bytes[..most])?;
+        Ok(most)
     }
 
     fn flush(&mut self) -> io::Result<()> {

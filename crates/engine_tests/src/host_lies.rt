@@ -1,43 +1,29 @@
 //! Hosts that answer in part, too much, wrongly, late or never, over links that fail at any byte.
 
-use crate::devices::Feed;
-use crate::journal::{
-    Deed, Loss, count, handed_before_last_arrival, last_loss, last_trip, sent, sent_in,
-};
-use crate::rig::{Fault, Link, REPLY_MS, Rig};
-use crate::scene::Scene;
+use crate::acts::{Act, Fault, play};
+use crate::devices::{Feed, Text};
+use crate::journal::Deed;
+use crate::rig::{Ends, Link, Peer, REPLY_MS, Told};
 use crate::texts::{FAILURE, GET, NOTHING, SET};
-use proxy_core::{Core, Event, Kind, Trip};
+use proxy_core::{Kind, Trip};
 use proxy_engines::{EngineError, Progress};
-use std::alloc::Global;
-use std::process::Abort;
 use std::sync::Wait;
 use std::test::Fail;
-use stub_server::Act;
-
-// Whether a core has one fault, and that is this one of epoch 0.
-fn has_lost(rig: &Rig<'_>, kind: Kind, parts: u64, t: u64) -> bool {
-    let loss = Loss {
-        kind,
-        epoch: 0,
-        parts,
-        t,
-    };
-    last_loss(rig.core()) == Some(loss) && count(rig.core(), Deed::Failed) == 1
-}
+use stub_server::Act as Serves;
 
 // A host that says so much of a reply, and then ends: the link is dropped and the part lost.
-fn check_half<Rt: Wait + AllocGlobal + Abort>(rt: &Rt, half: &'static [u8]) -> Result<(), Fail> {
-    let scene = Scene::new(rt.alloc(), Feed::whole(GET), Feed::whole(half));
-    let rig = scene.linked(rt, 3)?;
-    check_dropped(rt, &scene, &rig);
-    Ok(())
-}
-
-fn check_dropped<Rt: Abort>(rt: &Rt, scene: &Scene, rig: &Rig<'_>) {
-    assert!(rt; scene.answered.is(FAILURE));
-    assert!(rt; has_lost(rig, Kind::Dropped, 1, 3));
-    assert!(rt; rig.is_well());
+fn check_half<Rt: Wait + AllocGlobal>(rt: &Rt, half: &'static [u8]) -> Result<(), Fault> {
+    let scene = [
+        Act::Opens(Feed::Whole(GET), Ends::FREE),
+        Act::HostSays(Feed::Whole(half)),
+        Act::Links(Link::TEXT),
+        Act::Runs(3),
+        Act::Took(Text::All(FAILURE)),
+        Act::Lost(Kind::Dropped, 1, 3),
+        Act::ClientTold(None),
+        Act::HostTold(None),
+    ];
+    play(rt, 1, &scene)
 }
 
 // After each byte of a reply but the last.
@@ -50,337 +36,247 @@ fn half_replies_are_lost(rt: HostRuntime) -> Result<(), Fail> {
     Ok(())
 }
 
-// What the epoch's refused link does to the only host.
-fn trip_of<Rt: Wait>(rt: &Rt, rig: &mut Rig<'_>, epoch: u64) -> Option<(u64, Trip)> {
-    let refused = Event::Failed {
-        host: 0,
-        epoch,
-        kind: Kind::Refused,
-        t: 4,
-    };
-    match rig.refusal(rt, refused) {
-        None => last_trip(rig.core()),
-        Some(_) => None,
-    }
-}
+// Two replies to one request: the first is its answer, and nobody asked for the second. That is one bad result: the host is put
+// aside at the fourth that follows.
+const SECOND_REPLY: &[Act] = &[
+    Act::Opens(Feed::Whole(SET), Ends::FREE),
+    Act::HostSays(Feed::Open(b"+OK\r\n+OK\r\n")),
+    Act::Links(Link::TEXT),
+    Act::Runs(3),
+    Act::Took(Text::All(b"+OK\r\n")),
+    Act::Lost(Kind::Garbled, 0, 3),
+    Act::Did(Deed::Answered, 1),
+    Act::LinkRefused(1, Trip::None),
+    Act::LinkRefused(2, Trip::None),
+    Act::LinkRefused(3, Trip::None),
+    Act::LinkRefused(4, Trip::Ejected),
+];
 
-// The first of two replies is the answer to the only request.
-fn check_first<Rt: Abort>(rt: &Rt, scene: &Scene, rig: &Rig<'_>) {
-    assert!(rt; scene.answered.is(b"+OK\r\n"));
-    assert!(rt; has_lost(rig, Kind::Garbled, 0, 3));
-    assert_eq!(rt; count(rig.core(), Deed::Answered), 1);
-}
-
-// The host has one bad result: it is put aside at the fourth that follows.
-fn check_trips<Rt: Wait + Abort>(rt: &Rt, rig: &mut Rig<'_>) {
-    for epoch in 1..4 {
-        assert_eq!(rt; trip_of(rt, rig, epoch), Some((epoch, Trip::None)));
-    }
-    assert_eq!(rt; trip_of(rt, rig, 4), Some((4, Trip::Ejected)));
-}
-
-// Two replies to one request: the first is its answer, and nobody asked for the second. That is one bad result.
 #[test]
 fn second_replies_end_the_link(rt: HostRuntime) -> Result<(), Fail> {
-    let scene = Scene::new(rt.alloc(), Feed::whole(SET), Feed::open(b"+OK\r\n+OK\r\n"));
-    let mut rig = scene.linked(&rt, 3)?;
-    check_first(&rt, &scene, &rig);
-    check_trips(&rt, &mut rig);
+    play(&rt, 1, SECOND_REPLY)?;
     Ok(())
-}
-
-// Before a stub that garbles its only reply.
-fn get_garbled<'a, Rt: Wait + AllocGlobal + Abort>(
-    rt: &Rt,
-    scene: &'a Scene,
-    rig: &mut Rig<'a>,
-) -> Result<(), Fail> {
-    rig.add_stub(rt.alloc(), &[Act::Garble], &scene.asked)?;
-    rig.run(rt, 3)?;
-    assert!(rt; scene.answered.is(FAILURE));
-    assert!(rt; has_lost(rig, Kind::Garbled, 1, 3));
-    Ok(())
-}
-
-// The same command again, over a second link.
-fn get_again<'a, Rt: Wait + AllocGlobal + Abort>(
-    rt: &Rt,
-    scene: &'a Scene,
-    rig: &mut Rig<'a>,
-) -> Result<(), Fail> {
-    scene.client.set(Feed::whole(GET));
-    rig.add_stub(rt.alloc(), &[], &scene.asked_later)?;
-    rig.run(rt, 4)?;
-    assert!(rt; scene.answered.is(b"-upstream failure\r\n$-1\r\n"));
-    check_sent_later(rt, scene, rig);
-    Ok(())
-}
-
-// One part was sent over the second link.
-fn check_sent_later<Rt: Abort>(rt: &Rt, scene: &Scene, rig: &Rig<'_>) {
-    assert_eq!(rt; sent_in(rig.core(), 1), 1);
-    assert!(rt; scene.asked_later.is(GET));
 }
 
 // A garbled reply loses its part, and the next command goes over a new link.
+const GARBLED_REPLY: &[Act] = &[
+    Act::Opens(Feed::Open(GET), Ends::FREE),
+    Act::Links(Link {
+        to: Peer::Stub(&[Serves::Garble]),
+        reads: u64::MAX,
+        writes: u64::MAX,
+    }),
+    Act::Runs(3),
+    Act::Took(Text::All(FAILURE)),
+    Act::Lost(Kind::Garbled, 1, 3),
+    Act::Says(Feed::Whole(GET)),
+    Act::Links(Link::STUB),
+    Act::Runs(4),
+    Act::Took(Text::All(b"-upstream failure\r\n$-1\r\n")),
+    Act::Sent(1, 1),
+    Act::AskedLater(Text::All(GET)),
+];
+
 #[test]
 fn garbled_replies_end_the_link(rt: HostRuntime) -> Result<(), Fail> {
-    let scene = Scene::new(rt.alloc(), Feed::open(GET), Feed::open(b""));
-    let mut rig = scene.rig(&rt)?;
-    get_garbled(&rt, &scene, &mut rig)?;
-    get_again(&rt, &scene, &mut rig)
+    play(&rt, 1, GARBLED_REPLY)?;
+    Ok(())
 }
 
 const ZEROS: &[u8] = &[b'0'; 8_192];
 
-// Has the host say a text, and so many times another one.
-fn say<Rt: Wait>(rt: &Rt, scene: &Scene, rig: &mut Rig<'_>, feed: Feed) -> Result<(), Fail> {
-    scene.host.set(feed);
-    rig.run(rt, 3)
-}
+// A host begins a reply of nine bulk strings.
+const NINE: &[Act] = &[
+    Act::Opens(Feed::Open(GET), Ends::FREE),
+    Act::Links(Link::TEXT),
+    Act::Runs(3),
+    Act::HostSays(Feed::Open(b"*9\r\n")),
+    Act::Runs(3),
+];
 
-// Has the host say the head of a bulk string, so many times 8,192 zeros, some more, and its end.
-fn say_bulk<Rt: Wait>(
-    rt: &Rt,
-    scene: &Scene,
-    rig: &mut Rig<'_>,
-    (head, blocks, more): (&'static [u8], u32, usize),
-) -> Result<(), Fail> {
-    let zeros = Feed::repeated(ZEROS, blocks);
-    say(rt, scene, rig, zeros.behind(head))?;
-    let more = ZEROS.split_at(more.min(ZEROS.len())).0;
-    say(rt, scene, rig, Feed::open(more))?;
-    say(rt, scene, rig, Feed::open(b"\r\n"))
-}
+// One of 1,040,384 bytes: 127 times 8,192.
+const BULK: &[Act] = &[
+    Act::HostSays(Feed::Then(b"$1040384\r\n", ZEROS, 127)),
+    Act::Runs(3),
+    Act::HostSays(Feed::Open(b"\r\n")),
+    Act::Runs(3),
+];
 
-// Has the host say a reply of nine bulk strings, of which the last is of so many bytes.
-fn say_nine<Rt: Wait>(
-    rt: &Rt,
-    scene: &Scene,
-    rig: &mut Rig<'_>,
-    last: (&'static [u8], u32, usize),
-) -> Result<(), Fail> {
-    say(rt, scene, rig, Feed::open(b"*9\r\n"))?;
+// The last has 65,426 bytes: 7 times 8,192, and 8,082. The reply has 8,388,608 then, and goes out as it came.
+const GREATEST: &[Act] = &[
+    Act::HostSays(Feed::Then(b"$65426\r\n", ZEROS, 7)),
+    Act::Runs(3),
+    Act::HostSays(Feed::Open(&[b'0'; 8_082])),
+    Act::Runs(3),
+    Act::HostSays(Feed::Open(b"\r\n")),
+    Act::Runs(3),
+    Act::Took(Text::Long(8_388_608, b"*9\r\n$1040384\r\n000", b"000\r\n")),
+    Act::Did(Deed::Failed, 0),
+];
+
+// The last has a byte more, and the reply is refused.
+const TOO_LONG: &[Act] = &[
+    Act::HostSays(Feed::Then(b"$65427\r\n", ZEROS, 7)),
+    Act::Runs(3),
+    Act::HostSays(Feed::Open(&[b'0'; 8_083])),
+    Act::Runs(3),
+    Act::HostSays(Feed::Open(b"\r\n")),
+    Act::Runs(3),
+    Act::Took(Text::All(FAILURE)),
+    Act::Lost(Kind::Garbled, 1, 3),
+];
+
+// A reply of nine bulk strings, of which the last comes so.
+fn check_length<Rt: Wait + AllocGlobal>(rt: &Rt, last: &[Act]) -> Result<(), Fail> {
+    let mut scene = NINE.to_vec(rt.alloc())?;
     for _ in 0..8 {
-        say_bulk(rt, scene, rig, (b"$1040384\r\n", 127, 0))?;
+        scene.extend_from_slice(BULK)?;
     }
-    say_bulk(rt, scene, rig, last)
-}
-
-// A client that asked for a reply, and a host that says nothing by itself.
-fn waiting(alloc: Global) -> Scene {
-    Scene::new(alloc, Feed::open(GET), Feed::open(b""))
-}
-
-// A reply of 8,388,608 bytes goes out as it came.
-fn check_greatest<Rt: Wait + AllocGlobal + Abort>(rt: &Rt) -> Result<(), Fail> {
-    let scene = waiting(rt.alloc());
-    let mut rig = scene.linked(rt, 3)?;
-    say_nine(rt, &scene, &mut rig, (b"$65426\r\n", 7, 8_082))?;
-    check_whole(rt, &scene, &rig);
-    Ok(())
-}
-
-fn check_whole<Rt: Abort>(rt: &Rt, scene: &Scene, rig: &Rig<'_>) {
-    assert_eq!(rt; scene.answered.len(), 8_388_608);
-    assert!(rt; scene.answered.starts_with(b"*9\r\n$1040384\r\n000"));
-    assert!(rt; scene.answered.ends_with(b"000\r\n"));
-    assert_eq!(rt; last_loss(rig.core()), None);
-}
-
-// One a byte longer is refused.
-fn check_too_long<Rt: Wait + AllocGlobal + Abort>(rt: &Rt) -> Result<(), Fail> {
-    let scene = waiting(rt.alloc());
-    let mut rig = scene.linked(rt, 3)?;
-    say_nine(rt, &scene, &mut rig, (b"$65427\r\n", 7, 8_083))?;
-    assert!(rt; scene.answered.is(FAILURE));
-    assert!(rt; has_lost(&rig, Kind::Garbled, 1, 3));
+    scene.extend_from_slice(last)?;
+    play(rt, 1, scene.as_slice())?;
     Ok(())
 }
 
 #[test]
 fn replies_have_a_greatest_length(rt: HostRuntime) -> Result<(), Fail> {
-    check_greatest(&rt)?;
-    check_too_long(&rt)
+    check_length(&rt, GREATEST)?;
+    check_length(&rt, TOO_LONG)
 }
 
-// The part is late at 5,010, and that is one step.
-fn check_late<Rt: Wait + Abort>(rt: &Rt, rig: &mut Rig<'_>) -> Result<(), Fail> {
-    let steps = rig.core().journal().len();
-    rig.run(rt, 5_009)?;
-    assert_eq!(rt; rig.core().journal().len(), steps);
-    rig.step_hosts(rt, 5_010)?;
-    assert!(rt; has_lost(rig, Kind::Late, 1, 5_010));
-    assert_eq!(rt; rig.core().journal().len(), steps.saturating_add(1));
-    rig.run(rt, 5_010)
-}
+// A part that was taken at the moment 10 is late at 5,010, and not a millisecond earlier. That is one step.
+const LATE_REPLY: &[Act] = &[
+    Act::Opens(Feed::Open(GET), Ends::FREE),
+    Act::Links(Link::TEXT),
+    Act::Runs(10),
+    Act::Recorded(3),
+    Act::Runs(5_009),
+    Act::Recorded(0),
+    Act::HostSteps(5_010, Progress::Moved),
+    Act::Lost(Kind::Late, 1, 5_010),
+    Act::Recorded(1),
+    Act::Runs(5_010),
+    Act::Took(Text::All(FAILURE)),
+];
 
-// A part that was taken at the moment 10 is late at 5,010, and not a millisecond earlier.
 #[test]
 fn held_replies_are_late(rt: HostRuntime) -> Result<(), Fail> {
-    let scene = waiting(rt.alloc());
-    let mut rig = scene.linked(&rt, 10)?;
-    check_late(&rt, &mut rig)?;
-    assert!(rt; scene.answered.is(FAILURE));
+    play(&rt, 1, LATE_REPLY)?;
     Ok(())
 }
 
-// Of 1,025 commands that wait for one host the last is held back.
-fn check_room<Rt: Abort>(rt: &Rt, scene: &Scene, rig: &Rig<'_>) {
-    assert_eq!(rt; count(rig.core(), Deed::Arrived), 1_024);
-    assert_eq!(rt; scene.client.get().times, 0);
-    assert_eq!(rt; sent_in(rig.core(), 0), 1_024);
-    assert!(rt; scene.asked.is_repeated(GET, 1_024));
-}
-
-// The others were lost and answered before the last was asked.
-fn check_turn_out<Rt: Abort>(rt: &Rt, scene: &Scene, rig: &Rig<'_>) {
-    assert!(rt; has_lost(rig, Kind::Late, 1_024, REPLY_MS));
-    assert_eq!(rt; handed_before_last_arrival(rig.core()), 1_024);
-    assert!(rt; scene.answered.is_repeated_before(FAILURE, 1_024, NOTHING));
-}
-
-// The command that was held back is asked over the next link, once the others were answered.
-fn check_held<'a, Rt: Wait + AllocGlobal + Abort>(
-    rt: &Rt,
-    scene: &'a Scene,
-    rig: &mut Rig<'a>,
-) -> Result<(), Fail> {
-    check_room(rt, scene, rig);
-    rig.add_stub(rt.alloc(), &[], &scene.asked_later)?;
-    rig.run(rt, REPLY_MS)?;
-    check_turn_out(rt, scene, rig);
-    check_sent_later(rt, scene, rig);
-    Ok(())
-}
+// Of 1,025 commands that wait for one host the last is held back. The others are lost and answered before it is asked, over the
+// next link.
+const HELD_COMMAND: &[Act] = &[
+    Act::Opens(Feed::Then(b"", GET, 1_025), Ends::FREE),
+    Act::Links(Link::TEXT),
+    Act::Runs(0),
+    Act::Did(Deed::Arrived, 1_024),
+    Act::Unread(0),
+    Act::Sent(0, 1_024),
+    Act::Asked(Text::Times(GET, 1_024, b"")),
+    Act::Links(Link::STUB),
+    Act::Runs(REPLY_MS),
+    Act::Lost(Kind::Late, 1_024, REPLY_MS),
+    Act::HandedBefore(1_024),
+    Act::Took(Text::Times(FAILURE, 1_024, NOTHING)),
+    Act::Sent(1, 1),
+    Act::AskedLater(Text::All(GET)),
+];
 
 #[test]
 fn held_commands_wait_for_room(rt: HostRuntime) -> Result<(), Fail> {
-    let scene = Scene::new(rt.alloc(), Feed::repeated(GET, 1_025), Feed::open(b""));
-    let mut rig = scene.linked(&rt, 0)?;
-    check_held(&rt, &scene, &mut rig)
+    play(&rt, 1, HELD_COMMAND)?;
+    Ok(())
 }
 
 // Four parts: their texts have 87 bytes, and the replies of an empty stub 26.
 const FOUR_PARTS: &[u8] =
     b"*3\r\n$3\r\nSET\r\n$1\r\na\r\n$1\r\n1\r\n*2\r\n$3\r\nGET\r\n$1\r\na\r\n*3\r\n$4\r\nMGET\r\n$1\r\na\r\n$1\r\na\r\n";
 
-// Four parts over two links, of which the first fails after so many bytes.
-fn run_links<'a, Rt: Wait + AllocGlobal>(
+// The first of two links fails after so many bytes, if they come to pass: that is told once, and each part is answered or lost,
+// and sent once at most.
+fn check_link<Rt: Wait + AllocGlobal>(
     rt: &Rt,
-    scene: &'a Scene,
-    rig: &mut Rig<'a>,
     (reads, writes): (u64, u64),
-) -> Result<(), Fail> {
-    rig.add_stub(rt.alloc(), &[], &scene.asked_later)?;
-    let first = Link::to_stub(rt.alloc(), &[], &scene.asked)?;
-    rig.links.push(first.failing_after(reads, writes))?;
-    rig.run(rt, 3)
+    (told, times): (Option<Told>, usize),
+) -> Result<(), Fault> {
+    let to = Peer::Stub(&[]);
+    let scene = [
+        Act::Opens(Feed::Whole(FOUR_PARTS), Ends::FREE),
+        Act::Links(Link { to, reads, writes }),
+        Act::Links(Link::STUB),
+        Act::Runs(3),
+        Act::HostTold(told),
+        Act::Did(Deed::Failed, times),
+        Act::Did(Deed::Handed, 3),
+        Act::AnsweredOrLost(4),
+        Act::WroteSent,
+        Act::DidAtMost(Deed::Taken, 4),
+    ];
+    play(rt, 1, &scene)
 }
 
-// Each part was sent once at most, as it stands in the journal.
-fn check_sent<Rt: AllocGlobal + Abort>(rt: &Rt, scene: &Scene, core: &Core) -> Result<(), Fail> {
-    let first = sent(rt.alloc(), core, 0)?;
-    assert!(rt; scene.asked.begins(first.as_slice()));
-    let second = sent(rt.alloc(), core, 1)?;
-    assert!(rt; scene.asked_later.is(second.as_slice()));
-    assert!(rt; count(core, Deed::Taken) <= 4);
-    Ok(())
-}
-
-// Each part was answered or lost.
-fn check_parts<Rt: Abort>(rt: &Rt, core: &Core) {
-    assert_eq!(rt; count(core, Deed::Handed), 3);
-    let lost = last_loss(core).map_or(0, |loss| loss.parts);
-    let answered = count(core, Deed::Answered) as u64;
-    assert_eq!(rt; answered.saturating_add(lost), 4);
-}
-
-// The error was told once, if there was one.
-fn check_fault<Rt: Abort>(rt: &Rt, rig: &Rig<'_>, error: Option<EngineError>) {
-    let fault = error.map(|error| Fault {
-        error,
+// What is told of a host whose link failed, and how often.
+const READ_FAILED: (Option<Told>, usize) = (
+    Some(Told {
+        error: EngineError::ReadFailed,
         deed: Some(Deed::Failed),
-    });
-    assert_eq!(rt; rig.of_host, fault);
-    assert_eq!(rt;
-        count(rig.core(), Deed::Failed),
-        usize::from(error.is_some())
-    );
-}
+    }),
+    1,
+);
 
-// The first of two links fails after so many bytes, if they come to pass: that is told once, and each part is answered or lost.
-fn check_link<Rt: Wait + AllocGlobal + Abort>(
-    rt: &Rt,
-    bytes: (u64, u64),
-    error: Option<EngineError>,
-) -> Result<(), Fail> {
-    let scene = Scene::new(rt.alloc(), Feed::whole(FOUR_PARTS), Feed::open(b""));
-    let mut rig = scene.rig(rt)?;
-    run_links(rt, &scene, &mut rig, bytes)?;
-    check_fault(rt, &rig, error);
-    check_parts(rt, rig.core());
-    check_sent(rt, &scene, rig.core())
-}
+const WRITE_FAILED: (Option<Told>, usize) = (
+    Some(Told {
+        error: EngineError::WriteFailed,
+        deed: Some(Deed::Failed),
+    }),
+    1,
+);
 
 // Links that fail after each byte read and after each byte written.
 #[test]
 fn failing_links_are_dropped_once(rt: HostRuntime) -> Result<(), Fail> {
     for reads in 0..27 {
-        check_link(&rt, (reads, u64::MAX), Some(EngineError::ReadFailed))?;
+        check_link(&rt, (reads, u64::MAX), READ_FAILED)?;
     }
     for writes in 0..87 {
-        check_link(&rt, (u64::MAX, writes), Some(EngineError::WriteFailed))?;
+        check_link(&rt, (u64::MAX, writes), WRITE_FAILED)?;
     }
-    check_link(&rt, (27, 87), None)
-}
-
-// What the only host's step says, once the client has said this too.
-fn progress<Rt: Wait>(
-    rt: &Rt,
-    scene: &Scene,
-    rig: &mut Rig<'_>,
-    text: &'static [u8],
-) -> Result<Progress, Fail> {
-    scene.client.set(Feed::open(text));
-    rig.run(rt, 0)?;
-    Ok(rig.step_host(rt, 0, 0)??)
-}
-
-// Bytes for a host that has no link.
-fn check_unlinked<Rt: Wait + Abort>(rt: &Rt, scene: &Scene, rig: &mut Rig<'_>) -> Result<(), Fail> {
-    let ping = b"*1\r\n$4\r\nPING\r\n";
-    assert_eq!(rt; progress(rt, scene, rig, ping)?, Progress::Idle);
-    assert_eq!(rt; progress(rt, scene, rig, GET)?, Progress::NeedsLink);
-    assert_eq!(rt; progress(rt, scene, rig, b"")?, Progress::NeedsLink);
-    Ok(())
-}
-
-// The same host with a link, which it drops at the second command.
-fn check_linked<Rt: Wait + Abort>(rt: &Rt, scene: &Scene, rig: &mut Rig<'_>) -> Result<(), Fail> {
-    assert_eq!(rt; progress(rt, scene, rig, b"")?, Progress::Idle);
-    assert_eq!(rt; progress(rt, scene, rig, GET)?, Progress::Idle);
-    assert_eq!(rt; count(rig.core(), Deed::Failed), 1);
+    check_link(&rt, (27, 87), (None, 0))?;
     Ok(())
 }
 
 // A host asks for a link exactly where it has bytes for it and none.
-fn check_asking<'a, Rt: Wait + AllocGlobal + Abort>(
-    rt: &Rt,
-    scene: &'a Scene,
-    rig: &mut Rig<'a>,
-) -> Result<(), Fail> {
-    check_unlinked(rt, scene, rig)?;
-    rig.add_stub(rt.alloc(), &[Act::Reply, Act::Drop], &scene.asked)?;
-    check_linked(rt, scene, rig)?;
-    assert_eq!(rt; progress(rt, scene, rig, GET)?, Progress::NeedsLink);
-    assert!(rt; scene.answered.is(b"+PONG\r\n$-1\r\n-upstream failure\r\n"));
-    Ok(())
-}
+const ASKS_FOR_LINKS: &[Act] = &[
+    Act::Opens(Feed::Open(b""), Ends::FREE),
+    Act::Says(Feed::Open(b"*1\r\n$4\r\nPING\r\n")),
+    Act::Runs(0),
+    Act::HostSteps(0, Progress::Idle),
+    Act::Says(Feed::Open(GET)),
+    Act::Runs(0),
+    Act::HostSteps(0, Progress::NeedsLink),
+    Act::Runs(0),
+    Act::HostSteps(0, Progress::NeedsLink),
+    // A link that ends at the second command.
+    Act::Links(Link {
+        to: Peer::Stub(&[Serves::Reply, Serves::Drop]),
+        reads: u64::MAX,
+        writes: u64::MAX,
+    }),
+    Act::Runs(0),
+    Act::HostSteps(0, Progress::Idle),
+    Act::Says(Feed::Open(GET)),
+    Act::Runs(0),
+    Act::HostSteps(0, Progress::Idle),
+    Act::Did(Deed::Failed, 1),
+    Act::Says(Feed::Open(GET)),
+    Act::Runs(0),
+    Act::HostSteps(0, Progress::NeedsLink),
+    Act::Took(Text::All(b"+PONG\r\n$-1\r\n-upstream failure\r\n")),
+];
 
 #[test]
 fn links_are_asked_for_where_bytes_wait(rt: HostRuntime) -> Result<(), Fail> {
-    let scene = Scene::new(rt.alloc(), Feed::open(b""), Feed::open(b""));
-    let mut rig = scene.rig(&rt)?;
-    check_asking(&rt, &scene, &mut rig)
+    play(&rt, 1, ASKS_FOR_LINKS)?;
+    Ok(())
 }

@@ -1,11 +1,9 @@
 //! What a core's journal tells of a run.
 
 use proxy_core::{Answer, Core, Event, Kind, Step, Trip};
-use std::alloc::Global;
-use std::test::Fail;
 
 // What a step was, without what it carries.
-#[derive(Clone, Copy, Debug, PartialEq, Eq)]
+#[derive(Clone, Copy, PartialEq)]
 pub(crate) enum Deed {
     Opened,
     Arrived,
@@ -35,7 +33,7 @@ impl Deed {
 }
 
 // A fault of a link, as the journal has it.
-#[derive(Clone, Copy, Debug, PartialEq, Eq)]
+#[derive(Clone, Copy, PartialEq)]
 pub(crate) struct Loss {
     pub(crate) kind: Kind,
     pub(crate) epoch: u64,
@@ -137,13 +135,27 @@ fn sent_at(core: &Core, place: usize, epoch: u64) -> Option<&[u8]> {
     }
 }
 
-// The texts of the parts that were sent in this epoch.
-pub(crate) fn sent(alloc: Global, core: &Core, epoch: u64) -> Result<Vec<u8>, Fail> {
-    let mut texts = Vec::new(alloc);
+// How many bytes the parts that were sent in this epoch have.
+pub(crate) fn sent_len(core: &Core, epoch: u64) -> usize {
+    let mut len = 0usize;
     for place in 0..core.journal().len() {
-        texts.extend_from_slice(sent_at(core, place, epoch).unwrap_or(b""))?;
+        len = len.saturating_add(sent_at(core, place, epoch).unwrap_or(b"").len());
     }
-    Ok(texts)
+    len
+}
+
+// Whether these bytes are a beginning of the parts that were sent in this epoch.
+pub(crate) fn begins_sent(core: &Core, epoch: u64, bytes: &[u8]) -> bool {
+    let mut left = bytes;
+    for place in 0..core.journal().len() {
+        let text = sent_at(core, place, epoch).unwrap_or(b"");
+        let (now, later) = left.split_at(text.len().min(left.len()));
+        if !text.starts_with(now) {
+            return false;
+        }
+        left = later;
+    }
+    left.is_empty()
 }
 
 // How many replies were handed out before the newest command arrived.
@@ -172,22 +184,21 @@ pub(crate) fn handed_before_last_arrival(core: &Core) -> usize {
 }
 
 // Steps that come in the same order whoever comes first: those of one deed, and of one host if it is a host's.
-#[derive(Clone, Copy, Debug, PartialEq, Eq)]
+#[derive(Clone, Copy)]
 struct Kin {
     deed: Deed,
     host: Option<usize>,
 }
 
 impl Kin {
-    fn of(event: &Event) -> Kin {
+    fn is_of(self, event: &Event) -> bool {
         let host = match event {
             Event::Taken { host } | Event::Answered { host, .. } | Event::Failed { host, .. } => {
                 Some(*host)
             }
             _ => None,
         };
-        let deed = Deed::of(event);
-        Kin { deed, host }
+        Deed::of(event) == self.deed && host == self.host
     }
 
     // The answer to the first of these steps from a place on, and the place behind it.
@@ -195,7 +206,7 @@ impl Kin {
         let journal = core.journal();
         for i in from..journal.len() {
             if let Some(step) = journal.get(i) {
-                if Kin::of(&step.event) == self {
+                if self.is_of(&step.event) {
                     return Some((&step.answer, i.saturating_add(1)));
                 }
             }

@@ -3,6 +3,8 @@
 #![tactic(auto)]
 
 #[cfg(test)]
+mod acts;
+#[cfg(test)]
 mod client_lies;
 #[cfg(test)]
 mod devices;
@@ -15,7 +17,7 @@ mod refusal_tests;
 #[cfg(test)]
 mod rig;
 #[cfg(test)]
-mod scene;
+mod stage;
 #[cfg(test)]
 mod texts;
 #[cfg(test)]

@@ -1,10 +1,10 @@
 //! Turns that are refused for want of a ticket, and made again.
 
-use crate::devices::{Feed, Pace};
-use crate::journal::{Deed, count, go_alike};
-use crate::rig::{Ends, Rig};
-use crate::scene::Scene;
-use crate::texts::{EXCHANGES, Exchange, SET_AND_MGET};
+use crate::acts::{Act, Fault, record};
+use crate::devices::{Feed, Text};
+use crate::journal::go_alike;
+use crate::rig::{Ends, Link};
+use crate::texts::{BOTH_ANSWERS, EXCHANGES, Exchange, SET_AND_MGET};
 use crate::turns::Ration;
 use proxy_core::Core;
 use proxy_engines::{EngineError, Progress};
@@ -15,64 +15,55 @@ use std::test::Fail;
 const SPENT: EngineError = EngineError::TurnRefused { number: 1_202 };
 
 // The ends of a client that is read in pieces of 20 bytes.
-fn pieces(scene: &Scene) -> Ends<'_> {
-    Ends::paced(&scene.client, Pace::of(20), &scene.answered, Pace::FREE)
-}
+const PIECES: Ends = Ends {
+    reads: u64::MAX,
+    writes: u64::MAX,
+    reading: 20,
+    writing: Ends::ALL,
+};
 
-// One client before three stubs, by turns of this ration. A connection whose opening is refused is opened again.
-fn opened<'a, Rt: Wait + AllocGlobal>(
-    rt: &Rt,
-    scene: &'a Scene,
-    ration: Ration,
-) -> Result<Rig<'a>, Fail> {
-    let mut rig = Rig::of_stubs(rt.alloc(), ration, &scene.asked)?;
-    if rig.open(rt, pieces(scene)).is_err() {
-        rig.open(rt, pieces(scene))?;
-    }
-    Ok(rig)
-}
-
-// A run by turns of this ration, each refused step made again: the core, once all is answered.
-fn run<Rt: Wait + AllocGlobal + Abort>(
+// One client before three stubs, by turns of this ration, each refused step made again: the client has all answers, and no error
+// was told but that of refused turns. The core, once all is answered.
+fn run<Rt: Wait + AllocGlobal>(
     rt: &Rt,
     (text, answers): Exchange,
     ration: Ration,
-) -> Result<Core, Fail> {
-    let scene = Scene::new(rt.alloc(), Feed::whole(text), Feed::open(b""));
-    let mut rig = opened(rt, &scene, ration)?;
-    rig.run(rt, 0)?;
-    assert!(rt; scene.answered.is(answers));
-    check_ended(rt, &mut rig)?;
-    Ok(rig.into_core())
+) -> Result<Core, Fault> {
+    let scene = [
+        Act::Links(Link::STUB),
+        Act::Links(Link::STUB),
+        Act::Links(Link::STUB),
+        Act::Opens(Feed::Whole(text), PIECES),
+        Act::Runs(0),
+        Act::Took(Text::All(answers)),
+        Act::Steps(Progress::Ended, 1),
+        Act::OnlyTold(SPENT),
+    ];
+    record(rt, 3, ration, &scene)
 }
 
-// The client has had all, and no error was told but that of refused turns.
-fn check_ended<Rt: Wait + Abort>(rt: &Rt, rig: &mut Rig<'_>) -> Result<(), Fail> {
-    assert_eq!(rt; rig.step_client(rt, 0)?, Ok(Progress::Ended));
-    for fault in [rig.of_client, rig.of_host] {
-        assert!(rt; fault.is_none_or(|fault| fault.error == SPENT));
-    }
+// A run by turns of this ration goes as one without a refusal.
+fn check_alike<Rt: Wait + AllocGlobal + Abort>(
+    rt: &Rt,
+    exchange: Exchange,
+    whole: &Core,
+    ration: Ration,
+) -> Result<(), Fault> {
+    let core = run(rt, exchange, ration)?;
+    assert!(rt; go_alike(&core, whole));
     Ok(())
 }
 
-// A run in which this turn is refused once, and one in which six are refused from this one on.
+// Each turn but the first is refused once, and six in a row from it on.
 fn check_refused<Rt: Wait + AllocGlobal + Abort>(
     rt: &Rt,
     exchange: Exchange,
     whole: &Core,
-    turn: u64,
-) -> Result<(), Fail> {
-    let once = run(rt, exchange, Ration::without(turn, 1))?;
-    assert!(rt; go_alike(&once, whole));
-    let often = run(rt, exchange, Ration::without(turn, 6))?;
-    assert!(rt; go_alike(&often, whole));
-    Ok(())
-}
-
-fn check_exchange<Rt: Wait + AllocGlobal + Abort>(rt: &Rt, exchange: Exchange) -> Result<(), Fail> {
-    let whole = run(rt, exchange, Ration::FREE)?;
+) -> Result<(), Fault> {
     for turn in 2..90 {
-        check_refused(rt, exchange, &whole, turn)?;
+        for refused in [1, 6] {
+            check_alike(rt, exchange, whole, Ration::without(turn, refused))?;
+        }
     }
     Ok(())
 }
@@ -82,30 +73,32 @@ fn check_exchange<Rt: Wait + AllocGlobal + Abort>(rt: &Rt, exchange: Exchange) -
 #[test]
 fn refused_turns_are_made_again(rt: HostRuntime) -> Result<(), Fail> {
     for exchange in EXCHANGES {
-        check_exchange(&rt, exchange)?;
+        check_refused(&rt, *exchange, &run(&rt, *exchange, Ration::FREE)?)?;
     }
     Ok(())
 }
+
+// What the client took once so many replies were handed out.
+const HANDED: &[&[u8]] = &[b"", b"+OK\r\n", BOTH_ANSWERS];
 
 // Where all turns from one on are refused, the journal stands still there, and nothing is written but what was handed out.
-fn check_stopped<Rt: Wait + AllocGlobal + Abort>(rt: &Rt, turn: u64) -> Result<(), Fail> {
-    let scene = Scene::new(rt.alloc(), Feed::whole(SET_AND_MGET.0), Feed::open(b""));
-    let mut rig = Rig::of_stubs(rt.alloc(), Ration::without(turn, u64::MAX), &scene.asked)?;
-    let is_opened = rig.open(rt, pieces(&scene)).is_ok();
-    assert_eq!(rt; is_opened, turn > 1);
-    rig.rounds(rt, 0, 200)?;
-    assert!(rt; scene.answered.is(handed_out(rig.core())));
-    assert!(rt; (rig.core().journal().len() as u64) < turn);
+fn check_stopped<Rt: Wait + AllocGlobal>(rt: &Rt, turn: u64) -> Result<(), Fault> {
+    let opens = if turn > 1 {
+        Act::Opens(Feed::Whole(SET_AND_MGET.0), PIECES)
+    } else {
+        Act::CannotOpen(SPENT)
+    };
+    let scene = [
+        Act::Links(Link::STUB),
+        Act::Links(Link::STUB),
+        Act::Links(Link::STUB),
+        opens,
+        Act::Runs(0),
+        Act::TookHanded(HANDED),
+        Act::RecordedBelow(turn as usize),
+    ];
+    drop(record(rt, 3, Ration::without(turn, u64::MAX), &scene)?);
     Ok(())
-}
-
-// The answers that were handed out, by the journal.
-fn handed_out(core: &Core) -> &'static [u8] {
-    match count(core, Deed::Handed) {
-        0 => b"",
-        1 => b"+OK\r\n",
-        _ => SET_AND_MGET.1,
-    }
 }
 
 #[test]

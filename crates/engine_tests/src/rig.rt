@@ -1,79 +1,133 @@
 //! Clients and hosts over one core, stepped in turn until nothing moves.
 ghost use Rattle.std.specs.Prelude.{◌≡◌, [], IfOk, None};
 
-use crate::devices::{Feed, HostReader, HostWriter, Pace, Sink, Source, Taken};
+use crate::devices::{Feed, Reader, Source, Taken, Writer};
 use crate::journal::{Deed, last_deed};
+use crate::stage::{Stage, Visitor};
 use crate::turns::{Ration, Rationed};
 use ketama::Ring;
 use proxy_core::{Core, Event, Refusal, Settings};
 use proxy_engines::{ClientEngine, EngineError, Faulty, HostEngine, Progress, Tallied};
 use std::alloc::Global;
-use std::cell::Cell;
 use std::sync::Wait;
-use std::test::Fail;
-use stub_server::{Act, Stub, StubLink};
+use stub_server::{Act as Serves, Stub, StubLink, StubReader, StubWriter};
 use ticket_gate::{Alone, TurnRefusal, Turns};
 
-pub(crate) type Client<'a> = ClientEngine<Faulty<Tallied<Source<'a>>>, Faulty<Tallied<Sink<'a>>>>;
+type Input<'a> = Faulty<Tallied<Reader<'a>>>;
 
-pub(crate) type Host<'a> = HostEngine<
-    Faulty<Tallied<HostReader<'a>>>,
-    Faulty<Tallied<HostWriter<'a>>>,
->;
+type Output<'a> = Faulty<Tallied<Writer<'a>>>;
+
+type Host<'a> = HostEngine<Input<'a>, Output<'a>>;
+
+// An end of the proxy.
+enum Engine<'a> {
+    Client(ClientEngine<Input<'a>, Output<'a>>),
+    Host(Host<'a>),
+}
+
+// Written out, as that of a rig.
+impl Drop for Engine<'_> {
+    fn drop(self) {
+        match self {
+            Engine::Client(client) => drop(client),
+            Engine::Host(host) => drop(host),
+        }
+    }
+}
 
 // After how many milliseconds a reply is late.
 pub(crate) const REPLY_MS: u64 = 5_000;
 
-// After how many rounds without a move a run is over: a device pauses before each call, at most, and a piece comes after a
-// pause.
+// After how many rounds without a move a run is over: a piece comes after a pause.
 const QUIET_ROUNDS: u32 = 4;
 
 // The points of three hosts: `abc` belongs to host 0, `a` to host 1, and the empty key and `b` to host 2 and host 0.
 const POINTS: [(u32, usize); 3] = [(2_555_380_112, 0), (3_111_502_092, 1), (3_649_838_548, 2)];
 
-// The two ends of a link to a host, and how many bytes pass by each before it fails.
-#[derive(Drop)]
-pub(crate) struct Link<'a> {
-    pub(crate) reader: HostReader<'a>,
+// The two ends of a client: how many bytes pass by each before it fails, and how many at a call, at most.
+#[derive(Clone, Copy)]
+pub(crate) struct Ends {
     pub(crate) reads: u64,
-    pub(crate) writer: HostWriter<'a>,
+    pub(crate) writes: u64,
+    pub(crate) reading: usize,
+    pub(crate) writing: usize,
+}
+
+impl Ends {
+    // More bytes than a call passes.
+    pub(crate) const ALL: usize = 100_000;
+
+    // They never fail, nor stop short.
+    pub(crate) const FREE: Ends = Ends {
+        reads: u64::MAX,
+        writes: u64::MAX,
+        reading: Ends::ALL,
+        writing: Ends::ALL,
+    };
+}
+
+// A host at the other end of a link.
+#[derive(Clone, Copy)]
+pub(crate) enum Peer {
+    // A stub that is empty at first, and serves by these acts.
+    Stub(&'static [Serves]),
+    // It says what stands on the stage, whatever it is asked.
+    Text,
+}
+
+// A link to a host, and how many bytes pass by each end before it fails.
+#[derive(Clone, Copy)]
+pub(crate) struct Link {
+    pub(crate) to: Peer,
+    pub(crate) reads: u64,
     pub(crate) writes: u64,
 }
 
-// The two ends of a client, and how many bytes pass by each before it fails.
-#[derive(Drop)]
-pub(crate) struct Ends<'a> {
-    pub(crate) source: Source<'a>,
-    pub(crate) reads: u64,
-    pub(crate) sink: Sink<'a>,
-    pub(crate) writes: u64,
+impl Link {
+    // One that never fails, to an empty stub.
+    pub(crate) const STUB: Link = Link {
+        to: Peer::Stub(&[]),
+        reads: u64::MAX,
+        writes: u64::MAX,
+    };
+
+    // One that never fails, to a host that says what stands on the stage.
+    pub(crate) const TEXT: Link = Link {
+        to: Peer::Text,
+        reads: u64::MAX,
+        writes: u64::MAX,
+    };
 }
 
 // An error that an engine's step answered, and the newest step of the journal right after it.
-#[derive(Clone, Copy, Debug, PartialEq, Eq)]
-pub(crate) struct Fault {
+#[derive(Clone, Copy, PartialEq)]
+pub(crate) struct Told {
     pub(crate) error: EngineError,
     pub(crate) deed: Option<Deed>,
 }
 
-impl Fault {
-    fn now(error: EngineError, core: &Core) -> Fault {
+impl Told {
+    fn now(error: EngineError, core: &Core) -> Told {
         let deed = last_deed(core);
-        Fault { error, deed }
+        Told { error, deed }
     }
 }
 
 // The engines over their turns, links that hosts are still to get, and what was told on the way.
 pub(crate) struct Rig<'a> {
-    pub(crate) turns: Rationed,
-    pub(crate) clients: Vec<Client<'a>>,
-    pub(crate) hosts: Vec<Host<'a>>,
-    pub(crate) links: Vec<Link<'a>>,
+    pub(crate) stage: &'a Stage,
+    turns: Rationed,
+    // So many hosts, and behind them the clients.
+    engines: Vec<Engine<'a>>,
+    hosts: usize,
+    // The links that hosts get, in this order, and how many they got.
+    links: Vec<Link>,
+    given: usize,
     // The newest error of a client, and of a host.
-    pub(crate) of_client: Option<Fault>,
-    pub(crate) of_host: Option<Fault>,
-    // How many links were asked for, had there been one or not.
-    pub(crate) asked: u64,
+    pub(crate) of_client: Option<Told>,
+    pub(crate) of_host: Option<Told>,
+    // How long the journal was when it was looked at.
+    pub(crate) seen: usize,
 }
 
 // Written out, since the drop is then one call wherever a rig ends. A derived one stands whole at each of these places, and is
@@ -81,86 +135,117 @@ pub(crate) struct Rig<'a> {
 impl Drop for Rig<'_> {
     fn drop(self) {
         let Rig {
-            turns: _,
-            clients: _,
+            stage: _,
+            turns,
+            engines,
             hosts: _,
-            links: _,
+            links,
+            given: _,
             of_client: _,
             of_host: _,
-            asked: _,
+            seen: _,
         } = self;
+        drop(engines);
+        drop(links);
+        drop(turns);
     }
 }
 
 // A core for so many hosts, three at most, with the points above.
-fn core(alloc: Global, hosts: usize) -> Result<Core, Fail>
+fn core(alloc: Global, hosts: usize) -> Result<Core, EngineError>
     ensures { IfOk result (λ core. core.steps ≡ []) }
 {
-    let points = POINTS.get(..hosts).ok_or("three hosts at most")?;
-    let ring = Ring::of_points(alloc, hosts, points)?;
-    Ok(Core::new(alloc, ring, Settings::default())?)
+    let points = POINTS.get(..hosts).unwrap_or(&POINTS);
+    let Ok(ring) = Ring::of_points(alloc, hosts, points) else {
+        return Err(EngineError::NoMemory);
+    };
+    Core::new(alloc, ring, Settings::default()).or(Err(EngineError::NoMemory))
 }
 
 impl<'a> Rig<'a> {
     // Hosts without links and no client, over turns that are refused by this ration.
-    pub(crate) fn new(alloc: Global, hosts: usize, ration: Ration) -> Result<Rig<'a>, Fail> {
+    pub(crate) fn new(
+        alloc: Global,
+        stage: &'a Stage,
+        hosts: usize,
+        ration: Ration,
+    ) -> Result<Rig<'a>, EngineError> {
         let turns = Rationed::new(Alone::new(core(alloc, hosts)?, 0), ration);
         let mut rig = Rig {
+            stage,
             turns,
-            clients: Vec::new(alloc),
-            hosts: Vec::new(alloc),
+            engines: Vec::new(alloc),
+            hosts,
             links: Vec::new(alloc),
+            given: 0,
             of_client: None,
             of_host: None,
-            asked: 0,
+            seen: 0,
         };
-        for host in 0..hosts {
-            rig.add_host(alloc, host)?;
+        match rig.add_hosts(alloc) {
+            Ok(()) => Ok(rig),
+            Err(error) => Err(error),
         }
-        Ok(rig)
     }
 
-    fn add_host(&mut self, alloc: Global, host: usize) -> Result<(), Fail> {
-        Ok(self.hosts.push(HostEngine::new(alloc, host, REPLY_MS))?)
+    fn add_hosts(&mut self, alloc: Global) -> Result<(), EngineError> {
+        for host in 0..self.hosts {
+            self.add(Engine::Host(HostEngine::new(alloc, host, REPLY_MS)))?;
+        }
+        Ok(())
     }
 
-    // Three hosts without faults, each an empty stub. What they are asked is kept together.
-    pub(crate) fn of_stubs(
-        alloc: Global,
-        ration: Ration,
-        asked: &'a Taken,
-    ) -> Result<Rig<'a>, Fail> {
-        let mut rig = Rig::new(alloc, 3, ration)?;
-        for _ in 0..3 {
-            rig.add_stub(alloc, &[], asked)?;
-        }
-        Ok(rig)
+    fn add(&mut self, engine: Engine<'a>) -> Result<(), EngineError> {
+        self.engines.push(engine).or(Err(EngineError::NoMemory))
     }
 
     // Opens a connection.
+    fn open_once<Rt: Wait + AllocGlobal>(
+        &mut self,
+        rt: &Rt,
+        visitor: &'a Visitor,
+        ends: Ends,
+    ) -> Result<(), EngineError> {
+        let reader = Reader::Text(Source {
+            feed: &visitor.says,
+            most: ends.reading,
+        });
+        let writer = Writer {
+            stub: None,
+            taken: &visitor.took,
+            most: ends.writing,
+        };
+        let reader = Faulty::new(Tallied::new(reader), ends.reads);
+        let writer = Faulty::new(Tallied::new(writer), ends.writes);
+        match ClientEngine::open(rt, rt.alloc(), &mut self.turns, reader, writer) {
+            Ok(client) => self.add(Engine::Client(client)),
+            Err(error) => Err(error),
+        }
+    }
+
+    // Opens the connection of the next of two clients, who says this. If that is refused it is made again, once.
     pub(crate) fn open<Rt: Wait + AllocGlobal>(
         &mut self,
         rt: &Rt,
-        ends: Ends<'a>,
+        says: Feed,
+        ends: Ends,
     ) -> Result<(), EngineError> {
-        let client = ends.open(rt, &mut self.turns)?;
-        self.clients.push(client).or(Err(EngineError::NoMemory))
+        let stage = self.stage;
+        let visitor = if self.engines.len() == self.hosts {
+            &stage.first
+        } else {
+            &stage.second
+        };
+        visitor.says.set(says);
+        match self.open_once(rt, visitor, ends) {
+            Ok(()) => Ok(()),
+            Err(_) => self.open_once(rt, visitor, ends),
+        }
     }
 
-    // Keeps a link to an empty stub that serves by these acts, for the host that asks for one next.
-    pub(crate) fn add_stub(
-        &mut self,
-        alloc: Global,
-        acts: &[Act],
-        asked: &'a Taken,
-    ) -> Result<(), Fail> {
-        let link = Link::to_stub(alloc, acts, asked)?;
-        Ok(self.links.push(link)?)
-    }
-
-    // Whether no engine told an error.
-    pub(crate) fn is_well(&self) -> bool {
-        self.of_client.is_none() && self.of_host.is_none()
+    // Keeps a link for the host that asks for one once those that were kept before are given.
+    pub(crate) fn add_link(&mut self, link: Link) -> Result<(), EngineError> {
+        self.links.push(link).or(Err(EngineError::NoMemory))
     }
 
     pub(crate) fn core(&self) -> &Core {
@@ -169,20 +254,19 @@ impl<'a> Rig<'a> {
 
     pub(crate) fn into_core(self) -> Core {
         let Rig {
+            stage: _,
             turns,
-            clients: _,
+            engines,
             hosts: _,
-            links: _,
+            links,
+            given: _,
             of_client: _,
             of_host: _,
-            asked: _,
+            seen: _,
         } = self;
+        drop(engines);
+        drop(links);
         turns.into_core()
-    }
-
-    // Keeps a link to a host that says what stands in the cell, whatever it is asked.
-    pub(crate) fn add_text(&mut self, says: &'a Cell<Feed>, asked: &'a Taken) -> Result<(), Fail> {
-        Ok(self.links.push(Link::to_text(says, asked))?)
     }
 
     // Why a turn of the test's own is refused.
@@ -196,71 +280,71 @@ impl<'a> Rig<'a> {
         cause
     }
 
-    // One step of one client.
-    pub(crate) fn step_client<Rt: Wait>(
-        &mut self,
-        rt: &Rt,
-        place: usize,
-    ) -> Result<Result<Progress, EngineError>, Fail> {
-        let client = self.clients.get_mut(place).ok_or("no such client")?;
-        Ok(client.step(rt, &mut self.turns))
-    }
-
-    // One step of one host.
-    pub(crate) fn step_host<Rt: Wait>(
+    // One step of the engine at this place, at this moment, if there is one.
+    fn step_at<Rt: Wait>(
         &mut self,
         rt: &Rt,
         place: usize,
         moment: u64,
-    ) -> Result<Result<Progress, EngineError>, Fail> {
-        let host = self.hosts.get_mut(place).ok_or("no such host")?;
-        Ok(host.step(rt, &mut self.turns, moment))
-    }
-
-    // One step of each client. False says that none moved; a step that is refused is no move.
-    pub(crate) fn step_clients<Rt: Wait>(&mut self, rt: &Rt) -> bool {
-        let mut has_moved = false;
-        for client in self.clients.iter_mut() {
-            match client.step(rt, &mut self.turns) {
-                Ok(progress) => has_moved |= progress == Progress::Moved,
-                Err(error) => self.of_client = Some(Fault::now(error, self.turns.core())),
-            }
+    ) -> Option<Result<Progress, EngineError>> {
+        match self.engines.get_mut(place)? {
+            Engine::Client(client) => Some(client.step(rt, &mut self.turns)),
+            Engine::Host(host) => Some(host.step(rt, &mut self.turns, moment)),
         }
-        has_moved
     }
 
-    // One step of each host at this moment. Where one needs a link it gets the next of those that are left. False says that
-    // none moved.
-    pub(crate) fn step_hosts<Rt: Wait>(&mut self, rt: &Rt, moment: u64) -> Result<bool, Fail> {
+    // One step of the first client, if there is one.
+    pub(crate) fn step_client<Rt: Wait>(
+        &mut self,
+        rt: &Rt,
+    ) -> Option<Result<Progress, EngineError>> {
+        self.step_at(rt, self.hosts, 0)
+    }
+
+    // One step of the first host at this moment, if there is one.
+    pub(crate) fn step_host<Rt: Wait>(
+        &mut self,
+        rt: &Rt,
+        moment: u64,
+    ) -> Option<Result<Progress, EngineError>> {
+        self.step_at(rt, 0, moment)
+    }
+
+    // One step of each host and of each client at this moment. Where a host needs a link it gets the next of those that are
+    // left. False says that none moved; a step that is refused is no move.
+    fn step<Rt: Wait + AllocGlobal>(&mut self, rt: &Rt, moment: u64) -> Result<bool, EngineError> {
         let mut has_moved = false;
-        for host in self.hosts.iter_mut() {
-            match host.step(rt, &mut self.turns, moment) {
-                Ok(Progress::NeedsLink) => {
-                    self.asked = self.asked.saturating_add(1);
-                    if let Some(link) = self.links.pop() {
-                        attach(host, link)?;
-                        has_moved = true;
+        for engine in self.engines.iter_mut() {
+            match engine {
+                Engine::Client(client) => match client.step(rt, &mut self.turns) {
+                    Ok(progress) => has_moved |= progress == Progress::Moved,
+                    Err(error) => self.of_client = Some(Told::now(error, self.turns.core())),
+                },
+                Engine::Host(host) => match host.step(rt, &mut self.turns, moment) {
+                    Ok(Progress::NeedsLink) => {
+                        if let Some(link) = self.links.get(self.given) {
+                            attach(rt.alloc(), host, self.stage, *link, self.given == 0)?;
+                            self.given = self.given.saturating_add(1);
+                            has_moved = true;
+                        }
                     }
-                }
-                Ok(progress) => has_moved |= progress == Progress::Moved,
-                Err(error) => self.of_host = Some(Fault::now(error, self.turns.core())),
+                    Ok(progress) => has_moved |= progress == Progress::Moved,
+                    Err(error) => self.of_host = Some(Told::now(error, self.turns.core())),
+                },
             }
         }
         Ok(has_moved)
     }
 
-    // Steps all in turn, for so many rounds at most. True says that at the end nothing moved.
-    pub(crate) fn rounds<Rt: Wait>(
+    // Steps all in turn until nothing moves. False says that there is no end.
+    pub(crate) fn run<Rt: Wait + AllocGlobal>(
         &mut self,
         rt: &Rt,
         moment: u64,
-        most: u32,
-    ) -> Result<bool, Fail> {
+    ) -> Result<bool, EngineError> {
         let mut quiet = 0u32;
-        for _ in 0..most {
-            let clients = self.step_clients(rt);
-            let hosts = self.step_hosts(rt, moment)?;
-            quiet = if clients || hosts {
+        for _ in 0..1_000_000 {
+            quiet = if self.step(rt, moment)? {
                 0
             } else {
                 quiet.saturating_add(1)
@@ -271,128 +355,75 @@ impl<'a> Rig<'a> {
         }
         Ok(false)
     }
-
-    // Steps all in turn until nothing moves.
-    pub(crate) fn run<Rt: Wait>(&mut self, rt: &Rt, moment: u64) -> Result<(), Fail> {
-        if self.rounds(rt, moment, 1_000_000)? {
-            Ok(())
-        } else {
-            Err(Fail::from("a run without an end"))
-        }
-    }
 }
 
 // Gives a host its link.
-fn attach<'a>(host: &mut Host<'a>, link: Link<'a>) -> Result<(), Fail>
+fn attach<'a>(
+    alloc: Global,
+    host: &mut Host<'a>,
+    stage: &'a Stage,
+    link: Link,
+    is_first: bool,
+) -> Result<(), EngineError>
     requires none { host.old.link ≡ None }
     requires no_fault { host.old.fault ≡ None }
 {
-    let Link {
-        reader,
-        reads,
-        writer,
-        writes,
-    } = link;
-    let reader = Faulty::new(Tallied::new(reader), reads);
-    let writer = Faulty::new(Tallied::new(writer), writes);
+    let asked = if is_first {
+        &stage.asked
+    } else {
+        &stage.asked_later
+    };
+    let (reader, writer) = link_ends(alloc, stage, link.to, asked)?;
+    let reader = Faulty::new(Tallied::new(reader), link.reads);
+    let writer = Faulty::new(Tallied::new(writer), link.writes);
     match host.attach(reader, writer) {
         Ok(()) => Ok(()),
-        Err((error, _, _)) => Err(error.into()),
-    }
-}
-
-impl<'a> Link<'a> {
-    // The same, but so many bytes pass by each end before it fails.
-    pub(crate) fn failing_after(self, reads: u64, writes: u64) -> Link<'a> {
-        let Link { reader, writer, .. } = self;
-        Link {
-            reader,
-            reads,
-            writer,
-            writes,
-        }
-    }
-
-    // A link that never fails to an empty stub that serves by these acts. What it is asked is kept.
-    pub(crate) fn to_stub(alloc: Global, acts: &[Act], asked: &'a Taken) -> Result<Link<'a>, Fail> {
-        let mut script = Vec::new(alloc);
-        script.extend_from_slice(acts)?;
-        let mut stub = Stub::new(alloc);
-        stub.script(script);
-        let Ok((reader, writer)) = StubLink::new(alloc, stub).ends(alloc) else {
-            return Err(Fail::from("no memory for a stub"));
-        };
-        Ok(Link {
-            reader: HostReader::Stub(reader),
-            reads: u64::MAX,
-            writer: HostWriter {
-                stub: Some(writer),
-                sink: Sink::new(asked, Pace::FREE),
-            },
-            writes: u64::MAX,
-        })
-    }
-
-    // A link that never fails to a host that says what stands in the cell, whatever it is asked. What it is asked is kept.
-    pub(crate) fn to_text(says: &'a Cell<Feed>, asked: &'a Taken) -> Link<'a> {
-        Link {
-            reader: HostReader::Text(Source::new(says, Pace::FREE)),
-            reads: u64::MAX,
-            writer: HostWriter {
-                stub: None,
-                sink: Sink::new(asked, Pace::FREE),
-            },
-            writes: u64::MAX,
+        Err((error, reader, writer)) => {
+            drop(reader);
+            drop(writer);
+            Err(error)
         }
     }
 }
 
-impl<'a> Ends<'a> {
-    // The same, but so many bytes pass by each before it fails.
-    pub(crate) fn failing_after(self, reads: u64, writes: u64) -> Ends<'a> {
-        let Ends { source, sink, .. } = self;
-        Ends {
-            source,
-            reads,
-            sink,
-            writes,
+// The two ends of a link. What the host is asked is kept.
+fn link_ends<'a>(
+    alloc: Global,
+    stage: &'a Stage,
+    peer: Peer,
+    taken: &'a Taken,
+) -> Result<(Reader<'a>, Writer<'a>), EngineError> {
+    let most = Ends::ALL;
+    match peer {
+        Peer::Stub(acts) => {
+            let (reader, writer) = stub(alloc, acts)?;
+            let stub = Some(writer);
+            Ok((Reader::Stub(reader), Writer { stub, taken, most }))
+        }
+        Peer::Text => {
+            let feed = &stage.host;
+            let stub = None;
+            Ok((
+                Reader::Text(Source { feed, most }),
+                Writer { stub, taken, most },
+            ))
         }
     }
+}
 
-    // The engine of a connection that is opened over them.
-    fn open<Rt: Wait + AllocGlobal>(
-        self,
-        rt: &Rt,
-        turns: &mut Rationed,
-    ) -> Result<Client<'a>, EngineError> {
-        let Ends {
-            source,
-            reads,
-            sink,
-            writes,
-        } = self;
-        let reader = Faulty::new(Tallied::new(source), reads);
-        let writer = Faulty::new(Tallied::new(sink), writes);
-        ClientEngine::open(rt, rt.alloc(), turns, reader, writer)
-    }
-
-    // The ends of a client that never fail: it says what stands in the cell, and what it is answered is kept.
-    pub(crate) fn new(says: &'a Cell<Feed>, answered: &'a Taken) -> Ends<'a> {
-        Ends::paced(says, Pace::FREE, answered, Pace::FREE)
-    }
-
-    // The same, with a pace of the reader and one of the writer.
-    pub(crate) fn paced(
-        says: &'a Cell<Feed>,
-        reads: Pace,
-        answered: &'a Taken,
-        writes: Pace,
-    ) -> Ends<'a> {
-        Ends {
-            source: Source::new(says, reads),
-            reads: u64::MAX,
-            sink: Sink::new(answered, writes),
-            writes: u64::MAX,
+// The two ends of a link to an empty stub that serves by these acts.
+fn stub(alloc: Global, acts: &[Serves]) -> Result<(StubReader, StubWriter), EngineError> {
+    let mut script = Vec::new(alloc);
+    script
+        .extend_from_slice(acts)
+        .or(Err(EngineError::NoMemory))?;
+    let mut stub = Stub::new(alloc);
+    stub.script(script);
+    match StubLink::new(alloc, stub).ends(alloc) {
+        Ok(ends) => Ok(ends),
+        Err(refused) => {
+            drop(refused);
+            Err(EngineError::NoMemory)
         }
     }
 }

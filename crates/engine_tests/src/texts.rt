@@ -6,7 +6,15 @@ pub(crate) type Exchange = (&'static [u8], &'static [u8]);
 // A SET of 27 bytes and an MGET of 35.
 pub(crate) const SET_AND_MGET: Exchange = (
     b"*3\r\n$3\r\nSET\r\n$1\r\na\r\n$1\r\n1\r\n*4\r\n$4\r\nMGET\r\n$1\r\na\r\n$1\r\nb\r\n$1\r\na\r\n",
-    b"+OK\r\n*3\r\n$1\r\n1\r\n$-1\r\n$1\r\n1\r\n",
+    BOTH_ANSWERS,
+);
+
+pub(crate) const BOTH_ANSWERS: &[u8] = b"+OK\r\n*3\r\n$1\r\n1\r\n$-1\r\n$1\r\n1\r\n";
+
+// Two PINGs of 14 bytes, and two answers of 7.
+pub(crate) const PINGS: Exchange = (
+    b"*1\r\n$4\r\nPING\r\n*1\r\n$4\r\nPING\r\n",
+    b"+PONG\r\n+PONG\r\n",
 );
 
 // Commands of keys that no other client has.
@@ -16,7 +24,7 @@ pub(crate) const OTHER_KEYS: Exchange = (
 );
 
 // Local answers, one of a reader that refuses its bytes, a last command, and commands of one host and of several.
-pub(crate) const EXCHANGES: [Exchange; 6] = [
+pub(crate) const EXCHANGES: &[Exchange] = &[
     SET_AND_MGET,
     (
         b"*3\r\n$5\r\nblpop\r\n$1\r\nk\r\n$1\r\n0\r\n*1\r\n$4\r\nping\r\n",

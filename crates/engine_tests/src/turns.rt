@@ -9,7 +9,7 @@ use std::sync::Wait;
 use ticket_gate::{Alone, TurnRefusal, Turns};
 
 // Which turns are refused, counted from 1 as they are asked for: from the first on so many.
-#[derive(Clone, Copy, Debug, PartialEq, Eq)]
+#[derive(Clone, Copy)]
 pub(crate) struct Ration {
     first: u64,
     refused: u64,

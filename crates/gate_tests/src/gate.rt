@@ -107,6 +107,22 @@ pub(crate) fn enrol<S: Recorded + Drop, R: Wait>(
     }
 }
 
+// A gate round a state without a step, and two passes.
+pub(crate) fn pair<S: Recorded + Drop, R: Wait>(
+    rt: &R,
+    alloc: Global,
+    state: S,
+) -> Result<(Gate<S>, Pass<S>, Pass<S>), Fail>
+    requires { S.journal state ≡ [] }
+    ensures { IfOk result (λ made. IsPassOf made.0 made.1 × IsPassOf made.0 made.2) }
+{
+    let (gate, spare) = open(alloc, state)?;
+    let (one, other) = gate.split(spare);
+    let one = enrol(rt, &gate, one)?;
+    let other = enrol(rt, &gate, other)?;
+    Ok((gate, one, other))
+}
+
 // The additions of each pass stand in the order in which it made them, and none is of another pass.
 fn are_in_order(additions: &[Addition], passes: usize) -> bool {
     let mut next = [0u64; 4];
@@ -122,6 +138,38 @@ fn are_in_order(additions: &[Addition], passes: usize) -> bool {
 
 pub(crate) fn count_of(additions: &[Addition], pass: u64) -> usize {
     additions.iter().filter(|a| a.pass == pass).count()
+}
+
+// What a turn, or a look, came to: a number, or a refusal and the amount that is handed back.
+#[derive(Clone, Copy, Debug, PartialEq)]
+pub(crate) enum Outcome {
+    Answered(u64),
+    PastLimit(u64),
+    NoMemory(u64),
+    Spent(u64),
+    Busy(u64),
+}
+
+pub(crate) fn outcome_of(turn: Result<u64, TurnRefusal<AdditionRefusal, u64>>) -> Outcome {
+    match turn {
+        Ok(total) => Outcome::Answered(total),
+        Err(TurnRefusal::Busy { event, .. }) => Outcome::Busy(event),
+        Err(TurnRefusal::Spent { event }) => Outcome::Spent(event),
+        Err(TurnRefusal::State { cause, event }) => match cause {
+            AdditionRefusal::PastLimit => Outcome::PastLimit(event),
+            AdditionRefusal::NoMemory => Outcome::NoMemory(event),
+        },
+    }
+}
+
+// How many additions there are of each of four passes, and whether all are of so many passes and in their order.
+fn found(state: &RunningTotal, passes: usize) -> ([u64; 4], bool) {
+    let additions = state.additions();
+    let mut counts = [0u64; 4];
+    for pass in 0..4usize {
+        counts[pass] = count_of(additions, pass as u64) as u64;
+    }
+    (counts, are_in_order(additions, passes))
 }
 
 pub(crate) fn answered_turns<
@@ -153,34 +201,42 @@ fn make_turns<R: Wait>(
     (turns.into_pass(), answered)
 }
 
+// Both passes make their turns in threads of their own, and meet: the first of them, how many turns of each were answered, and
+// the numbers of both.
+fn fill_both<R: thread::Threads + Wait + Sync>(
+    rt: &R,
+    gate: &Gate<RunningTotal>,
+    one: Pass<RunningTotal>,
+    other: Pass<RunningTotal>,
+) -> (Pass<RunningTotal>, [u64; 2], [u64; 2])
+    requires { IsPassOf gate.now one × IsPassOf gate.now other }
+    ensures { IsPassOf gate.now result.0 }
+{
+    let ((one, by_one), (other, by_other)) = thread::join(
+        rt,
+        || -> (Pass<RunningTotal>, u64)
+            requires { IsPassOf gate.now one }
+            ensures { IsPassOf gate.entry.now result.0 }
+        { make_turns(rt, gate, one) },
+        || -> (Pass<RunningTotal>, u64)
+            requires { IsPassOf gate.now other }
+            ensures { IsPassOf gate.entry.now result.0 }
+        { make_turns(rt, gate, other) },
+    );
+    let (one, other) = gate.meet(one, other);
+    let numbers = [one.number(), other.number()];
+    (one, [by_one, by_other], numbers)
+}
+
 #[test]
 fn two_passes_fill_one_journal(rt: HostRuntime) -> Result<(), Fail> {
-    let (gate, spare) = open(rt.alloc(), RunningTotal::new(rt.alloc(), u64::MAX))?;
-    let (one, other) = gate.split(spare);
-    let one = enrol(&rt, &gate, one)?;
-    let other = enrol(&rt, &gate, other)?;
-    let shared = &gate;
-    let ((one, by_one), (other, by_other)) = thread::join(
-        &rt,
-        || -> (Pass<RunningTotal>, u64)
-            requires { IsPassOf shared.now one }
-            ensures { IsPassOf shared.entry.now result.0 }
-        { make_turns(&rt, shared, one) },
-        || -> (Pass<RunningTotal>, u64)
-            requires { IsPassOf shared.now other }
-            ensures { IsPassOf shared.entry.now result.0 }
-        { make_turns(&rt, shared, other) },
-    );
-    assert!(rt; by_one == 1000 && by_other == 1000);
-    let (one, other) = gate.meet(one, other);
-    assert!(rt; one.number() == 0 && other.number() == 1);
-    let state = gate.close(one).expect(&rt, "all calls have returned");
-    let additions = state.additions();
-    assert!(rt; additions.len() == 2000);
-    assert!(rt; count_of(additions, 0) == 1000 && count_of(additions, 1) == 1000);
-    assert!(rt; are_in_order(additions, 2));
+    let (gate, one, other) = pair(&rt, rt.alloc(), RunningTotal::new(rt.alloc(), u64::MAX))?;
+    let (one, answered, numbers) = fill_both(&rt, &gate, one, other);
+    let state = gate.close(one).ok_or("a call has not returned")?;
+    assert_eq!(rt; (answered, numbers), ([1_000, 1_000], [0, 1]));
+    assert_eq!(rt; found(&state, 2), ([1_000, 1_000, 0, 0], true));
     // Twice the sum of 0 to 999.
-    assert!(rt; state.total() == 999_000);
+    assert_eq!(rt; (state.additions().len(), state.total()), (2_000, 999_000));
     Ok(())
 }
 
@@ -209,46 +265,6 @@ fn mix_turns<R: Wait>(
     (pass, answered)
 }
 
-#[test]
-fn four_threads_mix_their_turns(rt: HostRuntime) -> Result<(), Fail> {
-    let (gate, spare) = open(rt.alloc(), RunningTotal::new(rt.alloc(), u64::MAX))?;
-    let (left, right) = gate.split(spare);
-    let (a, b) = gate.split(left);
-    let (c, d) = gate.split(right);
-    let a = enrol(&rt, &gate, a)?;
-    let b = enrol(&rt, &gate, b)?;
-    let c = enrol(&rt, &gate, c)?;
-    let d = enrol(&rt, &gate, d)?;
-    let shared = &gate;
-    let (first, second) = thread::join(
-        &rt,
-        || -> ((Pass<RunningTotal>, u64), (Pass<RunningTotal>, u64))
-            requires { IsPassOf shared.now a × IsPassOf shared.now b }
-            ensures pass { IsPassOf shared.entry.now result.0.0 }
-            ensures few { (result.0.1 ≤ 500) × (result.1.1 ≤ 500) }
-        { mix_two(&rt, shared, a, b) },
-        || -> ((Pass<RunningTotal>, u64), (Pass<RunningTotal>, u64))
-            requires { IsPassOf shared.now c × IsPassOf shared.now d }
-            ensures few { (result.0.1 ≤ 500) × (result.1.1 ≤ 500) }
-        { mix_two(&rt, shared, c, d) },
-    );
-    let (of_a, of_b) = first;
-    let (of_c, of_d) = second;
-    let (a, by_a) = of_a;
-    let (_b, by_b) = of_b;
-    let (_c, by_c) = of_c;
-    let (_d, by_d) = of_d;
-    // The turns that wait are all answered.
-    assert!(rt; by_a >= 250 && by_b >= 250 && by_c >= 250 && by_d >= 250);
-    let state = gate.close(a).expect(&rt, "all calls have returned");
-    let additions = state.additions();
-    assert!(rt; additions.len() as u64 == by_a + by_b + by_c + by_d);
-    assert!(rt; count_of(additions, 0) as u64 == by_a && count_of(additions, 1) as u64 == by_b);
-    assert!(rt; count_of(additions, 2) as u64 == by_c && count_of(additions, 3) as u64 == by_d);
-    assert!(rt; are_in_order(additions, 4));
-    Ok(())
-}
-
 fn mix_two<R: thread::Threads + Wait + Sync>(
     rt: &R,
     gate: &Gate<RunningTotal>,
@@ -273,6 +289,60 @@ fn mix_two<R: thread::Threads + Wait + Sync>(
     )
 }
 
+// Four passes mix their turns in threads of their own: the first of them, and how many turns of each were answered.
+fn mix_four<R: thread::Threads + Wait + Sync>(
+    rt: &R,
+    gate: &Gate<RunningTotal>,
+    a: Pass<RunningTotal>,
+    b: Pass<RunningTotal>,
+    c: Pass<RunningTotal>,
+    d: Pass<RunningTotal>,
+) -> (Pass<RunningTotal>, [u64; 4])
+    requires { IsPassOf gate.now a × IsPassOf gate.now b × IsPassOf gate.now c × IsPassOf gate.now d }
+    ensures { IsPassOf gate.now result.0 }
+{
+    let (first, second) = thread::join(
+        rt,
+        || -> ((Pass<RunningTotal>, u64), (Pass<RunningTotal>, u64))
+            requires { IsPassOf gate.now a × IsPassOf gate.now b }
+            ensures { IsPassOf gate.entry.now result.0.0 }
+        { mix_two(rt, gate, a, b) },
+        || -> ((Pass<RunningTotal>, u64), (Pass<RunningTotal>, u64))
+            requires { IsPassOf gate.now c × IsPassOf gate.now d }
+        { mix_two(rt, gate, c, d) },
+    );
+    let ((a, by_a), (_b, by_b)) = first;
+    let ((_c, by_c), (_d, by_d)) = second;
+    (a, [by_a, by_b, by_c, by_d])
+}
+
+fn sum_of(counts: &[u64]) -> u64 {
+    let mut sum = 0u64;
+    for count in counts {
+        sum = sum.saturating_add(*count);
+    }
+    sum
+}
+
+#[test]
+fn four_threads_mix_their_turns(rt: HostRuntime) -> Result<(), Fail> {
+    let (gate, spare) = open(rt.alloc(), RunningTotal::new(rt.alloc(), u64::MAX))?;
+    let (left, right) = gate.split(spare);
+    let (a, b) = gate.split(left);
+    let (c, d) = gate.split(right);
+    let a = enrol(&rt, &gate, a)?;
+    let b = enrol(&rt, &gate, b)?;
+    let c = enrol(&rt, &gate, c)?;
+    let d = enrol(&rt, &gate, d)?;
+    let (a, answered) = mix_four(&rt, &gate, a, b, c, d);
+    let state = gate.close(a).ok_or("a call has not returned")?;
+    // The turns that wait are all answered.
+    assert!(rt; answered.iter().all(|by_one| *by_one >= 250));
+    assert_eq!(rt; found(&state, 4), (answered, true));
+    assert_eq!(rt; state.additions().len() as u64, sum_of(&answered));
+    Ok(())
+}
+
 #[test]
 fn a_held_gate_is_busy(rt: HostRuntime) -> Result<(), Fail> {
     let hold = Arc::new(rt.alloc(), AtomicBool::new(true))?;
@@ -282,10 +352,8 @@ fn a_held_gate_is_busy(rt: HostRuntime) -> Result<(), Fail> {
         hold: Arc::try_clone(&hold)?,
         entered: Arc::try_clone(&entered)?,
     };
-    let (gate, spare) = open(rt.alloc(), state)?;
-    let (one, other) = gate.split(spare);
-    let mut one = enrol(&rt, &gate, one)?;
-    let mut other = enrol(&rt, &gate, other)?;
+    let (gate, one, other) = pair(&rt, rt.alloc(), state)?;
+    let (mut one, mut other) = (one, other);
     let shared = &gate;
     let (held, busy) = thread::join(
         &rt,
@@ -318,9 +386,12 @@ fn a_held_gate_is_busy(rt: HostRuntime) -> Result<(), Fail> {
 fn a_free_gate_answers_at_once(rt: HostRuntime) -> Result<(), Fail> {
     let (gate, spare) = open(rt.alloc(), RunningTotal::new(rt.alloc(), 100))?;
     let mut pass = enrol(&rt, &gate, spare)?;
-    assert!(rt; matches!(gate.try_turn(&mut pass, 4), Ok(4)));
-    assert!(rt; matches!(gate.try_turn(&mut pass, 5), Ok(9)));
-    let state = gate.close(pass).expect(&rt, "all calls have returned");
-    assert!(rt; state.total() == 9);
+    let came = [
+        outcome_of(gate.try_turn(&mut pass, 4)),
+        outcome_of(gate.try_turn(&mut pass, 5)),
+    ];
+    let state = gate.close(pass).ok_or("a call has not returned")?;
+    assert_eq!(rt; came, [Outcome::Answered(4), Outcome::Answered(9)]);
+    assert_eq!(rt; state.total(), 9);
     Ok(())
 }

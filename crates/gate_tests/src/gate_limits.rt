@@ -1,12 +1,14 @@
 //! The gate round a running total: its last tickets, its most passes, what it refuses, and want of memory.
 ghost use Rattle.std.specs.Prelude.{IfSome};
-ghost use Rattle.ticket_gate.specs.Gate.{IsSpareOf};
+ghost use Rattle.ticket_gate.specs.Gate.{IsPassOf, IsSpareOf};
 
-use crate::gate::{answered_turns, count_of, enrol, open};
+use crate::gate::{Outcome, answered_turns, count_of, enrol, open, outcome_of, pair};
+use std::alloc::Global;
+use std::fmt::Display;
 use std::sync::Wait;
 use std::test::Fail;
 use ticket_gate::{
-    AdditionRefusal, Alone, Gate, GateRefusal, RunningTotal, Spare, TurnRefusal, Turns,
+    AdditionRefusal, Alone, Gate, GateRefusal, Pass, RunningTotal, Spare, TurnRefusal, Turns,
 };
 
 #[test]
@@ -16,15 +18,19 @@ fn tickets_end_before_the_greatest_number(rt: HostRuntime) -> Result<(), Fail> {
         return Err(Fail::from("no memory for a gate"));
     };
     let mut pass = enrol(&rt, &gate, spare)?;
-    assert!(rt; matches!(gate.try_turn(&mut pass, 4), Ok(4)));
-    let at_once = gate.try_turn(&mut pass, 5);
-    assert!(rt; matches!(at_once, Err(TurnRefusal::Spent { event: 5 })));
-    let after_waiting = gate.take_turn(&rt, &mut pass, 6);
-    assert!(rt; matches!(after_waiting, Err(TurnRefusal::Spent { event: 6 })));
+    let came = [
+        outcome_of(gate.try_turn(&mut pass, 4)),
+        outcome_of(gate.try_turn(&mut pass, 5)),
+        outcome_of(gate.take_turn(&rt, &mut pass, 6)),
+    ];
     let look = gate.sight(&rt, &mut pass);
+    let state = gate.close(pass).ok_or("a call has not returned")?;
+    assert_eq!(rt;
+        came,
+        [Outcome::Answered(4), Outcome::Spent(5), Outcome::Spent(6)]
+    );
     assert!(rt; matches!(look, Err(TurnRefusal::Spent { event: () })));
-    let state = gate.close(pass).expect(&rt, "all calls have returned");
-    assert!(rt; state.total() == 4);
+    assert_eq!(rt; state.total(), 4);
     Ok(())
 }
 
@@ -66,31 +72,49 @@ fn the_257th_pass_is_refused(rt: HostRuntime) -> Result<(), Fail> {
 
 #[test]
 fn a_refused_turn_leaves_the_journal(rt: HostRuntime) -> Result<(), Fail> {
-    let (gate, spare) = open(rt.alloc(), RunningTotal::new(rt.alloc(), 10))?;
-    let (one, other) = gate.split(spare);
-    let mut one = enrol(&rt, &gate, one)?;
-    let mut other = enrol(&rt, &gate, other)?;
-    assert!(rt; matches!(gate.take_turn(&rt, &mut one, 4), Ok(4)));
-    let refused = gate.take_turn(&rt, &mut one, 7);
-    assert!(rt;
-        matches!(
-            refused,
-            Err(TurnRefusal::State {
-                cause: AdditionRefusal::PastLimit,
-                event: 7,
-            })
-        )
+    let (gate, one, other) = pair(&rt, rt.alloc(), RunningTotal::new(rt.alloc(), 10))?;
+    let (mut one, mut other) = (one, other);
+    let came = [
+        outcome_of(gate.take_turn(&rt, &mut one, 4)),
+        outcome_of(gate.take_turn(&rt, &mut one, 7)),
+        outcome_of(gate.try_turn(&mut one, 8)),
+        outcome_of(gate.try_turn(&mut other, 6)),
+    ];
+    let look = gate.sight(&rt, &mut one);
+    let state = gate.close(one).ok_or("a call has not returned")?;
+    assert_eq!(rt;
+        came,
+        [
+            Outcome::Answered(4),
+            Outcome::PastLimit(7),
+            Outcome::PastLimit(8),
+            Outcome::Answered(10),
+        ]
     );
-    let refused = gate.try_turn(&mut one, 8);
-    assert!(rt; matches!(refused, Err(TurnRefusal::State { event: 8, .. })));
-    assert!(rt; matches!(gate.try_turn(&mut other, 6), Ok(10)));
-    assert!(rt; matches!(gate.sight(&rt, &mut one), Ok(10)));
-    let state = gate.close(one).expect(&rt, "all calls have returned");
-    let additions = state.additions();
-    assert!(rt; additions.len() == 2 && state.total() == 10);
-    assert!(rt; additions[0].pass == 0 && additions[0].amount == 4);
-    assert!(rt; additions[1].pass == 1 && additions[1].amount == 6);
+    assert!(rt; matches!(look, Ok(10)));
+    assert_eq!(rt; (state.additions().len(), state.total()), (2, 10));
+    assert_eq!(rt;
+        [added(&state, 0), added(&state, 1)],
+        [Some((0, 4)), Some((1, 6))]
+    );
     Ok(())
+}
+
+// The pass and the amount of an addition.
+fn added(state: &RunningTotal, place: usize) -> Option<(u64, u64)> {
+    let addition = state.additions().get(place)?;
+    Some((addition.pass, addition.amount))
+}
+
+// A turn, made again if there was no memory.
+fn turn_again<R: Wait>(rt: &R, gate: &Gate<RunningTotal>, pass: &mut Pass<RunningTotal>) -> Outcome
+    requires { IsPassOf gate.now pass.old }
+    ensures { IsPassOf gate.now pass.new }
+{
+    match outcome_of(gate.take_turn(rt, pass, 4)) {
+        Outcome::NoMemory(amount) => outcome_of(gate.take_turn(rt, pass, amount)),
+        outcome => outcome,
+    }
 }
 
 #[test]
@@ -98,18 +122,10 @@ fn without_memory_nothing_is_lost(rt: HostRuntime) -> Result<(), Fail> {
     match Gate::new(rt.alloc(), RunningTotal::new(rt.alloc(), 10)) {
         Ok((gate, spare)) => {
             let mut pass = enrol(&rt, &gate, spare)?;
-            let turn = match gate.take_turn(&rt, &mut pass, 4) {
-                Err(
-                    TurnRefusal::State {
-                        cause: AdditionRefusal::NoMemory,
-                        event,
-                    },
-                ) => gate.take_turn(&rt, &mut pass, event),
-                outcome => outcome,
-            };
-            assert!(rt; matches!(turn, Ok(4)));
-            let state = gate.close(pass).expect(&rt, "all calls have returned");
-            assert!(rt; state.total() == 4 && state.additions().len() == 1);
+            let came = turn_again(&rt, &gate, &mut pass);
+            let state = gate.close(pass).ok_or("a call has not returned")?;
+            assert_eq!(rt; came, Outcome::Answered(4));
+            assert_eq!(rt; (state.total(), state.additions().len()), (4, 1));
         }
         Err((refusal, state)) => {
             assert!(rt; refusal == GateRefusal::NoMemory && refusal.number() == 1204);
@@ -132,6 +148,12 @@ fn one_pass_alone(rt: HostRuntime) -> Result<(), Fail> {
     Ok(())
 }
 
+// Whether this is the text of a refusal.
+fn says<D: Display>(alloc: Global, refusal: &D, text: &str) -> Result<bool, Fail> {
+    let said = format!(in alloc; "{refusal}")?;
+    Ok(said.as_str() == text)
+}
+
 #[test]
 fn refusals_say_why(rt: HostRuntime) -> Result<(), Fail> {
     let busy: TurnRefusal<AdditionRefusal, u64> = TurnRefusal::Busy {
@@ -139,25 +161,20 @@ fn refusals_say_why(rt: HostRuntime) -> Result<(), Fail> {
         drawn: 6,
         event: 1,
     };
-    assert!(rt; busy.number() == Some(1201));
-    let text = format!(in rt.alloc(); "{busy}")?;
-    assert!(rt;
-        text.as_str() == "the gate is busy: ticket 4 is served, and the next to be drawn is 6"
-    );
     let spent: TurnRefusal<AdditionRefusal, u64> = TurnRefusal::Spent { event: 1 };
-    assert!(rt; spent.number() == Some(1202));
-    let text = format!(in rt.alloc(); "{spent}")?;
-    assert!(rt; text.as_str() == "the gate has no ticket left");
     let state = TurnRefusal::State {
         cause: AdditionRefusal::PastLimit,
         event: 1u64,
     };
-    assert!(rt; state.number().is_none());
-    let text = format!(in rt.alloc(); "{state}")?;
-    assert!(rt; text.as_str() == "the total would pass its limit");
-    let text = format!(in rt.alloc(); "{}", GateRefusal::Crowded)?;
-    assert!(rt; text.as_str() == "the gate has all of its 256 passes");
-    let text = format!(in rt.alloc(); "{}", GateRefusal::NoMemory)?;
-    assert!(rt; text.as_str() == "there is no memory for the gate");
+    let numbers = [busy.number(), spent.number(), state.number()];
+    assert_eq!(rt; numbers, [Some(1201), Some(1202), None]);
+    let text = "the gate is busy: ticket 4 is served, and the next to be drawn is 6";
+    assert!(rt; says(rt.alloc(), &busy, text)?);
+    assert!(rt; says(rt.alloc(), &spent, "the gate has no ticket left")?);
+    assert!(rt; says(rt.alloc(), &state, "the total would pass its limit")?);
+    let text = "the gate has all of its 256 passes";
+    assert!(rt; says(rt.alloc(), &GateRefusal::Crowded, text)?);
+    let text = "there is no memory for the gate";
+    assert!(rt; says(rt.alloc(), &GateRefusal::NoMemory, text)?);
     Ok(())
 }

@@ -5,8 +5,6 @@
 #[cfg(test)]
 mod core_at_gate;
 #[cfg(test)]
-mod faults;
-#[cfg(test)]
 mod gate;
 #[cfg(test)]
 mod gate_limits;

@@ -1,0 +1,379 @@
+//! Scenes: lists of acts that one rig plays.
+
+use crate::devices::{Feed, Taken, Text};
+use crate::journal::{
+    Deed, Loss, begins_sent, count, handed_before_last_arrival, last_loss, last_trip, sent_in,
+    sent_len,
+};
+use crate::rig::{Ends, Link, Rig, Told};
+use crate::stage::Stage;
+use crate::turns::Ration;
+use proxy_core::{Core, Event, Kind, Refusal, Request, Trip};
+use proxy_engines::{EngineError, Progress};
+use std::sync::Wait;
+
+// What somebody does, or what has to be seen then.
+#[derive(Clone, Copy)]
+pub(crate) enum Act {
+    // The next of two clients connects, and says this over such ends.
+    Opens(Feed, Ends),
+    // No connection can be opened.
+    CannotOpen(EngineError),
+    // The first client says this from now on.
+    Says(Feed),
+    // The first client takes nothing, or all again.
+    IsShut(bool),
+    // A host that asks for a link gets this one, once those before it are given.
+    Links(Link),
+    // A host that is no stub says this from now on.
+    HostSays(Feed),
+    // All are stepped in turn at this moment, until nothing moves.
+    Runs(u64),
+    // The first client makes so many steps: each says this, and nothing is recorded.
+    Steps(Progress, u32),
+    // The first host makes one step at this moment, which says this.
+    HostSteps(u64, Progress),
+    // The only host's link of this epoch is refused, which does this to it.
+    LinkRefused(u64, Trip),
+    // The first connection's event of this deed is refused.
+    IsRefused(Deed, Refusal),
+
+    // What the first client took.
+    Took(Text),
+    // What the second client took.
+    SecondTook(Text),
+    // What was written over the first link.
+    Asked(Text),
+    // What was written over the later links.
+    AskedLater(Text),
+    // The first client took the text that stands at the number of handed replies.
+    TookHanded(&'static [&'static [u8]]),
+    // So many repetitions of what the first client says weren't read yet.
+    Unread(u32),
+
+    // The newest error that a client's step told.
+    ClientTold(Option<Told>),
+    // The newest error that a host's step told.
+    HostTold(Option<Told>),
+    // No step told an error but this one.
+    OnlyTold(EngineError),
+
+    // So many steps are such a deed.
+    Did(Deed, usize),
+    // So many are, at most.
+    DidAtMost(Deed, usize),
+    // The only fault is this one, of epoch 0: its kind, how many parts it lost, and its moment.
+    Lost(Kind, u64, u64),
+    // So many parts were answered or lost.
+    AnsweredOrLost(usize),
+    // So many steps were recorded since this was last seen.
+    Recorded(usize),
+    // Fewer steps than that were recorded.
+    RecordedBelow(usize),
+    // So many parts were sent in this epoch.
+    Sent(u64, usize),
+    // Parts were written as they were sent: over the first link in epoch 0, if not all, and over the second in epoch 1.
+    WroteSent,
+    // So many replies were handed out before the newest command arrived.
+    HandedBefore(usize),
+
+    // The number of an error.
+    IsNumbered(EngineError, u16),
+}
+
+// What came in place of what an act expects, and how many, or the number of an error.
+#[derive(Clone, Copy)]
+pub(crate) struct Came {
+    what: &'static str,
+    number: u64,
+}
+
+// An act that failed, counted from 0, and what came.
+#[derive(Clone, Copy, Debug)]
+pub(crate) struct Fault {
+    act: usize,
+    came: &'static str,
+    number: u64,
+}
+
+// What came, unless it is right.
+fn unless(is_right: bool, what: &'static str, number: u64) -> Result<(), Came> {
+    if is_right {
+        Ok(())
+    } else {
+        Err(Came { what, number })
+    }
+}
+
+// What an engine's error is to an act.
+fn made(outcome: Result<(), EngineError>) -> Result<(), Came> {
+    match outcome {
+        Ok(()) => Ok(()),
+        Err(error) => Err(Came {
+            what: "an error",
+            number: u64::from(error.number()),
+        }),
+    }
+}
+
+// Plays a scene before so many hosts, one or three.
+pub(crate) fn play<Rt: Wait + AllocGlobal>(
+    rt: &Rt,
+    hosts: usize,
+    acts: &[Act],
+) -> Result<(), Fault> {
+    match record(rt, hosts, Ration::FREE, acts) {
+        Ok(core) => Ok(drop(core)),
+        Err(fault) => Err(fault),
+    }
+}
+
+// The same by turns of this ration: the core, at the end.
+pub(crate) fn record<Rt: Wait + AllocGlobal>(
+    rt: &Rt,
+    hosts: usize,
+    ration: Ration,
+    acts: &[Act],
+) -> Result<Core, Fault> {
+    let stage = Stage::new(rt.alloc());
+    match Rig::new(rt.alloc(), &stage, hosts, ration) {
+        Ok(rig) => rig.played(rt, acts),
+        Err(_) => Err(Fault {
+            act: 0,
+            came: "no memory",
+            number: 0,
+        }),
+    }
+}
+
+impl<'a> Rig<'a> {
+    // Plays acts in their order: the core, at the end, or the first act that fails.
+    fn played<Rt: Wait + AllocGlobal>(mut self, rt: &Rt, acts: &[Act]) -> Result<Core, Fault> {
+        match self.play(rt, acts) {
+            Ok(()) => Ok(self.into_core()),
+            Err(fault) => Err(fault),
+        }
+    }
+
+    fn play<Rt: Wait + AllocGlobal>(&mut self, rt: &Rt, acts: &[Act]) -> Result<(), Fault> {
+        for (place, act) in acts.iter().enumerate() {
+            if let Err(Came { what, number }) = self.act(rt, *act) {
+                return Err(Fault {
+                    act: place,
+                    came: what,
+                    number,
+                });
+            }
+        }
+        Ok(())
+    }
+
+    fn act<Rt: Wait + AllocGlobal>(&mut self, rt: &Rt, act: Act) -> Result<(), Came> {
+        match act {
+            Act::Opens(says, ends) => made(self.open(rt, says, ends)),
+            Act::CannotOpen(error) => see_error(self.open(rt, Feed::Open(b""), Ends::FREE), error),
+            Act::Links(link) => made(self.add_link(link)),
+            Act::Runs(moment) => see_end(self.run(rt, moment)),
+            Act::Steps(progress, times) => self.see_steps(rt, progress, times),
+            Act::HostSteps(moment, progress) => see_step(self.step_host(rt, moment), progress),
+            Act::LinkRefused(epoch, trip) => self.see_trip(rt, epoch, trip),
+            Act::IsRefused(deed, refusal) => {
+                see_refusal(self.refusal(rt, event_of(deed)), Some(refusal))
+            }
+            Act::ClientTold(told) => see_told(self.of_client, told),
+            Act::HostTold(told) => see_told(self.of_host, told),
+            Act::OnlyTold(error) => see_only(self.of_client, self.of_host, error),
+            Act::Recorded(steps) => self.see_recorded(steps),
+            _ => on_stage(self.stage, self.core(), act),
+        }
+    }
+
+    fn see_steps<Rt: Wait>(&mut self, rt: &Rt, progress: Progress, times: u32) -> Result<(), Came> {
+        let steps = self.core().journal().len();
+        for _ in 0..times {
+            see_step(self.step_client(rt), progress)?;
+        }
+        see_count(self.core().journal().len(), steps)
+    }
+
+    fn see_trip<Rt: Wait>(&mut self, rt: &Rt, epoch: u64, trip: Trip) -> Result<(), Came> {
+        let failed = Event::Failed {
+            host: 0,
+            epoch,
+            kind: Kind::Refused,
+            t: 4,
+        };
+        see_refusal(self.refusal(rt, failed), None)?;
+        let is_right = last_trip(self.core()) == Some((epoch, trip));
+        unless(is_right, "another trip", epoch)
+    }
+
+    fn see_recorded(&mut self, steps: usize) -> Result<(), Came> {
+        let len = self.core().journal().len();
+        let came = len.saturating_sub(self.seen);
+        self.seen = len;
+        see_count(came, steps)
+    }
+}
+
+// What needs no step: devices are told how to go on, and what was said and done is seen.
+fn on_stage(stage: &Stage, core: &Core, act: Act) -> Result<(), Came> {
+    match act {
+        Act::Says(feed) => Ok(stage.first.says.set(feed)),
+        Act::HostSays(feed) => Ok(stage.host.set(feed)),
+        Act::IsShut(is_shut) => Ok(stage.first.took.is_shut.set(is_shut)),
+        Act::Took(text) => see_text(&stage.first.took, text),
+        Act::SecondTook(text) => see_text(&stage.second.took, text),
+        Act::Asked(text) => see_text(&stage.asked, text),
+        Act::AskedLater(text) => see_text(&stage.asked_later, text),
+        Act::Unread(times) => see_count(stage.first.says.get().times() as usize, times as usize),
+        Act::TookHanded(texts) => see_handed(&stage.first.took, core, texts),
+        Act::WroteSent => see_sent(stage, core),
+        _ => see_journal(core, act),
+    }
+}
+
+// Sees what the journal has.
+fn see_journal(core: &Core, act: Act) -> Result<(), Came> {
+    match act {
+        Act::Did(deed, times) => see_count(count(core, deed), times),
+        Act::DidAtMost(deed, times) => see_at_most(count(core, deed), times),
+        Act::Lost(kind, parts, t) => see_loss(core, kind, parts, t),
+        Act::AnsweredOrLost(parts) => see_ends(core, parts),
+        Act::RecordedBelow(steps) => see_at_most(core.journal().len(), steps.saturating_sub(1)),
+        Act::Sent(epoch, parts) => see_count(sent_in(core, epoch), parts),
+        Act::HandedBefore(replies) => see_count(handed_before_last_arrival(core), replies),
+        Act::IsNumbered(error, number) => see_count(error.number().into(), number.into()),
+        _ => unless(false, "no such act", 0),
+    }
+}
+
+fn see_step(came: Option<Result<Progress, EngineError>>, progress: Progress) -> Result<(), Came> {
+    let (what, number) = match came {
+        None => ("no engine", 0),
+        Some(Err(error)) => ("an error", u64::from(error.number())),
+        Some(Ok(Progress::Moved)) => ("Moved", 0),
+        Some(Ok(Progress::Idle)) => ("Idle", 0),
+        Some(Ok(Progress::NeedsLink)) => ("NeedsLink", 0),
+        Some(Ok(Progress::Cut)) => ("Cut", 0),
+        Some(Ok(Progress::Ended)) => ("Ended", 0),
+    };
+    unless(came == Some(Ok(progress)), what, number)
+}
+
+fn see_end(has_ended: Result<bool, EngineError>) -> Result<(), Came> {
+    match has_ended {
+        Ok(has_ended) => unless(has_ended, "a run without an end", 0),
+        Err(error) => made(Err(error)),
+    }
+}
+
+fn see_error(came: Result<(), EngineError>, error: EngineError) -> Result<(), Came> {
+    if came == Err(error) {
+        Ok(())
+    } else {
+        made(came)?;
+        Err(Came {
+            what: "no error",
+            number: 0,
+        })
+    }
+}
+
+fn see_refusal(came: Option<Refusal>, refusal: Option<Refusal>) -> Result<(), Came> {
+    let number = came.map_or(0, |refusal| u64::from(refusal.number()));
+    unless(came == refusal, "a refusal", number)
+}
+
+fn see_told(came: Option<Told>, told: Option<Told>) -> Result<(), Came> {
+    let number = came.map_or(0, |told| u64::from(told.error.number()));
+    unless(
+        came == told,
+        "an error, or none, or at another step",
+        number,
+    )
+}
+
+fn see_only(one: Option<Told>, other: Option<Told>, error: EngineError) -> Result<(), Came> {
+    for told in [one, other] {
+        let came = told.map_or(error, |told| told.error);
+        unless(came == error, "an error", u64::from(came.number()))?;
+    }
+    Ok(())
+}
+
+fn see_count(came: usize, count: usize) -> Result<(), Came> {
+    unless(came == count, "so many", came as u64)
+}
+
+fn see_at_most(came: usize, count: usize) -> Result<(), Came> {
+    unless(came <= count, "so many", came as u64)
+}
+
+fn see_text(taken: &Taken, text: Text) -> Result<(), Came> {
+    unless(
+        taken.is(text),
+        "another text, of so many bytes",
+        taken.len() as u64,
+    )
+}
+
+// The first client took the text that stands at the number of handed replies.
+fn see_handed(taken: &Taken, core: &Core, texts: &[&'static [u8]]) -> Result<(), Came> {
+    let handed = count(core, Deed::Handed);
+    match texts.get(handed) {
+        Some(text) => see_text(taken, Text::All(text)),
+        None => unless(false, "so many", handed as u64),
+    }
+}
+
+fn see_loss(core: &Core, kind: Kind, parts: u64, t: u64) -> Result<(), Came> {
+    let loss = Some(Loss {
+        kind,
+        epoch: 0,
+        parts,
+        t,
+    });
+    let number = count(core, Deed::Failed);
+    let is_right = last_loss(core) == loss && number == 1;
+    unless(is_right, "another fault, or so many", number as u64)
+}
+
+fn see_ends(core: &Core, parts: usize) -> Result<(), Came> {
+    let lost = last_loss(core).map_or(0, |loss| loss.parts as usize);
+    see_count(count(core, Deed::Answered).saturating_add(lost), parts)
+}
+
+// Each part was written once at most, as it was sent: over the second link whole.
+fn see_sent(stage: &Stage, core: &Core) -> Result<(), Came> {
+    let len = stage.asked_later.len();
+    let is_right = is_sent(&stage.asked, core, 0)
+        && is_sent(&stage.asked_later, core, 1)
+        && len == sent_len(core, 1);
+    unless(
+        is_right,
+        "another text, later one of so many bytes",
+        len as u64,
+    )
+}
+
+// Whether a beginning of the parts that were sent in this epoch was taken.
+fn is_sent(taken: &Taken, core: &Core, epoch: u64) -> bool {
+    match taken.bytes.try_borrow() {
+        Ok(bytes) => begins_sent(core, epoch, bytes.as_slice()),
+        Err(_) => false,
+    }
+}
+
+// The first connection's event that is such a deed.
+fn event_of(deed: Deed) -> Event {
+    match deed {
+        Deed::Arrived => {
+            let request = Request::Broken;
+            Event::Arrived { conn: 0, request }
+        }
+        Deed::Finished => Event::Finished { conn: 0 },
+        Deed::Handed => Event::Handed { conn: 0 },
+        _ => Event::Closed { conn: 0 },
+    }
+}

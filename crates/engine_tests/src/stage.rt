@@ -1,0 +1,55 @@
+//! What stands around the engines: what clients and a host say, and what each is told.
+
+use crate::devices::{Feed, Taken};
+use std::alloc::Global;
+use std::cell::Cell;
+
+// What a client says, and what it took.
+#[derive(Drop)]
+pub(crate) struct Visitor {
+    pub(crate) says: Cell<Feed>,
+    pub(crate) took: Taken,
+}
+
+impl Visitor {
+    fn new(alloc: Global) -> Visitor {
+        Visitor {
+            says: Cell::new(Feed::Open(b"")),
+            took: Taken::new(alloc),
+        }
+    }
+}
+
+// Two clients, and what hosts say that are no stubs. What the first link is asked is kept apart from what the later ones are.
+pub(crate) struct Stage {
+    pub(crate) first: Visitor,
+    pub(crate) second: Visitor,
+    pub(crate) host: Cell<Feed>,
+    pub(crate) asked: Taken,
+    pub(crate) asked_later: Taken,
+}
+
+// Written out, as that of a rig.
+impl Drop for Stage {
+    fn drop(self) {
+        let Stage {
+            first: _,
+            second: _,
+            host: _,
+            asked: _,
+            asked_later: _,
+        } = self;
+    }
+}
+
+impl Stage {
+    pub(crate) fn new(alloc: Global) -> Stage {
+        Stage {
+            first: Visitor::new(alloc),
+            second: Visitor::new(alloc),
+            host: Cell::new(Feed::Open(b"")),
+            asked: Taken::new(alloc),
+            asked_later: Taken::new(alloc),
+        }
+    }
+}
