@@ -298,7 +298,8 @@ fn mix_four<R: thread::Threads + Wait + Sync>(
     c: Pass<RunningTotal>,
     d: Pass<RunningTotal>,
 ) -> (Pass<RunningTotal>, [u64; 4])
-    requires { IsPassOf gate.now a × IsPassOf gate.now b × IsPassOf gate.now c × IsPassOf gate.now d }
+    requires { IsPassOf gate.now a × IsPassOf gate.now b × IsPassOf gate.now c
+        × IsPassOf gate.now d }
     ensures { IsPassOf gate.now result.0 }
 {
     let (first, second) = thread::join(
