@@ -53,7 +53,7 @@ impl Machine {
         })
     }
 
-    // Looks for a cause, writes the reply's text, twice in one place, and makes room.
+    // Looks for a cause, writes the reply's text, makes room, and shares the text.
     fn ready_to_hand(&mut self, conn: u64) -> Result<(Bytes, Bytes), Refusal>
         requires plain { IfSome (reply_in (connection_at conn self.old.connections.numbered))
             (λ v. IsTrue (is_plain_tree v)) }
