@@ -77,30 +77,42 @@ fn config<'a>(alloc: Global) -> Arg<'a> {
         .action(ArgAction::Set)
 }
 
-fn command<'a>(alloc: Global) -> Result<Command<'a>, AllocError> {
-    let local = Command::new(alloc, "local").about(
-        "Serves one client on standard input and output",
-    );
-    let check = Command::new(alloc, "check")
-        .about("Reads a settings file, and tells its hosts and digests, or its first fault")
-        .arg(config(alloc))?;
-    let connections = Arg::new(alloc, "connections")
+fn connections<'a>(alloc: Global) -> Arg<'a> {
+    Arg::new(alloc, "connections")
         .long("connections")
         .value_name("N")
         .help("End after so many connections have closed, and tell what happened; 0 is never")
         .value_parser(value_parser!(u32))
         .default_value("0")
-        .action(ArgAction::Set);
-    let serve = Command::new(alloc, "serve")
+        .action(ArgAction::Set)
+}
+
+fn check<'a>(alloc: Global) -> Result<Command<'a>, AllocError> {
+    Command::new(alloc, "check")
+        .about("Reads a settings file, and tells its hosts and digests, or its first fault")
+        .arg(config(alloc))
+}
+
+fn serve<'a>(alloc: Global) -> Result<Command<'a>, AllocError> {
+    Command::new(alloc, "serve")
         .about("Serves clients on the address that the settings name")
         .arg(config(alloc))?
-        .arg(connections)?;
+        .arg(connections(alloc))
+}
+
+fn local<'a>(alloc: Global) -> Result<Command<'a>, AllocError> {
     Command::new(alloc, "redproxy")
         .about("A proxy that clients speak to as to one Redis server")
         .subcommand_required(true)
-        .subcommand(local)?
-        .subcommand(check)?
-        .subcommand(serve)
+        .subcommand(
+            Command::new(alloc, "local").about("Serves one client on standard input and output"),
+        )
+}
+
+fn command<'a>(alloc: Global) -> Result<Command<'a>, AllocError> {
+    local(alloc)?
+        .subcommand(check(alloc)?)?
+        .subcommand(serve(alloc)?)
 }
 
 /// Reads the words of the command line, of which the first is the program's name.
