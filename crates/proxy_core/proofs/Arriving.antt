@@ -26,7 +26,7 @@ use Rattle.proxy_core.specs.Connections.{with_connection, connection_with_comman
 use Rattle.proxy_core.specs.declared.connection.Connection.{Connection}
 use Rattle.proxy_core.specs.declared.machine.Machine.{Machine}
 use Rattle.proxy_core.specs.declared.place.Placed.{Placed}
-use Rattle.proxy_core.specs.Arrivals.{pushed_at, pushed_all, piped_as, Tells, MayJoinAll, IsAccepted, answer_of, with_arrival}
+use Rattle.proxy_core.specs.Arrivals.{pushed_at, pushed_all, piped_as, Tells, MayJoinAll, HasAccepted, IsAccepted, answer_of, with_arrival}
 use Rattle.proxy_core.specs.declared.place.Accepted.{Accepted}
 use Rattle.proxy_core.proofs.FewParts.{few_parts}
 use Rattle.proxy_core.proofs.ConnectionFacts.{open_connection, connection_at-open, length-queue_of, popped_and_left, cause_in-arrived}
@@ -183,6 +183,25 @@ list_accepted old connections pipelines conn index how list x placed e f g h =
 -- the index that the next command gets is the one that the history gives it
 pub index_told : (S : Setting) (m : Memory) (conn : ℕ) (x : Past) → Tells S m conn x → MayAccept (connection_at conn m.connections) → next_index (connection_at conn m.connections) ≡ accepted_count conn x.steps
 index_told S m conn x tells may = ap next_index may.is_open ∙ tells.index_is may.connection may.is_open
+
+-- once the parts that are to wait do, the command is accepted
+pub pushed-accepted : (old ready new : Machine) (conn : ℕ) (how : Join) (list : List PartPlan) (x : Past) (placed : List Placed) (a : Accepted)
+    → HasAccepted old ready conn how placed a → Tells (setting_in old) (memory_in old) conn x → MayAccept (connection_at conn old.connections.numbered)
+    → placed ≡ map placed_as (parts_placed (setting_in old) x conn (accepted_count conn x.steps) [] list)
+    → new.pipelines.states ≡ pushed_all conn a.index placed ready.pipelines.states → setting_in new ≡ setting_in ready → new.journal.steps ≡ ready.journal.steps
+    → memory_in new ≡ record (memory_in ready) { pipelines = new.pipelines.states } → IsAccepted old new conn (parts how list) x a
+pushed-accepted old ready new conn how list x placed a h tells may are pushed setting steps memory =
+    let told = index_told (setting_in old) (memory_in old) conn x tells may in
+    let index : a.index ≡ accepted_count conn x.steps = ap (λ (z : Accepted). z.index) h.answer_is ∙ told in
+    let pushes : new.pipelines.states ≡ pushed_all conn a.index placed old.pipelines.states = pushed ∙ ap (pushed_all conn a.index placed) h.waiting in
+    record {
+      answer_is = ap answer_of h.answer_is ∙ accepted_as (parts_placed (setting_in old) x conn (accepted_count conn x.steps) [] list) placed _ _ are told;
+      setting = setting ∙ h.setting;
+      steps = steps ∙ h.steps;
+      memory = memory
+          ∙ (λ i. record { bytes = h.bytes i; connections = ready.connections.numbered; closed = h.closed i; pipelines = new.pipelines.states; hosts = h.hosts i })
+          ∙ list_accepted old ready.connections.numbered new.pipelines.states conn a.index how list x placed index are h.connections pushes;
+    }
 
 -- ONCE ROOM WAS MADE
 

@@ -25,6 +25,8 @@ pub mod TurnedEvents
 pub mod TurnedAsked
 pub mod Lost
 pub mod PipelineTableLemmas
+pub mod BadSettings
+pub mod ConnectionTableLemmas
 pub mod Pushed
 pub mod Accepted
 pub mod Places

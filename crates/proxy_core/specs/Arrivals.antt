@@ -1,5 +1,5 @@
 -- Where the parts of a command go as it arrives.
-use Rattle.std.specs.Prelude.{◌≡◌, ◌<◌, ◌≤◌, ◌+◌, ◌^◌, ℕ, Bool, true, false, Some, None, List, [], ◌∷◌, length, get_or}
+use Rattle.std.specs.Prelude.{◌≡◌, ◌<◌, ◌≤◌, ◌+◌, ◌^◌, ℕ, Bool, true, false, Some, None, List, [], ◌∷◌, length, map, count_by, get_or}
 use Rattle.resp_core.specs.Tree.{Tree}
 use Rattle.ejector.specs.Ejection.{state}
 use Rattle.splitter.specs.declared.plans.Local.{Local}
@@ -16,9 +16,10 @@ use Rattle.proxy_history.specs.Answer.{accepts, local_of}
 use Rattle.proxy_history.specs.declared.event.Event.{Event}
 use Rattle.proxy_history.specs.declared.answer.Answer.{Answer}
 use Rattle.proxy_history.specs.declared.answer.Answer.TheVariants as answer
-use Rattle.proxy_core.specs.Places.{count_at}
+use Rattle.proxy_core.specs.Places.{count_at, is_without_host, is_too_many, value_of_placed}
 use Rattle.proxy_core.specs.Pipelines.{PipelineState, PipelineTable, with_waiting, with_pipeline, pushed_parts, pipeline_at}
-use Rattle.proxy_core.specs.Connections.{with_connection, connection_with_command, arrived_command, connection_at}
+use Rattle.proxy_core.specs.Connections.{with_connection, connection_with_command, arrived_command, connection_at, next_index}
+use Rattle.splitter.specs.declared.plans.Join.{Join}
 use Rattle.proxy_core.specs.Memory.{Memory}
 use Rattle.proxy_core.specs.Machine.{setting_in, memory_in, own_cause_in, payload_in}
 use Rattle.proxy_core.specs.declared.machine.Machine.{Machine}
@@ -70,6 +71,16 @@ MayWait Busy table = Unit {0}
 abbrev pub answer_of : Accepted → Answer
 answer_of a = answer.Accepted a.index a.local a.parts a.no_host a.busy
 
+-- what is answered to a command of these placed parts
+abbrev pub counted_as : ℕ → List Placed → Accepted
+counted_as index placed = record {
+  index = index;
+  local = None;
+  parts = length placed;
+  no_host = count_by (λ (p : Placed). is_without_host p.place) placed;
+  busy = count_by (λ (p : Placed). is_too_many p.place) placed;
+}
+
 -- a plan of the proxy's own answer
 abbrev pub own_plan : Bool → Local → Tree → Plan
 own_plan true name value = leave name value
@@ -96,6 +107,20 @@ pub record IsAccepted (old new : Machine) (conn : ℕ) (plan : Plan) (x : Past) 
   pub setting : setting_in new ≡ setting_in old
   pub steps : new.journal.steps ≡ old.journal.steps
   pub memory : memory_in new ≡ with_arrival old conn plan x
+
+-- A command of these placed parts is accepted, and this is what is answered. There is room for the parts that are to wait,
+-- which don't yet.
+pub record HasAccepted (old new : Machine) (conn : ℕ) (how : Join) (placed : List Placed) (a : Accepted) : Type 0 where
+  pub answer_is : a ≡ counted_as (next_index (connection_at conn old.connections.numbered)) placed
+  pub connections : new.connections.numbered
+      ≡ with_connection (connection_with_command (record { how = how; values = map value_of_placed placed }) false) conn old.connections.numbered
+  pub closed : new.connections.closed ≡ old.connections.closed
+  pub waiting : new.pipelines.states ≡ old.pipelines.states
+  pub room : HaveRoom placed new.pipelines
+  pub setting : setting_in new ≡ setting_in old
+  pub steps : new.journal.steps ≡ old.journal.steps
+  pub bytes : new.journal.bytes ≡ old.journal.bytes
+  pub hosts : new.ejector.state ≡ old.ejector.state
 
 -- The event has no cause to be refused, and room was made for its step.
 pub record HasRoomFor (old new : Machine) (event : Event) : Type 0 where

@@ -19,7 +19,7 @@ use Rattle.proxy_history.specs.declared.event.Kind.{Kind}
 use Rattle.proxy_history.specs.declared.refusal.Refusal.{Refusal}
 use Rattle.proxy_history.specs.declared.refusal.Refusal.TheVariants as refusal
 use Rattle.proxy_core.specs.Connections.{connection_at, is_finishing_in, left_in, reply_in}
-use Rattle.proxy_core.specs.Pipelines.{PipelineState, pipeline_at, text_of_oldest}
+use Rattle.proxy_core.specs.Pipelines.{PipelineState, failed_pipeline, pipeline_at, text_of_oldest, with_pipeline}
 use Rattle.proxy_core.specs.Memory.{Memory, memory_of}
 use Rattle.proxy_core.specs.declared.connection.Connection.{Connection}
 use Rattle.proxy_core.specs.declared.machine.Machine.{Machine}
@@ -108,6 +108,16 @@ pub record IsReady (old new : Machine) (event : Event) : Type 0 where
   pub has_room : IsFull old.journal (payload_in (memory_in old) event) → ⊥
   pub room : new.journal.room ≡ Some (payload_in (memory_in old) event)
   pub same : IsSame old new
+
+-- The event has no cause to be refused, and room was made for its step. Nothing that counts has changed but for the pipeline to
+-- this host, whose parts are lost.
+pub record HasFailed (old new : Machine) (host : ℕ) (event : Event) : Type 0 where
+  pub has_no_cause : own_cause_in (setting_in old) (memory_in old) event ≡ None
+  pub has_room : IsFull old.journal (payload_in (memory_in old) event) → ⊥
+  pub room : new.journal.room ≡ Some (payload_in (memory_in old) event)
+  pub setting : setting_in new ≡ setting_in old
+  pub steps : new.journal.steps ≡ old.journal.steps
+  pub memory : memory_in new ≡ record (memory_in old) { pipelines = with_pipeline failed_pipeline host (memory_in old).pipelines }
 
 -- There is room for the step of an event, unless it hands out a reply.
 abbrev pub FitsIn : Machine → Event → Type 0

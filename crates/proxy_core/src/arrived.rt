@@ -6,6 +6,7 @@ ghost use Rattle.ketama.specs.Key.{point_of};
 ghost use Rattle.ketama.specs.Owner.{owner_of};
 ghost use Rattle.ejector.specs.State.{hosts_of};
 ghost use Rattle.ejector.specs.Usable.{is_usable};
+ghost use Rattle.splitter.specs.Join.{MayJoin};
 ghost use Rattle.splitter.specs.Part.{part_of};
 ghost use Rattle.splitter.specs.Plan.{parts};
 ghost use Rattle.splitter.specs.Planned.{planned_in};
@@ -20,7 +21,7 @@ ghost use Rattle.proxy_history.specs.Arrival.{parts_placed};
 ghost use Rattle.proxy_history.specs.declared.event.Event.TheVariants as events;
 ghost use Rattle.proxy_core.specs.Connections.{MayAccept, connection_at};
 ghost use Rattle.proxy_core.specs.Places.{AreCounted, counted_at, next_place, placed_as};
-ghost use Rattle.proxy_core.specs.Arrivals.{HasRoomFor, IsAccepted, MayJoinAll, Tells, own_plan, with_arrival};
+ghost use Rattle.proxy_core.specs.Arrivals.{HasAccepted, HasRoomFor, IsAccepted, MayJoinAll, Tells, own_plan, with_arrival};
 ghost use Rattle.proxy_core.specs.Core.{IsMade, IsLeft};
 ghost use Rattle.proxy_core.specs.Machine.{setting_in, memory_in, history_in, IsDone, IsKept, IsSame, IsReady, HasCauseIn};
 
@@ -175,13 +176,38 @@ impl Machine {
         let mut places = [0u16; MAX_HOSTS];
         let counts = &mut places[..self.ring.hosts()];
         let placed = self.place_whole(counts, key, text);
+        match self.accept_placed(conn, Join::Same, counts, slice::from_ref(&placed)) {
+            Ok(accepted) => {
+                self.pipelines.push_one(conn, accepted.index, placed);
+                Ok(accepted)
+            }
+            Err(cause) => {
+                drop(placed);
+                Err(cause)
+            }
+        }
+    }
+
+    // Accepts a command whose parts are placed, with room for those that are to wait, which don't yet.
+    fn accept_placed(
+        &mut self,
+        conn: u64,
+        how: Join,
+        counts: &[u16],
+        placed: &[Placed],
+    ) -> Result<Accepted, Refusal>
+        requires open { MayAccept (connection_at conn self.old.connections.numbered) }
+        requires counted { AreCounted (memory_in self.old).pipelines counts.now placed.now }
+        requires join { MayJoin how (length placed.now) }
+        requires parts { length placed.now < 2 ^ 32 }
+        ensures accepted { IfOk result
+            (λ a. HasAccepted self.old self.new conn how placed.now a) }
+        ensures journal { self.new.journal ≡ self.old.journal }
+        ensures refused { IfErr result (λ r. (r ≡ Refusal.NoMemory) × IsSame self.old self.new) }
+    {
         self.pipelines.reserve(counts)?;
-        let index = self
-            .connections
-            .accept(conn, Join::Same, slice::from_ref(&placed))?;
-        let accepted = Accepted::counted(index, slice::from_ref(&placed));
-        self.pipelines.push_one(conn, index, placed);
-        Ok(accepted)
+        let index = self.connections.accept(conn, how, placed)?;
+        Ok(Accepted::counted(index, placed))
     }
 
     // Finds the place of a command's only part, and counts for its host the part that is to wait for it.
@@ -216,11 +242,16 @@ impl Machine {
         let mut places = [0u16; MAX_HOSTS];
         let counts = &mut places[..self.ring.hosts()];
         let placed = self.place_parts(counts, list)?;
-        self.pipelines.reserve(counts)?;
-        let index = self.connections.accept(conn, how, &placed)?;
-        let accepted = Accepted::counted(index, &placed);
-        self.pipelines.push(conn, index, placed);
-        Ok(accepted)
+        match self.accept_placed(conn, how, counts, &placed) {
+            Ok(accepted) => {
+                self.pipelines.push(conn, accepted.index, placed);
+                Ok(accepted)
+            }
+            Err(cause) => {
+                drop(placed);
+                Err(cause)
+            }
+        }
     }
 
     // Finds the places of a command's parts, one after the other, and counts for each host the parts that are to wait for it.

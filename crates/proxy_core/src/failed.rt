@@ -15,7 +15,7 @@ ghost use Rattle.journal_core.specs.Journal.{IsFull};
 ghost use Rattle.proxy_core.specs.Connections.{AreAwaited, answered_parts};
 ghost use Rattle.proxy_core.specs.Pipelines.{PipelineState, failed_pipeline, lost_owners, with_pipeline, pipeline_at};
 ghost use Rattle.proxy_core.specs.Core.{IsMade, IsLeft};
-ghost use Rattle.proxy_core.specs.Machine.{setting_in, memory_in, own_cause_in, fault_mark, IsDone, IsSame, HasCauseIn, IsKept};
+ghost use Rattle.proxy_core.specs.Machine.{setting_in, memory_in, own_cause_in, fault_mark, IsDone, IsSame, HasCauseIn, HasFailed, IsKept};
 
 use crate::answered::counted;
 use crate::machine::{Done, Machine, make_room};
@@ -105,24 +105,14 @@ impl Machine {
     fn ready_to_fail(&mut self, host: usize, epoch: u64) -> Result<Lost, Refusal>
         requires hosts { length self.old.pipelines.states ≡ hosts (setting_in self.old) }
         requires epochs { (pipeline_at host (memory_in self.old).pipelines).epoch < 2 ^ 64 - 1 }
-        ensures flying { IfOk result
-            (λ lost. lost.flying.items ≡ (pipeline_at host (memory_in self.old).pipelines).flying) }
-        ensures waiting { IfOk result
-            (λ lost. lost.waiting.items ≡ map owner_in
-            (pipeline_at host (memory_in self.old).pipelines).waiting) }
-        ensures cause { OnOk result (own_cause_in (setting_in self.old) (memory_in self.old)
-            (events.Failed host epoch Late 0) ≡ None) }
-        ensures full { OnOk result (IsFull self.old.journal 0 → ⊥) }
-        ensures room { OnOk result (self.new.journal.room ≡ Some 0) }
-        ensures setting { setting_in self.new ≡ setting_in self.old }
-        ensures steps { self.new.journal.steps ≡ self.old.journal.steps }
-        ensures memory { OnOk result (memory_in self.new
-            ≡ record (memory_in self.old) {
-              pipelines = with_pipeline failed_pipeline host (memory_in self.old).pipelines;
-            }) }
-        ensures err { OnErr result (memory_in self.new ≡ memory_in self.old) }
-        ensures refused { IfErr result
-            (λ r. HasCauseIn self.old (events.Failed host epoch Late 0) r) }
+        ensures lost { IfOk result (λ lost.
+            (lost.flying.items ≡ (pipeline_at host (memory_in self.old).pipelines).flying)
+            × (lost.waiting.items
+            ≡ map owner_in (pipeline_at host (memory_in self.old).pipelines).waiting)) }
+        ensures ready { OnOk result
+            (HasFailed self.old self.new host (events.Failed host epoch Late 0)) }
+        ensures refused { IfErr result (λ r. IsSame self.old self.new
+            × HasCauseIn self.old (events.Failed host epoch Late 0) r) }
     {
         if host >= self.pipelines.len() {
             return Err(Refusal::NoSuchHost);

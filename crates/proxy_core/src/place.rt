@@ -35,24 +35,6 @@ impl Place {
             Place::Busy => Some(proxy_busy()),
         }
     }
-
-    fn is_without_host(self) -> bool
-        ensures { result ≡ is_without_host self }
-    {
-        match self {
-            Place::NoHost => true,
-            Place::Waits(_) | Place::Busy => false,
-        }
-    }
-
-    fn is_too_many(self) -> bool
-        ensures { result ≡ is_too_many self }
-    {
-        match self {
-            Place::Busy => true,
-            Place::Waits(_) | Place::NoHost => false,
-        }
-    }
 }
 
 /// A part with its place.
@@ -104,12 +86,20 @@ impl Accepted {
           busy = count_by (λ (p : Placed). is_too_many p.place) placed.now;
         } }
     {
+        let (mut no_host, mut busy) = (0, 0);
+        for part in placed {
+            match part.place {
+                Place::NoHost => no_host += 1,
+                Place::Busy => busy += 1,
+                Place::Waits(_) => {}
+            }
+        }
         Accepted {
             index,
             local: None,
             parts: placed.len() as u64,
-            no_host: without_host(placed),
-            busy: too_many(placed),
+            no_host,
+            busy,
         }
     }
 
@@ -125,26 +115,6 @@ impl Accepted {
             busy: self.busy,
         }
     }
-}
-
-// How many of the parts have no host.
-fn without_host(placed: &[Placed]) -> u64
-    ensures { result ≡ count_by (λ (p : Placed). is_without_host p.place) placed.now }
-{
-    placed
-        .iter()
-        .filter(|part| part.place.is_without_host())
-        .count() as u64
-}
-
-// How many of the parts have a host for which too many waited.
-fn too_many(placed: &[Placed]) -> u64
-    ensures { result ≡ count_by (λ (p : Placed). is_too_many p.place) placed.now }
-{
-    placed
-        .iter()
-        .filter(|part| part.place.is_too_many())
-        .count() as u64
 }
 
 /// The place of the next part, whose key has this host. `counts` has for each host how many parts of the command wait for

@@ -70,6 +70,9 @@ impl Machine {
             return Err(Refusal::NothingWaiting);
         };
         make_room(&mut self.journal, part.text.len() as u64)?;
-        Ok(part.text.clone()?)
+        match part.text.clone() {
+            Ok(text) => Ok(text),
+            Err(_) => Err(Refusal::NoMemory),
+        }
     }
 }

@@ -1,12 +1,17 @@
-use Rattle.std.proofs.Common.{◌≡◌, [], None, sym, ap, ◌∙◌, subst}
+use Rattle.std.proofs.Common.{◌≡◌, ℕ, [], Option, None, Result, Err, refl, sym, ap, ◌∙◌, subst}
 use Rattle.std.proofs.lemmas.Result.{IfOk-weaker}
 use Rattle.ketama.specs.Continuum.{Continuum}
 use Rattle.ejector.specs.Ejector.{Ejection}
 use Rattle.ejector.specs.Opening.{IsOpening}
+use Rattle.ejector.specs.declared.settings.Field.{Field}
+use Rattle.ejector.specs.declared.settings.Rules.{Rules}
+use Rattle.ejector.specs.declared.settings.Settings.{Settings}
 use Rattle.ejector.specs.Settings.{first_difference}
 use Rattle.ejector.proofs.CallerLemmas.{opening_first, no_difference}
 use Rattle.proxy_history.specs.Proxy.{Proxy, rules_of, setting_from}
+use Rattle.proxy_history.specs.declared.refusal.Refusal.TheVariants as refusal
 use Rattle.proxy_core.specs.Core.{detector_state}
+use Rattle.proxy_core.proofs.BadSettings.{refused_by-none, refused_by-some}
 use Rattle.proxy_core.proofs.machine.Core.new_from.Goals as goal
 
 -- with an empty journal outlier detection stands where it was
@@ -15,15 +20,19 @@ detected-handed k ring e setting steps opening =
     let same : k ≡ record { setting = setting_from ring e; steps = [] } = λ i. record { setting = setting i; steps = steps i } in
     ap detector_state same ∙ opening_first e.rules e.state opening
 
+-- what differs is told of the rules of the ring and the settings
+difference-told : (ring : Continuum) (settings : Settings) (from seen : Rules) (n : ℕ) (told : Option Field) → n ≡ ring.hosts → seen ≡ from
+    → told ≡ first_difference (record { hosts = n; settings = settings }) seen → first_difference (rules_of ring settings) from ≡ told
+difference-told ring settings from seen n told hosts is e =
+    ap (λ m. first_difference (record { hosts = m; settings = settings }) from) (sym hosts)
+    ∙ ap (first_difference (record { hosts = n; settings = settings })) (sym is) ∙ sym e
+
 pub returns-in-Ok-clause-rules : goal.returns-in-Ok-clause-rules
 returns-in-Ok-clause-rules c =
     let R = rules_of c.args.ring c.args.settings in
     let from = c.args.from.detection in
-    let hosts : c.hosts.result ≡ c.args.ring.hosts = c.hosts.ensures.value in
     let none : first_difference R from.rules ≡ None =
-    ap (λ n. first_difference (record { hosts = n; settings = c.args.settings }) from.rules) (sym hosts)
-    ∙ ap (first_difference (record { hosts = c.hosts.result; settings = c.args.settings })) (sym c.rules.ensures.rules)
-    ∙ sym c.first_difference.ensures ∙ c.in_default.is in
+    difference-told c.args.ring c.args.settings from.rules _ _ _ c.hosts.ensures.value c.rules.ensures.rules c.first_difference.ensures ∙ c.in_default.is in
     let made : c.in-Ok.ejector ≡ from = c.in-Ok.ensures.made ∙ c.into_detection.ensures in
     let same = ap (λ (e : Ejection). e.rules) made ∙ sym (no_difference R from.rules none) in
     IfOk-weaker c.with.result _ _ (λ k is. ap (λ z. z.rules) is.0 ∙ same) c.with.ensures.made
@@ -52,3 +61,20 @@ returns-in-Some-clause-rules c = tt
 
 pub returns-in-Some-clause-state : goal.returns-in-Some-clause-state
 returns-in-Some-clause-state c = tt
+
+pub returns-in-Some-clause-refused : goal.returns-in-Some-clause-refused
+returns-in-Some-clause-refused c =
+    refused_by-some _ _ _
+    (difference-told c.args.ring c.args.settings c.args.from.detection.rules _ _ _ c.hosts.ensures.value c.rules.ensures.rules c.first_difference.ensures ∙ c.in-Some.is)
+
+pub returns-in-Ok-clause-refused : goal.returns-in-Ok-clause-refused
+returns-in-Ok-clause-refused c =
+    refused_by-none _ c.with.result
+    (difference-told c.args.ring c.args.settings c.args.from.detection.rules _ _ _ c.hosts.ensures.value c.rules.ensures.rules c.first_difference.ensures ∙ c.in_default.is)
+    c.with.ensures.refused
+
+pub returns-in-Err-clause-refused : goal.returns-in-Err-clause-refused
+returns-in-Err-clause-refused c =
+    refused_by-none _ (Err refusal.NoMemory)
+    (difference-told c.args.ring c.args.settings c.args.from.detection.rules _ _ _ c.hosts.ensures.value c.rules.ensures.rules c.first_difference.ensures ∙ c.in_default.is)
+    refl

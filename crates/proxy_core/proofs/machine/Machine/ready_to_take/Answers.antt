@@ -6,5 +6,8 @@ returns-in_default-clause-ready c = tt
 pub returns-then-host-len-clause-ready : goal.returns-then-host-len-clause-ready
 returns-then-host-len-clause-ready c = tt
 
-pub returns-clause-refused : goal.returns-clause-refused
-returns-clause-refused c = tt
+pub returns-in-Ok-clause-refused : goal.returns-in-Ok-clause-refused
+returns-in-Ok-clause-refused c = tt
+
+pub returns-in-Err-clause-ready : goal.returns-in-Err-clause-ready
+returns-in-Err-clause-ready c = tt
