@@ -294,7 +294,7 @@ fn accept_one(
 {
     match connection {
         Some(connection) => queue_parts(&mut connection.queue, how, placed),
-        None => Err(Refusal::NoSuchConnection),
+        None => unreachable!(),
     }
 }
 
@@ -313,8 +313,7 @@ fn accept_own_one(
         × (connection.new ≡ connection.old)) }
 {
     let Some(connection) = connection else {
-        drop(value);
-        return Err(Refusal::NoSuchConnection);
+        unreachable!()
     };
     match queue_own(&mut connection.queue, value) {
         Ok(command) => {
