@@ -126,7 +126,7 @@ impl Session {
         }
         match self.requests.next_value() {
             Ok(Some(request)) => {
-                self.next = Next::Serve(request);
+                self.then(Next::Serve(request));
                 Ok(true)
             }
             Ok(None) => Ok(false),
@@ -146,11 +146,12 @@ impl Session {
     {
         match self.serve_by_script(&request) {
             Ok(next) => {
-                self.next = next;
+                drop(request);
+                self.then(next);
                 Ok(())
             }
             Err(error) => {
-                self.next = Next::Serve(request);
+                self.then(Next::Serve(request));
                 Err(error)
             }
         }
@@ -179,12 +180,18 @@ impl Session {
         ensures requests { self.new.requests ≡ self.old.requests }
         ensures next { OnOk result (self.new.next ≡ Next.Read) }
     {
-        let said = self.replies.put(&reply);
-        if said.is_err() {
-            self.next = Next::Say(reply);
+        match self.replies.put(&reply) {
+            Ok(()) => {
+                drop(reply);
+                Ok(())
+            }
+            Err(error) => {
+                self.then(Next::Say(reply));
+                Err(error)
+            }
         }
-        said
     }
+
     // Puts a line that is no reply behind the replies.
     fn garble(&mut self) -> Result<(), StubError>
         requires next { self.old.next ≡ Next.Read }
@@ -193,8 +200,15 @@ impl Session {
     {
         let said = self.replies.put_garbage();
         if said.is_err() {
-            self.next = Next::Garble;
+            self.then(Next::Garble);
         }
         said
+    }
+
+    // Sets what is done next.
+    fn then(&mut self, next: Next)
+        ensures { self.new ≡ record self.old { next = next } }
+    {
+        drop(mem::replace(&mut self.next, next));
     }
 }
