@@ -1,9 +1,9 @@
 -- Lines that are looked at from the middle on.
 use Rattle.std.proofs.Common.{◌≡◌, ◌==◌, Bool, true, false, ℕ, zero, suc, add-one, ◌+◌, ◌-◌, ◌<◌, ◌≤◌, List, [], ◌∷◌, ◌++◌, length, get_or, take, drop, drop-cons, append-nil, subst, refl, sym, ap, ◌∙◌, append_assoc, arith}
-use Rattle.std.proofs.lemmas.List.{take_all, length-drop, length-append, length-take, take-append-drop, take-append-le}
+use Rattle.std.proofs.lemmas.List.{take_all, take_rest, length-drop, length-append, length-take, take-append-drop, take-append-le}
 use Rattle.resp_core.specs.declared.error.Refusal.TheVariants.{BadLineEnd}
 use Rattle.resp_core.specs.Grammar.{max_line}
-use Rattle.resp_core.specs.Reading.{found, unfinished, and_then, byte_at, text_at}
+use Rattle.resp_core.specs.Reading.{found, unfinished, refused, and_then, byte_at, text_at}
 use Rattle.resp_core.specs.Seen.{IsSeen}
 use Rattle.resp_core.proofs.Parts.{stops, ends, goes, text_step, line_end_behind}
 use Rattle.resp_core.proofs.Going.{take_of_take}
@@ -15,6 +15,13 @@ at_cr bytes i h e =
     let all : take (length bytes - (i + 1)) (drop (i + 1) bytes) ≡ drop (i + 1) bytes = take_all (length bytes - (i + 1)) (drop (i + 1) bytes) (omega (arith, length-drop (i + 1) bytes)) in
     let parts : drop i bytes ≡ 13 ∷ drop (i + 1) bytes = rw add-one (drop-cons bytes i 0 h ∙ ap (λ z. z ∷ drop (suc i) bytes) e) in
     rw (parts, all) refl
+
+-- a line whose next byte is LF
+pub at_lf : (bytes : List ℕ) (i : ℕ) → i < length bytes → get_or bytes i 0 ≡ 10 → text_at (take i bytes) (drop i bytes) ≡ refused BadLineEnd (take (length bytes - i) (drop i bytes))
+unfolding text_at
+at_lf bytes i h e =
+    let parts : drop i bytes ≡ 10 ∷ drop (i + 1) bytes = rw add-one (drop-cons bytes i 0 h ∙ ap (λ z. z ∷ drop (suc i) bytes) e) in
+    rw (take_rest bytes i, parts) refl
 
 -- nothing of a line was looked at
 pub none_seen : (b : List ℕ) → IsSeen 0 b

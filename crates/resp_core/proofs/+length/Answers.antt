@@ -1,4 +1,4 @@
-use Rattle.std.proofs.Common.{◌≡◌, ◌+◌, length, map, decimal, sym, ap, ◌∙◌, arith}
+use Rattle.std.proofs.Common.{◌≡◌, ◌+◌, length, map, decimal, inl, inr, sym, ap, ◌∙◌, arith}
 use Rattle.std.proofs.lemmas.List.{length-append, drop_all}
 use Rattle.resp_core.specs.Stream.{told_offset}
 use Rattle.resp_core.specs.Text.{line, texts}
@@ -30,3 +30,7 @@ text::members_len-returns t c =
     let left : told_offset (total + 0) ≡ told_offset (length (texts (trees_of c.args.values.now))) =
     ap (λ vs. told_offset (total + length (texts (trees_of (map tree_of vs))))) (sym (drop_all c.loop-value.value-index c.deref-value-items.result.now c.loop-value-test.false)) ∙ c.loop-value.invariant.same in
     omega (arith, left, c.loop-value.invariant.fits)
+
+pub value::Value::text_len-returns-in-NullBulk : goal.value::Value::text_len-returns-in-NullBulk
+value::Value::text_len-returns-in-NullBulk t c =
+    elim c.in-NullBulk.is [ inl e ↦ rw e c.line_len-in-NullBulk.ensures | inr e ↦ rw e c.line_len-in-NullBulk.ensures ]

@@ -31,6 +31,10 @@ returns-then-ok-clause-state c O marks known =
     told c.args.self.now R x _ (Good c.args.host c.args.t) c.self.view_is next O marks known
     ∙ ap (λ ok. state c.args.self.now.rules O (result_mark ok c.args.host c.args.t ∷ marks)) (sym c.if-ok.true)
 
+pub returns-then-ok-clause-trip : goal.returns-then-ok-clause-trip
+returns-then-ok-clause-trip c O marks known =
+    ap (λ ok. trip c.args.self.now.rules O (result_mark ok c.args.host c.args.t) marks) (sym c.if-ok.true)
+
 -- BAD RESULTS
 
 pub invariant_of-self-2 : goal.invariant_of-self-2

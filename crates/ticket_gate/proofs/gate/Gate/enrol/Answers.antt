@@ -1,4 +1,4 @@
-use Rattle.std.proofs.Common.{rules, ap, ◌∙◌, refl}
+use Rattle.std.proofs.Common.{◌≡◌, ◌≤◌, ℕ, Some, arith, rules, ap, ◌∙◌, refl}
 use Rattle.ticket_gate.proofs.Stepping.{alone_after, own_after}
 use Rattle.ticket_gate.proofs.Reading.{reads_enrolled}
 use Rattle.ticket_gate.proofs.Numbering.{takes_number}
@@ -15,3 +15,17 @@ compare_exchange-found-requires g c =
     let (_, _, (h, _)) = c.load-number.ensures in
     let o = own_after c.loop.seat.me c.load-number.new.seat.me _ h in
     (search rules, search rules, takes_number _ _ _ _ _ _ _ _ _ (alone_after _ _ _ at_rest.alone h) refl (search rules) (ap (λ p. p.number) o ∙ no_number) (ap (λ p. p.inside) o ∙ at_rest.outside))
+
+both : (n m : ℕ) → n ≤ m → m ≤ n → n ≡ m
+both n m less more = omega arith
+
+pub returns-then-number-ge-MOST_PASSES-clause-crowded : goal.returns-then-number-ge-MOST_PASSES-clause-crowded
+returns-then-number-ge-MOST_PASSES-clause-crowded g c =
+    let (_, _, (h, few)) = c.load-number.ensures in
+    let o = own_after c.loop.seat.me c.load-number.new.seat.me _ h in
+    (refl, search rules, ap (λ p. p.last_enrolled) o ∙ both _ _ few c.if-number-ge-MOST_PASSES.true)
+
+pub invariant_of-result-then-found-number : goal.invariant_of-result-then-found-number
+invariant_of-result-then-found-number g c =
+    let numbered : c.compare_exchange-found.new.seat.me.0.own.number ≡ Some c.load-number.result = search rules in
+    (search rules, numbered)

@@ -1,4 +1,4 @@
-use Rattle.std.proofs.Common.{arith, ap, ◌+◌, ◌≤◌}
+use Rattle.std.proofs.Common.{arith, refl, ap, ◌+◌, ◌≤◌}
 use Rattle.std.proofs.lemmas.List.{map-append}
 use Rattle.journal_core.specs.Journal.{step_by}
 use Rattle.ticket_gate.proofs.Totals.{totals-push}
@@ -12,3 +12,9 @@ returns-in-Ok-clause-legal c totals =
     let step = step_by c.args.pass c.args.event (c.args.self.now.total + c.args.event) in
     let room : c.args.self.now.total + c.args.event ≤ c.args.self.now.limit = omega arith in
     rw (e, map-append) (totals-push _ _ step (ap (λ n. n + c.args.event) total) room totals)
+
+pub returns-then-event-self-clause-refused : goal.returns-then-event-self-clause-refused
+returns-then-event-self-clause-refused c = (refl, refl, omega (arith, c.args.self.now.totalled))
+
+pub returns-in-Ok-clause-answered : goal.returns-in-Ok-clause-answered
+returns-in-Ok-clause-answered c = let e = c.in-Ok.ensures.items in rw (e, map-append) refl
