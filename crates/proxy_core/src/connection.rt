@@ -80,6 +80,7 @@ pub(crate) fn queue_own(queue: &mut Queue, value: Value) -> Result<u64, Refusal>
     ensures refused { IfErr result (λ r. (r ≡ Refusal.NoMemory) × (queue.new ≡ queue.old)) }
 {
     let Ok(command) = queue.accept(Join::Same, 1) else {
+        drop(value);
         return Err(Refusal::NoMemory);
     };
     queue.set_part(command, 0, value);

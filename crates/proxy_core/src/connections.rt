@@ -271,8 +271,9 @@ fn answer_one(connection: &mut Option<Connection>, owner: Owner, value: Value)
     requires { IsAwaitedIn connection.old owner }
     ensures { connection.new ≡ option_map (with_answer owner (tree_of value)) connection.old }
 {
-    if let Some(connection) = connection {
-        connection.queue.set_part(owner.command, owner.part, value);
+    match connection {
+        Some(connection) => connection.queue.set_part(owner.command, owner.part, value),
+        None => drop(value),
     }
 }
 
