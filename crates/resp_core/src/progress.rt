@@ -299,7 +299,7 @@ impl Progress {
         ensures seen { (self.new.seen ≡ self.old.seen) × (self.new.came ≡ self.old.came) }
         ensures needed { self.new.needed ≡ 0 }
     {
-        self.done = Some(value);
+        drop(self.done.replace(value));
         self.next = Next::Head(Head::Type);
         self.needed = 0;
     }
@@ -328,7 +328,7 @@ impl Progress {
         match put(&mut self.opens, value) {
             Ok(done) => Ok(done),
             Err(failed) => {
-                self.done = Some(failed.value);
+                drop(self.done.replace(failed.value));
                 Err(AllocError)
             }
         }
