@@ -26,7 +26,7 @@ const LINGER_MS: u64 = 1_000;
 type Engine = ClientEngine<Tallied<PortReader>, Tallied<PortWriter>>;
 
 /// How far a client has come.
-#[derive(Clone, Copy, Debug, PartialEq, Eq, Drop)]
+#[derive(Clone, Copy, Drop)]
 enum Stage {
     Served,
     /// The connection is closed, and its last bytes are to be written.
@@ -36,7 +36,7 @@ enum Stage {
 }
 
 /// What a pass over a client did.
-#[derive(Clone, Copy, Debug, PartialEq, Eq, Drop)]
+#[derive(Clone, Copy, Drop)]
 pub(crate) enum Attended {
     /// Nothing more can be done for now.
     Rests,
@@ -63,7 +63,7 @@ pub(crate) struct Client {
 }
 
 /// Why a worker could not go on with a step.
-#[derive(Clone, Copy, Debug, PartialEq, Eq, Drop)]
+#[derive(Clone, Copy, Drop)]
 pub(crate) enum Hitch {
     /// There was no memory; the step is made again.
     Memory,
@@ -277,7 +277,7 @@ impl Client {
         let Ok(mut port) = self.port.try_borrow_mut() else {
             return Attended::Rests;
         };
-        if self.stage == Stage::Leaving {
+        if matches!(self.stage, Stage::Leaving) {
             if port.has_gathered() && !port.is_broken() {
                 return Attended::Rests;
             }

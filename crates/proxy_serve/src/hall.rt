@@ -38,7 +38,7 @@ pub(crate) struct Desk {
 }
 
 /// What a generation has to do.
-#[derive(Clone, Copy, Debug, PartialEq, Eq, Drop)]
+#[derive(Clone, Copy, PartialEq, Eq, Drop)]
 pub(crate) enum Course {
     /// It serves, and takes new connections.
     Serves,

@@ -12,6 +12,7 @@ use proxy_core::CoreTurns;
 use proxy_engines::{HostEngine, Progress, Tallied};
 use std::alloc::Global;
 use std::cell::RefCell;
+use std::mem;
 use std::net::{Net, SocketAddr};
 use std::rc::Rc;
 use std::sync::Wait;
@@ -45,7 +46,7 @@ enum Socket {
 }
 
 /// What came of a connection that is being made.
-#[derive(Clone, Copy, Debug, PartialEq, Eq, Drop)]
+#[derive(Clone, Copy, Drop)]
 enum Dialled {
     Waits,
     Refused,
@@ -225,9 +226,16 @@ impl Upstream {
     {
         if let Socket::Attached(port) = &self.socket {
             if Rc::strong_count(port) < 3 {
-                self.socket = Socket::Absent;
+                self.put(Socket::Absent);
             }
         }
+    }
+
+    // Puts another socket in the place of the one that was there.
+    fn put(&mut self, socket: Socket)
+        ensures { self.new.engine ≡ self.old.engine }
+    {
+        drop(mem::replace(&mut self.socket, socket));
     }
 
     // Begins a connection, or looks what came of it.
@@ -255,11 +263,11 @@ impl Upstream {
                 {
                     return Ok(Dialled::Refused);
                 }
-                self.socket = Socket::Dialled {
+                self.put(Socket::Dialled {
                     stream,
                     since: now,
                     is_told: false,
-                };
+                });
                 Ok(Dialled::Waits)
             }
             Err(_) => Ok(Dialled::Refused),
@@ -274,7 +282,7 @@ impl Upstream {
     ) -> Result<(), Hitch>
         requires { self.old.engine.link ≡ None }
     {
-        self.socket = Socket::Absent;
+        self.put(Socket::Absent);
         match self.engine.refused(rt, turns, now) {
             Ok(()) => Ok(()),
             Err(error) => match hitch_of(error) {
@@ -289,7 +297,7 @@ impl Upstream {
         requires link { self.old.engine.link ≡ None }
         requires fault { self.old.engine.fault ≡ None }
     {
-        match std::mem::replace(&mut self.socket, Socket::Absent) {
+        match mem::replace(&mut self.socket, Socket::Absent) {
             Socket::Dialled { stream, .. } => {
                 let Ok(port) = Rc::new(self.alloc, RefCell::new(Port::new(self.alloc, stream)))
                 else {
@@ -304,11 +312,11 @@ impl Upstream {
                 if attached.is_err() {
                     return Err(Hitch::Memory);
                 }
-                self.socket = Socket::Attached(port);
+                self.put(Socket::Attached(port));
                 Ok(())
             }
             other => {
-                self.socket = other;
+                self.put(other);
                 Ok(())
             }
         }

@@ -5,7 +5,7 @@ use std::sync::Wait;
 use ticket_gate::{TurnRefusal, Turns};
 
 /// What happened since it was last looked at.
-#[derive(Clone, Copy, Debug, PartialEq, Eq, Drop)]
+#[derive(Clone, Copy, Drop)]
 pub(crate) struct Notes {
     /// Commands were accepted, so many.
     pub(crate) accepted: u64,

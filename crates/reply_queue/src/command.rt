@@ -70,7 +70,7 @@ impl Command {
         ensures { self.new ≡ with_value part (tree_of value) self.old }
     {
         match &mut self.parts {
-            Parts::Same(place) => *place = Some(value),
+            Parts::Same(place) => drop(place.replace(value)),
             Parts::Joined(joined) => joined.set(part, value),
         }
     }

@@ -7,6 +7,7 @@ ghost use Rattle.reply_queue.specs.Command.{awaiting_command, with_value, reply_
 
 use resp_core::Value;
 use splitter::{Join, SplitError, join};
+use std::mem;
 use std::alloc::{AllocError, Global};
 use std::marker::Model;
 
@@ -107,5 +108,5 @@ fn put(values: &mut Vec<Value>, place: usize, value: Value)
     requires { place < vec_len values.old }
     ensures { values.new.items ≡ slice_set values.old.items place value }
 {
-    values[place] = value;
+    drop(mem::replace(&mut values[place], value));
 }

@@ -87,6 +87,7 @@ fn unless_failed(alloc: Global, failed: usize, value: Value) -> Result<Value, Sp
     if failed == 0 {
         return Ok(value);
     }
+    drop(value);
     finished_with(alloc, failed)
 }
 
