@@ -261,16 +261,15 @@ class Stream(threading.Thread):
         # Replies that came, and commands without one; connections that were made, those that the proxy ended, and of them
         # those that were reset.
         self.good, self.unanswered, self.made, self.ended, self.resets = 0, 0, 0, 0, 0
-        asked, wanted = zip(*self.exchanges())
-        self.ends = [0, *itertools.accumulate(map(len, wanted))]
-        self.asked, self.wanted = b"".join(asked), b"".join(wanted)
-
-    def exchanges(self):
-        """The commands of a pipeline, each with what has to come."""
+        asked, wanted, self.ends = [], [], [0]
         for place in range(50):
-            key, value = b"s%d-%d" % (self.number, place), b"%d-%d-" % (self.number, place) + self.MARK
-            yield text("SET", key, value), b"+OK\r\n"
-            yield text("GET", key), b"$%d\r\n%s\r\n" % (len(value), value)
+            key, value = b"s%d-%d" % (number, place), b"%d-%d-" % (number, place) + self.MARK
+            for request, reply in ((text("SET", key, value), b"+OK\r\n"),
+                                   (text("GET", key), b"$%d\r\n%s\r\n" % (len(value), value))):
+                asked.append(request)
+                wanted.append(reply)
+                self.ends.append(self.ends[-1] + len(reply))
+        self.asked, self.wanted = b"".join(asked), b"".join(wanted)
 
     def run(self):
         turn = 0
@@ -312,15 +311,6 @@ class Stream(threading.Thread):
         if self.on_end:
             self.on_end()
         return False
-
-
-class Echoes(Stream):
-    """One whose commands ask no server."""
-
-    def exchanges(self):
-        for place in range(100):
-            value = b"%d-%d-" % (self.number, place) + self.MARK
-            yield text("ECHO", value), b"$%d\r\n%s\r\n" % (len(value), value)
 
 
 def ping_until_the_end(proxy):
