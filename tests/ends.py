@@ -17,9 +17,14 @@ import sys
 import tempfile
 import threading
 import time
+from concurrent.futures import ThreadPoolExecutor
 
 TOP = os.path.dirname(os.path.dirname(os.path.abspath(__file__)))
 PROGRAM = os.environ.get("REDPROXY", os.path.join(TOP, "redproxy"))
+# The program itself: what builds it would meet what stands before the C library too.
+BUILT = os.environ.get("REDPROXY", os.path.join(TOP, "crates", "proxy_main", "out", "proxy_main"))
+# So many checks are made side by side.
+LANES = 8
 # No call to a socket waits longer than so many seconds.
 PATIENCE = 20
 STARTED = []
@@ -221,6 +226,21 @@ def equal(found, wanted):
     assert found == wanted, f"{found!r} is not {wanted!r}"
 
 
+def each(checks):
+    """Makes the checks side by side."""
+    with ThreadPoolExecutor(LANES) as pool:
+        for result in [pool.submit(check) for check in checks]:
+            result.result()
+
+
+def preloaded(source, room):
+    """The shared object of a C source that lies beside this file, compiled into a room."""
+    compiler = next(word for word in (os.environ.get("CC"), "cc", "clang", "gcc") if word and shutil.which(word))
+    found = os.path.join(room, source + ".so")
+    subprocess.run([compiler, "-O1", "-shared", "-fPIC", "-o", found, os.path.join(TOP, "tests", source)], check=True)
+    return found
+
+
 def counts_in(line):
     numbers = re.fullmatch(r"accepted (\d+) handed (\d+) sent (\d+) answered (\d+) lost (\d+) ejections (\d+)\n", line)
     assert numbers, line
@@ -291,6 +311,23 @@ class Stream(threading.Thread):
         if self.on_end:
             self.on_end()
         return False
+
+
+def ping_until_the_end(proxy):
+    """How many answers a client gets that asks until its connection ends. Another generation is opened behind 114,687 PINGs;
+    those before come in pipelines, and the last ones one at a time, so that each that was accepted is known."""
+    answers = 0
+    with Client(proxy.port) as client:
+        for count in [1_000] * 112 + [1] * 50_000:
+            got = b""
+            with contextlib.suppress(BrokenPipeError, ConnectionResetError):
+                client.socket.sendall(text("PING") * count)
+                got = client.file.read(7 * count)
+            if not got:
+                return answers
+            equal(got, b"+PONG\r\n" * count)
+            answers += count
+    raise AssertionError("the connection doesn't end")
 
 
 def resident_mib(process):

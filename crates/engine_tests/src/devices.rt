@@ -142,7 +142,7 @@ impl Taken {
         }
     }
 
-    fn keep(&self, bytes: &[u8]) -> io::Result<()> {
+    pub(crate) fn keep(&self, bytes: &[u8]) -> io::Result<()> {
         match self.bytes.try_borrow_mut() {
             Ok(mut taken) => Ok(taken.extend_from_slice(bytes)?),
             Err(_) => Err(io::Error::from(ErrorKind::WouldBlock)),

@@ -1,5 +1,5 @@
 //! The tests of the engines of clients and hosts over devices that stop short, pause, fail and lie, and over turns that are
-//! refused.
+//! refused; and of the ends of a link to a host in memory.
 #![tactic(auto)]
 
 #[cfg(test)]
@@ -12,6 +12,8 @@ mod devices;
 mod host_lies;
 #[cfg(test)]
 mod journal;
+#[cfg(test)]
+mod link_tests;
 #[cfg(test)]
 mod refusal_tests;
 #[cfg(test)]

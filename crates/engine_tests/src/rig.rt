@@ -412,7 +412,10 @@ fn link_ends<'a>(
 }
 
 // The two ends of a link to an empty stub that serves by these acts.
-fn stub(alloc: Global, acts: &[Serves]) -> Result<(StubReader, StubWriter), EngineError> {
+pub(crate) fn stub(
+    alloc: Global,
+    acts: &[Serves],
+) -> Result<(StubReader, StubWriter), EngineError> {
     let mut script = Vec::new(alloc);
     script
         .extend_from_slice(acts)

@@ -1,9 +1,5 @@
-//! The tests of serving, with all ends in one process: clients and hosts on sockets of the loopback.
+//! The tests of serving that need marks of their own, with all ends in one process: clients on sockets of the loopback.
 #![tactic(auto)]
 
 #[cfg(test)]
-mod ends;
-#[cfg(test)]
 mod serving_tests;
-#[cfg(test)]
-mod visitors;
