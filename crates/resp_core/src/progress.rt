@@ -15,6 +15,7 @@ use crate::room::Room;
 use crate::value::{Value, Values};
 use bytes::{Bytes, BytesMut};
 use std::alloc::{AllocError, Global};
+use std::mem;
 
 // Payloads and texts of fewer bytes are copied, and so are those of less than one in `MAX_KEPT`
 // bytes of the buffer: what is shared keeps no more than `MAX_KEPT` times its bytes.
@@ -161,6 +162,14 @@ impl Progress {
             self.pending = BytesMut::new(alloc);
             self.room = 0;
         }
+    }
+
+    // Forgets what came.
+    pub(crate) fn begin_anew(&mut self, alloc: Global)
+        ensures good { (most : ℕ) → IsGood most self.new }
+        ensures reads { (most : ℕ) → Reads most [] self.new }
+    {
+        drop(mem::replace(self, Progress::new(alloc)));
     }
 
     // The outermost value and the length of its text, if all of it has come.

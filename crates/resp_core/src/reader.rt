@@ -205,7 +205,7 @@ impl Reader {
             Err(Halt::NoMemory) => Err(RespError::NoMemory),
             Err(Halt::Refused(refusal, place)) => {
                 let error = refusal.at(self.consumed.saturating_add(place as u64));
-                self.progress = Progress::new(alloc);
+                self.progress.begin_anew(alloc);
                 self.refusal = Some(error);
                 Err(error)
             }

@@ -22,7 +22,7 @@ invariant_of-self-in-Ok-None c =
 
 pub invariant_of-self-in-Err-Refused : goal.invariant_of-self-in-Err-Refused
 invariant_of-self-in-Err-Refused c =
-    (c.new.ensures.good c.self.inside.array, record { held = []; reads = c.new.ensures.reads c.self.inside.array })
+    (c.begin_anew.ensures.good c.self.inside.array, record { held = []; reads = c.begin_anew.ensures.reads c.self.inside.array })
 
 pub returns-in-Ok-Some-clause-value : goal.returns-in-Ok-Some-clause-value
 returns-in-Ok-Some-clause-value c =
@@ -77,12 +77,12 @@ pub returns-in-Err-Refused-clause-refused : goal.returns-in-Err-Refused-clause-r
 returns-in-Err-Refused-clause-refused c = λ _.
     let i = c.self.inside in
     let e = rw c.in-Err-Refused.field-0-is at c.in-Err-Refused.ensures.halts in
-    subst (λ (z : ReaderState). (b : List ℕ) (ts : List Tree) → Stands z b ts → Stands (state_of i.array i.consumed c.new.result (Some c.at-error.result)) b ts × HasRefusal z.most b ts (offset_of c.at-error.result) (number_of c.at-error.result)) c.self.view_is
+    subst (λ (z : ReaderState). (b : List ℕ) (ts : List Tree) → Stands z b ts → Stands (state_of i.array i.consumed c.begin_anew.new.self (Some c.at-error.result)) b ts × HasRefusal z.most b ts (offset_of c.at-error.result) (number_of c.at-error.result)) c.self.view_is
     (λ b ts h.
     let w = has_refusal (state_of i.array i.consumed i.progress i.refusal) b ts c.in-Err-Refused.place (offset_of c.at-error.result) (number_of c.at-error.result) (ap (λ z. z.refusal) c.self.view_is ∙ c.requires.untold)
     (λ held r. subst (λ (n : ℕ). IsFault i.array held c.in-Err-Refused.place n) (sym c.at-error.ensures.number) (e held (shown_reads i.array held i.progress r)))
     (c.at-error.ensures.offset ∙ c.saturating_add.ensures) h in
-    (stands_told (state_of i.array i.consumed i.progress i.refusal) (state_of i.array i.consumed c.new.result (Some c.at-error.result)) refl b ts c.at-error.result refl w h, w))
+    (stands_told (state_of i.array i.consumed i.progress i.refusal) (state_of i.array i.consumed c.begin_anew.new.self (Some c.at-error.result)) refl b ts c.at-error.result refl w h, w))
 
 pub returns-in-Ok-Some-clause-none : goal.returns-in-Ok-Some-clause-none
 returns-in-Ok-Some-clause-none c = tt
