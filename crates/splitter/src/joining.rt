@@ -24,14 +24,37 @@ pub fn join(alloc: Global, how: Join, values: &[Value]) -> Result<Value, SplitEr
         Join::Same => Ok(values[0].share(alloc)?),
         Join::Get => Ok(Value::List(in_places(alloc, values)?)),
         Join::Set => {
-            let failed = values.iter().filter(|value| !is_done(value)).count();
-            unless_failed(alloc, failed, Value::Simple(Bytes::from_static(b"OK")))
+            let done = Value::Simple(Bytes::from_static(b"OK"));
+            unless_failed(alloc, undone_count(values), done)
         }
-        Join::Sum => {
-            let failed = values.iter().filter(|value| !is_whole(value)).count();
-            unless_failed(alloc, failed, told_sum(total(values)))
+        Join::Sum => unless_failed(alloc, unwhole_count(values), told_sum(total(values))),
+    }
+}
+
+// How many of the values aren't simple `OK`.
+fn undone_count(values: &[Value]) -> usize
+    ensures { result ≡ count_by (λ t. not (is_done t)) (map tree_of values.now) }
+{
+    let mut count = 0;
+    for value in values {
+        if !is_done(value) {
+            count += 1;
         }
     }
+    count
+}
+
+// How many of the values are no integers.
+fn unwhole_count(values: &[Value]) -> usize
+    ensures { result ≡ count_by (λ t. not (is_whole t)) (map tree_of values.now) }
+{
+    let mut count = 0;
+    for value in values {
+        if !is_whole(value) {
+            count += 1;
+        }
+    }
+    count
 }
 
 // The values, each in its place.
