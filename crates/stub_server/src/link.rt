@@ -74,10 +74,10 @@ impl Read for StubReader {
         ensures bound { ReadsAtMost result buffer.new }
         ensures kinds { IfErr result (λ e. error_kind e ≡ ErrorKind.WouldBlock) }
     {
-        match self.session.try_lock() {
-            Some(mut session) => Ok(session.read(buffer)?),
-            None => Err(io::Error::from(ErrorKind::WouldBlock)),
-        }
+        let Some(mut session) = self.session.try_lock() else {
+            return Err(io::Error::from(ErrorKind::WouldBlock));
+        };
+        Ok(session.read(buffer)?)
     }
 }
 

@@ -1,4 +1,4 @@
-use Rattle.std.proofs.Common.{ℕ, ◌↔◌, Contains, refl, ◌∙◌, ap, subst, arith}
+use Rattle.std.proofs.Common.{ℕ, ◌↔◌, Contains, refl, ◌∙◌, ap, subst, arith, rules}
 use Rattle.std.specs.List.{sum}
 use Rattle.ketama.specs.Ketama.{IsKetamaPair}
 use Rattle.ketama.proofs.Pairs.{IsKetamaPair-in_range}
@@ -19,3 +19,12 @@ returns-clause-ok c =
       digests = c.sum.ensures ∙ ap (λ xs. sum xs) (c.deref-2.ensures.value ∙ c.in_ok-counts.ensures.value);
       pairs = subst (λ counts. (pair : ℕ × ℕ) → Contains c.in_ok-pairs.pairs.items pair ↔ IsKetamaPair c.args.names.now counts pair) counts c.in_ok-pairs.ensures.members;
     }
+
+pub returns-in_err-counts-clause-same_name : goal.returns-in_err-counts-clause-same_name
+returns-in_err-counts-clause-same_name c = search rules
+
+pub returns-in_err-pairs-clause-same_name : goal.returns-in_err-pairs-clause-same_name
+returns-in_err-pairs-clause-same_name c = search rules
+
+pub returns-clause-same_name : goal.returns-clause-same_name
+returns-clause-same_name c = search rules
