@@ -18,7 +18,7 @@ use std::sync::Wait;
 use ticket_gate::TurnRefusal;
 
 /// Why a turn was not made.
-#[derive(Clone, Copy, Debug, PartialEq, Eq, Drop)]
+#[derive(Clone, Copy, Drop)]
 pub(crate) enum Denied {
     /// No ticket is left.
     Spent,

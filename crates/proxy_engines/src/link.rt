@@ -34,7 +34,7 @@ pub(crate) struct Link<R: ReadTally, W: WriteTally> {
 }
 
 /// What a move came to.
-#[derive(Clone, Copy, Debug, PartialEq, Eq, Drop)]
+#[derive(Clone, Copy, Drop)]
 pub(crate) enum Outcome {
     /// Nothing could be done for now.
     Still,
@@ -68,7 +68,7 @@ impl Outcome {
 }
 
 // What was found among the bytes that were read.
-#[derive(Clone, Copy, Debug, PartialEq, Eq, Drop)]
+#[derive(Clone, Copy, Drop)]
 enum Found {
     Value,
     Nothing,

@@ -1,3 +1,4 @@
+use Rattle.std.proofs.Common.{refl, false, true}
 use Rattle.proxy_engines.proofs.ClientMoves.{closed_goes, same_goes}
 use Rattle.proxy_engines.proofs.client.ClientEngine.close.Goals as goal
 use Rattle.proxy_engines.proofs.client.ClientEngine.close.Goals.{in-Ok, in-Err}
@@ -6,8 +7,8 @@ pub returns-clause-goes : goal.returns-clause-goes
 returns-clause-goes g c =
     elim c.match-tell.branch [
       | in-Ok w ↦ rw (w.result-is, w.self-is, w.in-Ok.ensures.answered.steps, ← c.self.view_is)
-          (closed_goes _ (g.T.Turns.pass c.args.turns.now) w.in-Ok.field-0 _ (rw (← c.self.view_is) at c.requires.stage) (rw (← c.self.view_is) at c.requires.nothing) (rw (← c.self.view_is) at c.requires.handed))
-      | in-Err w ↦ rw (w.result-is, w.self-is, ← c.self.view_is) (same_goes _ _ _ w.in-Err.ensures.rests)
+          (true, closed_goes _ (g.T.Turns.pass c.args.turns.now) w.in-Ok.field-0 _ (rw (← c.self.view_is) at c.requires.stage) (rw (← c.self.view_is) at c.requires.nothing) (rw (← c.self.view_is) at c.requires.handed))
+      | in-Err w ↦ rw (w.result-is, w.self-is, ← c.self.view_is) (false, same_goes _ _ _ w.in-Err.ensures.rests)
     ]
 
 pub returns-clause-pass : goal.returns-clause-pass
@@ -18,3 +19,17 @@ returns-clause-setting g c = c.tell.ensures.setting
 
 pub returns-clause-seen : goal.returns-clause-seen
 returns-clause-seen g c = c.tell.ensures.seen
+
+pub returns-clause-ok : goal.returns-clause-ok
+returns-clause-ok g c =
+    elim c.match-tell.branch [
+      | in-Ok w ↦ rw (w.result-is, w.self-is, ← c.self.view_is) (refl, refl)
+      | in-Err w ↦ rw w.result-is tt
+    ]
+
+pub returns-clause-err : goal.returns-clause-err
+returns-clause-err g c =
+    elim c.match-tell.branch [
+      | in-Ok w ↦ rw w.result-is tt
+      | in-Err w ↦ rw (w.result-is, w.self-is, ← c.self.view_is) (refl, w.in-Err.ensures.rests, w.error.ensures)
+    ]
