@@ -187,7 +187,10 @@ pub(crate) fn give<Rt: Wait, T: CoreTurns>(
         t: moment,
     };
     match ask(rt, turns, event) {
-        Ok(_) => Ok(()),
+        Ok(answer) => {
+            drop(answer);
+            Ok(())
+        }
         Err((denied, Event::Answered { value, .. })) => Err((denied, value)),
         Err(_) => unreachable!(),
     }

@@ -19,9 +19,9 @@ use crate::tally::{ReadTally, Told, WriteTally};
 use proxy_core::{Answer, CoreTurns, Event, Refusal, Request};
 use resp_core::Limits;
 use std::alloc::Global;
-use std::io;
 use std::marker::Model;
 use std::sync::Wait;
+use std::{io, mem};
 
 /// What a step did.
 #[derive(Clone, Copy, Debug, PartialEq, Eq, Drop)]
@@ -157,7 +157,8 @@ impl<R: ReadTally, W: WriteTally> ClientEngine<R, W> {
             × ((n : ℕ) × (e ≡ EngineError.TurnRefused n))) }
     {
         match tell(rt, turns, Event::Closed { conn: self.conn }) {
-            Ok(_) => {
+            Ok(answer) => {
+                drop(answer);
                 self.stage = Stage::Closed { is_cut: false };
                 Ok(Progress::Ended)
             }
@@ -180,7 +181,8 @@ impl<R: ReadTally, W: WriteTally> ClientEngine<R, W> {
     {
         self.stage = Stage::Failed;
         match tell(rt, turns, Event::Closed { conn: self.conn }) {
-            Ok(_) => {
+            Ok(told) => {
+                drop(told);
                 self.stage = Stage::Closed { is_cut: true };
                 answer
             }
@@ -209,7 +211,8 @@ impl<R: ReadTally, W: WriteTally> ClientEngine<R, W> {
             × ((n : ℕ) × (e ≡ EngineError.TurnRefused n))) }
     {
         match tell(rt, turns, Event::Finished { conn: self.conn }) {
-            Ok(_) => {
+            Ok(answer) => {
+                drop(answer);
                 self.stage = Stage::Finishing;
                 Ok(Progress::Moved)
             }
@@ -252,7 +255,7 @@ impl<R: ReadTally, W: WriteTally> ClientEngine<R, W> {
                 Ok(Progress::Moved)
             }
             Err((denied, request)) => {
-                self.next = Some(request);
+                drop(self.next.replace(request));
                 match denied {
                     Denied::By(Refusal::Crowded) => Ok(Progress::Idle),
                     denied => Err(denied.error()),
@@ -276,7 +279,7 @@ impl<R: ReadTally, W: WriteTally> ClientEngine<R, W> {
         match self.inbox.next_request() {
             Ok(next) => {
                 let is_there = next.is_some();
-                self.next = next;
+                drop(mem::replace(&mut self.next, next));
                 Ok(is_there)
             }
             Err(_) => Err(EngineError::NoMemory),

@@ -28,7 +28,7 @@ returns-after-denied-clause-goes g c =
       | in-By-Crowded w ↦ rw w.result-is refl
       | in_default-denied w ↦ rw w.result-is tt
     ] in
-    rw (back, c.self.view_is) (unanswered_goes c.args.self.now _ _ _ c.in-Err.ensures.rests unmoved)
+    rw (c.replace.ensures.after, back, c.self.view_is) (unanswered_goes c.args.self.now _ _ _ c.in-Err.ensures.rests unmoved)
 
 pub returns-after-denied-clause-pass : goal.returns-after-denied-clause-pass
 returns-after-denied-clause-pass g c = c.arrive.ensures.pass

@@ -17,8 +17,8 @@ pub returns-after-denied-clause-goes : goal.returns-after-denied-clause-goes
 returns-after-denied-clause-goes g c =
     let same : Some c.in-Err.value ≡ c.self.inside.next = ap Some c.in-Err.ensures.back ∙ sym c.in-Some.is ∙ c.take.ensures.value in
     elim c.match-denied.branch [
-      | in-By-Unasked w ↦ as-none _ _ (ap told_by_moves w.result-is) (false, rw (same, ← c.self.view_is) (stays_on c.args.line.now _ _ _ c.args.moment c.in-Err.ensures.rests))
-      | in_default-denied w ↦ as-none _ _ (ap told_by_moves w.result-is) (false, rw (same, ← c.self.view_is) (stays_on c.args.line.now _ _ _ c.args.moment c.in-Err.ensures.rests))
+      | in-By-Unasked w ↦ as-none _ _ (ap told_by_moves w.result-is) (false, rw (c.replace.ensures.after, same, ← c.self.view_is) (stays_on c.args.line.now _ _ _ c.args.moment c.in-Err.ensures.rests))
+      | in_default-denied w ↦ as-none _ _ (ap told_by_moves w.result-is) (false, rw (c.replace.ensures.after, same, ← c.self.view_is) (stays_on c.args.line.now _ _ _ c.args.moment c.in-Err.ensures.rests))
     ]
 
 pub returns-after-denied-clause-pass : goal.returns-after-denied-clause-pass

@@ -12,7 +12,7 @@ returns-in-Ok-Some-Read-clause-goes g c = λ l H m.
     let next = rw (c.in-Ok-Some-Read.field-0-is, c.in-Ok-Some-Read.field-0-0-is) at c.in-Ok-Some-Read.ensures.some in
     let whole = rw (c.in-Ok-Some-Read.field-0-is, c.in-Ok-Some-Read.field-0-0-is) at c.in-Ok-Some-Read.ensures.whole in
     let still = whole (λ e. absurd cc) in
-    rw (← c.self.view_is)
+    rw (c.replace.ensures.after, ← c.self.view_is)
     (sought_on l _ c.next_request.new.self (Some c.in-Ok-Some-Read.value) H m none (rw (← c.self.view_is) at c.requires.whole) c.next_request.ensures.left c.next_request.ensures.most
     (λ b rs h. with_refusal c.next_request.new.self b rs (waiting_requests (Some c.in-Ok-Some-Read.value)) None still (next b rs h)))
 
@@ -74,7 +74,7 @@ returns-in-Ok-Some-Read-clause-counts g c = (c.next_request.ensures.counts ∙ a
 pub returns-in-Ok-Some-Read-clause-value : goal.returns-in-Ok-Some-Read-clause-value
 returns-in-Ok-Some-Read-clause-value g c =
     let whole = rw (c.in-Ok-Some-Read.field-0-is, c.in-Ok-Some-Read.field-0-0-is) at c.in-Ok-Some-Read.ensures.whole in
-    λ _. ((λ none. absurd cc), whole (λ broken. absurd cc))
+    λ _. ((λ none. let e = sym c.replace.ensures.after ∙ none in absurd cc), whole (λ broken. absurd cc))
 
 pub returns-in-Ok-Some-Broken-clause-nothing : goal.returns-in-Ok-Some-Broken-clause-nothing
 returns-in-Ok-Some-Broken-clause-nothing g c = λ nothing. absurd cc
