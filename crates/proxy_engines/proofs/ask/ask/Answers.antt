@@ -1,7 +1,7 @@
 use Rattle.proxy_engines.proofs.HostMoves.{starts_same}
 use Rattle.proxy_history.specs.Seen.{history_of_seen}
 use Rattle.proxy_engines.specs.OwnSteps.{own_steps}
-use Rattle.std.proofs.Common.{◌++◌, append_assoc, refl, ap, [], ◌∷◌, ◌∙◌}
+use Rattle.std.proofs.Common.{◌++◌, append_assoc, ap, [], ◌∷◌, ◌∙◌}
 use Rattle.journal_core.specs.Journal.{step_by}
 use Rattle.proxy_engines.proofs.OwnLemmas.{own_steps-push, length-own_steps}
 use Rattle.proxy_engines.proofs.ask.ask.Goals as goal

@@ -1,7 +1,7 @@
 use Rattle.proxy_engines.specs.Moves.{told_by_step}
 use Rattle.std.proofs.lemmas.Result.{IfOk-from_err, err_from_is_err_and}
 use Rattle.proxy_engines.proofs.AnswerLemmas.{if_ok, if_err, idle_for, not_ended, not_cut, still_not_ended, still_not_cut, end_is, end_not_cut, turn_unread, turn_unwritten, write_unread, write_is, read_unwritten, read_is}
-use Rattle.std.proofs.Common.{◌≡◌, ◌∙◌, true, false, [], ap, sym, inl}
+use Rattle.std.proofs.Common.{◌≡◌, ◌∙◌, [], ap, sym, inl}
 use Rattle.proxy_engines.specs.Client.{Client}
 use Rattle.proxy_engines.proofs.ClientMoves.{told_then}
 use Rattle.proxy_engines.proofs.HostLemmas.{empty_is}

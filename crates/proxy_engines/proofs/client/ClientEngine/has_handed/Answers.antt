@@ -1,6 +1,6 @@
 use Rattle.proxy_engines.proofs.AnswerLemmas.{if_err}
 use Rattle.proxy_engines.proofs.ClientMoves.{same_goes}
-use Rattle.std.proofs.Common.{refl, inl, ap}
+use Rattle.std.proofs.Common.{refl}
 use Rattle.std.proofs.lemmas.Result.{IfOk-weaker}
 use Rattle.proxy_engines.proofs.IdleLemmas.{hands_nothing}
 use Rattle.proxy_engines.proofs.HostMoves.{starts_same}

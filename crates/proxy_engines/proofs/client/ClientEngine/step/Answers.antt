@@ -1,6 +1,5 @@
 use Rattle.proxy_engines.proofs.AnswerLemmas.{if_ok, if_err, cut_told, cut_is, cut_turn, turn_unread, turn_unwritten}
-use Rattle.std.proofs.Common.{false, ap, refl, ◌∙◌, sym}
-use Rattle.proxy_engines.specs.Client.{Client}
+use Rattle.std.proofs.Common.{false, refl}
 use Rattle.proxy_engines.proofs.ClientMoves.{same_goes}
 use Rattle.proxy_engines.proofs.HostMoves.{starts_same}
 use Rattle.proxy_engines.proofs.client.ClientEngine.step.Goals as goal

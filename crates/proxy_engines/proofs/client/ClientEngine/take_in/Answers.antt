@@ -1,8 +1,8 @@
 use Rattle.std.proofs.lemmas.Result.{IfOk-from_err, err_from_is_err_and}
 use Rattle.proxy_engines.proofs.AnswerLemmas.{if_ok, if_err, moved_or_idle}
-use Rattle.std.proofs.Common.{true, false, inl, refl, inr}
+use Rattle.std.proofs.Common.{false, inl, refl, inr}
 use Rattle.proxy_history.specs.declared.refusal.Refusal.{Refusal}
-use Rattle.proxy_engines.proofs.ClientMoves.{goes_then, goes_some, told_then}
+use Rattle.proxy_engines.proofs.ClientMoves.{told_then}
 use Rattle.proxy_engines.specs.Moves.{told_by_step}
 use Rattle.proxy_engines.proofs.IdleLemmas.{held_now}
 use Rattle.proxy_engines.proofs.MoveLemmas.{step-err}

@@ -2,9 +2,8 @@ use Rattle.proxy_engines.specs.declared.error.EngineError.{EngineError}
 use Rattle.proxy_engines.specs.declared.client.Progress.{Progress}
 use Rattle.std.specs.Prelude.{ℕ, Bool, Option, Result}
 use Rattle.proxy_history.specs.History.{History}
-use Rattle.proxy_engines.proofs.FaultLemmas.{not_late}
 use Rattle.std.proofs.lemmas.Result.{IfOk-from_err, err_from_is_err_and}
-use Rattle.std.proofs.Common.{◌≡◌, ◌∙◌, None, [], ap, append-nil, refl, sym, Ok}
+use Rattle.std.proofs.Common.{◌≡◌, ◌∙◌, None, [], ap, append-nil, refl, sym}
 use Rattle.proxy_engines.specs.Moves.{told_by_turn}
 use Rattle.proxy_engines.specs.Host.{LineState, LinkState, GoesOn}
 use Rattle.proxy_engines.specs.HostStep.{HostState, TellsFault, IsAnswered, IsCausedOn, WorksHost}

@@ -1,4 +1,4 @@
-use Rattle.std.proofs.Common.{Some, None, true, false, ap, refl, ◌∙◌}
+use Rattle.std.proofs.Common.{Some, true, false, ap, refl, ◌∙◌}
 use Rattle.std.proofs.lemmas.Result.{err_from_is_err_and, IfOk-from_err}
 use Rattle.proxy_history.specs.declared.refusal.Refusal.{Refusal}
 use Rattle.proxy_engines.specs.Faults.{told_by_moves}

@@ -1,8 +1,8 @@
 use Rattle.proxy_engines.specs.declared.error.EngineError.{EngineError}
 use Rattle.proxy_engines.specs.declared.client.Progress.{Progress}
-use Rattle.std.specs.Prelude.{Result, Err, IfOk, Option}
-use Rattle.std.proofs.Common.{◌∙◌, Ok, sym, ap, refl, inl, ◌≡◌, ◌≢◌, ◌↔◌, None, Some}
-use Rattle.std.proofs.lemmas.Result.{err_from_is_err_and, IfOk-from_err}
+use Rattle.std.specs.Prelude.{Result, Err, IfOk}
+use Rattle.std.proofs.Common.{◌∙◌, Ok, sym, ap, inl, ◌≡◌, ◌↔◌}
+use Rattle.std.proofs.lemmas.Result.{IfOk-from_err}
 use Rattle.proxy_history.specs.declared.refusal.Refusal.{Refusal}
 use Rattle.proxy_engines.specs.HostStep.{HostState, after_fault}
 use Rattle.proxy_engines.proofs.HostLemmas.{steps_after}

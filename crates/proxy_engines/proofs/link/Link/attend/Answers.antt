@@ -1,5 +1,5 @@
 use Rattle.std.proofs.lemmas.Result.{IfOk-from_err, err_from_is_err_and}
-use Rattle.std.proofs.Common.{◌≡◌, ◌⊎◌, ◌∙◌, [], sym, subst, ap, refl, false}
+use Rattle.std.proofs.Common.{◌≡◌, ◌⊎◌, ◌∙◌, [], sym, subst, ap, refl}
 use Rattle.proxy_engines.proofs.HostMoves.{told_both, told_either, starts_then}
 use Rattle.proxy_history.specs.declared.event.Event.{Event}
 use Rattle.proxy_history.specs.declared.refusal.Refusal.{Refusal}

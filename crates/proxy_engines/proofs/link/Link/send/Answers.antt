@@ -1,6 +1,6 @@
 use Rattle.proxy_engines.proofs.MoveLemmas.{moves-err}
 use Rattle.std.proofs.lemmas.Result.{IfOk-from_err, err_from_is_err_and}
-use Rattle.std.proofs.Common.{refl, inl, inr, Some}
+use Rattle.std.proofs.Common.{refl, inl, Some}
 use Rattle.proxy_engines.proofs.HostMoves.{starts_same}
 use Rattle.proxy_engines.proofs.link.Link.send.Goals as goal
 
