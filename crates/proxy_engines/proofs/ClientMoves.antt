@@ -21,8 +21,9 @@ use Rattle.proxy_history.proofs.CallerLemmas as history
 use Rattle.proxy_engines.specs.Ends.{OutboxState, Sends, InboxState, Holds, HasGivenAll}
 use Rattle.journal_core.specs.Journal.{step_by}
 use Rattle.proxy_engines.specs.Client.{Client, Carries, Goes, IsAllRead, IsAtStage, IsDone, IsFinished, IsLive, IsOver, NoneFinishes, asked_requests, waiting_requests}
-use Rattle.proxy_engines.specs.Moves.{has_moved, AsTold, told_by_turn}
+use Rattle.proxy_engines.specs.Moves.{has_moved, AsTold, told_by_step}
 use Rattle.proxy_engines.proofs.MoveLemmas.{has_moved-append}
+use Rattle.proxy_engines.specs.declared.client.Progress.{Progress}
 use Rattle.proxy_engines.specs.declared.client.Stage.{Stage}
 use Rattle.proxy_engines.specs.declared.error.EngineError.{EngineError}
 
@@ -94,8 +95,8 @@ pub same_goes : (e : Client) (H H' : History) → H' ≡ H → Goes e e H H' fal
 same_goes e H H' same = rw same (still_goes e e H refl refl refl refl refl (λ taken b k. k))
 
 -- a turn that wasn't answered
-pub unanswered_goes : (e : Client) (H H' : History) (result : Result Bool EngineError) → H' ≡ H → IfOk result (λ b. b ≡ false) → AsTold (Goes e e H H') (told_by_turn result)
-unanswered_goes e H H' (Ok b) same unmoved = rw unmoved (same_goes e H H' same)
+pub unanswered_goes : (e : Client) (H H' : History) (result : Result Progress EngineError) → H' ≡ H → IfOk result (λ p. p ≡ Progress.Idle) → AsTold (Goes e e H H') (told_by_step result)
+unanswered_goes e H H' (Ok p) same idle = rw idle (same_goes e H H' same)
 unanswered_goes e H H' (Err error) same unmoved = (false, same_goes e H H' same)
 
 -- two moves after one another

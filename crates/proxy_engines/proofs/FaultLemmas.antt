@@ -1,5 +1,5 @@
 -- Why a link broke, over several moves.
-use Rattle.std.proofs.Common.{◌≡◌, ◌⊎◌, ◌∙◌, ◌≤◌, ◌-◌, ℕ, Bool, true, false, List, [], ◌∷◌, Option, Some, None, inl, inr, refl, sym, ap}
+use Rattle.std.proofs.Common.{◌≡◌, ◌⊎◌, ◌∙◌, ◌≤◌, ◌-◌, ◌≢◌, arith, ℕ, Bool, true, false, List, [], ◌∷◌, Option, Some, None, inl, inr, refl, sym, ap}
 use Rattle.std.specs.Prelude.{◌↔◌}
 use Rattle.proxy_history.specs.History.{Step}
 use Rattle.proxy_history.specs.declared.event.Kind.{Kind}
@@ -11,7 +11,7 @@ use Rattle.proxy_engines.specs.Turned.{HasHeld}
 use Rattle.proxy_engines.specs.declared.error.EngineError.{EngineError}
 use Rattle.proxy_engines.specs.declared.link.Outcome.{Outcome}
 
-module _ (l l' : LineState) (i j k : LinkState) (P Q : Type 0) (m : ℕ) (inbox : j.inbox.counts ≡ i.inbox.counts) (writer : j.counts ≡ i.counts) (line : l ≡ l') (more : P → Q) where
+module _ (l l' : LineState) (i j k : LinkState) (P Q : Type 0) (m : ℕ) (inbox : j.inbox.counts.failed ≡ i.inbox.counts.failed) (writer : j.counts.failed ≡ i.counts.failed) (line : l ≡ l') (more : P → Q) where
   pub cause_later : (kind : Kind) (error : Option EngineError) → IsCauseOf kind error l j k P m → IsCauseOf kind error l' i k Q m
   cause_later Kind.Dropped None b = b
   cause_later Kind.Dropped (Some EngineError.ReadFailed) b = rw (← inbox) b
@@ -29,6 +29,33 @@ module _ (l l' : LineState) (i j k : LinkState) (P Q : Type 0) (m : ℕ) (inbox 
   fault_later (Outcome.Fault kind error) b = cause_later kind error b
   fault_later Outcome.Moved b = tt
   fault_later Outcome.Still b = tt
+
+-- a fault of a move that only writes
+pub write_fault : (l : LineState) (j k : LinkState) (P : Type 0) (m : ℕ) (o : Outcome) → IfFault o (λ kind error. IsCauseOf kind error l j k ⊥ 0) → IfFault o (λ kind error. IsCauseOf kind error l j k P m)
+write_fault l j k P m Outcome.Moved b = tt
+write_fault l j k P m Outcome.Still b = tt
+write_fault l j k P m (Outcome.Fault Kind.Dropped None) b = b
+write_fault l j k P m (Outcome.Fault Kind.Dropped (Some EngineError.ReadFailed)) b = b
+write_fault l j k P m (Outcome.Fault Kind.Dropped (Some EngineError.WriteFailed)) b = b
+write_fault l j k P m (Outcome.Fault Kind.Garbled None) (inl b) = inl b
+write_fault l j k P m (Outcome.Fault Kind.Garbled None) (inr b) = absurd b
+write_fault l j k P m (Outcome.Fault Kind.Late None) (first, rest, is, waited) = (first, rest, is, omega (arith, waited))
+write_fault l j k P m (Outcome.Fault Kind.Refused e) b = absurd b
+write_fault l j k P m (Outcome.Fault Kind.Dropped (Some EngineError.NoMemory)) b = absurd b
+write_fault l j k P m (Outcome.Fault Kind.Dropped (Some (EngineError.TurnRefused n))) b = absurd b
+write_fault l j k P m (Outcome.Fault Kind.Garbled (Some e)) b = absurd b
+write_fault l j k P m (Outcome.Fault Kind.Late (Some e)) b = absurd b
+
+pub faulty_calm : (A : Type 0) (o : Outcome) → is_fault o ≡ true → is_fault o ≡ false → A
+faulty_calm A o fault calm = let e : true ≡ false = sym fault ∙ calm in absurd cc
+
+pub faulty_still : (A : Type 0) (o : Outcome) → is_fault o ≡ true → o ≡ Outcome.Still → A
+faulty_still A o fault still = faulty_calm A o fault (ap is_fault still)
+
+pub default_faulty : (o : Outcome) → o ≢ Outcome.Still → o ≢ Outcome.Moved → is_fault o ≡ true
+default_faulty Outcome.Still still moved = absurd (still refl)
+default_faulty Outcome.Moved still moved = absurd (moved refl)
+default_faulty (Outcome.Fault kind error) still moved = refl
 
 pub no_fault : (o : Outcome) (P : Kind → Option EngineError → Type 0) → is_fault o ≡ false → IfFault o P
 no_fault (Outcome.Fault kind error) P e = absurd cc

@@ -1,16 +1,17 @@
 -- What a step of a host's engine does, put together.
-use Rattle.std.proofs.Common.{◌≡◌, ◌∙◌, arith, ℕ, Bool, true, List, ◌∷◌, Option, Some, None, Result, Ok, Err, ◌⊎◌, ◌≢◌, [], length, ◌==◌, sym, refl, inl, inr}
-use Rattle.std.specs.Prelude.{IfSome, IfOk, ◌↔◌, false}
+use Rattle.std.proofs.Common.{◌≡◌, ◌∙◌, arith, ℕ, Bool, true, List, ◌∷◌, Option, Some, None, Result, Ok, Err, ◌⊎◌, ◌≢◌, [], length, ◌==◌, ap, sym, refl, inl, inr}
+use Rattle.std.specs.Prelude.{IfSome, IfOk, OnOk, ◌↔◌, false}
 use Rattle.proxy_history.specs.History.{History, Step}
 use Rattle.proxy_history.specs.declared.event.Kind.{Kind}
-use Rattle.proxy_engines.specs.Host.{LineState, LinkState, GoesOn, FailsHost}
-use Rattle.proxy_engines.specs.HostStep.{HostState, IsAnswered, IsCausedOn, IsUnasked, Records, WorksHost, StepsHost, answer_of, after_fault}
+use Rattle.proxy_engines.specs.Host.{LineState, LinkState, GoesOn, FailsHost, next_link}
+use Rattle.proxy_engines.specs.HostStep.{HostState, IsAnswered, IsCausedOn, IsUnasked, Records, WorksHost, StepsHost, TellsFault, answer_of, after_fault}
 use Rattle.std.proofs.lemmas.Bool.{ne_eqb}
 use Rattle.ticket_gate.specs.Journal.{StartsWith}
 use Rattle.resp_core.specs.declared.value.Value.{Value}
 use Rattle.proxy_history.specs.declared.event.Event.{Event}
-use Rattle.proxy_engines.specs.Faults.{IsCauseOf}
-use Rattle.proxy_engines.proofs.FaultLemmas.{cause_later}
+use Rattle.proxy_engines.specs.Faults.{IsCauseOf, IsLate}
+use Rattle.proxy_engines.proofs.FaultLemmas.{cause_later, not_late-anew}
+use Rattle.proxy_engines.proofs.AnswerLemmas.{if_ok, on_ok}
 use Rattle.proxy_engines.proofs.HostMoves.{starts_then}
 use Rattle.proxy_engines.specs.declared.client.Progress.{Progress}
 use Rattle.proxy_engines.specs.declared.error.EngineError.{EngineError}
@@ -25,6 +26,47 @@ module _ (U : LineState → LinkState → Type 0) where
 
   pub works_fault : (l : LineState) (k : Option LinkState) (last new : HostState) (kind : Kind) (error : Option EngineError) (H I J : History) (m : ℕ) (moved : Bool) (result : Result Progress EngineError) → GoesOn l last.line k last.link H I m moved → FailsHost last.line new.line last.link I J kind m → new.link ≡ None → new.fault ≡ None → IsCausedOn U kind error last.line k last.link m → result ≡ answer_of error → WorksHost U l new k H J m result
   works_fault l k last new kind error H I J m moved result goes fails link fault cause told = record { last = last; between = I; moved = moved; goes = goes; ends = inr (kind, error, record { fails = fails; link = link; fault = fault }, cause, told) }
+
+  -- a fault was recorded and told, or is left to the next step
+  pub works_told : (l : LineState) (k : Option LinkState) (last new : HostState) (kind : Kind) (error : Option EngineError) (H I J : History) (m : ℕ) (moved : Bool) (result : Result Progress EngineError) → GoesOn l last.line k last.link H I m moved → TellsFault last new I J kind error m result → IsCausedOn U kind error last.line k last.link m → WorksHost U l new k H J m result
+  works_told l k last new kind error H I J m moved result goes (inl (records, is)) cause = record { last = last; between = I; moved = moved; goes = goes; ends = inr (kind, error, records, cause, is) }
+  works_told l k last new kind error H I J m moved result goes (inr (kept, same, (n, is))) cause =
+      works_left l k last new kind error H I J m moved result goes (ap (λ (z : HostState). z.line) kept) (ap (λ (z : HostState). z.link) kept) (ap (λ (z : HostState). z.fault) kept) same (rw is tt) cause
+
+-- what holds where a fault was recorded and told
+module _ (old new : HostState) (H I : History) (kind : Kind) (m : ℕ) where
+  told_ok : (error : Option EngineError) (result : Result Progress EngineError) → TellsFault old new H I kind error m result
+      → IfOk result (λ p. (p ≡ Progress.Moved) × (new.link ≡ None) × (new.fault ≡ None) × (new.line ≡ next_link old.line))
+  told_ok None result (inl (records, is)) = rw is (refl, records.link, records.fault, records.fails.line)
+  told_ok (Some e) result (inl (records, is)) = rw is tt
+  told_ok error result (inr (_, _, (n, is))) = rw is tt
+
+  pub told_needs : (error : Option EngineError) (result : Result Progress EngineError) → TellsFault old new H I kind error m result
+      → IfOk result (λ p. (p ≢ Progress.NeedsLink) × (new.link ≡ None → new.line.pending ≡ []))
+  told_needs error result told =
+      if_ok _ _ result (λ p (moved, _, _, line). ((λ needs. absurd cc), (λ _. ap (λ (l : LineState). l.pending) line))) (told_ok error result told)
+
+  pub told_needs_alone : (error : Option EngineError) (result : Result Progress EngineError) → TellsFault old new H I kind error m result
+      → IfOk result (λ p. (p ≡ Progress.NeedsLink) ↔ (new.line.pending ≢ []))
+  told_needs_alone error result told =
+      if_ok _ _ result (λ p (moved, _, _, line). ((λ needs. absurd cc), (λ some. absurd (some (ap (λ (l : LineState). l.pending) line))))) (told_ok error result told)
+
+  pub told_all : (P : LinkState → Type 0) (error : Option EngineError) (result : Result Progress EngineError) → TellsFault old new H I kind error m result
+      → IfOk result (λ p. IfSome new.link P)
+  told_all P error result told = if_ok _ _ result (λ p (_, link, _, _). rw link tt) (told_ok error result told)
+
+  pub told_recorded : (error : Option EngineError) (result : Result Progress EngineError) → TellsFault old new H I kind error m result → OnOk result (new.fault ≡ None)
+  told_recorded error result told = on_ok _ _ result (λ p (_, _, fault, _). fault) (told_ok error result told)
+
+  pub told_in_time : (error : Option EngineError) (result : Result Progress EngineError) → TellsFault old new H I kind error m result → IfOk result (λ _. ¬ IsLate new.line m)
+  told_in_time error result told = if_ok _ _ result (λ p (_, _, _, line). not_late-anew old.line new.line m line) (told_ok error result told)
+
+  pub told_moved : (A : Type 0) (error : Option EngineError) (result : Result Progress EngineError) → TellsFault old new H I kind error m result → IfOk result (λ p. p ≡ Progress.Idle → A)
+  told_moved A error result told = if_ok _ _ result (λ p (moved, _, _, _) idle. absurd cc) (told_ok error result told)
+
+  pub told_link : (error : Option EngineError) (result : Result Progress EngineError) → old.link ≡ None → TellsFault old new H I kind error m result → new.link ≡ None
+  told_link error result none (inl (records, _)) = records.link
+  told_link error result none (inr (kept, _, _)) = ap (λ (z : HostState). z.link) kept ∙ none
 
 -- the cause of a fault, of the lists before and after it was recorded
 pub unasked_here : (C : Event → List Step → Type 0) (x y z : List Step) (m : ℕ) → StartsWith y x → StartsWith z y → (kind : Kind) (error : Option EngineError) (l : LineState) (j k : LinkState)

@@ -1,6 +1,5 @@
 -- Why a client is idle, put together.
 use Rattle.std.proofs.Common.{◌≡◌, ◌⊎◌, ℕ, List, [], append-nil, sym, inl, inr}
-use Rattle.std.specs.Prelude.{Result, Ok, Err, IfOk}
 use Rattle.ticket_gate.specs.Journal.{StartsWith}
 use Rattle.proxy_history.specs.History.{Step}
 use Rattle.proxy_history.specs.declared.event.Event.{Event}
@@ -8,8 +7,6 @@ use Rattle.proxy_history.specs.declared.refusal.Refusal.{Refusal}
 use Rattle.proxy_engines.specs.Ends.{InboxState, HasGivenAll}
 use Rattle.proxy_engines.specs.Turned.{HasHeld}
 use Rattle.proxy_engines.specs.Client.{Client, AwaitsBytes, AwaitsReplies, HandsNothing, IsHeldBack, IsIdle}
-use Rattle.proxy_engines.specs.declared.client.Progress.{Progress}
-use Rattle.proxy_engines.specs.declared.error.EngineError.{EngineError}
 use Rattle.proxy_engines.proofs.HostMoves.{starts_then}
 
 -- what held between two lists held between two that stand further apart
@@ -38,10 +35,6 @@ module _ (C : Refusal → Event → List Step → Type 0) (e new : Client) (x y 
 
   pub idle_finishing : HandsNothing C e x y → AwaitsReplies new → IsIdle C e new x z
   idle_finishing nothing a = inr (empty, nothing_later nothing, inr (inl a))
-
-pub if_ok : (P Q : Progress → Type 0) (r : Result Progress EngineError) → ((p : Progress) → P p → Q p) → IfOk r P → IfOk r Q
-if_ok P Q (Ok p) f h = f p h
-if_ok P Q (Err e) f h = tt
 
 -- after a read that brought nothing all requests are still given
 pub given_still : (i j : InboxState) → HasGivenAll i → j.fresh ≡ [] → j.values ≡ i.values → HasGivenAll j

@@ -12,3 +12,4 @@ pub mod OtherLemmas
 pub mod FlushLemmas
 pub mod ZipLemmas
 pub mod Crosses
+pub mod AnswerLemmas

@@ -1,6 +1,6 @@
 -- Whether anything moved, over several moves.
 use Rattle.std.proofs.Common.{◌≡◌, ◌≢◌, ◌<◌, ℕ, Bool, true, false, List, [], ◌∷◌, ◌++◌, Option, None, arith, length, refl}
-use Rattle.std.specs.Prelude.{◌||◌, ◌≤◌, zero, suc, take, Result, Ok, Err, IsErr}
+use Rattle.std.specs.Prelude.{◌||◌, ◌≤◌, zero, suc, take, Result, Ok, Err, IsErr, OnErr}
 use Rattle.proxy_history.specs.History.{History}
 use Rattle.proxy_engines.specs.Moves.{has_moved, AsTold, told_by_step}
 use Rattle.proxy_engines.specs.Faults.{is_fault, told_by_moves, told_by_outcome}
@@ -48,6 +48,11 @@ step-err Goes (Err x) e g = g
 pub moves-err : (Goes : Bool → Type 0) (r : Result Outcome EngineError) → IsErr r → ((moved : Bool) × Goes moved) → AsTold Goes (told_by_moves r)
 moves-err Goes (Ok o) e g = absurd cc
 moves-err Goes (Err x) e g = g
+
+-- what holds, holds after any error
+pub any_err : (P : Type 0) (r : Result Outcome EngineError) → P → OnErr r P
+any_err P (Ok o) p = tt
+any_err P (Err e) p = p
 
 pub as-none : (Goes : Bool → Type 0) (told : Option Bool) → told ≡ None → ((moved : Bool) × Goes moved) → AsTold Goes told
 as-none Goes told e g = rw e g

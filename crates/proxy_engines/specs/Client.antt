@@ -1,5 +1,5 @@
 -- What contracts see of a client's engine, and how it stands to the steps of its caller.
-use Rattle.std.specs.Prelude.{◌≡◌, ◌≢◌, ⊤, ◌⊎◌, ℕ, Bool, true, false, List, [], ◌∷◌, ◌++◌, Option, Some, None, map}
+use Rattle.std.specs.Prelude.{◌≡◌, ◌≢◌, ⊤, ◌⊎◌, ℕ, Bool, true, false, List, [], ◌∷◌, ◌++◌, Option, Some, None, map, Result, Err}
 use Rattle.std.specs.List.{list_any}
 use Rattle.std.specs.Io.KnownBytes.{Consumes, Appends, IsAtEnd}
 use Rattle.resp_core.specs.declared.error.RespError.{RespError}
@@ -16,7 +16,9 @@ use Rattle.proxy_engines.specs.Moves.{has_moved}
 use Rattle.proxy_engines.specs.Device.{HasPaused}
 use Rattle.proxy_engines.specs.Ends.{OutboxState, InboxState, Holds, HasGivenAll, AreRequests}
 use Rattle.proxy_engines.specs.Turned.{HasHeld}
+use Rattle.proxy_engines.specs.declared.client.Progress.{Progress}
 use Rattle.proxy_engines.specs.declared.client.Stage.{Stage}
+use Rattle.proxy_engines.specs.declared.error.EngineError.{EngineError}
 
 -- its connection, its two ends, the request that waits to be accepted, how many commands were accepted and how many replies
 -- handed out, how far the connection has come, and whether nothing more is to be read
@@ -149,3 +151,9 @@ pub record Goes (old new : Client) (H H' : History) (moved : Bool) : Type 0 wher
   pub moved_is : moved ≡ has_moved got gave steps
   pub alone : connection_steps old.conn steps ≡ steps
   pub carries : (taken b : List ℕ) → Carries old H taken b → Carries new H' (taken ++ gave) (b ++ got)
+
+-- The connection was closed for a fault, and the answer is as was said; or the turn was refused, and it is to be closed.
+abbrev pub Cuts : Client → Client → History → History → Result Progress EngineError → Result Progress EngineError → Type 0
+Cuts old new H H' answer result =
+    (Goes old new H H' true × (new ≡ record old { stage = Stage.Closed true }) × (result ≡ answer))
+    ⊎ (Goes old new H H' false × (new ≡ record old { stage = Stage.Failed }) × ((n : ℕ) × (result ≡ Err (EngineError.TurnRefused n))))

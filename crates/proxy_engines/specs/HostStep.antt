@@ -44,6 +44,12 @@ abbrev pub answer_of : Option EngineError → Result Progress EngineError
 answer_of None = Ok Progress.Moved
 answer_of (Some e) = Err e
 
+-- A fault is recorded, and the answer tells its error; or its turn is refused, and it is left to the next step.
+abbrev pub TellsFault : HostState → HostState → History → History → Kind → Option EngineError → ℕ → Result Progress EngineError → Type 0
+TellsFault old new H H' kind error m result =
+    (Records old new H H' kind m × (result ≡ answer_of error))
+    ⊎ ((new ≡ record old { fault = Some kind }) × (H' ≡ H) × ((n : ℕ) × (result ≡ Err (EngineError.TurnRefused n))))
+
 -- what a step that recorded no fault answers: whether anything moved, and nothing of a device
 abbrev pub IsAnswered : Bool → Result Progress EngineError → Type 0
 IsAnswered moved (Ok Progress.Moved) = moved ≡ true

@@ -1,5 +1,5 @@
 -- Whether an engine got on, and how its answer tells it.
-use Rattle.std.specs.Prelude.{Bool, true, false, ⊤, ℕ, List, [], Option, Some, None, Result, Ok, Err}
+use Rattle.std.specs.Prelude.{Bool, true, false, ℕ, List, [], Option, Some, None, Result, Ok, Err}
 use Rattle.proxy_history.specs.History.{History}
 use Rattle.proxy_engines.specs.declared.client.Progress.{Progress}
 use Rattle.proxy_engines.specs.declared.error.EngineError.{EngineError}
@@ -24,8 +24,3 @@ told_by_step result = None
 abbrev pub told_by_turn : Result Bool EngineError → Option Bool
 told_by_turn (Ok is_answered) = Some is_answered
 told_by_turn (Err e) = None
-
--- what a turn tells that ends something
-abbrev pub told_by_end : Result ⊤ EngineError → Option Bool
-told_by_end (Ok u) = Some true
-told_by_end (Err e) = Some false

@@ -18,7 +18,7 @@ use std::sync::Wait;
 use ticket_gate::TurnRefusal;
 
 /// Why a turn was not made.
-#[derive(Clone, Copy, Debug, PartialEq, Eq, Drop)]
+#[derive(Clone, Copy, Drop)]
 pub(crate) enum Denied {
     /// No ticket is left.
     Spent,
@@ -187,7 +187,10 @@ pub(crate) fn give<Rt: Wait, T: CoreTurns>(
         t: moment,
     };
     match ask(rt, turns, event) {
-        Ok(_) => Ok(()),
+        Ok(answer) => {
+            drop(answer);
+            Ok(())
+        }
         Err((denied, Event::Answered { value, .. })) => Err((denied, value)),
         Err(_) => unreachable!(),
     }

@@ -8,7 +8,7 @@ ghost use Rattle.proxy_engines.specs.OwnSteps.{own_steps};
 ghost use Rattle.proxy_engines.specs.Device.{HasFailed, HasPaused};
 ghost use Rattle.proxy_engines.specs.Ends.{HasGivenAll};
 ghost use Rattle.journal_core.specs.Journal.{step_by};
-ghost use Rattle.proxy_engines.specs.Moves.{AsTold, told_by_end, told_by_step, told_by_turn};
+ghost use Rattle.proxy_engines.specs.Moves.{AsTold, told_by_step, told_by_turn};
 ghost use Rattle.ticket_gate.specs.Journal.{StartsWith};
 
 use crate::ask::{Denied, arrive, open, tell};
@@ -19,9 +19,9 @@ use crate::tally::{ReadTally, Told, WriteTally};
 use proxy_core::{Answer, CoreTurns, Event, Refusal, Request};
 use resp_core::Limits;
 use std::alloc::Global;
-use std::io;
 use std::marker::Model;
 use std::sync::Wait;
+use std::{io, mem};
 
 /// What a step did.
 #[derive(Clone, Copy, Debug, PartialEq, Eq, Drop)]
@@ -100,7 +100,7 @@ impl<R: ReadTally, W: WriteTally> Model for ClientEngine<R, W> {
 
 #[tactic(auto, using(crate::proofs::ClientMoves::same_goes, crate::proofs::ClientMoves::goes_then))]
 impl<R: ReadTally, W: WriteTally> ClientEngine<R, W> {
-    ghost use Rattle.proxy_engines.specs.Client.{AwaitsBytes, AwaitsReplies, Client, Carries, Goes, HandsNothing, IsHeldBack, IsIdle, IsLive, IsOver};
+    ghost use Rattle.proxy_engines.specs.Client.{AwaitsBytes, AwaitsReplies, Client, Carries, Cuts, Goes, HandsNothing, IsHeldBack, IsIdle, IsLive, IsOver};
     ghost use Rattle.proxy_history.specs.declared.refusal.Refusal.{Refusal};
     ghost use Rattle.splitter.specs.declared.request.Request.{Request};
 
@@ -135,7 +135,11 @@ impl<R: ReadTally, W: WriteTally> ClientEngine<R, W> {
     }
 
     // One Closed turn at the end.
-    fn close<Rt: Wait, T: CoreTurns>(&mut self, rt: &Rt, turns: &mut T) -> Result<(), EngineError>
+    fn close<Rt: Wait, T: CoreTurns>(
+        &mut self,
+        rt: &Rt,
+        turns: &mut T,
+    ) -> Result<Progress, EngineError>
         requires stage { self.old.stage ≡ Stage.Finishing }
         requires nothing { self.old.outbox.pending ≡ [] }
         requires handed { self.old.accepted ≡ self.old.handed }
@@ -144,66 +148,84 @@ impl<R: ReadTally, W: WriteTally> ClientEngine<R, W> {
         ensures seen { StartsWith (T.seen turns.new) (T.seen turns.old) }
         ensures goes { AsTold (Goes self.old self.new
             (own_steps (T.pass turns.old) (T.seen turns.old))
-            (own_steps (T.pass turns.old) (T.seen turns.new))) (told_by_end result) }
-        ensures ok { OnOk result (self.new ≡ record self.old { stage = Stage.Closed false }) }
+            (own_steps (T.pass turns.old) (T.seen turns.new))) (told_by_step result) }
+        ensures ok { IfOk result (λ p. (p ≡ Progress.Ended)
+            × (self.new ≡ record self.old { stage = Stage.Closed false })) }
         ensures err { IfErr result (λ e. (self.new ≡ self.old)
+            × (own_steps (T.pass turns.old) (T.seen turns.new)
+            ≡ own_steps (T.pass turns.old) (T.seen turns.old))
             × ((n : ℕ) × (e ≡ EngineError.TurnRefused n))) }
     {
         match tell(rt, turns, Event::Closed { conn: self.conn }) {
-            Ok(_) => {
+            Ok(answer) => {
+                drop(answer);
                 self.stage = Stage::Closed { is_cut: false };
-                Ok(())
+                Ok(Progress::Ended)
             }
             Err(denied) => Err(denied.error()),
         }
     }
 
-    // One Closed turn after a fault of a device. Until it is answered, no other turn is made.
-    fn cut<Rt: Wait, T: CoreTurns>(&mut self, rt: &Rt, turns: &mut T) -> Result<(), EngineError>
+    // One Closed turn after a fault of a device, and what the step answers then. Until it is answered, no other turn is made.
+    fn cut<Rt: Wait, T: CoreTurns>(
+        &mut self,
+        rt: &Rt,
+        turns: &mut T,
+        answer: Result<Progress, EngineError>,
+    ) -> Result<Progress, EngineError>
         ensures pass { T.pass turns.new ≡ T.pass turns.old }
         ensures setting { T.setting turns.new ≡ T.setting turns.old }
         ensures seen { StartsWith (T.seen turns.new) (T.seen turns.old) }
-        ensures goes { AsTold (Goes self.old self.new
-            (own_steps (T.pass turns.old) (T.seen turns.old))
-            (own_steps (T.pass turns.old) (T.seen turns.new))) (told_by_end result) }
-        ensures ok { OnOk result (self.new ≡ record self.old { stage = Stage.Closed true }) }
-        ensures err { IfErr result (λ e. (self.new ≡ record self.old { stage = Stage.Failed })
-            × ((n : ℕ) × (e ≡ EngineError.TurnRefused n))) }
+        ensures cuts { Cuts self.old self.new (own_steps (T.pass turns.old) (T.seen turns.old))
+            (own_steps (T.pass turns.old) (T.seen turns.new)) answer result }
     {
         self.stage = Stage::Failed;
         match tell(rt, turns, Event::Closed { conn: self.conn }) {
-            Ok(_) => {
+            Ok(told) => {
+                drop(told);
                 self.stage = Stage::Closed { is_cut: true };
-                Ok(())
+                answer
             }
             Err(denied) => Err(denied.error()),
         }
     }
 
     // One Finished turn.
-    fn finish<Rt: Wait, T: CoreTurns>(&mut self, rt: &Rt, turns: &mut T) -> Result<(), EngineError>
+    fn finish<Rt: Wait, T: CoreTurns>(
+        &mut self,
+        rt: &Rt,
+        turns: &mut T,
+    ) -> Result<Progress, EngineError>
         requires stage { self.old.stage ≡ Stage.AtEnd }
         ensures pass { T.pass turns.new ≡ T.pass turns.old }
         ensures setting { T.setting turns.new ≡ T.setting turns.old }
         ensures seen { StartsWith (T.seen turns.new) (T.seen turns.old) }
         ensures goes { AsTold (Goes self.old self.new
             (own_steps (T.pass turns.old) (T.seen turns.old))
-            (own_steps (T.pass turns.old) (T.seen turns.new))) (told_by_end result) }
-        ensures ok { OnOk result (self.new ≡ record self.old { stage = Stage.Finishing }) }
+            (own_steps (T.pass turns.old) (T.seen turns.new))) (told_by_step result) }
+        ensures ok { IfOk result (λ p. (p ≡ Progress.Moved)
+            × (self.new ≡ record self.old { stage = Stage.Finishing })) }
         ensures err { IfErr result (λ e. (self.new ≡ self.old)
+            × (own_steps (T.pass turns.old) (T.seen turns.new)
+            ≡ own_steps (T.pass turns.old) (T.seen turns.old))
             × ((n : ℕ) × (e ≡ EngineError.TurnRefused n))) }
     {
         match tell(rt, turns, Event::Finished { conn: self.conn }) {
-            Ok(_) => {
+            Ok(answer) => {
+                drop(answer);
                 self.stage = Stage::Finishing;
-                Ok(())
+                Ok(Progress::Moved)
             }
             Err(denied) => Err(denied.error()),
         }
     }
 
-    // The request that waits, as an Arrived turn. False says that it is held back: too many commands are unwritten.
-    fn offer<Rt: Wait, T: CoreTurns>(&mut self, rt: &Rt, turns: &mut T) -> Result<bool, EngineError>
+    // The request that waits, as an Arrived turn. Idle says that it is held back: too many commands are unwritten.
+    fn offer<Rt: Wait, T: CoreTurns>(
+        &mut self,
+        rt: &Rt,
+        turns: &mut T,
+    ) -> Result<Progress, EngineError>
         requires stage { self.old.stage ≡ Stage.Open }
         requires waits { self.old.next ≢ None }
         ensures pass { T.pass turns.new ≡ T.pass turns.old }
@@ -211,17 +233,18 @@ impl<R: ReadTally, W: WriteTally> ClientEngine<R, W> {
         ensures seen { StartsWith (T.seen turns.new) (T.seen turns.old) }
         ensures goes { AsTold (Goes self.old self.new
             (own_steps (T.pass turns.old) (T.seen turns.old))
-            (own_steps (T.pass turns.old) (T.seen turns.new))) (told_by_turn result) }
+            (own_steps (T.pass turns.old) (T.seen turns.new))) (told_by_step result) }
         ensures live { IsLive self.new.stage }
-        ensures held { IfOk result (λ b. b ≡ false → self.new ≡ self.old) }
-        ensures crowded { IfOk result (λ b. b ≡ false → (r : Request) × (self.old.next ≡ Some r)
+        ensures told { IfOk result (λ p. (p ≡ Progress.Moved) ⊎ (p ≡ Progress.Idle)) }
+        ensures held { IfOk result (λ p. p ≡ Progress.Idle
+            → (self.new ≡ self.old) × ((r : Request) × (self.old.next ≡ Some r)
             × T.cause (T.setting turns.old) Refusal.Crowded (Event.Arrived self.old.conn r)
-            (T.seen turns.new)) }
+            (T.seen turns.new))) }
         ensures err { IfErr result (λ e. (self.new ≡ self.old)
             × ((n : ℕ) × (e ≡ EngineError.TurnRefused n))) }
     {
         let Some(request) = self.next.take() else {
-            return Ok(false);
+            return Ok(Progress::Idle);
         };
         match arrive(rt, turns, self.conn, request) {
             Ok(is_last) => {
@@ -229,12 +252,12 @@ impl<R: ReadTally, W: WriteTally> ClientEngine<R, W> {
                 if is_last {
                     self.stage = Stage::Finishing;
                 }
-                Ok(true)
+                Ok(Progress::Moved)
             }
             Err((denied, request)) => {
-                self.next = Some(request);
+                drop(self.next.replace(request));
                 match denied {
-                    Denied::By(Refusal::Crowded) => Ok(false),
+                    Denied::By(Refusal::Crowded) => Ok(Progress::Idle),
                     denied => Err(denied.error()),
                 }
             }
@@ -256,7 +279,7 @@ impl<R: ReadTally, W: WriteTally> ClientEngine<R, W> {
         match self.inbox.next_request() {
             Ok(next) => {
                 let is_there = next.is_some();
-                self.next = next;
+                drop(mem::replace(&mut self.next, next));
                 Ok(is_there)
             }
             Err(_) => Err(EngineError::NoMemory),
@@ -305,10 +328,7 @@ impl<R: ReadTally, W: WriteTally> ClientEngine<R, W> {
         match self.outbox.write_once() {
             Told::Moved(_) => Ok(Progress::Moved),
             Told::Paused => Ok(Progress::Idle),
-            Told::End | Told::Failed => {
-                self.cut(rt, turns)?;
-                Err(EngineError::WriteFailed)
-            }
+            Told::End | Told::Failed => self.cut(rt, turns, Err(EngineError::WriteFailed)),
         }
     }
 
@@ -332,8 +352,7 @@ impl<R: ReadTally, W: WriteTally> ClientEngine<R, W> {
         ensures err { IfErr result (λ e. (n : ℕ) × (e ≡ EngineError.TurnRefused n)) }
     {
         self.stage = Stage::AtEnd;
-        self.finish(rt, turns)?;
-        Ok(Progress::Moved)
+        self.finish(rt, turns)
     }
 
     // One read, unless nothing more is to be read.
@@ -366,10 +385,7 @@ impl<R: ReadTally, W: WriteTally> ClientEngine<R, W> {
             Told::Moved(_) => Ok(Progress::Moved),
             Told::Paused => Ok(Progress::Idle),
             Told::End => self.stop_reading(rt, turns),
-            Told::Failed => {
-                self.cut(rt, turns)?;
-                Err(EngineError::ReadFailed)
-            }
+            Told::Failed => self.cut(rt, turns, Err(EngineError::ReadFailed)),
         }
     }
 
@@ -398,11 +414,7 @@ impl<R: ReadTally, W: WriteTally> ClientEngine<R, W> {
         if !self.has_next()? {
             return self.read(rt, turns);
         }
-        if self.offer(rt, turns)? {
-            Ok(Progress::Moved)
-        } else {
-            Ok(Progress::Idle)
-        }
+        self.offer(rt, turns)
     }
 
     // The end, once all that was accepted is handed out.
@@ -427,8 +439,7 @@ impl<R: ReadTally, W: WriteTally> ClientEngine<R, W> {
         if self.accepted != self.handed {
             return Ok(Progress::Idle);
         }
-        self.close(rt, turns)?;
-        Ok(Progress::Ended)
+        self.close(rt, turns)
     }
 
     // Whether a reply was handed out. No turn is made where all that was accepted is handed out: it would be refused.
@@ -493,10 +504,7 @@ impl<R: ReadTally, W: WriteTally> ClientEngine<R, W> {
         }
         match self.stage {
             Stage::Open => self.take_in(rt, turns),
-            Stage::AtEnd => {
-                self.finish(rt, turns)?;
-                Ok(Progress::Moved)
-            }
+            Stage::AtEnd => self.finish(rt, turns),
             _ => self.end(rt, turns),
         }
     }
@@ -535,10 +543,7 @@ impl<R: ReadTally, W: WriteTally> ClientEngine<R, W> {
         match self.stage {
             Stage::Closed { is_cut: true } => Ok(Progress::Cut),
             Stage::Closed { is_cut: false } => Ok(Progress::Ended),
-            Stage::Failed => {
-                self.cut(rt, turns)?;
-                Ok(Progress::Cut)
-            }
+            Stage::Failed => self.cut(rt, turns, Ok(Progress::Cut)),
             Stage::Open | Stage::AtEnd | Stage::Finishing => self.go_on(rt, turns),
         }
     }

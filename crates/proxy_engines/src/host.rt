@@ -1,5 +1,5 @@
 //! A host's end.
-ghost use Rattle.std.specs.Prelude.{◌≡◌, ◌≢◌, ◌⊎◌, ◌↔◌, ℕ, List, [], Option, Some, None, Ok, IfOk, IfErr, IfSome, OnOk, OnErr, true, false};
+ghost use Rattle.std.specs.Prelude.{◌≡◌, ◌≢◌, ◌⊎◌, ◌↔◌, ℕ, List, [], Option, Some, None, IfOk, IfErr, IfSome, OnOk, OnErr, true, false};
 ghost use Rattle.ticket_gate.specs.Journal.{StartsWith};
 ghost use Rattle.proxy_history.specs.History.{History};
 ghost use Rattle.proxy_history.specs.Own.{host_steps};
@@ -11,7 +11,7 @@ ghost use Rattle.proxy_engines.specs.Moves.{AsTold, told_by_turn};
 ghost use Rattle.proxy_engines.specs.Faults.{IsLate, IsOfNoDevice};
 ghost use Rattle.proxy_engines.specs.Ends.{HasGivenAll};
 ghost use Rattle.proxy_engines.specs.Host.{LinkState, GoesOn, FailsHost, CarriesHost};
-ghost use Rattle.proxy_engines.specs.HostStep.{IsIdleOn, IsUnasked, Records, RestsHost, StepsHost, WorksHost, after_fault};
+ghost use Rattle.proxy_engines.specs.HostStep.{IsIdleOn, IsUnasked, Records, RestsHost, StepsHost, TellsFault, WorksHost, after_fault};
 
 use crate::client::Progress;
 use crate::error::EngineError;
@@ -35,12 +35,13 @@ pub struct HostEngine<R: ReadTally, W: WriteTally> {
 }
 
 // What a step answers that recorded an earlier fault first.
-fn after_fault(progress: Progress) -> Progress
-    ensures { Ok result ≡ after_fault (Ok progress) }
+fn after_fault(told: Result<Progress, EngineError>) -> Result<Progress, EngineError>
+    ensures { result ≡ after_fault told }
 {
-    match progress {
-        Progress::NeedsLink => Progress::NeedsLink,
-        _ => Progress::Moved,
+    match told {
+        Ok(Progress::NeedsLink) => Ok(Progress::NeedsLink),
+        Ok(_) => Ok(Progress::Moved),
+        Err(error) => Err(error),
     }
 }
 
@@ -162,6 +163,28 @@ impl<R: ReadTally + Drop, W: WriteTally + Drop> HostEngine<R, W> {
         self.give_up(rt, turns, Kind::Refused, moment)
     }
 
+    // Records a fault, and answers what the step tells of it.
+    fn tell_fault<Rt: Wait, T: CoreTurns>(
+        &mut self,
+        rt: &Rt,
+        turns: &mut T,
+        kind: Kind,
+        error: Option<EngineError>,
+        moment: u64,
+    ) -> Result<Progress, EngineError>
+        ensures pass { T.pass turns.new ≡ T.pass turns.old }
+        ensures setting { T.setting turns.new ≡ T.setting turns.old }
+        ensures seen { StartsWith (T.seen turns.new) (T.seen turns.old) }
+        ensures tells { TellsFault self.old self.new (own_steps (T.pass turns.old) (T.seen turns.old))
+            (own_steps (T.pass turns.old) (T.seen turns.new)) kind error moment result }
+    {
+        self.give_up(rt, turns, kind, moment)?;
+        match error {
+            None => Ok(Progress::Moved),
+            Some(error) => Err(error),
+        }
+    }
+
     // One step on the link.
     fn go_on_link<Rt: Wait, T: CoreTurns>(
         &mut self,
@@ -196,11 +219,7 @@ impl<R: ReadTally + Drop, W: WriteTally + Drop> HostEngine<R, W> {
             Outcome::Moved => Ok(Progress::Moved),
             Outcome::Fault { kind, error } => {
                 self.fault = Some(kind);
-                self.give_up(rt, turns, kind, moment)?;
-                match error {
-                    None => Ok(Progress::Moved),
-                    Some(error) => Err(error),
-                }
+                self.tell_fault(rt, turns, kind, error, moment)
             }
         }
     }
@@ -262,8 +281,7 @@ impl<R: ReadTally + Drop, W: WriteTally + Drop> HostEngine<R, W> {
     {
         let taken = self.take_one(rt, turns, moment)?;
         if self.line.is_late(moment) {
-            self.give_up(rt, turns, Kind::Late, moment)?;
-            return Ok(Progress::Moved);
+            return self.tell_fault(rt, turns, Kind::Late, None, moment);
         }
         if !self.line.is_empty() {
             return Ok(Progress::NeedsLink);
@@ -350,7 +368,6 @@ impl<R: ReadTally + Drop, W: WriteTally + Drop> HostEngine<R, W> {
             return self.go_on(rt, turns, moment);
         };
         self.give_up(rt, turns, kind, moment)?;
-        let progress = self.go_on(rt, turns, moment)?;
-        Ok(after_fault(progress))
+        after_fault(self.go_on(rt, turns, moment))
     }
 }

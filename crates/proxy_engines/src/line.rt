@@ -144,7 +144,8 @@ impl Line {
             t: moment,
         };
         match tell(rt, turns, event) {
-            Ok(_) => {
+            Ok(answer) => {
+                drop(answer);
                 self.epoch = self.epoch.saturating_add(1);
                 self.pending = Bytes::new();
                 self.moments.clear();

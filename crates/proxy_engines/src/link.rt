@@ -34,7 +34,7 @@ pub(crate) struct Link<R: ReadTally, W: WriteTally> {
 }
 
 /// What a move came to.
-#[derive(Clone, Copy, Debug, PartialEq, Eq, Drop)]
+#[derive(Clone, Copy, Drop)]
 pub(crate) enum Outcome {
     /// Nothing could be done for now.
     Still,
@@ -68,7 +68,7 @@ impl Outcome {
 }
 
 // What was found among the bytes that were read.
-#[derive(Clone, Copy, Debug, PartialEq, Eq, Drop)]
+#[derive(Clone, Copy, Drop)]
 enum Found {
     Value,
     Nothing,
@@ -161,7 +161,7 @@ impl<R: ReadTally, W: WriteTally> Link<R, W> {
         }
         match self.inbox.next_request() {
             Ok(Some(Request::Read(value))) => {
-                self.next = Some(value);
+                drop(self.next.replace(value));
                 Ok(Found::Value)
             }
             Ok(Some(Request::Broken)) => Ok(Found::Garbled),
@@ -204,7 +204,7 @@ impl<R: ReadTally, W: WriteTally> Link<R, W> {
                 Ok(Outcome::Moved)
             }
             Err((denied, value)) => {
-                self.next = Some(value);
+                drop(self.next.replace(value));
                 match denied {
                     Denied::By(Refusal::Unasked) => Ok(Outcome::Fault {
                         kind: Kind::Garbled,

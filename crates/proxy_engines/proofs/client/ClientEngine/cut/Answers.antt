@@ -1,19 +1,28 @@
+use Rattle.std.specs.Prelude.{Err}
+use Rattle.std.proofs.Common.{inl, inr, refl, ap}
 use Rattle.proxy_engines.proofs.ClientMoves.{cut_goes, failed_goes}
 use Rattle.proxy_engines.proofs.client.ClientEngine.cut.Goals as goal
-use Rattle.proxy_engines.proofs.client.ClientEngine.cut.Goals.{in-Ok, in-Err}
 
-pub returns-clause-goes : goal.returns-clause-goes
-returns-clause-goes g c =
-    elim c.match-tell.branch [
-      | in-Ok w ↦ rw (w.result-is, w.self-is, w.in-Ok.ensures.answered.steps, ← c.self.view_is) (cut_goes _ (g.T.Turns.pass c.args.turns.now) w.in-Ok.field-0 _)
-      | in-Err w ↦ rw (w.result-is, w.self-is, ← c.self.view_is) (failed_goes _ _ _ w.in-Err.ensures.rests)
-    ]
+pub returns-in-Ok-clause-pass : goal.returns-in-Ok-clause-pass
+returns-in-Ok-clause-pass g c = c.tell.ensures.pass
 
-pub returns-clause-pass : goal.returns-clause-pass
-returns-clause-pass g c = c.tell.ensures.pass
+pub returns-in-Ok-clause-setting : goal.returns-in-Ok-clause-setting
+returns-in-Ok-clause-setting g c = c.tell.ensures.setting
 
-pub returns-clause-setting : goal.returns-clause-setting
-returns-clause-setting g c = c.tell.ensures.setting
+pub returns-in-Ok-clause-seen : goal.returns-in-Ok-clause-seen
+returns-in-Ok-clause-seen g c = c.tell.ensures.seen
 
-pub returns-clause-seen : goal.returns-clause-seen
-returns-clause-seen g c = c.tell.ensures.seen
+pub returns-in-Err-clause-pass : goal.returns-in-Err-clause-pass
+returns-in-Err-clause-pass g c = c.tell.ensures.pass
+
+pub returns-in-Err-clause-setting : goal.returns-in-Err-clause-setting
+returns-in-Err-clause-setting g c = c.tell.ensures.setting
+
+pub returns-in-Err-clause-seen : goal.returns-in-Err-clause-seen
+returns-in-Err-clause-seen g c = c.tell.ensures.seen
+
+pub returns-in-Ok-clause-cuts : goal.returns-in-Ok-clause-cuts
+returns-in-Ok-clause-cuts g c = rw (c.in-Ok.ensures.answered.steps, ← c.self.view_is) (inl (cut_goes _ (g.T.Turns.pass c.args.turns.now) c.in-Ok.told _, refl, refl))
+
+pub returns-in-Err-clause-cuts : goal.returns-in-Err-clause-cuts
+returns-in-Err-clause-cuts g c = rw (← c.self.view_is) (inr (failed_goes _ _ _ c.in-Err.ensures.rests, refl, (c.error.ensures.0, ap Err c.error.ensures.1)))

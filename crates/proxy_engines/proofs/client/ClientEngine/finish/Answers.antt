@@ -1,20 +1,41 @@
+use Rattle.std.proofs.Common.{refl, false}
 use Rattle.proxy_engines.proofs.ClientMoves.{finished_goes, same_goes}
 use Rattle.proxy_engines.proofs.client.ClientEngine.finish.Goals as goal
-use Rattle.proxy_engines.proofs.client.ClientEngine.finish.Goals.{in-Ok, in-Err}
 
-pub returns-clause-goes : goal.returns-clause-goes
-returns-clause-goes g c =
-    elim c.match-tell.branch [
-      | in-Ok w ↦ rw (w.result-is, w.self-is, w.in-Ok.ensures.answered.steps, ← c.self.view_is)
-          (finished_goes _ (g.T.Turns.pass c.args.turns.now) w.in-Ok.field-0 _ (rw (← c.self.view_is) at c.requires.stage))
-      | in-Err w ↦ rw (w.result-is, w.self-is, ← c.self.view_is) (same_goes _ _ _ w.in-Err.ensures.rests)
-    ]
+pub returns-in-Ok-clause-pass : goal.returns-in-Ok-clause-pass
+returns-in-Ok-clause-pass g c = c.tell.ensures.pass
 
-pub returns-clause-pass : goal.returns-clause-pass
-returns-clause-pass g c = c.tell.ensures.pass
+pub returns-in-Ok-clause-setting : goal.returns-in-Ok-clause-setting
+returns-in-Ok-clause-setting g c = c.tell.ensures.setting
 
-pub returns-clause-setting : goal.returns-clause-setting
-returns-clause-setting g c = c.tell.ensures.setting
+pub returns-in-Ok-clause-seen : goal.returns-in-Ok-clause-seen
+returns-in-Ok-clause-seen g c = c.tell.ensures.seen
 
-pub returns-clause-seen : goal.returns-clause-seen
-returns-clause-seen g c = c.tell.ensures.seen
+pub returns-in-Err-clause-pass : goal.returns-in-Err-clause-pass
+returns-in-Err-clause-pass g c = c.tell.ensures.pass
+
+pub returns-in-Err-clause-setting : goal.returns-in-Err-clause-setting
+returns-in-Err-clause-setting g c = c.tell.ensures.setting
+
+pub returns-in-Err-clause-seen : goal.returns-in-Err-clause-seen
+returns-in-Err-clause-seen g c = c.tell.ensures.seen
+
+pub returns-in-Ok-clause-goes : goal.returns-in-Ok-clause-goes
+returns-in-Ok-clause-goes g c =
+    rw (c.in-Ok.ensures.answered.steps, ← c.self.view_is)
+    (finished_goes _ (g.T.Turns.pass c.args.turns.now) c.in-Ok.answer _ (rw (← c.self.view_is) at c.requires.stage))
+
+pub returns-in-Ok-clause-ok : goal.returns-in-Ok-clause-ok
+returns-in-Ok-clause-ok g c = rw (← c.self.view_is) (refl, refl)
+
+pub returns-in-Ok-clause-err : goal.returns-in-Ok-clause-err
+returns-in-Ok-clause-err g c = tt
+
+pub returns-in-Err-clause-goes : goal.returns-in-Err-clause-goes
+returns-in-Err-clause-goes g c = (false, same_goes _ _ _ c.in-Err.ensures.rests)
+
+pub returns-in-Err-clause-ok : goal.returns-in-Err-clause-ok
+returns-in-Err-clause-ok g c = tt
+
+pub returns-in-Err-clause-err : goal.returns-in-Err-clause-err
+returns-in-Err-clause-err g c = (refl, c.in-Err.ensures.rests, c.error.ensures)

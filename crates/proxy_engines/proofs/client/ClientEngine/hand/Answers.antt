@@ -1,4 +1,5 @@
-use Rattle.std.proofs.Common.{false}
+use Rattle.proxy_engines.specs.Client.{Client}
+use Rattle.std.proofs.Common.{false, refl, ap}
 use Rattle.proxy_engines.proofs.ClientMoves.{handed_goes, same_goes}
 use Rattle.proxy_engines.proofs.client.ClientEngine.hand.Goals as goal
 
@@ -46,3 +47,30 @@ returns-in-Ok-Bytes-clause-err g c = tt
 
 pub returns-in-Err-By-NotReady-clause-err : goal.returns-in-Err-By-NotReady-clause-err
 returns-in-Err-By-NotReady-clause-err g c = tt
+
+pub returns-in-Ok-Bytes-clause-stage : goal.returns-in-Ok-Bytes-clause-stage
+returns-in-Ok-Bytes-clause-stage g c = ap (λ (e : Client). e.stage) c.self.view_is
+
+pub returns-in-Ok-Bytes-clause-same : goal.returns-in-Ok-Bytes-clause-same
+returns-in-Ok-Bytes-clause-same g c = λ e. absurd cc
+
+pub returns-in-Ok-Bytes-clause-not_ready : goal.returns-in-Ok-Bytes-clause-not_ready
+returns-in-Ok-Bytes-clause-not_ready g c = λ e. absurd cc
+
+pub returns-in-Err-By-NotReady-clause-stage : goal.returns-in-Err-By-NotReady-clause-stage
+returns-in-Err-By-NotReady-clause-stage g c = refl
+
+pub returns-in-Err-By-NotReady-clause-same : goal.returns-in-Err-By-NotReady-clause-same
+returns-in-Err-By-NotReady-clause-same g c = λ _. refl
+
+pub returns-in-Err-clause-stage : goal.returns-in-Err-clause-stage
+returns-in-Err-clause-stage g c = refl
+
+pub returns-in-Err-clause-same : goal.returns-in-Err-clause-same
+returns-in-Err-clause-same g c = tt
+
+pub returns-in-Err-clause-not_ready : goal.returns-in-Err-clause-not_ready
+returns-in-Err-clause-not_ready g c = tt
+
+pub returns-in-Err-clause-err : goal.returns-in-Err-clause-err
+returns-in-Err-clause-err g c = (refl, c.error.ensures)

@@ -1,3 +1,5 @@
+use Rattle.proxy_engines.proofs.AnswerLemmas.{if_err}
+use Rattle.proxy_engines.proofs.ClientMoves.{same_goes}
 use Rattle.std.proofs.Common.{refl}
 use Rattle.std.proofs.lemmas.Result.{IfOk-weaker}
 use Rattle.proxy_engines.proofs.IdleLemmas.{hands_nothing}
@@ -35,3 +37,18 @@ returns-clause-stage g c = c.hand.ensures.stage
 
 pub returns-clause-same : goal.returns-clause-same
 returns-clause-same g c = c.hand.ensures.same
+
+pub returns-then-self-clause-goes : goal.returns-then-self-clause-goes
+returns-then-self-clause-goes g c = same_goes _ _ _ refl
+
+pub returns-then-self-clause-stage : goal.returns-then-self-clause-stage
+returns-then-self-clause-stage g c = refl
+
+pub returns-then-self-clause-same : goal.returns-then-self-clause-same
+returns-then-self-clause-same g c = λ _. refl
+
+pub returns-then-self-clause-err : goal.returns-then-self-clause-err
+returns-then-self-clause-err g c = tt
+
+pub returns-clause-err : goal.returns-clause-err
+returns-clause-err g c = if_err _ _ c.hand.result (λ e (_, turn). turn) c.hand.ensures.err

@@ -1,4 +1,6 @@
-use Rattle.std.proofs.Common.{◌≡◌, ◌∙◌, IfOk, Some, false, refl, sym, ap}
+use Rattle.proxy_engines.specs.Client.{Client}
+use Rattle.proxy_engines.specs.declared.client.Progress.{Progress}
+use Rattle.std.proofs.Common.{◌≡◌, ◌∙◌, IfOk, Some, refl, sym, ap, inl, inr}
 use Rattle.proxy_engines.proofs.ClientMoves.{arrived_on, arrived_last, unanswered_goes}
 use Rattle.proxy_engines.proofs.client.ClientEngine.offer.Goals as goal
 use Rattle.proxy_engines.proofs.HostMoves.{starts_same}
@@ -21,12 +23,12 @@ returns-else-is_last-clause-goes g c =
 pub returns-after-denied-clause-goes : goal.returns-after-denied-clause-goes
 returns-after-denied-clause-goes g c =
     let back = ap Some c.in-Err.ensures.back ∙ sym c.in-Some.is ∙ c.take.ensures.value in
-    let unmoved : IfOk c.match-denied.result (λ b. b ≡ false) =
+    let unmoved : IfOk c.match-denied.result (λ p. p ≡ Progress.Idle) =
     elim c.match-denied.branch [
       | in-By-Crowded w ↦ rw w.result-is refl
       | in_default-denied w ↦ rw w.result-is tt
     ] in
-    rw (back, c.self.view_is) (unanswered_goes c.args.self.now _ _ _ c.in-Err.ensures.rests unmoved)
+    rw (c.replace.ensures.after, back, c.self.view_is) (unanswered_goes c.args.self.now _ _ _ c.in-Err.ensures.rests unmoved)
 
 pub returns-after-denied-clause-pass : goal.returns-after-denied-clause-pass
 returns-after-denied-clause-pass g c = c.arrive.ensures.pass
@@ -72,3 +74,31 @@ returns-else-is_last-clause-err g c = tt
 
 pub returns-in_default-clause-err : goal.returns-in_default-clause-err
 returns-in_default-clause-err g c = tt
+
+pub returns-then-is_last-clause-live : goal.returns-then-is_last-clause-live
+returns-then-is_last-clause-live g c = tt
+
+pub returns-then-is_last-clause-told : goal.returns-then-is_last-clause-told
+returns-then-is_last-clause-told g c = inl refl
+
+pub returns-then-is_last-clause-held : goal.returns-then-is_last-clause-held
+returns-then-is_last-clause-held g c = λ idle. absurd cc
+
+pub returns-else-is_last-clause-live : goal.returns-else-is_last-clause-live
+returns-else-is_last-clause-live g c = rw (ap (λ (e : Client). e.stage) c.self.view_is ∙ c.requires.stage) tt
+
+pub returns-else-is_last-clause-told : goal.returns-else-is_last-clause-told
+returns-else-is_last-clause-told g c = inl refl
+
+pub returns-else-is_last-clause-held : goal.returns-else-is_last-clause-held
+returns-else-is_last-clause-held g c = λ idle. absurd cc
+
+pub returns-after-denied-clause-live : goal.returns-after-denied-clause-live
+returns-after-denied-clause-live g c = rw (ap (λ (e : Client). e.stage) c.self.view_is ∙ c.requires.stage) tt
+
+pub returns-after-denied-clause-told : goal.returns-after-denied-clause-told
+returns-after-denied-clause-told g c =
+    elim c.match-denied.branch [
+      | in-By-Crowded w ↦ rw w.result-is (inr refl)
+      | in_default-denied w ↦ rw w.result-is tt
+    ]

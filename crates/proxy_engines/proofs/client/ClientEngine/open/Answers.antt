@@ -1,4 +1,4 @@
-use Rattle.std.proofs.Common.{refl}
+use Rattle.std.proofs.Common.{refl, inl, inr}
 use Rattle.proxy_engines.proofs.ClientMoves.{opened_carries}
 use Rattle.proxy_engines.proofs.HostMoves.{starts_same}
 use Rattle.proxy_engines.proofs.client.ClientEngine.open.Goals as goal
@@ -66,3 +66,15 @@ returns-in-Err-clause-reads g c = tt
 
 pub returns-in-Ok-open-clause-err : goal.returns-in-Ok-open-clause-err
 returns-in-Ok-open-clause-err g c = tt
+
+pub returns-in-Ok-open-clause-stage : goal.returns-in-Ok-open-clause-stage
+returns-in-Ok-open-clause-stage g c = refl
+
+pub returns-in-Ok-open-clause-reads : goal.returns-in-Ok-open-clause-reads
+returns-in-Ok-open-clause-reads g c = refl
+
+pub returns-in-Err-clause-err : goal.returns-in-Err-clause-err
+returns-in-Err-clause-err g c = (refl, inl refl)
+
+pub returns-in-Err-open-clause-err : goal.returns-in-Err-open-clause-err
+returns-in-Err-open-clause-err g c = (c.in-Err-open.ensures.rests, inr c.error.ensures)

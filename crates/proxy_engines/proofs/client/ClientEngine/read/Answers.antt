@@ -1,8 +1,11 @@
-use Rattle.std.proofs.Common.{true, false, refl}
+use Rattle.proxy_engines.specs.declared.error.EngineError.{EngineError}
+use Rattle.proxy_engines.specs.Device.{HasFailed}
+use Rattle.proxy_engines.specs.Client.{Client}
+use Rattle.proxy_engines.proofs.AnswerLemmas.{cut_told, cut_ok, cut_err, if_ok, if_err}
+use Rattle.std.proofs.Common.{true, false, refl, inl, inr, ◌∙◌, ap}
 use Rattle.proxy_engines.specs.Moves.{told_by_step}
-use Rattle.proxy_engines.proofs.ClientMoves.{read_goes, goes_some, told_then}
+use Rattle.proxy_engines.proofs.ClientMoves.{read_goes, told_then}
 use Rattle.proxy_engines.proofs.IdleLemmas.{given_still}
-use Rattle.proxy_engines.proofs.MoveLemmas.{step-err}
 use Rattle.proxy_engines.proofs.HostMoves.{starts_same}
 use Rattle.proxy_engines.proofs.client.ClientEngine.read.Goals as goal
 
@@ -13,13 +16,6 @@ returns-in-End-clause-goes g c =
     (told_then _ _ _ _ _ _ (told_by_step c.stop_reading-in-End.result) (read_goes _ c.read_once.new.self _ false (rw c.in-End.is at c.read_once.ensures.told) (rw (← c.self.view_is) at c.requires.stage) c.if-self.false all.none_refused all.none_fresh c.read_once.ensures.bytes c.read_once.ensures.values)
     c.stop_reading-in-End.ensures.goes)
 
-pub returns-in_err-cut-in-Failed-clause-goes : goal.returns-in_err-cut-in-Failed-clause-goes
-returns-in_err-cut-in-Failed-clause-goes g c =
-    let all = rw (← c.self.view_is) at c.requires.all in
-    rw (← c.self.view_is)
-    (step-err _ c.from_residual.result c.from_residual.ensures.0 (goes_some _ _ _ _ _ _ _ _ (read_goes _ c.read_once.new.self _ _ c.read_once.ensures.told (rw (← c.self.view_is) at c.requires.stage) c.if-self.false all.none_refused all.none_fresh c.read_once.ensures.bytes c.read_once.ensures.values)
-    c.in_err-cut-in-Failed.ensures.goes))
-
 pub returns-in-Moved-clause-goes : goal.returns-in-Moved-clause-goes
 returns-in-Moved-clause-goes g c =
     let all = rw (← c.self.view_is) at c.requires.all in
@@ -29,13 +25,6 @@ pub returns-in-Paused-clause-goes : goal.returns-in-Paused-clause-goes
 returns-in-Paused-clause-goes g c =
     let all = rw (← c.self.view_is) at c.requires.all in
     rw (← c.self.view_is) (read_goes _ c.read_once.new.self _ false (rw c.in-Paused.is at c.read_once.ensures.told) (rw (← c.self.view_is) at c.requires.stage) c.if-self.false all.none_refused all.none_fresh c.read_once.ensures.bytes c.read_once.ensures.values)
-
-pub returns-in_ok-cut-in-Failed-clause-goes : goal.returns-in_ok-cut-in-Failed-clause-goes
-returns-in_ok-cut-in-Failed-clause-goes g c =
-    let all = rw (← c.self.view_is) at c.requires.all in
-    rw (← c.self.view_is)
-    (goes_some _ _ _ _ _ _ _ _ (read_goes _ c.read_once.new.self _ _ c.read_once.ensures.told (rw (← c.self.view_is) at c.requires.stage) c.if-self.false all.none_refused all.none_fresh c.read_once.ensures.bytes c.read_once.ensures.values)
-    c.in_ok-cut-in-Failed.ensures.goes)
 
 pub returns-in-Paused-clause-idle : goal.returns-in-Paused-clause-idle
 returns-in-Paused-clause-idle g c = λ _.
@@ -75,24 +64,6 @@ returns-in-Paused-clause-setting g c = refl
 pub returns-in-Paused-clause-seen : goal.returns-in-Paused-clause-seen
 returns-in-Paused-clause-seen g c = starts_same _
 
-pub returns-in_err-cut-in-Failed-clause-pass : goal.returns-in_err-cut-in-Failed-clause-pass
-returns-in_err-cut-in-Failed-clause-pass g c = c.cut.ensures.pass
-
-pub returns-in_err-cut-in-Failed-clause-setting : goal.returns-in_err-cut-in-Failed-clause-setting
-returns-in_err-cut-in-Failed-clause-setting g c = c.cut.ensures.setting
-
-pub returns-in_err-cut-in-Failed-clause-seen : goal.returns-in_err-cut-in-Failed-clause-seen
-returns-in_err-cut-in-Failed-clause-seen g c = c.cut.ensures.seen
-
-pub returns-in_ok-cut-in-Failed-clause-pass : goal.returns-in_ok-cut-in-Failed-clause-pass
-returns-in_ok-cut-in-Failed-clause-pass g c = c.cut.ensures.pass
-
-pub returns-in_ok-cut-in-Failed-clause-setting : goal.returns-in_ok-cut-in-Failed-clause-setting
-returns-in_ok-cut-in-Failed-clause-setting g c = c.cut.ensures.setting
-
-pub returns-in_ok-cut-in-Failed-clause-seen : goal.returns-in_ok-cut-in-Failed-clause-seen
-returns-in_ok-cut-in-Failed-clause-seen g c = c.cut.ensures.seen
-
 pub returns-then-self-clause-pass : goal.returns-then-self-clause-pass
 returns-then-self-clause-pass g c = c.stop_reading.ensures.pass
 
@@ -110,3 +81,60 @@ returns-in-Moved-clause-err g c = tt
 
 pub returns-in-Paused-clause-err : goal.returns-in-Paused-clause-err
 returns-in-Paused-clause-err g c = tt
+
+pub returns-in-Failed-clause-pass : goal.returns-in-Failed-clause-pass
+returns-in-Failed-clause-pass g c = c.cut.ensures.pass
+
+pub returns-in-Failed-clause-setting : goal.returns-in-Failed-clause-setting
+returns-in-Failed-clause-setting g c = c.cut.ensures.setting
+
+pub returns-in-Failed-clause-seen : goal.returns-in-Failed-clause-seen
+returns-in-Failed-clause-seen g c = c.cut.ensures.seen
+
+pub returns-in-Failed-clause-goes : goal.returns-in-Failed-clause-goes
+returns-in-Failed-clause-goes g c =
+    let all = rw (← c.self.view_is) at c.requires.all in
+    rw (← c.self.view_is)
+    (cut_told _ _ _ _ _ _ _ _ c.cut.result refl (read_goes _ c.read_once.new.self _ _ c.read_once.ensures.told (rw (← c.self.view_is) at c.requires.stage) c.if-self.false all.none_refused all.none_fresh c.read_once.ensures.bytes c.read_once.ensures.values)
+    c.cut.ensures.cuts)
+
+pub returns-in-Failed-clause-ok : goal.returns-in-Failed-clause-ok
+returns-in-Failed-clause-ok g c = cut_ok _ _ _ _ _ EngineError.ReadFailed c.cut.result c.cut.ensures.cuts
+
+pub returns-in-Failed-clause-err : goal.returns-in-Failed-clause-err
+returns-in-Failed-clause-err g c =
+    let failed = c.read_once.ensures.failed c.in-Failed.is in
+    rw (← c.self.view_is)
+    (cut_err _ _ _ _ (λ (e : Client). HasFailed c.self.inside.inbox.counts e.inbox.counts) EngineError.ReadFailed c.cut.result failed.1 c.cut.ensures.cuts)
+
+pub returns-in-Failed-clause-idle : goal.returns-in-Failed-clause-idle
+returns-in-Failed-clause-idle g c = cut_ok _ _ _ _ _ EngineError.ReadFailed c.cut.result c.cut.ensures.cuts
+
+pub returns-then-self-clause-ok : goal.returns-then-self-clause-ok
+returns-then-self-clause-ok g c = if_ok _ _ c.stop_reading.result (λ p (live, moved). (live, inl moved)) c.stop_reading.ensures.ok
+
+pub returns-then-self-clause-err : goal.returns-then-self-clause-err
+returns-then-self-clause-err g c = if_err _ _ c.stop_reading.result (λ e turn. inr turn) c.stop_reading.ensures.err
+
+pub returns-then-self-clause-idle : goal.returns-then-self-clause-idle
+returns-then-self-clause-idle g c = if_ok _ _ c.stop_reading.result (λ p (_, moved) idle. absurd cc) c.stop_reading.ensures.ok
+
+pub returns-in-End-clause-ok : goal.returns-in-End-clause-ok
+returns-in-End-clause-ok g c = if_ok _ _ c.stop_reading-in-End.result (λ p (live, moved). (live, inl moved)) c.stop_reading-in-End.ensures.ok
+
+pub returns-in-End-clause-err : goal.returns-in-End-clause-err
+returns-in-End-clause-err g c = if_err _ _ c.stop_reading-in-End.result (λ e turn. inr turn) c.stop_reading-in-End.ensures.err
+
+pub returns-in-End-clause-idle : goal.returns-in-End-clause-idle
+returns-in-End-clause-idle g c = if_ok _ _ c.stop_reading-in-End.result (λ p (_, moved) idle. absurd cc) c.stop_reading-in-End.ensures.ok
+
+pub returns-in-Moved-clause-idle : goal.returns-in-Moved-clause-idle
+returns-in-Moved-clause-idle g c = λ idle. absurd cc
+
+pub returns-in-Moved-clause-ok : goal.returns-in-Moved-clause-ok
+returns-in-Moved-clause-ok g c = (rw (ap (λ (e : Client). e.stage) c.self.view_is ∙ c.requires.stage) tt, inl refl)
+
+pub returns-in-Paused-clause-ok : goal.returns-in-Paused-clause-ok
+returns-in-Paused-clause-ok g c =
+    let paused = c.read_once.ensures.paused c.in-Paused.is in
+    (rw (ap (λ (e : Client). e.stage) c.self.view_is ∙ c.requires.stage) tt, inr (refl, rw (← c.self.view_is) paused.1))

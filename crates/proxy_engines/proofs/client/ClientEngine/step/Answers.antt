@@ -1,8 +1,7 @@
-use Rattle.std.proofs.Common.{false, ap, refl}
-use Rattle.proxy_engines.specs.Client.{Client}
+use Rattle.proxy_engines.proofs.AnswerLemmas.{if_ok, if_err, cut_told, cut_is, cut_turn, turn_unread, turn_unwritten}
+use Rattle.std.proofs.Common.{false, refl}
 use Rattle.proxy_engines.proofs.ClientMoves.{same_goes}
 use Rattle.proxy_engines.proofs.HostMoves.{starts_same}
-use Rattle.proxy_engines.proofs.IdleLemmas.{if_ok}
 use Rattle.proxy_engines.proofs.client.ClientEngine.step.Goals as goal
 
 pub returns-in-Closed-true-clause-pass : goal.returns-in-Closed-true-clause-pass
@@ -22,24 +21,6 @@ returns-in-Closed-false-clause-setting g c = refl
 
 pub returns-in-Closed-false-clause-seen : goal.returns-in-Closed-false-clause-seen
 returns-in-Closed-false-clause-seen g c = starts_same _
-
-pub returns-in_err-cut-in-Failed-clause-pass : goal.returns-in_err-cut-in-Failed-clause-pass
-returns-in_err-cut-in-Failed-clause-pass g c = c.cut.ensures.pass
-
-pub returns-in_err-cut-in-Failed-clause-setting : goal.returns-in_err-cut-in-Failed-clause-setting
-returns-in_err-cut-in-Failed-clause-setting g c = c.cut.ensures.setting
-
-pub returns-in_err-cut-in-Failed-clause-seen : goal.returns-in_err-cut-in-Failed-clause-seen
-returns-in_err-cut-in-Failed-clause-seen g c = c.cut.ensures.seen
-
-pub returns-in_ok-cut-in-Failed-clause-pass : goal.returns-in_ok-cut-in-Failed-clause-pass
-returns-in_ok-cut-in-Failed-clause-pass g c = c.cut.ensures.pass
-
-pub returns-in_ok-cut-in-Failed-clause-setting : goal.returns-in_ok-cut-in-Failed-clause-setting
-returns-in_ok-cut-in-Failed-clause-setting g c = c.cut.ensures.setting
-
-pub returns-in_ok-cut-in-Failed-clause-seen : goal.returns-in_ok-cut-in-Failed-clause-seen
-returns-in_ok-cut-in-Failed-clause-seen g c = c.cut.ensures.seen
 
 pub returns-in-Open-clause-pass : goal.returns-in-Open-clause-pass
 returns-in-Open-clause-pass g c = c.go_on.ensures.pass
@@ -98,11 +79,29 @@ returns-in-Closed-false-clause-idle g c = λ e. absurd cc
 pub returns-in-Closed-false-clause-cut : goal.returns-in-Closed-false-clause-cut
 returns-in-Closed-false-clause-cut g c = λ e. absurd cc
 
-pub returns-in_ok-cut-in-Failed-clause-ended : goal.returns-in_ok-cut-in-Failed-clause-ended
-returns-in_ok-cut-in-Failed-clause-ended g c = λ e. absurd cc
+pub returns-in-Failed-clause-pass : goal.returns-in-Failed-clause-pass
+returns-in-Failed-clause-pass g c = c.cut.ensures.pass
 
-pub returns-in_ok-cut-in-Failed-clause-idle : goal.returns-in_ok-cut-in-Failed-clause-idle
-returns-in_ok-cut-in-Failed-clause-idle g c = λ e. absurd cc
+pub returns-in-Failed-clause-setting : goal.returns-in-Failed-clause-setting
+returns-in-Failed-clause-setting g c = c.cut.ensures.setting
 
-pub returns-in_ok-cut-in-Failed-clause-cut : goal.returns-in_ok-cut-in-Failed-clause-cut
-returns-in_ok-cut-in-Failed-clause-cut g c = λ _. ap (λ (e : Client). e.stage) c.in_ok-cut-in-Failed.ensures.ok
+pub returns-in-Failed-clause-seen : goal.returns-in-Failed-clause-seen
+returns-in-Failed-clause-seen g c = c.cut.ensures.seen
+
+pub returns-in-Failed-clause-goes : goal.returns-in-Failed-clause-goes
+returns-in-Failed-clause-goes g c = cut_told _ _ _ _ _ _ false _ c.cut.result refl (same_goes _ _ _ refl) c.cut.ensures.cuts
+
+pub returns-in-Failed-clause-ended : goal.returns-in-Failed-clause-ended
+returns-in-Failed-clause-ended g c = if_ok _ _ c.cut.result (λ p (is, _) ended. absurd cc) (cut_is _ _ _ _ c.cut.result c.cut.ensures.cuts)
+
+pub returns-in-Failed-clause-cut : goal.returns-in-Failed-clause-cut
+returns-in-Failed-clause-cut g c = if_ok _ _ c.cut.result (λ p (_, stage) _. stage) (cut_is _ _ _ _ c.cut.result c.cut.ensures.cuts)
+
+pub returns-in-Failed-clause-idle : goal.returns-in-Failed-clause-idle
+returns-in-Failed-clause-idle g c = if_ok _ _ c.cut.result (λ p (is, _) idle. absurd cc) (cut_is _ _ _ _ c.cut.result c.cut.ensures.cuts)
+
+pub returns-in-Failed-clause-read_failed : goal.returns-in-Failed-clause-read_failed
+returns-in-Failed-clause-read_failed g c = if_err _ _ c.cut.result (λ e turn. turn_unread _ e turn) (cut_turn _ _ _ _ _ c.cut.result c.cut.ensures.cuts)
+
+pub returns-in-Failed-clause-write_failed : goal.returns-in-Failed-clause-write_failed
+returns-in-Failed-clause-write_failed g c = if_err _ _ c.cut.result (λ e turn. turn_unwritten _ e turn) (cut_turn _ _ _ _ _ c.cut.result c.cut.ensures.cuts)

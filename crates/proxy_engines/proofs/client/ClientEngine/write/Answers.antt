@@ -1,13 +1,11 @@
-use Rattle.std.proofs.Common.{true, false, refl}
-use Rattle.proxy_engines.proofs.ClientMoves.{wrote_goes, goes_some}
-use Rattle.proxy_engines.proofs.MoveLemmas.{step-err}
+use Rattle.proxy_engines.specs.declared.error.EngineError.{EngineError}
+use Rattle.proxy_engines.specs.Device.{HasFailed}
+use Rattle.proxy_engines.specs.Client.{Client}
+use Rattle.proxy_engines.proofs.AnswerLemmas.{cut_told, cut_ok, cut_err}
+use Rattle.std.proofs.Common.{true, false, refl, inl, inr}
+use Rattle.proxy_engines.proofs.ClientMoves.{wrote_goes}
 use Rattle.proxy_engines.proofs.HostMoves.{starts_same}
 use Rattle.proxy_engines.proofs.client.ClientEngine.write.Goals as goal
-
-pub returns-in_err-cut-in-End-clause-goes : goal.returns-in_err-cut-in-End-clause-goes
-returns-in_err-cut-in-End-clause-goes g c =
-    let (gave, sends, moved) = c.write_once.ensures.bytes in
-    rw (← c.self.view_is) (step-err _ c.from_residual.result c.from_residual.ensures.0 (goes_some _ _ _ _ _ _ _ _ (wrote_goes _ c.write_once.new.self gave _ _ (rw (← c.self.view_is) at c.requires.live) sends moved) c.in_err-cut-in-End.ensures.goes))
 
 pub returns-in-Moved-clause-goes : goal.returns-in-Moved-clause-goes
 returns-in-Moved-clause-goes g c =
@@ -18,11 +16,6 @@ pub returns-in-Paused-clause-goes : goal.returns-in-Paused-clause-goes
 returns-in-Paused-clause-goes g c =
     let (gave, sends, moved) = rw c.in-Paused.is at c.write_once.ensures.bytes in
     rw (← c.self.view_is) (wrote_goes _ c.write_once.new.self gave _ false (rw (← c.self.view_is) at c.requires.live) sends moved)
-
-pub returns-in_ok-cut-in-End-clause-goes : goal.returns-in_ok-cut-in-End-clause-goes
-returns-in_ok-cut-in-End-clause-goes g c =
-    let (gave, sends, moved) = c.write_once.ensures.bytes in
-    rw (← c.self.view_is) (goes_some _ _ _ _ _ _ _ _ (wrote_goes _ c.write_once.new.self gave _ _ (rw (← c.self.view_is) at c.requires.live) sends moved) c.in_ok-cut-in-End.ensures.goes)
 
 pub returns-in-Moved-clause-pass : goal.returns-in-Moved-clause-pass
 returns-in-Moved-clause-pass g c = refl
@@ -42,26 +35,36 @@ returns-in-Paused-clause-setting g c = refl
 pub returns-in-Paused-clause-seen : goal.returns-in-Paused-clause-seen
 returns-in-Paused-clause-seen g c = starts_same _
 
-pub returns-in_err-cut-in-End-clause-pass : goal.returns-in_err-cut-in-End-clause-pass
-returns-in_err-cut-in-End-clause-pass g c = c.cut.ensures.pass
-
-pub returns-in_err-cut-in-End-clause-setting : goal.returns-in_err-cut-in-End-clause-setting
-returns-in_err-cut-in-End-clause-setting g c = c.cut.ensures.setting
-
-pub returns-in_err-cut-in-End-clause-seen : goal.returns-in_err-cut-in-End-clause-seen
-returns-in_err-cut-in-End-clause-seen g c = c.cut.ensures.seen
-
-pub returns-in_ok-cut-in-End-clause-pass : goal.returns-in_ok-cut-in-End-clause-pass
-returns-in_ok-cut-in-End-clause-pass g c = c.cut.ensures.pass
-
-pub returns-in_ok-cut-in-End-clause-setting : goal.returns-in_ok-cut-in-End-clause-setting
-returns-in_ok-cut-in-End-clause-setting g c = c.cut.ensures.setting
-
-pub returns-in_ok-cut-in-End-clause-seen : goal.returns-in_ok-cut-in-End-clause-seen
-returns-in_ok-cut-in-End-clause-seen g c = c.cut.ensures.seen
-
 pub returns-in-Moved-clause-err : goal.returns-in-Moved-clause-err
 returns-in-Moved-clause-err g c = tt
 
 pub returns-in-Paused-clause-err : goal.returns-in-Paused-clause-err
 returns-in-Paused-clause-err g c = tt
+
+pub returns-in-End-clause-pass : goal.returns-in-End-clause-pass
+returns-in-End-clause-pass g c = c.cut.ensures.pass
+
+pub returns-in-End-clause-setting : goal.returns-in-End-clause-setting
+returns-in-End-clause-setting g c = c.cut.ensures.setting
+
+pub returns-in-End-clause-seen : goal.returns-in-End-clause-seen
+returns-in-End-clause-seen g c = c.cut.ensures.seen
+
+pub returns-in-End-clause-goes : goal.returns-in-End-clause-goes
+returns-in-End-clause-goes g c =
+    let (gave, sends, moved) = c.write_once.ensures.bytes in
+    rw (← c.self.view_is) (cut_told _ _ _ _ _ _ _ _ c.cut.result refl (wrote_goes _ c.write_once.new.self gave _ _ (rw (← c.self.view_is) at c.requires.live) sends moved) c.cut.ensures.cuts)
+
+pub returns-in-End-clause-ok : goal.returns-in-End-clause-ok
+returns-in-End-clause-ok g c = cut_ok _ _ _ _ _ EngineError.WriteFailed c.cut.result c.cut.ensures.cuts
+
+pub returns-in-End-clause-err : goal.returns-in-End-clause-err
+returns-in-End-clause-err g c =
+    rw (← c.self.view_is)
+    (cut_err _ _ _ _ (λ (e : Client). HasFailed c.self.inside.outbox.counts e.outbox.counts) EngineError.WriteFailed c.cut.result (c.write_once.ensures.failed c.in-End.is) c.cut.ensures.cuts)
+
+pub returns-in-Moved-clause-ok : goal.returns-in-Moved-clause-ok
+returns-in-Moved-clause-ok g c = rw (← c.self.view_is) (refl, inl refl)
+
+pub returns-in-Paused-clause-ok : goal.returns-in-Paused-clause-ok
+returns-in-Paused-clause-ok g c = rw (← c.self.view_is) (refl, inr (refl, c.write_once.ensures.paused c.in-Paused.is))

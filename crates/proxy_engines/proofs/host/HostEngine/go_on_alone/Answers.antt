@@ -1,21 +1,28 @@
+use Rattle.proxy_engines.specs.declared.error.EngineError.{EngineError}
+use Rattle.proxy_engines.specs.declared.client.Progress.{Progress}
+use Rattle.std.specs.Prelude.{ℕ, Bool, Option, Result}
+use Rattle.proxy_history.specs.History.{History}
+use Rattle.std.proofs.lemmas.Result.{IfOk-from_err, err_from_is_err_and}
 use Rattle.std.proofs.Common.{◌≡◌, ◌∙◌, None, [], ap, append-nil, refl, sym}
 use Rattle.proxy_engines.specs.Moves.{told_by_turn}
-use Rattle.proxy_engines.specs.Host.{LineState}
-use Rattle.proxy_engines.specs.HostStep.{HostState}
+use Rattle.proxy_engines.specs.Host.{LineState, LinkState, GoesOn}
+use Rattle.proxy_engines.specs.HostStep.{HostState, TellsFault, IsAnswered, IsCausedOn, WorksHost}
 use Rattle.proxy_engines.specs.Faults.{IsLate}
 use Rattle.proxy_history.specs.declared.event.Kind.{Kind}
 use Rattle.proxy_engines.proofs.HostMoves.{some_told, starts_then}
-use Rattle.proxy_engines.proofs.HostLemmas.{works_fault, empty_is}
+use Rattle.proxy_engines.proofs.HostLemmas.{empty_is, works_told, works_on, told_needs_alone, told_recorded, told_in_time, told_moved, told_link}
 use Rattle.proxy_engines.proofs.host.HostEngine.go_on_alone.Goals as goal
 use Rattle.proxy_engines.proofs.host.HostEngine.go_on_alone.Goals.{then-taken, else-taken}
 
-pub returns-then-is_late-clause-works : goal.returns-then-is_late-clause-works
-returns-then-is_late-clause-works g c =
-    let went = some_told _ (told_by_turn c.take_one.result) c.take_one.ensures.goes in
-    let (fails, no_link, no_fault) = c.in_ok-give_up.ensures.fails in
-    let late : IsLate c.take_one.new.self.line c.args.moment = rw (← c.self.view_is) (c.is_late.ensures.0 c.if-is_late.true) in
-    works_fault _ _ None (record { line = c.take_one.new.self.line; link = None; fault = None }) c.give_up.new.self Kind.Late None _ _ _ c.args.moment went.0 _ went.1
-    (rw c.take_one.ensures.link at (rw c.take_one.ensures.pass at fails)) no_link no_fault (refl, refl, late) refl
+-- without a link
+module _ (U : LineState → LinkState → Type 0) (l : LineState) where
+  on_alone : (new : HostState) (H I : History) (m : ℕ) (moved : Bool) (result : Result Progress EngineError) → new.link ≡ None → GoesOn l new.line None None H I m moved → IsAnswered moved result → new.fault ≡ None
+      → WorksHost U l new None H I m result
+  on_alone new H I m moved result none goes told whole = works_on U l None new H I m moved result (rw none goes) told whole
+
+  told_alone : (last new : HostState) (kind : Kind) (error : Option EngineError) (H I J : History) (m : ℕ) (moved : Bool) (result : Result Progress EngineError) → last.link ≡ None → GoesOn l last.line None None H I m moved
+      → TellsFault last new I J kind error m result → IsCausedOn U kind error last.line None None m → WorksHost U l new None H J m result
+  told_alone last new kind error H I J m moved result none goes told cause = works_told U l None last new kind error H I J m moved result (rw none goes) told (rw none cause)
 
 pub returns-clause-idle : goal.returns-clause-idle
 returns-clause-idle g c =
@@ -28,15 +35,6 @@ returns-clause-idle g c =
           rw w.result-is (λ e. (empty, (g.T.Turns.seen c.take_one.new.turns, c.take_one.ensures.seen, ([], sym (append-nil (g.T.Turns.seen c.take_one.new.turns))), c.in_ok-taken.ensures.nothing_waits w.if-taken.false empty)))
     ]
 
-pub returns-in_err-give_up-clause-pass : goal.returns-in_err-give_up-clause-pass
-returns-in_err-give_up-clause-pass g c = c.give_up.ensures.pass ∙ c.take_one.ensures.pass
-
-pub returns-in_err-give_up-clause-setting : goal.returns-in_err-give_up-clause-setting
-returns-in_err-give_up-clause-setting g c = c.give_up.ensures.setting ∙ c.take_one.ensures.setting
-
-pub returns-in_err-give_up-clause-seen : goal.returns-in_err-give_up-clause-seen
-returns-in_err-give_up-clause-seen g c = starts_then _ _ _ c.take_one.ensures.seen c.give_up.ensures.seen
-
 pub returns-in_err-taken-clause-pass : goal.returns-in_err-taken-clause-pass
 returns-in_err-taken-clause-pass g c = c.take_one.ensures.pass
 
@@ -45,15 +43,6 @@ returns-in_err-taken-clause-setting g c = c.take_one.ensures.setting
 
 pub returns-in_err-taken-clause-seen : goal.returns-in_err-taken-clause-seen
 returns-in_err-taken-clause-seen g c = c.take_one.ensures.seen
-
-pub returns-then-is_late-clause-pass : goal.returns-then-is_late-clause-pass
-returns-then-is_late-clause-pass g c = c.give_up.ensures.pass ∙ c.take_one.ensures.pass
-
-pub returns-then-is_late-clause-setting : goal.returns-then-is_late-clause-setting
-returns-then-is_late-clause-setting g c = c.give_up.ensures.setting ∙ c.take_one.ensures.setting
-
-pub returns-then-is_late-clause-seen : goal.returns-then-is_late-clause-seen
-returns-then-is_late-clause-seen g c = starts_then _ _ _ c.take_one.ensures.seen c.give_up.ensures.seen
 
 pub returns-then-not-is_empty-clause-pass : goal.returns-then-not-is_empty-clause-pass
 returns-then-not-is_empty-clause-pass g c = c.take_one.ensures.pass
@@ -72,3 +61,59 @@ returns-clause-setting g c = c.take_one.ensures.setting
 
 pub returns-clause-seen : goal.returns-clause-seen
 returns-clause-seen g c = c.take_one.ensures.seen
+
+pub returns-then-is_late-clause-pass : goal.returns-then-is_late-clause-pass
+returns-then-is_late-clause-pass g c = c.tell_fault.ensures.pass ∙ c.take_one.ensures.pass
+
+pub returns-then-is_late-clause-setting : goal.returns-then-is_late-clause-setting
+returns-then-is_late-clause-setting g c = c.tell_fault.ensures.setting ∙ c.take_one.ensures.setting
+
+pub returns-then-is_late-clause-seen : goal.returns-then-is_late-clause-seen
+returns-then-is_late-clause-seen g c = starts_then _ _ _ c.take_one.ensures.seen c.tell_fault.ensures.seen
+
+pub returns-then-is_late-clause-works : goal.returns-then-is_late-clause-works
+returns-then-is_late-clause-works g c =
+    let went = some_told _ (told_by_turn c.take_one.result) c.take_one.ensures.goes in
+    let late : IsLate c.take_one.new.self.line c.args.moment = rw (← c.self.view_is) (c.is_late.ensures.0 c.if-is_late.true) in
+    told_alone _ _ c.take_one.new.self c.tell_fault.new.self Kind.Late None _ _ _ c.args.moment went.0 c.tell_fault.result c.take_one.ensures.link went.1
+    (rw c.take_one.ensures.pass at c.tell_fault.ensures.tells) (refl, refl, late)
+
+pub returns-then-is_late-clause-needs_link : goal.returns-then-is_late-clause-needs_link
+returns-then-is_late-clause-needs_link g c = told_needs_alone _ _ _ _ _ _ None c.tell_fault.result c.tell_fault.ensures.tells
+
+pub returns-then-is_late-clause-link : goal.returns-then-is_late-clause-link
+returns-then-is_late-clause-link g c = told_link _ _ _ _ _ _ None c.tell_fault.result c.take_one.ensures.link c.tell_fault.ensures.tells
+
+pub returns-then-is_late-clause-recorded : goal.returns-then-is_late-clause-recorded
+returns-then-is_late-clause-recorded g c = told_recorded _ _ _ _ _ _ None c.tell_fault.result c.tell_fault.ensures.tells
+
+pub returns-then-is_late-clause-in_time : goal.returns-then-is_late-clause-in_time
+returns-then-is_late-clause-in_time g c = told_in_time _ _ _ _ _ _ None c.tell_fault.result c.tell_fault.ensures.tells
+
+pub returns-then-is_late-clause-idle : goal.returns-then-is_late-clause-idle
+returns-then-is_late-clause-idle g c = told_moved _ _ _ _ _ _ _ None c.tell_fault.result c.tell_fault.ensures.tells
+
+pub returns-in_err-taken-clause-needs_link : goal.returns-in_err-taken-clause-needs_link
+returns-in_err-taken-clause-needs_link g c = IfOk-from_err c.from_residual.result _ c.from_residual.ensures.0
+
+pub returns-in_err-taken-clause-recorded : goal.returns-in_err-taken-clause-recorded
+returns-in_err-taken-clause-recorded g c = IfOk-from_err c.from_residual.result _ c.from_residual.ensures.0
+
+pub returns-in_err-taken-clause-in_time : goal.returns-in_err-taken-clause-in_time
+returns-in_err-taken-clause-in_time g c = IfOk-from_err c.from_residual.result _ c.from_residual.ensures.0
+
+pub returns-in_err-taken-clause-idle : goal.returns-in_err-taken-clause-idle
+returns-in_err-taken-clause-idle g c = IfOk-from_err c.from_residual.result _ c.from_residual.ensures.0
+
+pub returns-in_err-taken-clause-link : goal.returns-in_err-taken-clause-link
+returns-in_err-taken-clause-link g c = c.take_one.ensures.link
+
+pub returns-in_err-taken-clause-works : goal.returns-in_err-taken-clause-works
+returns-in_err-taken-clause-works g c =
+    let (_, result_is, error_is) = err_from_is_err_and c.from_residual.result c.from_residual.ensures.1 in
+    let went = c.in_err-taken.ensures.goes in
+    rw (result_is, error_is)
+    (on_alone _ _ c.take_one.new.self _ _ c.args.moment went.0 _ c.take_one.ensures.link went.1 c.in_err-taken.ensures.plain (c.take_one.ensures.fault ∙ c.requires.no_fault))
+
+pub returns-then-not-is_empty-clause-idle : goal.returns-then-not-is_empty-clause-idle
+returns-then-not-is_empty-clause-idle g c = λ idle. absurd cc

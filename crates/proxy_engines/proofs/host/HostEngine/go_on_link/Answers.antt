@@ -1,10 +1,10 @@
-use Rattle.std.proofs.Common.{Some, None, true, false, ap, refl, ◌∙◌}
-use Rattle.std.proofs.lemmas.Result.{err_from_is_err_and}
+use Rattle.std.proofs.Common.{Some, true, false, ap, refl, ◌∙◌}
+use Rattle.std.proofs.lemmas.Result.{err_from_is_err_and, IfOk-from_err}
 use Rattle.proxy_history.specs.declared.refusal.Refusal.{Refusal}
 use Rattle.proxy_engines.specs.Faults.{told_by_moves}
 use Rattle.proxy_engines.specs.HostStep.{HostState}
 use Rattle.proxy_engines.proofs.HostMoves.{some_told, starts_then}
-use Rattle.proxy_engines.proofs.HostLemmas.{works_on, works_left, works_fault, unasked_here}
+use Rattle.proxy_engines.proofs.HostLemmas.{works_on, unasked_here, works_told, told_needs, told_all, told_recorded, told_in_time, told_moved}
 use Rattle.proxy_engines.proofs.host.HostEngine.go_on_link.Goals as goal
 
 pub returns-in_err-attend-clause-works : goal.returns-in_err-attend-clause-works
@@ -27,35 +27,6 @@ returns-in-Moved-clause-works g c =
 pub returns-in-Still-clause-idle : goal.returns-in-Still-clause-idle
 returns-in-Still-clause-idle g c = λ _. rw (← c.self.view_is, c.in-Some.is) (c.in_ok-attend.ensures.idle c.in-Still.is)
 
-pub returns-in_err-give_up-in-Fault-clause-works : goal.returns-in_err-give_up-in-Fault-clause-works
-returns-in_err-give_up-in-Fault-clause-works g c =
-    let (_, result_is, error_is) = err_from_is_err_and c.from_residual-in_err-give_up-in-Fault.result c.from_residual-in_err-give_up-in-Fault.ensures.1 in
-    let went = some_told _ (told_by_moves c.attend.result) c.attend.ensures.goes in
-    let kept = c.in_err-give_up-in-Fault.ensures.kept in
-    let refused = c.in_err-give_up-in-Fault.ensures.err in
-    let cause = unasked_here (g.T.Turns.cause (g.T.Turns.setting c.args.turns.now) Refusal.Unasked) (g.T.Turns.seen c.args.turns.now) (g.T.Turns.seen c.attend.new.turns) (g.T.Turns.seen c.give_up.new.turns) c.args.moment c.attend.ensures.seen c.give_up.ensures.seen c.in-Fault.kind c.in-Fault.error c.attend.new.line c.in-Some.link c.attend.new.self (rw c.in-Fault.is at c.in_ok-attend.ensures.fault) in
-    rw (result_is, error_is, ← c.self.view_is, c.in-Some.is)
-    (works_left _ _ _ (record { line = c.attend.new.line; link = Some c.attend.new.self; fault = Some c.in-Fault.kind }) c.give_up.new.self c.in-Fault.kind c.in-Fault.error _ _ _ c.args.moment went.0 _ went.1
-    (ap (λ (z : HostState). z.line) kept.0) (ap (λ (z : HostState). z.link) kept.0) (ap (λ (z : HostState). z.fault) kept.0) (rw c.attend.ensures.pass at kept.1) (rw refused.1 tt) cause)
-
-pub returns-in-None-clause-works : goal.returns-in-None-clause-works
-returns-in-None-clause-works g c =
-    let went = some_told _ (told_by_moves c.attend.result) c.attend.ensures.goes in
-    let (fails, no_link, no_fault) = c.in_ok-give_up-in-Fault.ensures.fails in
-    let cause = unasked_here (g.T.Turns.cause (g.T.Turns.setting c.args.turns.now) Refusal.Unasked) (g.T.Turns.seen c.args.turns.now) (g.T.Turns.seen c.attend.new.turns) (g.T.Turns.seen c.give_up.new.turns) c.args.moment c.attend.ensures.seen c.give_up.ensures.seen c.in-Fault.kind c.in-Fault.error c.attend.new.line c.in-Some.link c.attend.new.self (rw c.in-Fault.is at c.in_ok-attend.ensures.fault) in
-    rw (← c.self.view_is, c.in-Some.is)
-    (works_fault _ _ _ (record { line = c.attend.new.line; link = Some c.attend.new.self; fault = Some c.in-Fault.kind }) c.give_up.new.self c.in-Fault.kind None _ _ _ c.args.moment went.0 _ went.1
-    (rw c.attend.ensures.pass at fails) no_link no_fault (rw c.in-None.is at cause) refl)
-
-pub returns-in-Some-error-clause-works : goal.returns-in-Some-error-clause-works
-returns-in-Some-error-clause-works g c =
-    let went = some_told _ (told_by_moves c.attend.result) c.attend.ensures.goes in
-    let (fails, no_link, no_fault) = c.in_ok-give_up-in-Fault.ensures.fails in
-    let cause = unasked_here (g.T.Turns.cause (g.T.Turns.setting c.args.turns.now) Refusal.Unasked) (g.T.Turns.seen c.args.turns.now) (g.T.Turns.seen c.attend.new.turns) (g.T.Turns.seen c.give_up.new.turns) c.args.moment c.attend.ensures.seen c.give_up.ensures.seen c.in-Fault.kind c.in-Fault.error c.attend.new.line c.in-Some.link c.attend.new.self (rw c.in-Fault.is at c.in_ok-attend.ensures.fault) in
-    rw (← c.self.view_is, c.in-Some.is)
-    (works_fault _ _ _ (record { line = c.attend.new.line; link = Some c.attend.new.self; fault = Some c.in-Fault.kind }) c.give_up.new.self c.in-Fault.kind (Some c.in-Some-error.error) _ _ _ c.args.moment went.0 _ went.1
-    (rw c.attend.ensures.pass at fails) no_link no_fault (rw c.in-Some-error.is at cause) refl)
-
 pub returns-in-Moved-clause-pass : goal.returns-in-Moved-clause-pass
 returns-in-Moved-clause-pass g c = c.attend.ensures.pass
 
@@ -74,24 +45,6 @@ returns-in-Still-clause-setting g c = c.attend.ensures.setting
 pub returns-in-Still-clause-seen : goal.returns-in-Still-clause-seen
 returns-in-Still-clause-seen g c = c.attend.ensures.seen
 
-pub returns-in-None-clause-pass : goal.returns-in-None-clause-pass
-returns-in-None-clause-pass g c = c.give_up.ensures.pass ∙ c.attend.ensures.pass
-
-pub returns-in-None-clause-setting : goal.returns-in-None-clause-setting
-returns-in-None-clause-setting g c = c.give_up.ensures.setting ∙ c.attend.ensures.setting
-
-pub returns-in-None-clause-seen : goal.returns-in-None-clause-seen
-returns-in-None-clause-seen g c = starts_then _ _ _ c.attend.ensures.seen c.give_up.ensures.seen
-
-pub returns-in-Some-error-clause-pass : goal.returns-in-Some-error-clause-pass
-returns-in-Some-error-clause-pass g c = c.give_up.ensures.pass ∙ c.attend.ensures.pass
-
-pub returns-in-Some-error-clause-setting : goal.returns-in-Some-error-clause-setting
-returns-in-Some-error-clause-setting g c = c.give_up.ensures.setting ∙ c.attend.ensures.setting
-
-pub returns-in-Some-error-clause-seen : goal.returns-in-Some-error-clause-seen
-returns-in-Some-error-clause-seen g c = starts_then _ _ _ c.attend.ensures.seen c.give_up.ensures.seen
-
 pub returns-in_err-attend-clause-pass : goal.returns-in_err-attend-clause-pass
 returns-in_err-attend-clause-pass g c = c.attend.ensures.pass
 
@@ -101,26 +54,76 @@ returns-in_err-attend-clause-setting g c = c.attend.ensures.setting
 pub returns-in_err-attend-clause-seen : goal.returns-in_err-attend-clause-seen
 returns-in_err-attend-clause-seen g c = c.attend.ensures.seen
 
-pub returns-in_err-give_up-in-Fault-clause-pass : goal.returns-in_err-give_up-in-Fault-clause-pass
-returns-in_err-give_up-in-Fault-clause-pass g c = c.give_up.ensures.pass ∙ c.attend.ensures.pass
+pub returns-in-Fault-clause-pass : goal.returns-in-Fault-clause-pass
+returns-in-Fault-clause-pass g c = c.tell_fault.ensures.pass ∙ c.attend.ensures.pass
 
-pub returns-in_err-give_up-in-Fault-clause-setting : goal.returns-in_err-give_up-in-Fault-clause-setting
-returns-in_err-give_up-in-Fault-clause-setting g c = c.give_up.ensures.setting ∙ c.attend.ensures.setting
+pub returns-in-Fault-clause-setting : goal.returns-in-Fault-clause-setting
+returns-in-Fault-clause-setting g c = c.tell_fault.ensures.setting ∙ c.attend.ensures.setting
 
-pub returns-in_err-give_up-in-Fault-clause-seen : goal.returns-in_err-give_up-in-Fault-clause-seen
-returns-in_err-give_up-in-Fault-clause-seen g c = starts_then _ _ _ c.attend.ensures.seen c.give_up.ensures.seen
+pub returns-in-Fault-clause-seen : goal.returns-in-Fault-clause-seen
+returns-in-Fault-clause-seen g c = starts_then _ _ _ c.attend.ensures.seen c.tell_fault.ensures.seen
 
-pub returns-in-Some-error-clause-needs_link : goal.returns-in-Some-error-clause-needs_link
-returns-in-Some-error-clause-needs_link g c = tt
+pub returns-in-Fault-clause-works : goal.returns-in-Fault-clause-works
+returns-in-Fault-clause-works g c =
+    let went = some_told _ (told_by_moves c.attend.result) c.attend.ensures.goes in
+    let cause = unasked_here (g.T.Turns.cause (g.T.Turns.setting c.args.turns.now) Refusal.Unasked) (g.T.Turns.seen c.args.turns.now) (g.T.Turns.seen c.attend.new.turns) (g.T.Turns.seen c.tell_fault.new.turns) c.args.moment c.attend.ensures.seen c.tell_fault.ensures.seen c.in-Fault.kind c.in-Fault.error c.attend.new.line c.in-Some.link c.attend.new.self (rw c.in-Fault.is at c.in_ok-attend.ensures.fault) in
+    rw (← c.self.view_is, c.in-Some.is)
+    (works_told _ _ _ (record { line = c.attend.new.line; link = Some c.attend.new.self; fault = Some c.in-Fault.kind }) c.tell_fault.new.self c.in-Fault.kind c.in-Fault.error _ _ _ c.args.moment went.0 _ went.1
+    (rw c.attend.ensures.pass at c.tell_fault.ensures.tells) cause)
 
-pub returns-in-Some-error-clause-all : goal.returns-in-Some-error-clause-all
-returns-in-Some-error-clause-all g c = tt
+pub returns-in-Fault-clause-needs_link : goal.returns-in-Fault-clause-needs_link
+returns-in-Fault-clause-needs_link g c = told_needs _ _ _ _ _ _ _ c.tell_fault.result c.tell_fault.ensures.tells
 
-pub returns-in-Some-error-clause-recorded : goal.returns-in-Some-error-clause-recorded
-returns-in-Some-error-clause-recorded g c = tt
+pub returns-in-Fault-clause-all : goal.returns-in-Fault-clause-all
+returns-in-Fault-clause-all g c = told_all _ _ _ _ _ _ _ _ c.tell_fault.result c.tell_fault.ensures.tells
 
-pub returns-in-Some-error-clause-in_time : goal.returns-in-Some-error-clause-in_time
-returns-in-Some-error-clause-in_time g c = tt
+pub returns-in-Fault-clause-recorded : goal.returns-in-Fault-clause-recorded
+returns-in-Fault-clause-recorded g c = told_recorded _ _ _ _ _ _ _ c.tell_fault.result c.tell_fault.ensures.tells
 
-pub returns-in-Some-error-clause-idle : goal.returns-in-Some-error-clause-idle
-returns-in-Some-error-clause-idle g c = tt
+pub returns-in-Fault-clause-in_time : goal.returns-in-Fault-clause-in_time
+returns-in-Fault-clause-in_time g c = told_in_time _ _ _ _ _ _ _ c.tell_fault.result c.tell_fault.ensures.tells
+
+pub returns-in-Fault-clause-idle : goal.returns-in-Fault-clause-idle
+returns-in-Fault-clause-idle g c = told_moved _ _ _ _ _ _ _ _ c.tell_fault.result c.tell_fault.ensures.tells
+
+pub returns-in_err-attend-clause-needs_link : goal.returns-in_err-attend-clause-needs_link
+returns-in_err-attend-clause-needs_link g c = IfOk-from_err c.from_residual.result _ c.from_residual.ensures.0
+
+pub returns-in_err-attend-clause-all : goal.returns-in_err-attend-clause-all
+returns-in_err-attend-clause-all g c = IfOk-from_err c.from_residual.result _ c.from_residual.ensures.0
+
+pub returns-in_err-attend-clause-recorded : goal.returns-in_err-attend-clause-recorded
+returns-in_err-attend-clause-recorded g c = IfOk-from_err c.from_residual.result _ c.from_residual.ensures.0
+
+pub returns-in_err-attend-clause-in_time : goal.returns-in_err-attend-clause-in_time
+returns-in_err-attend-clause-in_time g c = IfOk-from_err c.from_residual.result _ c.from_residual.ensures.0
+
+pub returns-in_err-attend-clause-idle : goal.returns-in_err-attend-clause-idle
+returns-in_err-attend-clause-idle g c = IfOk-from_err c.from_residual.result _ c.from_residual.ensures.0
+
+pub returns-in-Still-clause-needs_link : goal.returns-in-Still-clause-needs_link
+returns-in-Still-clause-needs_link g c = ((λ needs. absurd cc), (λ none. absurd cc))
+
+pub returns-in-Still-clause-recorded : goal.returns-in-Still-clause-recorded
+returns-in-Still-clause-recorded g c = ap (λ (h : HostState). h.fault) c.self.view_is ∙ c.requires.no_fault
+
+pub returns-in-Still-clause-in_time : goal.returns-in-Still-clause-in_time
+returns-in-Still-clause-in_time g c = c.in_ok-attend.ensures.in_time (rw c.in-Still.is refl)
+
+pub returns-in-Still-clause-all : goal.returns-in-Still-clause-all
+returns-in-Still-clause-all g c = (c.in_ok-attend.ensures.all (rw c.in-Still.is refl)).1
+
+pub returns-in-Moved-clause-needs_link : goal.returns-in-Moved-clause-needs_link
+returns-in-Moved-clause-needs_link g c = ((λ needs. absurd cc), (λ none. absurd cc))
+
+pub returns-in-Moved-clause-recorded : goal.returns-in-Moved-clause-recorded
+returns-in-Moved-clause-recorded g c = ap (λ (h : HostState). h.fault) c.self.view_is ∙ c.requires.no_fault
+
+pub returns-in-Moved-clause-in_time : goal.returns-in-Moved-clause-in_time
+returns-in-Moved-clause-in_time g c = c.in_ok-attend.ensures.in_time (rw c.in-Moved.is refl)
+
+pub returns-in-Moved-clause-all : goal.returns-in-Moved-clause-all
+returns-in-Moved-clause-all g c = (c.in_ok-attend.ensures.all (rw c.in-Moved.is refl)).1
+
+pub returns-in-Moved-clause-idle : goal.returns-in-Moved-clause-idle
+returns-in-Moved-clause-idle g c = λ idle. absurd cc

@@ -1,26 +1,46 @@
-use Rattle.std.proofs.Common.{◌∙◌, Ok, sym, ap, refl, inl}
-use Rattle.std.proofs.lemmas.Result.{err_from_is_err_and}
+use Rattle.proxy_engines.specs.declared.error.EngineError.{EngineError}
+use Rattle.proxy_engines.specs.declared.client.Progress.{Progress}
+use Rattle.std.specs.Prelude.{Result, Err, IfOk}
+use Rattle.std.proofs.Common.{◌∙◌, Ok, sym, ap, inl, ◌≡◌, ◌↔◌}
+use Rattle.std.proofs.lemmas.Result.{IfOk-from_err}
 use Rattle.proxy_history.specs.declared.refusal.Refusal.{Refusal}
-use Rattle.proxy_engines.specs.HostStep.{HostState}
+use Rattle.proxy_engines.specs.HostStep.{HostState, after_fault}
 use Rattle.proxy_engines.proofs.HostLemmas.{steps_after}
 use Rattle.proxy_engines.proofs.HostMoves.{starts_then}
 use Rattle.proxy_engines.proofs.host.HostEngine.step.Goals as goal
 
-pub returns-in_err-progress-clause-steps : goal.returns-in_err-progress-clause-steps
-returns-in_err-progress-clause-steps g c =
-    let was = ap (λ (h : HostState). h.fault) (sym c.self.view_is) ∙ c.in-Some.is in
-    let (fails, no_link, no_fault) = c.in_ok-give_up.ensures.fails in
-    let (_, result_is, error_is) = err_from_is_err_and c.from_residual-in_err-progress.result c.from_residual-in_err-progress.ensures.1 in
-    rw (result_is, error_is)
-    (inl (steps_after (g.T.Turns.cause (g.T.Turns.setting c.args.turns.now) Refusal.Unasked) (g.T.Turns.seen c.args.turns.now) (g.T.Turns.seen c.give_up.new.turns) (g.T.Turns.seen c.go_on-2.new.turns) c.args.moment c.give_up.ensures.seen
-    c.args.self.now c.give_up.new.self c.go_on-2.new.self c.in-Some.kind _ _ _ _ _ was fails no_link no_fault (rw c.give_up.ensures.setting at (rw c.give_up.ensures.pass at c.in_err-progress.ensures.works)) refl))
+-- what the answer comes to behind an earlier fault
+module _ (A : Type 0) where
+  after_needs : (r : Result Progress EngineError) → IfOk r (λ p. (p ≡ Progress.NeedsLink) ↔ A) → IfOk (after_fault r) (λ p. (p ≡ Progress.NeedsLink) ↔ A)
+  after_needs (Ok Progress.NeedsLink) h = h
+  after_needs (Ok Progress.Moved) h = ((λ needs. absurd cc), (λ a. let e = h.1 a in absurd cc))
+  after_needs (Ok Progress.Idle) h = ((λ needs. absurd cc), (λ a. let e = h.1 a in absurd cc))
+  after_needs (Ok Progress.Cut) h = ((λ needs. absurd cc), (λ a. let e = h.1 a in absurd cc))
+  after_needs (Ok Progress.Ended) h = ((λ needs. absurd cc), (λ a. let e = h.1 a in absurd cc))
+  after_needs (Err e) h = tt
+
+  after_idle : (r : Result Progress EngineError) → IfOk (after_fault r) (λ p. p ≡ Progress.Idle → A)
+  after_idle (Ok Progress.NeedsLink) = λ idle. absurd cc
+  after_idle (Ok Progress.Moved) = λ idle. absurd cc
+  after_idle (Ok Progress.Idle) = λ idle. absurd cc
+  after_idle (Ok Progress.Cut) = λ idle. absurd cc
+  after_idle (Ok Progress.Ended) = λ idle. absurd cc
+  after_idle (Err e) = tt
+
+  after_any : (r : Result Progress EngineError) → IfOk r (λ _. A) → IfOk (after_fault r) (λ _. A)
+  after_any (Ok Progress.NeedsLink) a = a
+  after_any (Ok Progress.Moved) a = a
+  after_any (Ok Progress.Idle) a = a
+  after_any (Ok Progress.Cut) a = a
+  after_any (Ok Progress.Ended) a = a
+  after_any (Err e) a = tt
 
 pub returns-clause-steps : goal.returns-clause-steps
 returns-clause-steps g c =
     let was = ap (λ (h : HostState). h.fault) (sym c.self.view_is) ∙ c.in-Some.is in
     let (fails, no_link, no_fault) = c.in_ok-give_up.ensures.fails in
     inl (steps_after (g.T.Turns.cause (g.T.Turns.setting c.args.turns.now) Refusal.Unasked) (g.T.Turns.seen c.args.turns.now) (g.T.Turns.seen c.give_up.new.turns) (g.T.Turns.seen c.go_on-2.new.turns) c.args.moment c.give_up.ensures.seen
-    c.args.self.now c.give_up.new.self c.go_on-2.new.self c.in-Some.kind _ _ _ (Ok c.in_ok-progress.progress) _ was fails no_link no_fault (rw c.give_up.ensures.setting at (rw c.give_up.ensures.pass at c.in_ok-progress.ensures.works)) c.after_fault.ensures)
+    c.args.self.now c.give_up.new.self c.go_on-2.new.self c.in-Some.kind _ _ _ c.go_on-2.result _ was fails no_link no_fault (rw c.give_up.ensures.setting at (rw c.give_up.ensures.pass at c.go_on-2.ensures.works)) c.after_fault.ensures)
 
 pub returns-clause-seen : goal.returns-clause-seen
 returns-clause-seen g c = starts_then (g.T.Turns.seen c.args.turns.now) (g.T.Turns.seen c.give_up.new.turns) (g.T.Turns.seen c.go_on-2.new.turns) c.give_up.ensures.seen c.go_on-2.ensures.seen
@@ -43,15 +63,6 @@ returns-in_err-give_up-clause-setting g c = c.give_up.ensures.setting
 pub returns-in_err-give_up-clause-seen : goal.returns-in_err-give_up-clause-seen
 returns-in_err-give_up-clause-seen g c = c.give_up.ensures.seen
 
-pub returns-in_err-progress-clause-pass : goal.returns-in_err-progress-clause-pass
-returns-in_err-progress-clause-pass g c = c.go_on-2.ensures.pass ∙ c.give_up.ensures.pass
-
-pub returns-in_err-progress-clause-setting : goal.returns-in_err-progress-clause-setting
-returns-in_err-progress-clause-setting g c = c.go_on-2.ensures.setting ∙ c.give_up.ensures.setting
-
-pub returns-in_err-progress-clause-seen : goal.returns-in_err-progress-clause-seen
-returns-in_err-progress-clause-seen g c = starts_then _ _ _ c.give_up.ensures.seen c.go_on-2.ensures.seen
-
 pub returns-clause-pass : goal.returns-clause-pass
 returns-clause-pass g c = c.go_on-2.ensures.pass ∙ c.give_up.ensures.pass
 
@@ -69,3 +80,30 @@ returns-in_default-clause-in_time g c = c.go_on.ensures.in_time
 
 pub returns-in_default-clause-idle : goal.returns-in_default-clause-idle
 returns-in_default-clause-idle g c = c.go_on.ensures.idle
+
+pub returns-in_err-give_up-clause-needs_link : goal.returns-in_err-give_up-clause-needs_link
+returns-in_err-give_up-clause-needs_link g c = IfOk-from_err c.from_residual.result _ c.from_residual.ensures.0
+
+pub returns-in_err-give_up-clause-all : goal.returns-in_err-give_up-clause-all
+returns-in_err-give_up-clause-all g c = IfOk-from_err c.from_residual.result _ c.from_residual.ensures.0
+
+pub returns-in_err-give_up-clause-recorded : goal.returns-in_err-give_up-clause-recorded
+returns-in_err-give_up-clause-recorded g c = IfOk-from_err c.from_residual.result _ c.from_residual.ensures.0
+
+pub returns-in_err-give_up-clause-in_time : goal.returns-in_err-give_up-clause-in_time
+returns-in_err-give_up-clause-in_time g c = IfOk-from_err c.from_residual.result _ c.from_residual.ensures.0
+
+pub returns-in_err-give_up-clause-idle : goal.returns-in_err-give_up-clause-idle
+returns-in_err-give_up-clause-idle g c = IfOk-from_err c.from_residual.result _ c.from_residual.ensures.0
+
+pub returns-clause-needs_link : goal.returns-clause-needs_link
+returns-clause-needs_link g c = rw c.after_fault.ensures (after_needs _ c.go_on-2.result c.go_on-2.ensures.needs_link)
+
+pub returns-clause-recorded : goal.returns-clause-recorded
+returns-clause-recorded g c = rw c.after_fault.ensures (after_any _ c.go_on-2.result c.go_on-2.ensures.recorded)
+
+pub returns-clause-in_time : goal.returns-clause-in_time
+returns-clause-in_time g c = rw c.after_fault.ensures (after_any _ c.go_on-2.result c.go_on-2.ensures.in_time)
+
+pub returns-clause-idle : goal.returns-clause-idle
+returns-clause-idle g c = rw c.after_fault.ensures (after_idle _ c.go_on-2.result)

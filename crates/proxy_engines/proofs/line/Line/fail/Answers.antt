@@ -1,11 +1,41 @@
+use Rattle.std.proofs.Common.{refl}
 use Rattle.proxy_engines.proofs.HostMoves.{fault_records}
 use Rattle.proxy_engines.proofs.line.Line.fail.Goals as goal
-use Rattle.proxy_engines.proofs.line.Line.fail.Goals.{in-Ok, in-Err}
 
-pub returns-clause-fails : goal.returns-clause-fails
-returns-clause-fails g c =
-    elim c.match-tell.branch [
-      | in-Ok w ↦ rw (w.result-is, w.self-is, w.saturating_add-self-inside.ensures, w.new.ensures, w.clear.ensures.items, w.in-Ok.ensures.answered.steps, ← c.self.view_is)
-          (λ k. fault_records _ k (g.T.Turns.pass c.args.turns.now) _ c.args.kind c.args.moment w.in-Ok.field-0 c.if-self.false (rw w.in-Ok.ensures.answered.steps at w.in-Ok.ensures.answered.few))
-      | in-Err w ↦ rw w.result-is tt
-    ]
+pub returns-in-Ok-clause-pass : goal.returns-in-Ok-clause-pass
+returns-in-Ok-clause-pass g c = c.tell.ensures.pass
+
+pub returns-in-Ok-clause-setting : goal.returns-in-Ok-clause-setting
+returns-in-Ok-clause-setting g c = c.tell.ensures.setting
+
+pub returns-in-Ok-clause-seen : goal.returns-in-Ok-clause-seen
+returns-in-Ok-clause-seen g c = c.tell.ensures.seen
+
+pub returns-in-Err-clause-pass : goal.returns-in-Err-clause-pass
+returns-in-Err-clause-pass g c = c.tell.ensures.pass
+
+pub returns-in-Err-clause-setting : goal.returns-in-Err-clause-setting
+returns-in-Err-clause-setting g c = c.tell.ensures.setting
+
+pub returns-in-Err-clause-seen : goal.returns-in-Err-clause-seen
+returns-in-Err-clause-seen g c = c.tell.ensures.seen
+
+pub returns-in-Ok-clause-fails : goal.returns-in-Ok-clause-fails
+returns-in-Ok-clause-fails g c =
+    rw (c.saturating_add-self-inside.ensures, c.new.ensures, c.clear.ensures.items, c.in-Ok.ensures.answered.steps, ← c.self.view_is)
+    (λ k. fault_records _ k (g.T.Turns.pass c.args.turns.now) _ c.args.kind c.args.moment c.in-Ok.answer c.if-self.false (rw c.in-Ok.ensures.answered.steps at c.in-Ok.ensures.answered.few))
+
+pub returns-in-Ok-clause-same : goal.returns-in-Ok-clause-same
+returns-in-Ok-clause-same g c = tt
+
+pub returns-in-Ok-clause-err : goal.returns-in-Ok-clause-err
+returns-in-Ok-clause-err g c = tt
+
+pub returns-in-Err-clause-fails : goal.returns-in-Err-clause-fails
+returns-in-Err-clause-fails g c = tt
+
+pub returns-in-Err-clause-same : goal.returns-in-Err-clause-same
+returns-in-Err-clause-same g c = (refl, c.in-Err.ensures.rests)
+
+pub returns-in-Err-clause-err : goal.returns-in-Err-clause-err
+returns-in-Err-clause-err g c = c.error.ensures

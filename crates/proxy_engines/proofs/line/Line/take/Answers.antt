@@ -72,3 +72,63 @@ returns-then-self-clause-setting g c = refl
 
 pub returns-then-self-clause-seen : goal.returns-then-self-clause-seen
 returns-then-self-clause-seen g c = starts_same _
+
+pub returns-then-self-clause-none : goal.returns-then-self-clause-none
+returns-then-self-clause-none g c = tt
+
+pub returns-then-self-clause-nothing_waits : goal.returns-then-self-clause-nothing_waits
+returns-then-self-clause-nothing_waits g c = tt
+
+pub returns-then-self-clause-plain : goal.returns-then-self-clause-plain
+returns-then-self-clause-plain g c = tt
+
+pub returns-then-is_err-clause-none : goal.returns-then-is_err-clause-none
+returns-then-is_err-clause-none g c = tt
+
+pub returns-then-is_err-clause-nothing_waits : goal.returns-then-is_err-clause-nothing_waits
+returns-then-is_err-clause-nothing_waits g c = tt
+
+pub returns-then-is_err-clause-plain : goal.returns-then-is_err-clause-plain
+returns-then-is_err-clause-plain g c = tt
+
+pub returns-then-epoch-self-clause-none : goal.returns-then-epoch-self-clause-none
+returns-then-epoch-self-clause-none g c = tt
+
+pub returns-then-epoch-self-clause-nothing_waits : goal.returns-then-epoch-self-clause-nothing_waits
+returns-then-epoch-self-clause-nothing_waits g c = tt
+
+pub returns-then-epoch-self-clause-plain : goal.returns-then-epoch-self-clause-plain
+returns-then-epoch-self-clause-plain g c = tt
+
+pub returns-else-epoch-self-clause-none : goal.returns-else-epoch-self-clause-none
+returns-else-epoch-self-clause-none g c = λ none. absurd cc
+
+pub returns-else-epoch-self-clause-nothing_waits : goal.returns-else-epoch-self-clause-nothing_waits
+returns-else-epoch-self-clause-nothing_waits g c = λ none. absurd cc
+
+pub returns-else-epoch-self-clause-plain : goal.returns-else-epoch-self-clause-plain
+returns-else-epoch-self-clause-plain g c = tt
+
+pub returns-in-Err-clause-none : goal.returns-in-Err-clause-none
+returns-in-Err-clause-none g c = tt
+
+pub returns-in-Err-clause-nothing_waits : goal.returns-in-Err-clause-nothing_waits
+returns-in-Err-clause-nothing_waits g c = tt
+
+pub returns-in-Err-clause-plain : goal.returns-in-Err-clause-plain
+returns-in-Err-clause-plain g c = rw c.error.ensures.1 tt
+
+pub returns-in-Err-By-NothingWaiting-clause-pass : goal.returns-in-Err-By-NothingWaiting-clause-pass
+returns-in-Err-By-NothingWaiting-clause-pass g c = c.tell.ensures.pass
+
+pub returns-in-Err-By-NothingWaiting-clause-setting : goal.returns-in-Err-By-NothingWaiting-clause-setting
+returns-in-Err-By-NothingWaiting-clause-setting g c = c.tell.ensures.setting
+
+pub returns-in-Err-By-NothingWaiting-clause-seen : goal.returns-in-Err-By-NothingWaiting-clause-seen
+returns-in-Err-By-NothingWaiting-clause-seen g c = c.tell.ensures.seen
+
+pub returns-in-Err-By-NothingWaiting-clause-none : goal.returns-in-Err-By-NothingWaiting-clause-none
+returns-in-Err-By-NothingWaiting-clause-none g c = λ _. rw c.reserve.ensures.items c.self.view_is
+
+pub returns-in-Err-By-NothingWaiting-clause-plain : goal.returns-in-Err-By-NothingWaiting-clause-plain
+returns-in-Err-By-NothingWaiting-clause-plain g c = tt

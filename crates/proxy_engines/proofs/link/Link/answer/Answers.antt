@@ -1,3 +1,4 @@
+use Rattle.proxy_engines.specs.Host.{LinkState}
 use Rattle.std.proofs.Common.{◌≡◌, ◌∙◌, ap, sym, Some, false, refl}
 use Rattle.proxy_engines.proofs.HostMoves.{answered_on, stays_on, starts_same}
 use Rattle.proxy_engines.specs.Faults.{told_by_moves}
@@ -16,8 +17,8 @@ pub returns-after-denied-clause-goes : goal.returns-after-denied-clause-goes
 returns-after-denied-clause-goes g c =
     let same : Some c.in-Err.value ≡ c.self.inside.next = ap Some c.in-Err.ensures.back ∙ sym c.in-Some.is ∙ c.take.ensures.value in
     elim c.match-denied.branch [
-      | in-By-Unasked w ↦ as-none _ _ (ap told_by_moves w.result-is) (false, rw (same, ← c.self.view_is) (stays_on c.args.line.now _ _ _ c.args.moment c.in-Err.ensures.rests))
-      | in_default-denied w ↦ as-none _ _ (ap told_by_moves w.result-is) (false, rw (same, ← c.self.view_is) (stays_on c.args.line.now _ _ _ c.args.moment c.in-Err.ensures.rests))
+      | in-By-Unasked w ↦ as-none _ _ (ap told_by_moves w.result-is) (false, rw (c.replace.ensures.after, same, ← c.self.view_is) (stays_on c.args.line.now _ _ _ c.args.moment c.in-Err.ensures.rests))
+      | in_default-denied w ↦ as-none _ _ (ap told_by_moves w.result-is) (false, rw (c.replace.ensures.after, same, ← c.self.view_is) (stays_on c.args.line.now _ _ _ c.args.moment c.in-Err.ensures.rests))
     ]
 
 pub returns-after-denied-clause-pass : goal.returns-after-denied-clause-pass
@@ -58,3 +59,18 @@ returns-in_default-clause-plain g c = tt
 
 pub returns-in_default-clause-fault : goal.returns-in_default-clause-fault
 returns-in_default-clause-fault g c = tt
+
+pub returns-in-Ok-clause-inbox : goal.returns-in-Ok-clause-inbox
+returns-in-Ok-clause-inbox g c = ap (λ (k : LinkState). k.inbox) c.self.view_is
+
+pub returns-in-Ok-clause-counts : goal.returns-in-Ok-clause-counts
+returns-in-Ok-clause-counts g c = ap (λ (k : LinkState). k.counts) c.self.view_is
+
+pub returns-after-denied-clause-inbox : goal.returns-after-denied-clause-inbox
+returns-after-denied-clause-inbox g c = ap (λ (k : LinkState). k.inbox) c.self.view_is
+
+pub returns-after-denied-clause-counts : goal.returns-after-denied-clause-counts
+returns-after-denied-clause-counts g c = ap (λ (k : LinkState). k.counts) c.self.view_is
+
+pub returns-in-Ok-clause-moved : goal.returns-in-Ok-clause-moved
+returns-in-Ok-clause-moved g c = λ still. absurd cc

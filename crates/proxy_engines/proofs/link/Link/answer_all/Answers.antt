@@ -1,6 +1,9 @@
-use Rattle.std.proofs.Common.{◌∙◌, refl, sym, append-nil, []}
+use Rattle.proxy_engines.specs.Device.{Counts}
+use Rattle.proxy_engines.proofs.FaultLemmas.{faulty_calm, default_faulty, fault_later, no_fault}
+use Rattle.std.proofs.lemmas.Result.{IfOk-from_err, err_from_is_err_and}
+use Rattle.std.proofs.Common.{◌∙◌, refl, sym, append-nil, [], ap}
 use Rattle.proxy_engines.proofs.HostMoves.{stays_on, starts_then, told_still, told_moved, told_both}
-use Rattle.proxy_engines.proofs.MoveLemmas.{moves-err, as_fault}
+use Rattle.proxy_engines.proofs.MoveLemmas.{moves-err, as_fault, any_err}
 use Rattle.proxy_engines.proofs.link.Link.answer_all.Goals as goal
 
 pub loop-init : goal.loop-init
@@ -90,3 +93,29 @@ returns-in_default-clause-err g c = tt
 
 pub returns-in_default-clause-plain : goal.returns-in_default-clause-plain
 returns-in_default-clause-plain g c = tt
+
+pub returns-in_err-fault-clause-all : goal.returns-in_err-fault-clause-all
+returns-in_err-fault-clause-all g c = IfOk-from_err c.from_residual.result _ c.from_residual.ensures.0
+
+pub returns-in_err-fault-clause-fault : goal.returns-in_err-fault-clause-fault
+returns-in_err-fault-clause-fault g c = IfOk-from_err c.from_residual.result _ c.from_residual.ensures.0
+
+pub returns-in_err-fault-clause-plain : goal.returns-in_err-fault-clause-plain
+returns-in_err-fault-clause-plain g c = let (_, result_is, error_is) = err_from_is_err_and c.from_residual.result c.from_residual.ensures.1 in rw (result_is, error_is) c.in_err-fault.ensures.plain
+
+pub returns-in_err-fault-clause-err : goal.returns-in_err-fault-clause-err
+returns-in_err-fault-clause-err g c = any_err _ c.from_residual.result c.in_err-fault.ensures.err
+
+pub returns-in_default-clause-all : goal.returns-in_default-clause-all
+returns-in_default-clause-all g c = λ calm. faulty_calm _ c.in_ok-fault.fault (default_faulty c.in_ok-fault.fault c.in_default.not-Still c.in_default.not-Moved) calm
+
+pub returns-in_default-clause-fault : goal.returns-in_default-clause-fault
+returns-in_default-clause-fault g c =
+    let (_, _, reads, writes, _, _, setting, _) = c.loop.invariant in
+    fault_later c.answer_next.new.line c.answer_next.new.line c.args.self.now c.loop.self c.answer_next.new.self _ _ c.args.moment (ap (λ (n : Counts). n.failed) reads) (ap (λ (n : Counts). n.failed) writes) refl (λ x. x) c.in_ok-fault.fault (rw setting at c.in_ok-fault.ensures.fault)
+
+pub returns-in-Still-clause-all : goal.returns-in-Still-clause-all
+returns-in-Still-clause-all g c = λ _. c.in_ok-fault.ensures.still c.in-Still.is
+
+pub returns-in-Still-clause-fault : goal.returns-in-Still-clause-fault
+returns-in-Still-clause-fault g c = let (_, _, _, _, calm, _, _, _) = c.loop.invariant in no_fault c.loop.outcome _ calm

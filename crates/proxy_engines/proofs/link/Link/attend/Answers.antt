@@ -1,12 +1,13 @@
-use Rattle.std.proofs.Common.{◌≡◌, ◌⊎◌, ◌∙◌, [], sym, subst}
+use Rattle.std.proofs.lemmas.Result.{IfOk-from_err, err_from_is_err_and}
+use Rattle.std.proofs.Common.{◌≡◌, ◌⊎◌, ◌∙◌, [], sym, subst, ap, refl}
 use Rattle.proxy_engines.proofs.HostMoves.{told_both, told_either, starts_then}
 use Rattle.proxy_history.specs.declared.event.Event.{Event}
 use Rattle.proxy_history.specs.declared.refusal.Refusal.{Refusal}
 use Rattle.proxy_engines.specs.Device.{Counts, HasRisen}
 use Rattle.proxy_engines.specs.Ends.{InboxState}
 use Rattle.proxy_engines.specs.Turned.{HasHeld}
-use Rattle.proxy_engines.proofs.FaultLemmas.{either_still, idle_then, not_late}
-use Rattle.proxy_engines.proofs.MoveLemmas.{moves-err, as_faulty}
+use Rattle.proxy_engines.proofs.FaultLemmas.{either_still, idle_then, not_late, faulty_still, faulty_calm, write_fault, fault_later, no_fault}
+use Rattle.proxy_engines.proofs.MoveLemmas.{moves-err, as_faulty, any_err}
 use Rattle.proxy_engines.proofs.link.Link.attend.Goals as goal
 
 pub returns-in_err-received-clause-goes : goal.returns-in_err-received-clause-goes
@@ -113,3 +114,88 @@ returns-clause-err g c = tt
 
 pub returns-clause-plain : goal.returns-clause-plain
 returns-clause-plain g c = tt
+
+pub returns-in_err-sent-clause-goes : goal.returns-in_err-sent-clause-goes
+returns-in_err-sent-clause-goes g c = moves-err _ c.from_residual.result c.from_residual.ensures.0 c.in_err-sent.ensures.goes
+
+pub returns-in_err-sent-clause-idle : goal.returns-in_err-sent-clause-idle
+returns-in_err-sent-clause-idle g c = IfOk-from_err c.from_residual.result _ c.from_residual.ensures.0
+
+pub returns-in_err-sent-clause-all : goal.returns-in_err-sent-clause-all
+returns-in_err-sent-clause-all g c = IfOk-from_err c.from_residual.result _ c.from_residual.ensures.0
+
+pub returns-in_err-sent-clause-fault : goal.returns-in_err-sent-clause-fault
+returns-in_err-sent-clause-fault g c = IfOk-from_err c.from_residual.result _ c.from_residual.ensures.0
+
+pub returns-in_err-sent-clause-in_time : goal.returns-in_err-sent-clause-in_time
+returns-in_err-sent-clause-in_time g c = IfOk-from_err c.from_residual.result _ c.from_residual.ensures.0
+
+pub returns-in_err-sent-clause-plain : goal.returns-in_err-sent-clause-plain
+returns-in_err-sent-clause-plain g c = let (_, result_is, error_is) = err_from_is_err_and c.from_residual.result c.from_residual.ensures.1 in rw (result_is, error_is) c.in_err-sent.ensures.plain
+
+pub returns-in_err-sent-clause-err : goal.returns-in_err-sent-clause-err
+returns-in_err-sent-clause-err g c = any_err _ c.from_residual.result (ap (λ (i : InboxState). i.values.refusal) c.send.ensures.inbox ∙ c.requires.whole)
+
+pub returns-then-is_fault-clause-goes : goal.returns-then-is_fault-clause-goes
+returns-then-is_fault-clause-goes g c = c.in_ok-sent.ensures.goes
+
+pub returns-then-is_fault-clause-idle : goal.returns-then-is_fault-clause-idle
+returns-then-is_fault-clause-idle g c = λ still. faulty_still _ c.in_ok-sent.sent (sym c.is_fault.ensures ∙ c.if-is_fault.true) still
+
+pub returns-then-is_fault-clause-all : goal.returns-then-is_fault-clause-all
+returns-then-is_fault-clause-all g c = λ calm. faulty_calm _ c.in_ok-sent.sent (sym c.is_fault.ensures ∙ c.if-is_fault.true) calm
+
+pub returns-then-is_fault-clause-in_time : goal.returns-then-is_fault-clause-in_time
+returns-then-is_fault-clause-in_time g c = λ calm. faulty_calm _ c.in_ok-sent.sent (sym c.is_fault.ensures ∙ c.if-is_fault.true) calm
+
+pub returns-then-is_fault-clause-fault : goal.returns-then-is_fault-clause-fault
+returns-then-is_fault-clause-fault g c = write_fault c.send.new.line c.args.self.now c.send.new.self _ c.args.moment c.in_ok-sent.sent c.in_ok-sent.ensures.fault
+
+pub returns-in_err-received-clause-idle : goal.returns-in_err-received-clause-idle
+returns-in_err-received-clause-idle g c = IfOk-from_err c.from_residual-in_err-received.result _ c.from_residual-in_err-received.ensures.0
+
+pub returns-in_err-received-clause-all : goal.returns-in_err-received-clause-all
+returns-in_err-received-clause-all g c = IfOk-from_err c.from_residual-in_err-received.result _ c.from_residual-in_err-received.ensures.0
+
+pub returns-in_err-received-clause-fault : goal.returns-in_err-received-clause-fault
+returns-in_err-received-clause-fault g c = IfOk-from_err c.from_residual-in_err-received.result _ c.from_residual-in_err-received.ensures.0
+
+pub returns-in_err-received-clause-in_time : goal.returns-in_err-received-clause-in_time
+returns-in_err-received-clause-in_time g c = IfOk-from_err c.from_residual-in_err-received.result _ c.from_residual-in_err-received.ensures.0
+
+pub returns-in_err-received-clause-plain : goal.returns-in_err-received-clause-plain
+returns-in_err-received-clause-plain g c = let (_, result_is, error_is) = err_from_is_err_and c.from_residual-in_err-received.result c.from_residual-in_err-received.ensures.1 in rw (result_is, error_is) c.in_err-received.ensures.plain
+
+pub returns-in_err-received-clause-err : goal.returns-in_err-received-clause-err
+returns-in_err-received-clause-err g c = any_err _ c.from_residual-in_err-received.result c.in_err-received.ensures.err
+
+pub returns-then-is_fault-2-clause-idle : goal.returns-then-is_fault-2-clause-idle
+returns-then-is_fault-2-clause-idle g c = λ still. faulty_still _ c.in_ok-received.received (sym c.is_fault-2.ensures ∙ c.if-is_fault-2.true) still
+
+pub returns-then-is_fault-2-clause-all : goal.returns-then-is_fault-2-clause-all
+returns-then-is_fault-2-clause-all g c = λ calm. faulty_calm _ c.in_ok-received.received (sym c.is_fault-2.ensures ∙ c.if-is_fault-2.true) calm
+
+pub returns-then-is_fault-2-clause-in_time : goal.returns-then-is_fault-2-clause-in_time
+returns-then-is_fault-2-clause-in_time g c = λ calm. faulty_calm _ c.in_ok-received.received (sym c.is_fault-2.ensures ∙ c.if-is_fault-2.true) calm
+
+pub returns-then-is_fault-2-clause-fault : goal.returns-then-is_fault-2-clause-fault
+returns-then-is_fault-2-clause-fault g c =
+    fault_later c.receive.new.line c.receive.new.line c.args.self.now c.send.new.self c.receive.new.self _ _ c.args.moment (ap (λ (i : InboxState). i.counts.failed) c.send.ensures.inbox) (c.in_ok-sent.ensures.writer (sym c.is_fault.ensures ∙ c.if-is_fault.false)) refl (λ x. x) c.in_ok-received.received (rw c.send.ensures.setting at c.in_ok-received.ensures.fault)
+
+pub returns-then-is_late-clause-idle : goal.returns-then-is_late-clause-idle
+returns-then-is_late-clause-idle g c = λ still. absurd cc
+
+pub returns-then-is_late-clause-all : goal.returns-then-is_late-clause-all
+returns-then-is_late-clause-all g c = λ calm. absurd cc
+
+pub returns-then-is_late-clause-in_time : goal.returns-then-is_late-clause-in_time
+returns-then-is_late-clause-in_time g c = λ calm. absurd cc
+
+pub returns-then-is_late-clause-fault : goal.returns-then-is_late-clause-fault
+returns-then-is_late-clause-fault g c = c.is_late.ensures.0 c.if-is_late.true
+
+pub returns-clause-all : goal.returns-clause-all
+returns-clause-all g c = λ _. c.in_ok-received.ensures.all (sym c.is_fault-2.ensures ∙ c.if-is_fault-2.false)
+
+pub returns-clause-fault : goal.returns-clause-fault
+returns-clause-fault g c = no_fault c.or.result _ (c.or.ensures.calm (sym c.is_fault.ensures ∙ c.if-is_fault.false) (sym c.is_fault-2.ensures ∙ c.if-is_fault-2.false))

@@ -1,7 +1,9 @@
-use Rattle.std.proofs.Common.{◌∙◌, Some, sym, refl}
+use Rattle.proxy_engines.specs.Device.{Counts}
+use Rattle.std.proofs.lemmas.Result.{IfOk-from_err, err_from_is_err_and}
+use Rattle.std.proofs.Common.{◌∙◌, Some, sym, refl, ap}
 use Rattle.proxy_engines.proofs.HostMoves.{told_both, told_either, starts_then}
-use Rattle.proxy_engines.proofs.FaultLemmas.{fault_later, either_still}
-use Rattle.proxy_engines.proofs.MoveLemmas.{moves-err, as_faulty}
+use Rattle.proxy_engines.proofs.FaultLemmas.{fault_later, either_still, faulty_still, faulty_calm, no_fault}
+use Rattle.proxy_engines.proofs.MoveLemmas.{moves-err, as_faulty, any_err}
 use Rattle.proxy_engines.proofs.link.Link.receive.Goals as goal
 
 pub returns-then-is_fault-2-clause-goes : goal.returns-then-is_fault-2-clause-goes
@@ -10,7 +12,7 @@ returns-then-is_fault-2-clause-goes g c =
 
 pub returns-then-is_fault-2-clause-fault : goal.returns-then-is_fault-2-clause-fault
 returns-then-is_fault-2-clause-fault g c =
-    fault_later c.answer_all.new.line c.answer_all.new.line c.args.self.now c.answer_all.new.self c.listen-heard.new.self ⊥ _ c.args.moment c.answer_all.ensures.reads c.answer_all.ensures.writes refl (λ x. absurd x) c.listen-heard.result (c.listen-heard.ensures.fault c.answer_all.new.line c.args.moment)
+    fault_later c.answer_all.new.line c.answer_all.new.line c.args.self.now c.answer_all.new.self c.listen-heard.new.self ⊥ _ c.args.moment (ap (λ (n : Counts). n.failed) c.answer_all.ensures.reads) (ap (λ (n : Counts). n.failed) c.answer_all.ensures.writes) refl (λ x. absurd x) c.listen-heard.result (c.listen-heard.ensures.fault c.answer_all.new.line c.args.moment)
 
 pub returns-in_err-after-clause-goes : goal.returns-in_err-after-clause-goes
 returns-in_err-after-clause-goes g c =
@@ -112,3 +114,88 @@ returns-clause-err g c = tt
 
 pub returns-clause-plain : goal.returns-clause-plain
 returns-clause-plain g c = tt
+
+pub returns-in_err-before-clause-goes : goal.returns-in_err-before-clause-goes
+returns-in_err-before-clause-goes g c = moves-err _ c.from_residual.result c.from_residual.ensures.0 c.in_err-before.ensures.goes
+
+pub returns-in_err-before-clause-idle : goal.returns-in_err-before-clause-idle
+returns-in_err-before-clause-idle g c = IfOk-from_err c.from_residual.result _ c.from_residual.ensures.0
+
+pub returns-in_err-before-clause-all : goal.returns-in_err-before-clause-all
+returns-in_err-before-clause-all g c = IfOk-from_err c.from_residual.result _ c.from_residual.ensures.0
+
+pub returns-in_err-before-clause-fault : goal.returns-in_err-before-clause-fault
+returns-in_err-before-clause-fault g c = IfOk-from_err c.from_residual.result _ c.from_residual.ensures.0
+
+pub returns-in_err-before-clause-writes : goal.returns-in_err-before-clause-writes
+returns-in_err-before-clause-writes g c = c.answer_all.ensures.writes
+
+pub returns-in_err-before-clause-plain : goal.returns-in_err-before-clause-plain
+returns-in_err-before-clause-plain g c = let (_, result_is, error_is) = err_from_is_err_and c.from_residual.result c.from_residual.ensures.1 in rw (result_is, error_is) c.in_err-before.ensures.plain
+
+pub returns-in_err-before-clause-err : goal.returns-in_err-before-clause-err
+returns-in_err-before-clause-err g c = any_err _ c.from_residual.result c.in_err-before.ensures.err
+
+pub returns-then-is_fault-clause-goes : goal.returns-then-is_fault-clause-goes
+returns-then-is_fault-clause-goes g c = c.in_ok-before.ensures.goes
+
+pub returns-then-is_fault-clause-fault : goal.returns-then-is_fault-clause-fault
+returns-then-is_fault-clause-fault g c = c.in_ok-before.ensures.fault
+
+pub returns-then-is_fault-clause-writes : goal.returns-then-is_fault-clause-writes
+returns-then-is_fault-clause-writes g c = c.answer_all.ensures.writes
+
+pub returns-then-is_fault-clause-idle : goal.returns-then-is_fault-clause-idle
+returns-then-is_fault-clause-idle g c = λ still. faulty_still _ c.in_ok-before.before (sym c.is_fault.ensures ∙ c.if-is_fault.true) still
+
+pub returns-then-is_fault-clause-all : goal.returns-then-is_fault-clause-all
+returns-then-is_fault-clause-all g c = λ calm. faulty_calm _ c.in_ok-before.before (sym c.is_fault.ensures ∙ c.if-is_fault.true) calm
+
+pub returns-then-is_fault-2-clause-writes : goal.returns-then-is_fault-2-clause-writes
+returns-then-is_fault-2-clause-writes g c = c.listen-heard.ensures.counts ∙ c.answer_all.ensures.writes
+
+pub returns-then-is_fault-2-clause-idle : goal.returns-then-is_fault-2-clause-idle
+returns-then-is_fault-2-clause-idle g c = λ still. faulty_still _ c.listen-heard.result (sym c.is_fault-2.ensures ∙ c.if-is_fault-2.true) still
+
+pub returns-then-is_fault-2-clause-all : goal.returns-then-is_fault-2-clause-all
+returns-then-is_fault-2-clause-all g c = λ calm. faulty_calm _ c.listen-heard.result (sym c.is_fault-2.ensures ∙ c.if-is_fault-2.true) calm
+
+pub returns-in_err-after-clause-idle : goal.returns-in_err-after-clause-idle
+returns-in_err-after-clause-idle g c = IfOk-from_err c.from_residual-in_err-after.result _ c.from_residual-in_err-after.ensures.0
+
+pub returns-in_err-after-clause-all : goal.returns-in_err-after-clause-all
+returns-in_err-after-clause-all g c = IfOk-from_err c.from_residual-in_err-after.result _ c.from_residual-in_err-after.ensures.0
+
+pub returns-in_err-after-clause-fault : goal.returns-in_err-after-clause-fault
+returns-in_err-after-clause-fault g c = IfOk-from_err c.from_residual-in_err-after.result _ c.from_residual-in_err-after.ensures.0
+
+pub returns-in_err-after-clause-writes : goal.returns-in_err-after-clause-writes
+returns-in_err-after-clause-writes g c = c.answer_all-2.ensures.writes ∙ c.listen-heard.ensures.counts ∙ c.answer_all.ensures.writes
+
+pub returns-in_err-after-clause-plain : goal.returns-in_err-after-clause-plain
+returns-in_err-after-clause-plain g c = let (_, result_is, error_is) = err_from_is_err_and c.from_residual-in_err-after.result c.from_residual-in_err-after.ensures.1 in rw (result_is, error_is) c.in_err-after.ensures.plain
+
+pub returns-in_err-after-clause-err : goal.returns-in_err-after-clause-err
+returns-in_err-after-clause-err g c = any_err _ c.from_residual-in_err-after.result c.in_err-after.ensures.err
+
+pub returns-then-is_fault-3-clause-writes : goal.returns-then-is_fault-3-clause-writes
+returns-then-is_fault-3-clause-writes g c = c.answer_all-2.ensures.writes ∙ c.listen-heard.ensures.counts ∙ c.answer_all.ensures.writes
+
+pub returns-then-is_fault-3-clause-idle : goal.returns-then-is_fault-3-clause-idle
+returns-then-is_fault-3-clause-idle g c = λ still. faulty_still _ c.in_ok-after.after (sym c.is_fault-3.ensures ∙ c.if-is_fault-3.true) still
+
+pub returns-then-is_fault-3-clause-all : goal.returns-then-is_fault-3-clause-all
+returns-then-is_fault-3-clause-all g c = λ calm. faulty_calm _ c.in_ok-after.after (sym c.is_fault-3.ensures ∙ c.if-is_fault-3.true) calm
+
+pub returns-then-is_fault-3-clause-fault : goal.returns-then-is_fault-3-clause-fault
+returns-then-is_fault-3-clause-fault g c =
+    fault_later c.answer_all-2.new.line c.answer_all-2.new.line c.args.self.now c.listen-heard.new.self c.answer_all-2.new.self _ _ c.args.moment (c.listen-heard.ensures.reader (sym c.is_fault-2.ensures ∙ c.if-is_fault-2.false) ∙ ap (λ (n : Counts). n.failed) c.answer_all.ensures.reads) (ap (λ (n : Counts). n.failed) (c.listen-heard.ensures.counts ∙ c.answer_all.ensures.writes)) refl (λ x. x) c.in_ok-after.after (rw c.answer_all.ensures.setting at c.in_ok-after.ensures.fault)
+
+pub returns-clause-writes : goal.returns-clause-writes
+returns-clause-writes g c = c.answer_all-2.ensures.writes ∙ c.listen-heard.ensures.counts ∙ c.answer_all.ensures.writes
+
+pub returns-clause-all : goal.returns-clause-all
+returns-clause-all g c = λ _. c.in_ok-after.ensures.all (sym c.is_fault-3.ensures ∙ c.if-is_fault-3.false)
+
+pub returns-clause-fault : goal.returns-clause-fault
+returns-clause-fault g c = no_fault c.or-2.result _ (c.or-2.ensures.calm (c.or.ensures.calm (sym c.is_fault.ensures ∙ c.if-is_fault.false) (sym c.is_fault-2.ensures ∙ c.if-is_fault-2.false)) (sym c.is_fault-3.ensures ∙ c.if-is_fault-3.false))
