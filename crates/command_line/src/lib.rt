@@ -104,9 +104,9 @@ fn local<'a>(alloc: Global) -> Result<Command<'a>, AllocError> {
     Command::new(alloc, "redproxy")
         .about("A proxy that clients speak to as to one Redis server")
         .subcommand_required(true)
-        .subcommand(
-            Command::new(alloc, "local").about("Serves one client on standard input and output"),
-        )
+        .subcommand(Command::new(alloc, "local").about(
+            "Serves one client on standard input and output",
+        ))
 }
 
 fn command<'a>(alloc: Global) -> Result<Command<'a>, AllocError> {

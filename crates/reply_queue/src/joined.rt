@@ -7,9 +7,9 @@ ghost use Rattle.reply_queue.specs.Command.{awaiting_command, with_value, reply_
 
 use resp_core::Value;
 use splitter::{Join, SplitError, join};
-use std::mem;
 use std::alloc::{AllocError, Global};
 use std::marker::Model;
+use std::mem;
 
 /// The values of a command's parts as far as they have come, and how they become one.
 ///

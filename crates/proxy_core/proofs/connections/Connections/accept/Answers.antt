@@ -34,6 +34,9 @@ returns-clause-index c =
 pub returns-clause-refused : goal.returns-clause-refused
 returns-clause-refused c =
     IfErr-weaker c.accept_one.result _ _
-    (λ r is. (is.0, ap (λ ks. let t : ConnectionTable = record { numbered = ks; closed = c.self.inside.closed } in t)
-    (slice_set-same c.self.inside.numbered.items c.args.conn _ _ (is.1 ∙ c.index_mut.ensures.value)) ∙ c.self.view_is))
+    (λ r is. (
+      is.0,
+      ap (λ ks. let t : ConnectionTable = record { numbered = ks; closed = c.self.inside.closed } in t)
+          (slice_set-same c.self.inside.numbered.items c.args.conn _ _ (is.1 ∙ c.index_mut.ensures.value)) ∙ c.self.view_is,
+    ))
     c.accept_one.ensures.refused
