@@ -1,5 +1,5 @@
 -- A table of connections, by the connection of one number.
-use Rattle.std.proofs.Common.{◌≡◌, ℕ, zero, suc, ◌<◌, List, [], ◌∷◌, Option, Some, None, get_or, slice_set, length, refl, ap, arith}
+use Rattle.std.proofs.Common.{◌≡◌, ℕ, zero, suc, ◌<◌, List, [], ◌∷◌, Option, Some, get_or, slice_set, length, refl, ap, arith}
 use Rattle.proxy_core.specs.Connections.{connection_at}
 use Rattle.proxy_core.specs.declared.connection.Connection.{Connection}
 

@@ -1,21 +1,19 @@
 //! A host fails.
-ghost use Rattle.std.specs.Prelude.{◌≡◌, ◌<◌, ◌+◌, ◌-◌, ◌^◌, ◌++◌, Some, None, length, map, IfOk, IfErr, OnOk, OnErr, List};
+ghost use Rattle.std.specs.Prelude.{◌≡◌, ◌<◌, ◌+◌, ◌-◌, ◌^◌, ◌++◌, length, map, IfOk, IfErr, OnOk, List};
 ghost use Rattle.ejector.specs.declared.mark.Mark.{Mark};
 ghost use Rattle.ejector.specs.State.{State};
 ghost use Rattle.ejector.specs.Ejection.{state};
 ghost use Rattle.proxy_history.specs.Setting.{hosts};
 ghost use Rattle.proxy_history.specs.Value.{upstream_failure};
-ghost use Rattle.proxy_history.specs.Marks.{is_excused_by};
 ghost use Rattle.proxy_history.specs.Answer.{trip_by};
 ghost use Rattle.proxy_history.specs.declared.answer.Answer.TheVariants as answers;
 ghost use Rattle.proxy_history.specs.declared.event.Event.TheVariants as events;
 ghost use Rattle.proxy_history.specs.declared.event.Kind.TheVariants.{Late};
 ghost use Rattle.upstream_pipe.specs.Pipe.{owner_in};
-ghost use Rattle.journal_core.specs.Journal.{IsFull};
 ghost use Rattle.proxy_core.specs.Connections.{AreAwaited, answered_parts};
 ghost use Rattle.proxy_core.specs.Pipelines.{PipelineState, failed_pipeline, lost_owners, with_pipeline, pipeline_at};
 ghost use Rattle.proxy_core.specs.Core.{IsMade, IsLeft};
-ghost use Rattle.proxy_core.specs.Machine.{setting_in, memory_in, own_cause_in, fault_mark, IsDone, IsSame, HasCauseIn, HasFailed, IsKept};
+ghost use Rattle.proxy_core.specs.Machine.{setting_in, memory_in, fault_mark, IsDone, IsSame, HasCauseIn, HasFailed, IsKept};
 
 use crate::answered::counted;
 use crate::machine::{Done, Machine, make_room};

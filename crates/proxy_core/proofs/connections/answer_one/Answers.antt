@@ -1,7 +1,4 @@
 use Rattle.std.proofs.Common.{Some, ap}
-use Rattle.std.specs.Option.{option_map}
-use Rattle.resp_core.specs.Value.{tree_of}
-use Rattle.proxy_core.specs.Connections.{with_answer}
 use Rattle.proxy_core.specs.declared.connection.Connection.{Connection}
 use Rattle.proxy_core.proofs.connections.answer_one.Goals as goal
 
