@@ -6,7 +6,8 @@ use Rattle.ejector.specs.declared.settings.Settings.{Settings}
 use Rattle.ejector.specs.declared.error.EjectError.{EjectError}
 use Rattle.ejector.specs.Ejector.{Ejection}
 use Rattle.ejector.specs.Settings.{first_fault}
-use Rattle.proxy_history.specs.Proxy.{rules_of}
+use Rattle.proxy_history.specs.Proxy.{Proxy, rules_of}
+use Rattle.proxy_core.specs.Core.{refusal_for}
 use Rattle.proxy_history.specs.declared.refusal.Refusal.{Refusal}
 use Rattle.proxy_history.specs.declared.refusal.Refusal.TheVariants as refusal
 
@@ -29,3 +30,17 @@ pub refused_by-range : {A : Type 0} (ring : Continuum) (settings : Settings) (n 
     → MatchOption (first_fault (record { hosts = n; settings = settings })) (Unit {0}) (λ field. IsErrOf {T = Ejection} (Ok e) (EjectError.BadSettings field)) → IsRefusedBy (first_fault (rules_of ring settings)) r
 refused_by-range ring settings n hosts r h e made =
     refused_by-none _ r (ap (λ m. first_fault (record { hosts = m; settings = settings })) (sym hosts) ∙ none_is-made e _ made) h
+
+-- and where none has, its refusal is told
+told_as : (fault : Option Field) (e : EjectError) (r : Refusal) → r ≡ refusal_for e → MatchOption fault (e ≡ EjectError.NoMemory) (λ field. IsErrOf {T = Ejection} (Err e) (EjectError.BadSettings field))
+    → IsRefusedBy {A = Proxy} fault (Err r)
+told_as None e r is h = is ∙ ap refusal_for h
+told_as (Some field) e r is h =
+    let bad : e ≡ EjectError.BadSettings field = cc in
+    ap Err (is ∙ ap refusal_for bad)
+
+pub refused_by-error : (ring : Continuum) (settings : Settings) (n : ℕ) → n ≡ ring.hosts → (e : EjectError) (r : Refusal) → r ≡ refusal_for e
+    → MatchOption (first_fault (record { hosts = n; settings = settings })) (e ≡ EjectError.NoMemory) (λ field. IsErrOf {T = Ejection} (Err e) (EjectError.BadSettings field))
+    → IsRefusedBy {A = Proxy} (first_fault (rules_of ring settings)) (Err r)
+refused_by-error ring settings n hosts e r is h =
+    subst (λ m. IsRefusedBy {A = Proxy} (first_fault (record { hosts = m; settings = settings })) (Err r)) hosts (told_as _ e r is h)

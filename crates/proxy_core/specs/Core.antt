@@ -9,6 +9,9 @@ use Rattle.proxy_history.specs.Legal.{MayFollow, IsCause}
 use Rattle.proxy_history.specs.Proxy.{Proxy}
 use Rattle.proxy_history.specs.Proxy as Reference
 use Rattle.proxy_history.specs.declared.refusal.Refusal.{Refusal}
+use Rattle.proxy_history.specs.declared.refusal.Refusal.TheVariants as refusal
+use Rattle.ejector.specs.declared.error.EjectError.{EjectError}
+use Rattle.ejector.specs.declared.error.EjectError.TheVariants as eject
 use Rattle.proxy_history.specs.declared.answer.Answer.{Answer}
 use Rattle.proxy_history.specs.declared.event.Event.{Event}
 use Rattle.proxy_core.specs.Machine.{setting_in, history_in, IsKept}
@@ -51,6 +54,11 @@ pub record IsLeft (old new : Machine) (event : Event) (r : Refused) : Type 0 whe
 -- what outlier detection knows of the hosts
 abbrev pub detector_state : Proxy → State
 detector_state k = state k.setting.rules k.setting.opening (past k.setting (Reference.history_in k)).marks
+
+-- the refusal of a core for whose hosts there is no ejector
+abbrev pub refusal_for : EjectError → Refusal
+refusal_for eject.NoMemory = refusal.NoMemory
+refusal_for (eject.BadSettings field) = refusal.BadSettings field
 
 -- One event was taken: its step was added with this answer, which may come next, or it was refused with its cause and the
 -- history stays.

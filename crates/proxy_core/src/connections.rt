@@ -58,7 +58,10 @@ impl Connections {
     pub(crate) fn get(&self, conn: u64) -> Option<&Connection>
         ensures { option_copied result ≡ connection_at conn self.now.numbered }
     {
-        self.numbered.get(conn as usize)?.as_ref()
+        match self.numbered.get(conn as usize) {
+            Some(connection) => connection.as_ref(),
+            None => None,
+        }
     }
 
     /// How many are open.

@@ -10,7 +10,7 @@ ghost use Rattle.proxy_history.specs.Legal.{IsLegal, IsCause};
 ghost use Rattle.proxy_history.specs.Payload.{payload};
 ghost use Rattle.proxy_history.specs.Proxy.{history_in, rules_of, setting_from, setting_of, IsStep};
 ghost use Rattle.proxy_core.specs.Machine.{IsKept};
-ghost use Rattle.proxy_core.specs.Core.{IsMade, IsLeft, IsSettled, IsTurn, IsRun, detector_state};
+ghost use Rattle.proxy_core.specs.Core.{IsMade, IsLeft, IsSettled, IsTurn, IsRun, detector_state, refusal_for};
 ghost use Rattle.journal_core.specs.Journal.{IsFull};
 
 use crate::connections::Connections;
@@ -69,8 +69,10 @@ impl Core {
     {
         match Ejector::new(alloc, ring.hosts(), settings) {
             Ok(ejector) => Core::with(alloc, ring, ejector),
-            Err(EjectError::BadSettings { field }) => Err(Refusal::BadSettings { field }),
-            Err(EjectError::NoMemory) => Err(Refusal::NoMemory),
+            Err(error) => {
+                drop(ring);
+                Err(refusal_of(error))
+            }
         }
     }
 
@@ -292,6 +294,16 @@ impl Recorded for Core {
     ghost legal_at_first = { legal_at_first };
 
     ghost legal_before = { legal_before };
+}
+
+// Why there is no core where there is no ejector.
+fn refusal_of(error: EjectError) -> Refusal
+    ensures { result ≡ refusal_for error }
+{
+    match error {
+        EjectError::BadSettings { field } => Refusal::BadSettings { field },
+        EjectError::NoMemory => Refusal::NoMemory,
+    }
 }
 
 /// The ring and what the events so far left.

@@ -6,7 +6,7 @@ use Rattle.ejector.specs.declared.settings.Settings.{Settings}
 use Rattle.ejector.specs.Ejector.{Ejection}
 use Rattle.ejector.specs.State.{fresh_state}
 use Rattle.proxy_history.specs.Proxy.{rules_of, setting_from, setting_of}
-use Rattle.proxy_core.proofs.BadSettings.{refused_by-range}
+use Rattle.proxy_core.proofs.BadSettings.{refused_by-error, refused_by-range}
 use Rattle.proxy_core.proofs.machine.Core.new.Goals as goal
 
 -- with fresh hosts it is the setting of the ring and the settings
@@ -29,8 +29,8 @@ returns-in-Ok-clause-made c =
 pub returns-in-Ok-clause-refused : goal.returns-in-Ok-clause-refused
 returns-in-Ok-clause-refused c = refused_by-range c.args.ring c.args.settings c.hosts.result c.hosts.ensures.value c.with.result c.with.ensures.refused c.in-Ok.ejector c.in-Ok.ensures.refused
 
-pub returns-in-Err-BadSettings-clause-made : goal.returns-in-Err-BadSettings-clause-made
-returns-in-Err-BadSettings-clause-made c = tt
+pub returns-in-Err-clause-made : goal.returns-in-Err-clause-made
+returns-in-Err-clause-made c = tt
 
-pub returns-clause-made : goal.returns-clause-made
-returns-clause-made c = tt
+pub returns-in-Err-clause-refused : goal.returns-in-Err-clause-refused
+returns-in-Err-clause-refused c = refused_by-error c.args.ring c.args.settings c.hosts.result c.hosts.ensures.value c.in-Err.error c.refusal_of.result c.refusal_of.ensures c.in-Err.ensures.refused
