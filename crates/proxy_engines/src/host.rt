@@ -175,7 +175,8 @@ impl<R: ReadTally + Drop, W: WriteTally + Drop> HostEngine<R, W> {
         ensures pass { T.pass turns.new ≡ T.pass turns.old }
         ensures setting { T.setting turns.new ≡ T.setting turns.old }
         ensures seen { StartsWith (T.seen turns.new) (T.seen turns.old) }
-        ensures tells { TellsFault self.old self.new (own_steps (T.pass turns.old) (T.seen turns.old))
+        ensures tells { TellsFault self.old self.new
+            (own_steps (T.pass turns.old) (T.seen turns.old))
             (own_steps (T.pass turns.old) (T.seen turns.new)) kind error moment result }
     {
         self.give_up(rt, turns, kind, moment)?;
