@@ -1,11 +1,11 @@
 -- Laws of readers: how a reader comes to stand after more bytes and more values.
-use Rattle.std.proofs.Common.{◌≡◌, ℕ, ◌+◌, ◌-◌, ◌<◌, ◌≤◌, List, [], ◌∷◌, ◌++◌, length, take, drop, Option, Some, None, IfNone, sym, ap, ◌∙◌, subst, arith}
+use Rattle.std.proofs.Common.{◌≡◌, ℕ, ◌+◌, ◌-◌, ◌<◌, ◌≤◌, List, refl, [], ◌∷◌, ◌++◌, length, take, drop, Option, Some, None, IfNone, sym, ap, ◌∙◌, subst, arith}
 use Rattle.std.proofs.lemmas.List.{length-append, length-take, length-drop, take-append-drop}
 use Rattle.resp_core.specs.Front.{IsUnfinished, IsFault}
 use Rattle.resp_core.specs.Tree.{Tree}
 use Rattle.resp_core.specs.Grammar.{max_text}
 use Rattle.resp_core.specs.Stream.{Splits, told_offset, HasRefusal, HasNoRefusal}
-use Rattle.resp_core.specs.Standing.{ReaderState, IsReached, Stands, Unmoved, Leaves, unread_bytes}
+use Rattle.resp_core.specs.Standing.{ReaderState, IsReached, Stands, StandsBehind, Unmoved, Leaves, unread_bytes}
 use Rattle.resp_core.specs.Progress.{Reads, Gave, held_of, shown_progress}
 use Rattle.resp_core.specs.Offset.{offset_of, number_of}
 use Rattle.resp_core.specs.declared.error.RespError.{RespError}
@@ -122,3 +122,17 @@ on_reached most p q f on g = record { held = f g.held; reads = on g.held g.reads
 -- the values that a reader has given stand at the front of what it was fed
 pub splits-Stands : (r : ReaderState) (b : List ℕ) (ts : List Tree) → Stands r b ts → (rest : List ℕ) × Splits r.most b ts rest
 splits-Stands r b ts h = (h.rest, h.splits)
+
+-- a reader for which the stream begins behind the values given
+pub stands_behind : (r : ReaderState) (b : List ℕ) (ts : List Tree) → r.refusal ≡ None → Stands r b ts → StandsBehind r.most b ts (record r { consumed = 0 })
+stands_behind r b ts none g = record {
+  rest = g.rest;
+  splits = g.splits;
+  stands = record {
+    rest = g.rest;
+    splits = refl;
+    reads = g.reads;
+    consumed_is = none_if none (omega arith);
+    told = rw none tt;
+  };
+}

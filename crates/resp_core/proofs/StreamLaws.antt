@@ -11,7 +11,7 @@ use Rattle.resp_core.specs.Refusals.{IsTold}
 use Rattle.resp_core.specs.declared.error.Refusal.TheVariants.{TooLong}
 use Rattle.resp_core.specs.Front.{IsFirstValue, IsUnfinished, IsFault}
 use Rattle.resp_core.specs.Stream.{HasWhole, Splits, AreValues, IsRefusedAt, HasRefusal, HasNoRefusal, told_offset}
-use Rattle.resp_core.specs.Laws.{NoTextBeginsAnother, Holds, EachStreamHolds, OneHolding, RefusalStays, OneRefusedByte, OneRefusal, ValuesStay, TextIsReadBack, TextIsReadNext}
+use Rattle.resp_core.specs.Laws.{NoTextBeginsAnother, Holds, EachStreamHolds, OneHolding, RefusalStays, OneRefusedByte, OneRefusal, ValuesStay, TextIsReadBack, TextIsReadNext, ValuesGoOn}
 use Rattle.resp_core.proofs.Whole.{value-reads, text_nonempty}
 use Rattle.resp_core.proofs.Firsts.{same_front, first_found, first_too_long, first_unfinished, first_unfinished_long, first_told}
 use Rattle.resp_core.proofs.Numbers.{cases_deep, one_number}
@@ -211,6 +211,31 @@ pub values_stay : ValuesStay
 values_stay most b more rest ts us r g h =
     let (left, f) = values_of most (b ++ more) us r h in
     one_reading most (b ++ more) us ts left (rest ++ more) f (splits_fed most b rest more ts g)
+
+-- the values of a stream, and then those of what they leave
+pub splits_then : (most : ℕ) (b rest more left : List ℕ) (ts us : List Tree) → Splits most b ts rest → Splits most (rest ++ more) us left → Splits most (b ++ more) (ts ++ us) left
+splits_then most b rest more left [] us g h = subst (λ (z : List ℕ). Splits most (z ++ more) us left) (sym g) h
+splits_then most b rest more left (t ∷ ts) us (x, y, is, text, few, others) h =
+    (x, y ++ more, ap (λ z. z ++ more) is ∙ append_assoc x y more, text, few, splits_then most y rest more left ts us others h)
+
+pub values_go_on : ValuesGoOn
+values_go_on most b more rest ts us false g h = record {
+  rest = h.rest;
+  values = are_values most (b ++ more) h.rest (ts ++ us) (splits_then most b rest more h.rest ts us g h.values.splits) (none_whole most (rest ++ more) us h.rest h.values);
+  none = h.none;
+}
+values_go_on most b more rest ts us true g (offset, number, h) = (
+  told_offset (length (b ++ more) - length h.rest + h.place),
+  number,
+  record {
+    rest = h.rest;
+    values = are_values most (b ++ more) h.rest (ts ++ us) (splits_then most b rest more h.rest ts us g h.values.splits) (none_whole most (rest ++ more) us h.rest h.values);
+    place = h.place;
+    refused = h.refused;
+    told = h.told;
+    offset_is = refl;
+  },
+)
 
 pub text_is_read_back : TextIsReadBack
 text_is_read_back most t more ts r small within plain few h =

@@ -72,3 +72,8 @@ TextIsReadBack = (most : ℕ) (t : Tree) (more : List ℕ) (ts : List Tree) (ref
 -- And so it is behind other values: whatever follows, that value comes next.
 abbrev pub TextIsReadNext : Type 0
 TextIsReadNext = (most : ℕ) (b more : List ℕ) (ts us : List Tree) (t : Tree) (refused : Bool) → most < 2 ^ 32 → IsWithin most max_depth t → is_plain_tree t ≡ true → length (text t) ≤ max_text → Splits most b ts (text t ++ more) → Holds most b us refused → (others : List Tree) × (us ≡ ts ++ t ∷ others)
+
+-- A stream that is cut behind some of its values goes on as what is left of it: its values are those before the cut and those
+-- of the rest with what follows.
+abbrev pub ValuesGoOn : Type 0
+ValuesGoOn = (most : ℕ) (b more rest : List ℕ) (ts us : List Tree) (refused : Bool) → Splits most b ts rest → Holds most (rest ++ more) us refused → Holds most (b ++ more) (ts ++ us) refused

@@ -1,5 +1,5 @@
 -- A reader that was fed bytes and has given values.
-use Rattle.std.specs.Prelude.{◌≡◌, ℕ, ◌-◌, List, length, Option, Some, None, IfSome, IfNone}
+use Rattle.std.specs.Prelude.{◌≡◌, ℕ, ◌-◌, List, [], length, Option, Some, None, IfSome, IfNone}
 use Rattle.resp_core.specs.Tree.{Tree}
 use Rattle.resp_core.specs.declared.error.RespError.{RespError}
 use Rattle.resp_core.specs.declared.progress.Progress.{Progress}
@@ -54,3 +54,9 @@ pub record Unmoved (r s : ReaderState) : Type 0 where
   pub refusal : s.refusal ≡ r.refusal
   pub unread : unread_bytes s ≡ unread_bytes r
   pub stands : (b : List ℕ) (ts : List Tree) → Stands r b ts → Stands s b ts
+
+-- Behind the texts of these values stand the bytes of an unfinished one, and the reader is one that was fed these alone.
+pub record StandsBehind (most : ℕ) (b : List ℕ) (ts : List Tree) (r : ReaderState) : Type 0 where
+  pub rest : List ℕ
+  pub splits : Splits most b ts rest
+  pub stands : Stands r rest []

@@ -1,6 +1,6 @@
 //! Laws of texts and streams, each the contract of a function that does nothing: whoever stands on them calls it.
 ghost use Rattle.std.specs.Prelude.{◌≡◌};
-ghost use Rattle.resp_core.specs.Laws.{NoTextBeginsAnother, TextIsRead, SpellingIsShortest, ReadValuesArePlain, CommandsArePlain, OneReading, EachStreamHolds, OneHolding, RefusalStays, OneRefusedByte, OneNumber, OneRefusal, ValuesStay, TextIsReadBack, TextIsReadNext};
+ghost use Rattle.resp_core.specs.Laws.{NoTextBeginsAnother, TextIsRead, SpellingIsShortest, ReadValuesArePlain, CommandsArePlain, OneReading, EachStreamHolds, OneHolding, RefusalStays, OneRefusedByte, OneNumber, OneRefusal, ValuesStay, TextIsReadBack, TextIsReadNext, ValuesGoOn};
 
 use crate::reader::{CLIENT_MEMBERS, HOST_MEMBERS, Limits};
 
@@ -66,6 +66,12 @@ pub fn refusal_stays()
 /// A stream that goes on keeps the values that it had.
 pub fn values_stay()
     ensures { ValuesStay }
+{}
+
+/// A stream that is cut behind some of its values goes on as the rest: its values are those before the cut, and then those of
+/// the rest with whatever follows it.
+pub fn values_go_on()
+    ensures { ValuesGoOn }
 {}
 
 /// The most members of an array: 1,024 from a client, 65,536 from a host.

@@ -1,7 +1,7 @@
 //! A reader of a stream that comes in pieces.
 ghost use Rattle.std.specs.Prelude.{◌≡◌, ◌≢◌, ◌⊎◌, ◌∷◌, ◌++◌, [], Ok, Err, Some, None, OnOk, OnErr, IfOk, IfErr, IfSome, IfNone, IsErrOf, ◌<◌, ◌≤◌, List, ℕ};
 ghost use Rattle.resp_core.specs.Tree.{Tree};
-ghost use Rattle.resp_core.specs.Standing.{Stands, Unmoved, Leaves, unread_bytes};
+ghost use Rattle.resp_core.specs.Standing.{Stands, StandsBehind, Unmoved, Leaves, unread_bytes};
 ghost use Rattle.resp_core.specs.Stream.{HasRefusal, HasNoRefusal};
 ghost use Rattle.resp_core.specs.Readable.{IsReadable};
 ghost use Rattle.resp_core.specs.Offset.{offset_of, number_of};
@@ -103,6 +103,19 @@ impl Reader {
             None => self.progress.held(),
             Some(_) => 0,
         }
+    }
+
+    /// From here on the stream is what stands behind the values given: the bytes that came of the unfinished value are its first,
+    /// and offsets count from there. Nothing may be refused yet.
+    pub fn begin_behind(&mut self)
+        requires { self.old.refusal ≡ None }
+        ensures stands { (b : List ℕ) (ts : List Tree) → Stands self.old b ts
+            → StandsBehind self.old.most b ts self.new }
+        ensures most { self.new.most ≡ self.old.most }
+        ensures refusal { self.new.refusal ≡ None }
+        ensures unread { unread_bytes self.new ≡ unread_bytes self.old }
+    {
+        self.consumed = 0;
     }
 
     /// Takes the next piece of the stream.

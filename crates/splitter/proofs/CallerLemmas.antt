@@ -11,4 +11,4 @@ pub use Rattle.splitter.proofs.SplitLemmas.{length-split_by}
 -- parts keep a client's limits
 pub use Rattle.splitter.proofs.CommandLaws.{parts_are_of_commands, commands_keep_limits}
 -- requests, and where they finish
-pub use Rattle.splitter.proofs.RequestLemmas.{none_finishes-one, none_finishes-append, up_to_last-none, up_to_last-first, each_stream_asks, one_asking}
+pub use Rattle.splitter.proofs.RequestLemmas.{none_finishes-one, none_finishes-append, up_to_last-none, up_to_last-first, each_stream_asks, one_asking, requests_go_on}

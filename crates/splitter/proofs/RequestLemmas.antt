@@ -1,12 +1,13 @@
 -- The requests of a stream.
-use Rattle.std.proofs.Common.{◌≡◌, true, false, List, [], ◌∷◌, ◌++◌, map, inl, inr, refl, sym, ap, ◌∙◌}
+use Rattle.std.proofs.Common.{◌≡◌, true, false, List, [], ◌∷◌, ◌++◌, map, inl, inr, refl, sym, ap, ◌∙◌, append_assoc}
 use Rattle.std.specs.List.{list_any}
 use Rattle.std.proofs.lemmas.Bool.{cases_Bool}
 use Rattle.resp_core.specs.declared.reader.TheConstants.{CLIENT_MEMBERS}
-use Rattle.resp_core.proofs.CallerLemmas.{each_stream_holds, one_holding}
+use Rattle.std.proofs.lemmas.List.{map-append}
+use Rattle.resp_core.proofs.CallerLemmas.{each_stream_holds, one_holding, values_go_on}
 use Rattle.splitter.specs.Request.{Request, read}
 use Rattle.splitter.specs.Requests.{end_of, finishes, up_to_last}
-use Rattle.splitter.specs.Laws.{EachStreamAsks, OneAsking}
+use Rattle.splitter.specs.Laws.{EachStreamAsks, OneAsking, RequestsGoOn}
 
 -- none finishes with one request more that doesn't
 pub none_finishes-one : (xs : List Request) (r : Request) → list_any finishes xs ≡ false → finishes r ≡ false → list_any finishes (xs ++ r ∷ []) ≡ false
@@ -51,3 +52,11 @@ pub one_asking : OneAsking
 one_asking b rs qs (ts, refused, holds, is) (us, other, held, same) =
     let k = one_holding CLIENT_MEMBERS b ts us refused other holds held in
     is ∙ ap (λ z. map read z ++ end_of refused) k.0 ∙ ap (λ z. map read us ++ end_of z) k.1 ∙ sym same
+
+pub requests_go_on : RequestsGoOn
+requests_go_on b more rest ts rs splits (us, refused, holds, is) = (
+  ts ++ us,
+  refused,
+  values_go_on CLIENT_MEMBERS b more rest ts us refused splits holds,
+  ap (λ z. map read ts ++ z) is ∙ sym (append_assoc (map read ts) (map read us) (end_of refused)) ∙ ap (λ z. z ++ end_of refused) (sym (map-append read ts us)),
+)

@@ -15,6 +15,7 @@ use Rattle.splitter.specs.Plan.{Plan, here, leave, parts, plan_of}
 use Rattle.splitter.specs.Split.{Words, command_of, part_at}
 use Rattle.splitter.specs.Commands.{commands_of}
 use Rattle.splitter.specs.Join.{MayJoin, join_of}
+use Rattle.resp_core.specs.Stream.{Splits}
 use Rattle.splitter.specs.Requests.{AreRequests}
 
 -- the part of a command of these words: its text is that command's, and its key is one of them, behind the name
@@ -70,3 +71,7 @@ EachStreamAsks = (b : List ℕ) → (rs : List Request) × AreRequests b rs
 -- and one alone.
 abbrev pub OneAsking : Type 0
 OneAsking = (b : List ℕ) (rs qs : List Request) → AreRequests b rs → AreRequests b qs → rs ≡ qs
+
+-- A client's stream that is cut behind some of its values asks these, and then what the rest asks with whatever follows it.
+abbrev pub RequestsGoOn : Type 0
+RequestsGoOn = (b more rest : List ℕ) (ts : List Tree) (rs : List Request) → Splits CLIENT_MEMBERS b ts rest → AreRequests (rest ++ more) rs → AreRequests (b ++ more) (map read ts ++ rs)

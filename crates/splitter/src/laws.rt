@@ -1,5 +1,5 @@
 //! Laws of plans and joins, each the contract of a function that does nothing: whoever stands on them calls it.
-ghost use Rattle.splitter.specs.Laws.{CommandsKeepLimits, PartsAreCommands, PartsAreOfCommands, PartsKeepLimits, PartsAreReadBack, PlanTextsArePlain, JoinsOfPlainValuesArePlain, EachStreamAsks, OneAsking};
+ghost use Rattle.splitter.specs.Laws.{CommandsKeepLimits, PartsAreCommands, PartsAreOfCommands, PartsKeepLimits, PartsAreReadBack, PlanTextsArePlain, JoinsOfPlainValuesArePlain, EachStreamAsks, OneAsking, RequestsGoOn};
 
 /// The parts of a command are as many as their join asks for, and the text of each is that of a command of words, among
 /// which its key is, behind the name.
@@ -45,4 +45,10 @@ pub fn joins_of_plain_values_are_plain()
 pub fn streams_ask_one_list()
     ensures some { EachStreamAsks }
     ensures one { OneAsking }
+{}
+
+/// A client's stream that is cut behind some of its values asks these, and then what the rest asks with whatever follows it: no
+/// request is lost at a cut, and none is asked twice.
+pub fn requests_go_on()
+    ensures { RequestsGoOn }
 {}

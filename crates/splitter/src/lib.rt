@@ -18,7 +18,7 @@ pub use joining::join;
 pub use laws::{
     commands_keep_limits, joins_of_plain_values_are_plain, parts_are_commands,
     parts_are_of_commands, parts_are_read_back, parts_keep_limits, plan_texts_are_plain,
-    streams_ask_one_list,
+    requests_go_on, streams_ask_one_list,
 };
 pub use planning::{plan, plan_with};
 pub use plans::{Join, Local, PartPlan, PartPlans, Plan, Planned};

@@ -1,0 +1,5 @@
+use Rattle.resp_core.proofs.StreamLaws.{values_go_on}
+use Rattle.resp_core.proofs.laws.values_go_on.Goals as goal
+
+pub returns : goal.returns
+returns c = values_go_on
