@@ -42,6 +42,10 @@ pub not_cut : (A : Type 0) (p : Progress) → MovedOrIdle p A → p ≢ Progress
 not_cut A p (inl moved) cut = absurd cc
 not_cut A p (inr (idle, a)) cut = absurd cc
 
+pub not_link : (A : Type 0) (p : Progress) → MovedOrIdle p A → p ≢ Progress.NeedsLink
+not_link A p (inl moved) link = absurd cc
+not_link A p (inr (idle, a)) link = absurd cc
+
 pub still_not_ended : (A : Type 0) (p : Progress) → (p ≡ Progress.Moved) ⊎ (p ≡ Progress.Idle) → p ≡ Progress.Ended → A
 still_not_ended A p (inl moved) ended = absurd cc
 still_not_ended A p (inr idle) ended = absurd cc
@@ -50,6 +54,10 @@ pub still_not_cut : (p : Progress) → (p ≡ Progress.Moved) ⊎ (p ≡ Progres
 still_not_cut p (inl moved) cut = absurd cc
 still_not_cut p (inr idle) cut = absurd cc
 
+pub still_not_link : (p : Progress) → (p ≡ Progress.Moved) ⊎ (p ≡ Progress.Idle) → p ≢ Progress.NeedsLink
+still_not_link p (inl moved) link = absurd cc
+still_not_link p (inr idle) link = absurd cc
+
 pub end_is : (A : Type 0) (p : Progress) → (p ≡ Progress.Idle) ⊎ ((p ≡ Progress.Ended) × A) → p ≡ Progress.Ended → A
 end_is A p (inl idle) ended = absurd cc
 end_is A p (inr (_, a)) ended = a
@@ -57,6 +65,10 @@ end_is A p (inr (_, a)) ended = a
 pub end_not_cut : (A : Type 0) (p : Progress) → (p ≡ Progress.Idle) ⊎ ((p ≡ Progress.Ended) × A) → p ≢ Progress.Cut
 end_not_cut A p (inl idle) cut = absurd cc
 end_not_cut A p (inr (ended, a)) cut = absurd cc
+
+pub end_not_link : (A : Type 0) (p : Progress) → (p ≡ Progress.Idle) ⊎ ((p ≡ Progress.Ended) × A) → p ≢ Progress.NeedsLink
+end_not_link A p (inl idle) link = absurd cc
+end_not_link A p (inr (ended, a)) link = absurd cc
 
 -- a turn was refused
 abbrev pub IsTurn : EngineError → Type 0

@@ -11,18 +11,19 @@ use Rattle.splitter.specs.Plan.{is_last}
 use Rattle.splitter.proofs.CallerLemmas.{none_finishes-one}
 use Rattle.splitter.specs.declared.request.Request.{Request as Request'}
 use Rattle.proxy_history.specs.Setting.{max_steps}
-use Rattle.proxy_history.specs.History.{History, Step, accepted_count, handed_count, requests, is_arrival, is_handing}
+use Rattle.proxy_history.specs.History.{History, Step, accepted_count, handed_count, requests, is_arrival, is_closed, is_finishing, is_handing}
 use Rattle.proxy_history.specs.Output.{transcript}
 use Rattle.proxy_history.specs.Own.{connection_steps, is_connection_step}
 use Rattle.proxy_history.specs.OwnLaws.{SameOfConnection}
 use Rattle.proxy_history.specs.declared.event.Event.{Event}
 use Rattle.proxy_history.specs.declared.answer.Answer.{Answer}
 use Rattle.proxy_history.proofs.CallerLemmas as history
-use Rattle.proxy_engines.specs.Ends.{OutboxState, Sends, InboxState, Holds, HasGivenAll}
+use Rattle.proxy_engines.specs.Ends.{OutboxState, Sends, InboxState, Holds, HoldsBehind, HasGivenAll}
 use Rattle.journal_core.specs.Journal.{step_by}
-use Rattle.proxy_engines.specs.Client.{Client, Carries, Goes, IsAllRead, IsAtStage, IsDone, IsFinished, IsLive, IsOver, NoneFinishes, asked_requests, waiting_requests}
+use Rattle.proxy_engines.specs.Client.{Client, Carries, Goes, IsAtStage, IsDone, IsHalted, IsLive, IsOver, IsToldAt, IsUntaken, NoneFinishes, asked_requests, waiting_requests}
 use Rattle.proxy_engines.specs.Moves.{has_moved, AsTold, told_by_step}
 use Rattle.proxy_engines.proofs.MoveLemmas.{has_moved-append}
+use Rattle.proxy_engines.proofs.InboxLemmas.{behind_all, behind_kept, behind_more, behind_read}
 use Rattle.proxy_engines.specs.declared.client.Progress.{Progress}
 use Rattle.proxy_engines.specs.declared.client.Stage.{Stage}
 use Rattle.proxy_engines.specs.declared.error.EngineError.{EngineError}
@@ -54,10 +55,17 @@ true_not_false same = absurd cc
 
 -- MOVES
 
+-- what a move may do that takes nothing in, or is none of an engine that drains
+abbrev TakesFit : Client → Client → Type 0
+TakesFit old new = old.is_drained ≡ true → old.next ≢ Some Request'.Broken → IsUntaken old new
+
+untaken : (old new : Client) → new.accepted ≡ old.accepted → new.next ≡ old.next → TakesFit old new
+untaken old new accepted next = λ _ _. record { accepted = accepted; next = next }
+
 -- no bytes, and one step of the connection
-turn_goes : (old new : Client) (H : History) (s : Step) → is_connection_step old.conn s.event s.answer ≡ true → new.conn ≡ old.conn → new.is_drained ≡ old.is_drained → new.inbox.left ≡ old.inbox.left → new.inbox.counts ≡ old.inbox.counts → new.outbox.held ≡ old.outbox.held
+turn_goes : (old new : Client) (H : History) (s : Step) → is_connection_step old.conn s.event s.answer ≡ true → TakesFit old new → new.conn ≡ old.conn → new.is_drained ≡ old.is_drained → new.inbox.left ≡ old.inbox.left → new.inbox.counts ≡ old.inbox.counts → new.outbox.held ≡ old.outbox.held
     → ((taken b : List ℕ) → Carries old H taken b → Carries new (s ∷ H) taken b) → Goes old new H (s ∷ H) true
-turn_goes old new H s mine conn drained left counts held f = record {
+turn_goes old new H s mine takes conn drained left counts held f = record {
   got = [];
   gave = [];
   steps = s ∷ [];
@@ -66,6 +74,7 @@ turn_goes old new H s mine conn drained left counts held f = record {
   conn = conn;
   drained = drained;
   unread = λ _. record { none = refl; left = left; counts = counts };
+  untaken = takes;
   adds = refl;
   moved_is = refl;
   alone = rw mine refl;
@@ -73,9 +82,9 @@ turn_goes old new H s mine conn drained left counts held f = record {
 }
 
 -- no bytes, and no step
-still_goes : (old new : Client) (H : History) → new.conn ≡ old.conn → new.is_drained ≡ old.is_drained → new.inbox.left ≡ old.inbox.left → new.inbox.counts ≡ old.inbox.counts → new.outbox.held ≡ old.outbox.held
+still_goes : (old new : Client) (H : History) → TakesFit old new → new.conn ≡ old.conn → new.is_drained ≡ old.is_drained → new.inbox.left ≡ old.inbox.left → new.inbox.counts ≡ old.inbox.counts → new.outbox.held ≡ old.outbox.held
     → ((taken b : List ℕ) → Carries old H taken b → Carries new H taken b) → Goes old new H H false
-still_goes old new H conn drained left counts held f = record {
+still_goes old new H takes conn drained left counts held f = record {
   got = [];
   gave = [];
   steps = [];
@@ -84,6 +93,7 @@ still_goes old new H conn drained left counts held f = record {
   conn = conn;
   drained = drained;
   unread = λ _. record { none = refl; left = left; counts = counts };
+  untaken = takes;
   adds = refl;
   moved_is = refl;
   alone = refl;
@@ -92,7 +102,7 @@ still_goes old new H conn drained left counts held f = record {
 
 -- nothing at all
 pub same_goes : (e : Client) (H H' : History) → H' ≡ H → Goes e e H H' false
-same_goes e H H' same = rw same (still_goes e e H refl refl refl refl refl (λ taken b k. k))
+same_goes e H H' same = rw same (still_goes e e H (untaken e e refl refl) refl refl refl refl refl (λ taken b k. k))
 
 -- a turn that wasn't answered
 pub unanswered_goes : (e : Client) (H H' : History) (result : Result Progress EngineError) → H' ≡ H → IfOk result (λ p. p ≡ Progress.Idle) → AsTold (Goes e e H H') (told_by_step result)
@@ -110,6 +120,10 @@ goes_then a b c x y z m n p q = record {
   conn = q.conn ∙ p.conn;
   drained = q.drained ∙ p.drained;
   unread = λ d. let first = p.unread d in let second = q.unread (p.drained ∙ d) in record { none = rw (first.none, second.none) refl; left = second.left ∙ first.left; counts = second.counts ∙ first.counts };
+  untaken = λ d fit.
+      let first = p.untaken d fit in
+      let second = q.untaken (p.drained ∙ d) (rw first.next fit) in
+      record { accepted = second.accepted ∙ first.accepted; next = second.next ∙ first.next };
   adds = rw (q.adds, p.adds) (sym (append_assoc q.steps p.steps x));
   moved_is = ap (λ w. w || n) p.moved_is
       ∙ ap (λ w. has_moved p.got p.gave p.steps || w) q.moved_is
@@ -135,8 +149,8 @@ goes_told a b c x y z (Some n) p q = goes_some a b c x y z p.0 n p.1 q
 -- STAGES
 
 stage_at : (s : Stage) (e : Client) (H : History) (b : List ℕ) (given : List Request) → e.stage ≡ s
-    → IsAtStage e.stage (IsDone e H) (asked_requests e.conn H) e.is_drained e.inbox e.next b given → IsAtStage s (IsDone e H) (asked_requests e.conn H) e.is_drained e.inbox e.next b given
-stage_at s e H b given is at = subst (λ (z : Stage). IsAtStage z (IsDone e H) (asked_requests e.conn H) e.is_drained e.inbox e.next b given) is at
+    → IsAtStage e.stage (IsDone e H) (asked_requests e.conn H) e.is_halted e.inbox e.next b given → IsAtStage s (IsDone e H) (asked_requests e.conn H) e.is_halted e.inbox e.next b given
+stage_at s e H b given is at = subst (λ (z : Stage). IsAtStage z (IsDone e H) (asked_requests e.conn H) e.is_halted e.inbox e.next b given) is at
 
 -- a live stage doesn't look at whether all is done
 live_stage : (s : Stage) (D E : Type 0) (asks : List Request) (d : Bool) (i : InboxState) (next : Option Request') (b : List ℕ) (given : List Request) → IsLive s
@@ -146,6 +160,10 @@ live_stage Stage.AtEnd D E asks d i next b given live at = at
 live_stage Stage.Finishing D E asks d i next b given live at = at
 live_stage Stage.Failed D E asks d i next b given live at = absurd live
 live_stage (Stage.Closed cut) D E asks d i next b given live at = absurd live
+
+-- while requests are taken nothing was halted
+open_unhalted : (e : Client) (H : History) {A : Type 0} → e.stage ≡ Stage.Open → (e.is_halted ≡ true → IsHalted e H) → e.is_halted ≡ true → A
+open_unhalted e H open_is f h = absurd ((f h).stage open_is)
 
 -- HANDED
 
@@ -166,11 +184,13 @@ module _ (e : Client) (pass : ℕ) (H : History) (t : List ℕ) where
         given_are = rw same k.given_are;
         accepted_is = k.accepted_is;
         handed_is = rw mine (omega (arith, k.handed_is, few, history.times-length (is_handing e.conn) H));
-        stage_is = rw same (live_stage e.stage (IsDone e H) _ (asked_requests e.conn H) e.is_drained e.inbox e.next b k.given live k.stage_is);
+        stage_is = rw same (live_stage e.stage (IsDone e H) _ (asked_requests e.conn H) e.is_halted e.inbox e.next b k.given live k.stage_is);
+        halted_is = λ h. let x = k.halted_is h in record { drained = x.drained; stage = x.stage; unbroken = x.unbroken; goes_on = rw same x.goes_on };
+        told_is = k.told_is;
       }
 
   pub handed_goes : length (step_by pass (Event.Handed e.conn) (Answer.Bytes t) ∷ H) ≤ max_steps → e.outbox.pending ≡ [] → IsLive e.stage → Goes e after_hand H (step_by pass (Event.Handed e.conn) (Answer.Bytes t) ∷ H) true
-  handed_goes few empty live = turn_goes e after_hand H (step_by pass (Event.Handed e.conn) (Answer.Bytes t)) (rw (eq-eqb e.conn e.conn refl) refl) refl refl refl refl refl (handed_carries few empty live)
+  handed_goes few empty live = turn_goes e after_hand H (step_by pass (Event.Handed e.conn) (Answer.Bytes t)) (rw (eq-eqb e.conn e.conn refl) refl) (untaken e after_hand refl refl) refl refl refl refl refl (handed_carries few empty live)
 
 -- STEPS THAT HAND OUT NOTHING AND ACCEPT NOTHING
 
@@ -182,11 +202,12 @@ pub record IsQuiet (c : ℕ) (s : Step) (H : History) : Type 0 where
   pub same_accepted : accepted_count c (s ∷ H) ≡ accepted_count c H
   pub same_handed : handed_count c (s ∷ H) ≡ handed_count c H
 
-quiet_goes : (e : Client) (stage : Stage) (s : Step) (H : History) → IsQuiet e.conn s H
-    → ((b : List ℕ) (given : List Request) → IsAtStage e.stage (IsDone e H) (asked_requests e.conn H) e.is_drained e.inbox e.next b given
-    → IsAtStage stage (IsDone (record e { stage = stage }) (s ∷ H)) (asked_requests e.conn H) e.is_drained e.inbox e.next b given)
+quiet_goes : (e : Client) (stage : Stage) (s : Step) (H : History) → stage ≢ Stage.Open → IsQuiet e.conn s H
+    → ((b : List ℕ) (given : List Request) → IsAtStage e.stage (IsDone e H) (asked_requests e.conn H) e.is_halted e.inbox e.next b given
+    → IsAtStage stage (IsDone (record e { stage = stage }) (s ∷ H)) (asked_requests e.conn H) e.is_halted e.inbox e.next b given)
+    → (IsToldAt e.stage (is_finishing e.conn H) (is_closed e.conn H) → IsToldAt stage (is_finishing e.conn (s ∷ H)) (is_closed e.conn (s ∷ H)))
     → Goes e (record e { stage = stage }) H (s ∷ H) true
-quiet_goes e stage s H q f = turn_goes e (record e { stage = stage }) H s q.mine refl refl refl refl refl (λ taken b k. record {
+quiet_goes e stage s H past q f told = turn_goes e (record e { stage = stage }) H s q.mine (untaken e (record e { stage = stage }) refl refl) refl refl refl refl refl (λ taken b k. record {
   given = k.given;
   out_is = k.out_is ∙ sym q.same_transcript;
   holds = k.holds;
@@ -195,6 +216,8 @@ quiet_goes e stage s H q f = turn_goes e (record e { stage = stage }) H s q.mine
   accepted_is = k.accepted_is ∙ sym q.same_accepted;
   handed_is = k.handed_is ∙ sym q.same_handed;
   stage_is = rw q.same_requests (f b k.given k.stage_is);
+  halted_is = λ h. let x = k.halted_is h in record { drained = x.drained; stage = past; unbroken = x.unbroken; goes_on = rw q.same_requests x.goes_on };
+  told_is = told k.told_is;
 })
 
 quiet_finished : (c pass : ℕ) (a : Answer) (H : History) → IsQuiet c (step_by pass (Event.Finished c) a) H
@@ -218,14 +241,15 @@ quiet_closed c pass a H = record {
 pub finished_goes : (e : Client) (pass : ℕ) (a : Answer) (H : History) → e.stage ≡ Stage.AtEnd
     → Goes e (record e { stage = Stage.Finishing }) H (step_by pass (Event.Finished e.conn) a ∷ H) true
 finished_goes e pass a H is =
-    quiet_goes e Stage.Finishing (step_by pass (Event.Finished e.conn) a) H (quiet_finished e.conn pass a H)
+    quiet_goes e Stage.Finishing (step_by pass (Event.Finished e.conn) a) H (λ o. absurd cc) (quiet_finished e.conn pass a H)
     (λ b given at. inl (stage_at Stage.AtEnd e H b given is at))
+    (λ told. (rw (eq-eqb e.conn e.conn refl) refl, rw is at told))
 
 pub cut_goes : (e : Client) (pass : ℕ) (a : Answer) (H : History) → Goes e (record e { stage = Stage.Closed true }) H (step_by pass (Event.Closed e.conn) a ∷ H) true
-cut_goes e pass a H = quiet_goes e (Stage.Closed true) (step_by pass (Event.Closed e.conn) a) H (quiet_closed e.conn pass a H) (λ b given at. tt)
+cut_goes e pass a H = quiet_goes e (Stage.Closed true) (step_by pass (Event.Closed e.conn) a) H (λ o. absurd cc) (quiet_closed e.conn pass a H) (λ b given at. tt) (λ told. rw (eq-eqb e.conn e.conn refl) refl)
 
 pub failed_goes : (e : Client) (H H' : History) → H' ≡ H → Goes e (record e { stage = Stage.Failed }) H H' false
-failed_goes e H H' same = rw same (still_goes e (record e { stage = Stage.Failed }) H refl refl refl refl refl (λ taken b k. record {
+failed_goes e H H' same = rw same (still_goes e (record e { stage = Stage.Failed }) H (untaken e (record e { stage = Stage.Failed }) refl refl) refl refl refl refl refl (λ taken b k. record {
   given = k.given;
   out_is = k.out_is;
   holds = k.holds;
@@ -234,15 +258,17 @@ failed_goes e H H' same = rw same (still_goes e (record e { stage = Stage.Failed
   accepted_is = k.accepted_is;
   handed_is = k.handed_is;
   stage_is = tt;
+  halted_is = λ h. let x = k.halted_is h in record { drained = x.drained; stage = λ o. absurd cc; unbroken = x.unbroken; goes_on = x.goes_on };
+  told_is = tt;
 }))
 
 pub closed_goes : (e : Client) (pass : ℕ) (a : Answer) (H : History) → e.stage ≡ Stage.Finishing → e.outbox.pending ≡ [] → e.accepted ≡ e.handed
     → Goes e (record e { stage = Stage.Closed false }) H (step_by pass (Event.Closed e.conn) a ∷ H) true
 closed_goes e pass a H is empty handed =
-    quiet_goes e (Stage.Closed false) (step_by pass (Event.Closed e.conn) a) H (quiet_closed e.conn pass a H) (λ b given at. (
+    quiet_goes e (Stage.Closed false) (step_by pass (Event.Closed e.conn) a) H (λ o. absurd cc) (quiet_closed e.conn pass a H) (λ b given at. (
       stage_at Stage.Finishing e H b given is at,
       record { all_written = empty; all_handed = handed; closed = rw (eq-eqb e.conn e.conn refl) refl },
-    ))
+    )) (λ told. rw (eq-eqb e.conn e.conn refl) refl)
 
 -- A WRITE
 
@@ -256,6 +282,7 @@ wrote_goes e o gave H moved live sends told = record {
   conn = refl;
   drained = refl;
   unread = λ _. record { none = refl; left = refl; counts = refl };
+  untaken = λ _ _. record { accepted = refl; next = refl };
   adds = refl;
   moved_is = told;
   alone = refl;
@@ -267,24 +294,27 @@ wrote_goes e o gave H moved live sends told = record {
     given_are = k.given_are;
     accepted_is = k.accepted_is;
     handed_is = k.handed_is;
-    stage_is = live_stage e.stage (IsDone e H) _ (asked_requests e.conn H) e.is_drained e.inbox e.next b k.given live k.stage_is;
+    stage_is = live_stage e.stage (IsDone e H) _ (asked_requests e.conn H) e.is_halted e.inbox e.next b k.given live k.stage_is;
+    halted_is = λ h. let x = k.halted_is h in record { drained = x.drained; stage = x.stage; unbroken = x.unbroken; goes_on = x.goes_on };
+    told_is = k.told_is;
   });
 }
 
 -- A REQUEST IS ACCEPTED
 
-module _ (e : Client) (r : Request') (pass : ℕ) (H : History) (a : Answer) (open_is : e.stage ≡ Stage.Open) (next : e.next ≡ Some r) (few : length (step_by pass (Event.Arrived e.conn r) a ∷ H) ≤ max_steps) where
+module _ (e : Client) (r : Request') (pass : ℕ) (H : History) (a : Answer) (open_is : e.stage ≡ Stage.Open) (next : e.next ≡ Some r) (last : e.is_drained ≡ true → e.next ≡ Some Request'.Broken) (few : length (step_by pass (Event.Arrived e.conn r) a ∷ H) ≤ max_steps) where
   more_asked : asked_requests e.conn (step_by pass (Event.Arrived e.conn r) a ∷ H) ≡ asked_requests e.conn H ++ request_of r ∷ []
   more_asked = rw (eq-eqb e.conn e.conn refl) (map-append request_of (requests e.conn H) (r ∷ []))
 
   arrived_as : (stage : Stage)
       → ((b : List ℕ) (given : List Request) → NoneFinishes (asked_requests e.conn H)
-      → IsAtStage stage (IsDone (record e { next = None; accepted = min (e.accepted + 1) (2 ^ 64 - 1); stage = stage }) (step_by pass (Event.Arrived e.conn r) a ∷ H)) (asked_requests e.conn (step_by pass (Event.Arrived e.conn r) a ∷ H)) e.is_drained e.inbox None b given)
+      → IsAtStage stage (IsDone (record e { next = None; accepted = min (e.accepted + 1) (2 ^ 64 - 1); stage = stage }) (step_by pass (Event.Arrived e.conn r) a ∷ H)) (asked_requests e.conn (step_by pass (Event.Arrived e.conn r) a ∷ H)) e.is_halted e.inbox None b given)
+      → (is_closed e.conn H ≡ false → IsToldAt stage (is_finishing e.conn (step_by pass (Event.Arrived e.conn r) a ∷ H)) (is_closed e.conn H))
       → Goes e (record e { next = None; accepted = min (e.accepted + 1) (2 ^ 64 - 1); stage = stage }) H (step_by pass (Event.Arrived e.conn r) a ∷ H) true
-  arrived_as stage f =
+  arrived_as stage f told =
       let mine : (e.conn == e.conn) ≡ true = eq-eqb e.conn e.conn refl in
       let new : Client = record e { next = None; accepted = min (e.accepted + 1) (2 ^ 64 - 1); stage = stage } in
-      turn_goes e new H (step_by pass (Event.Arrived e.conn r) a) (rw mine refl) refl refl refl refl refl (λ taken b k. record {
+      turn_goes e new H (step_by pass (Event.Arrived e.conn r) a) (rw mine refl) (λ d fit. absurd (fit (last d))) refl refl refl refl refl (λ taken b k. record {
         given = k.given;
         out_is = k.out_is ∙ sym (append-nil (transcript e.conn H));
         holds = k.holds;
@@ -293,44 +323,50 @@ module _ (e : Client) (r : Request') (pass : ℕ) (H : History) (a : Answer) (op
         accepted_is = rw mine (omega (arith, k.accepted_is, few, history.times-length (is_arrival e.conn) H));
         handed_is = k.handed_is;
         stage_is = f b k.given (stage_at Stage.Open e H b k.given open_is k.stage_is);
+        halted_is = open_unhalted e H open_is k.halted_is;
+        told_is = told (rw open_is at k.told_is);
       })
 
   pub arrived_on : finishes (request_of r) ≡ false → Goes e (record e { next = None; accepted = min (e.accepted + 1) (2 ^ 64 - 1) }) H (step_by pass (Event.Arrived e.conn r) a ∷ H) true
   arrived_on goes_on =
       subst (λ (z : Stage). Goes e (record e { next = None; accepted = min (e.accepted + 1) (2 ^ 64 - 1); stage = z }) H (step_by pass (Event.Arrived e.conn r) a ∷ H) true) (sym open_is)
-      (arrived_as Stage.Open (λ b given none. subst (λ (z : List Request). NoneFinishes z) (sym more_asked) (none_finishes-one (asked_requests e.conn H) (request_of r) none goes_on)))
+      (arrived_as Stage.Open (λ b given none. subst (λ (z : List Request). NoneFinishes z) (sym more_asked) (none_finishes-one (asked_requests e.conn H) (request_of r) none goes_on)) (λ unclosed. unclosed))
 
   pub arrived_last : finishes (request_of r) ≡ true → Goes e (record e { next = None; accepted = min (e.accepted + 1) (2 ^ 64 - 1); stage = Stage.Finishing }) H (step_by pass (Event.Arrived e.conn r) a ∷ H) true
-  arrived_last is_last = arrived_as Stage.Finishing (λ b given none. inr (record { front = asked_requests e.conn H; last = request_of r; are = more_asked; goes_on = none; finishes = is_last }))
+  arrived_last is_last = arrived_as Stage.Finishing (λ b given none. inr (record { front = asked_requests e.conn H; last = request_of r; are = more_asked; goes_on = none; finishes = is_last })) (λ unclosed. (rw (eq-eqb e.conn e.conn refl, is_last) refl, unclosed))
 
 -- WHAT COMES IN
 
 -- a request has come whole, or none has
-pub fetched_goes : (e : Client) (i : InboxState) (next : Option Request') (H : History) → e.stage ≡ Stage.Open → e.next ≡ None → i.left ≡ e.inbox.left → i.counts ≡ e.inbox.counts → i.values.most ≡ e.inbox.values.most
+pub fetched_goes : (e : Client) (i : InboxState) (next : Option Request') (H : History) → e.stage ≡ Stage.Open → e.next ≡ None → e.is_drained ≡ false → i.left ≡ e.inbox.left → i.counts ≡ e.inbox.counts → i.values.most ≡ e.inbox.values.most
     → ((b : List ℕ) (rs : List Request) → Holds e.inbox b rs → Holds i b (rs ++ waiting_requests next)) → Goes e (record e { inbox = i; next = next }) H H false
-fetched_goes e i next H open_is none left counts most f = still_goes e (record e { inbox = i; next = next }) H refl refl left counts refl (λ taken b k. record {
+fetched_goes e i next H open_is none reads left counts most f = still_goes e (record e { inbox = i; next = next }) H (λ d _. absurd (true_not_false (sym d ∙ reads))) refl refl left counts refl (λ taken b k. record {
   given = k.given ++ waiting_requests next;
   out_is = k.out_is;
-  holds = f b k.given k.holds;
+  holds = behind_more e.inbox i (waiting_requests next) f b k.given k.holds;
   most_is = most ∙ k.most_is;
   given_are = ap (λ z. z ++ waiting_requests next) (rw (none, append-nil (asked_requests e.conn H)) at k.given_are);
   accepted_is = k.accepted_is;
   handed_is = k.handed_is;
-  stage_is = subst (λ (z : Stage). IsAtStage z (IsDone (record e { inbox = i; next = next }) H) (asked_requests e.conn H) e.is_drained i next b (k.given ++ waiting_requests next)) (sym open_is) (stage_at Stage.Open e H b k.given open_is k.stage_is);
+  stage_is = subst (λ (z : Stage). IsAtStage z (IsDone (record e { inbox = i; next = next }) H) (asked_requests e.conn H) e.is_halted i next b (k.given ++ waiting_requests next)) (sym open_is) (stage_at Stage.Open e H b k.given open_is k.stage_is);
+  halted_is = open_unhalted e H open_is k.halted_is;
+  told_is = k.told_is;
 })
 
 -- the reader of values went on, and gave none
 pub kept_goes : (e : Client) (i : InboxState) (H : History) → e.stage ≡ Stage.Open → i.left ≡ e.inbox.left → i.counts ≡ e.inbox.counts → i.values.most ≡ e.inbox.values.most
     → ((b : List ℕ) (rs : List Request) → Holds e.inbox b rs → Holds i b rs) → Goes e (record e { inbox = i }) H H false
-kept_goes e i H open_is left counts most f = still_goes e (record e { inbox = i }) H refl refl left counts refl (λ taken b k. record {
+kept_goes e i H open_is left counts most f = still_goes e (record e { inbox = i }) H (untaken e (record e { inbox = i }) refl refl) refl refl left counts refl (λ taken b k. record {
   given = k.given;
   out_is = k.out_is;
-  holds = f b k.given k.holds;
+  holds = behind_kept e.inbox i f b k.given k.holds;
   most_is = most ∙ k.most_is;
   given_are = k.given_are;
   accepted_is = k.accepted_is;
   handed_is = k.handed_is;
-  stage_is = subst (λ (z : Stage). IsAtStage z (IsDone (record e { inbox = i }) H) (asked_requests e.conn H) e.is_drained i e.next b k.given) (sym open_is) (stage_at Stage.Open e H b k.given open_is k.stage_is);
+  stage_is = subst (λ (z : Stage). IsAtStage z (IsDone (record e { inbox = i }) H) (asked_requests e.conn H) e.is_halted i e.next b k.given) (sym open_is) (stage_at Stage.Open e H b k.given open_is k.stage_is);
+  halted_is = open_unhalted e H open_is k.halted_is;
+  told_is = k.told_is;
 })
 
 pub fetched_holds : (i j : InboxState) (next : Option Request') → IfSome next (λ r. (b : List ℕ) (rs : List Request) → Holds i b rs → Holds j b (rs ++ request_of r ∷ []))
@@ -360,25 +396,28 @@ read_goes e i H moved told open_is reads whole empty input same = record {
   conn = refl;
   drained = refl;
   unread = λ d. absurd (true_not_false (sym d ∙ reads));
+  untaken = λ _ _. record { accepted = refl; next = refl };
   adds = refl;
   moved_is = told;
   alone = refl;
   carries = λ taken b k. rw (append-nil taken) (record {
     given = k.given;
     out_is = k.out_is;
-    holds = read_holds e.inbox i b k.given whole empty same k.holds;
+    holds = behind_read e.inbox i i.fresh (λ x rs h. read_holds e.inbox i x rs whole empty same h) b k.given k.holds;
     most_is = ap (λ z. z.most) same ∙ k.most_is;
     given_are = k.given_are;
     accepted_is = k.accepted_is;
     handed_is = k.handed_is;
-    stage_is = subst (λ (z : Stage). IsAtStage z (IsDone (record e { inbox = i }) H) (asked_requests e.conn H) e.is_drained i e.next (b ++ i.fresh) k.given) (sym open_is) (stage_at Stage.Open e H b k.given open_is k.stage_is);
+    stage_is = subst (λ (z : Stage). IsAtStage z (IsDone (record e { inbox = i }) H) (asked_requests e.conn H) e.is_halted i e.next (b ++ i.fresh) k.given) (sym open_is) (stage_at Stage.Open e H b k.given open_is k.stage_is);
+    halted_is = open_unhalted e H open_is k.halted_is;
+    told_is = k.told_is;
   });
 }
 
 -- no byte is read any more
-pub over_goes : (e : Client) (H : History) → e.stage ≡ Stage.Open → e.next ≡ None → HasGivenAll e.inbox → IsOver e.is_drained e.inbox
-    → Goes e (record e { stage = Stage.AtEnd }) H H false
-over_goes e H open_is none all over = still_goes e (record e { stage = Stage.AtEnd }) H refl refl refl refl refl (λ taken b k. record {
+pub over_goes : (e : Client) (H : History) → e.stage ≡ Stage.Open → e.next ≢ Some Request'.Broken → (e.is_drained ≡ false → e.next ≡ None) → (e.is_drained ≡ false → HasGivenAll e.inbox) → IsOver e.is_drained e.inbox
+    → Goes e (record e { stage = Stage.AtEnd; is_halted = e.is_drained }) H H false
+over_goes e H open_is unbroken none all over = still_goes e (record e { stage = Stage.AtEnd; is_halted = e.is_drained }) H (untaken e (record e { stage = Stage.AtEnd; is_halted = e.is_drained }) refl refl) refl refl refl refl refl (λ taken b k. record {
   given = k.given;
   out_is = k.out_is;
   holds = k.holds;
@@ -386,27 +425,22 @@ over_goes e H open_is none all over = still_goes e (record e { stage = Stage.AtE
   given_are = k.given_are;
   accepted_is = k.accepted_is;
   handed_is = k.handed_is;
-  stage_is = (stage_at Stage.Open e H b k.given open_is k.stage_is, record { end = over; all = all.all b k.given k.holds; none_waits = none });
+  stage_is = (stage_at Stage.Open e H b k.given open_is k.stage_is, record { end = over; all = λ f. behind_all e.inbox b k.given k.most_is (all f) k.holds; none_waits = none });
+  halted_is = λ h. record { drained = h; stage = λ o. absurd cc; unbroken = unbroken; goes_on = stage_at Stage.Open e H b k.given open_is k.stage_is };
+  told_is = rw open_is at k.told_is;
 })
 
 -- A DRAIN
 
-all_read : (d : Bool) (i : InboxState) (next : Option Request') (b : List ℕ) (given : List Request) → IsAllRead d i next b given → IsAllRead true i next b given
-all_read d i next b given r = record { end = inl refl; all = r.all; none_waits = r.none_waits }
-
-finished_drained : (asks : List Request) (d : Bool) (i : InboxState) (next : Option Request') (b : List ℕ) (given : List Request) → IsFinished asks d i next b given → IsFinished asks true i next b given
-finished_drained asks d i next b given (inl stays) = inl (stays.0, all_read d i next b given stays.1)
-finished_drained asks d i next b given (inr last) = inr last
-
--- what holds at a stage holds where nothing more is to be read
-stage_drained : (s : Stage) (D E : Type 0) (asks : List Request) (d : Bool) (i : InboxState) (next : Option Request') (b : List ℕ) (given : List Request) → (D → E)
-    → IsAtStage s D asks d i next b given → IsAtStage s E asks true i next b given
-stage_drained Stage.Open D E asks d i next b given f at = at
-stage_drained Stage.AtEnd D E asks d i next b given f at = (at.0, all_read d i next b given at.1)
-stage_drained Stage.Finishing D E asks d i next b given f at = finished_drained asks d i next b given at
-stage_drained Stage.Failed D E asks d i next b given f at = at
-stage_drained (Stage.Closed true) D E asks d i next b given f at = at
-stage_drained (Stage.Closed false) D E asks d i next b given f at = (finished_drained asks d i next b given at.0, f at.1)
+-- a stage looks at the end alone, whether all is done
+stage_drained : (s : Stage) (D E : Type 0) (asks : List Request) (h : Bool) (i : InboxState) (next : Option Request') (b : List ℕ) (given : List Request) → (D → E)
+    → IsAtStage s D asks h i next b given → IsAtStage s E asks h i next b given
+stage_drained Stage.Open D E asks h i next b given f at = at
+stage_drained Stage.AtEnd D E asks h i next b given f at = at
+stage_drained Stage.Finishing D E asks h i next b given f at = at
+stage_drained Stage.Failed D E asks h i next b given f at = at
+stage_drained (Stage.Closed true) D E asks h i next b given f at = at
+stage_drained (Stage.Closed false) D E asks h i next b given f at = (at.0, f at.1)
 
 pub drained_carries : (e : Client) (H : History) (taken b : List ℕ) → Carries e H taken b → Carries (record e { is_drained = true }) H taken b
 drained_carries e H taken b k = record {
@@ -417,8 +451,10 @@ drained_carries e H taken b k = record {
   given_are = k.given_are;
   accepted_is = k.accepted_is;
   handed_is = k.handed_is;
-  stage_is = stage_drained e.stage (IsDone e H) (IsDone (record e { is_drained = true }) H) (asked_requests e.conn H) e.is_drained e.inbox e.next b k.given
+  stage_is = stage_drained e.stage (IsDone e H) (IsDone (record e { is_drained = true }) H) (asked_requests e.conn H) e.is_halted e.inbox e.next b k.given
       (λ d. record { all_written = d.all_written; all_handed = d.all_handed; closed = d.closed }) k.stage_is;
+  halted_is = λ h. let x = k.halted_is h in record { drained = refl; stage = x.stage; unbroken = x.unbroken; goes_on = x.goes_on };
+  told_is = k.told_is;
 }
 
 -- OTHERS' STEPS
@@ -427,7 +463,7 @@ module _ (e : Client) (H later : History) (others : connection_steps e.conn late
   same_of_conn : SameOfConnection e.conn H (later ++ H)
   same_of_conn = history.SameOfConnection-append e.conn later H others
 
-  stage_beside : (s : Stage) (b : List ℕ) (given : List Request) → IsAtStage s (IsDone e H) (asked_requests e.conn H) e.is_drained e.inbox e.next b given → IsAtStage s (IsDone e (later ++ H)) (asked_requests e.conn H) e.is_drained e.inbox e.next b given
+  stage_beside : (s : Stage) (b : List ℕ) (given : List Request) → IsAtStage s (IsDone e H) (asked_requests e.conn H) e.is_halted e.inbox e.next b given → IsAtStage s (IsDone e (later ++ H)) (asked_requests e.conn H) e.is_halted e.inbox e.next b given
   stage_beside Stage.Open b given at = at
   stage_beside Stage.AtEnd b given at = at
   stage_beside Stage.Finishing b given at = at
@@ -447,19 +483,21 @@ module _ (e : Client) (H later : History) (others : connection_steps e.conn late
         given_are = k.given_are ∙ ap (λ z. z ++ waiting_requests e.next) (sym asks);
         accepted_is = k.accepted_is ∙ sym same.same_accepted;
         handed_is = k.handed_is ∙ sym same.same_handed;
-        stage_is = subst (λ (z : List Request). IsAtStage e.stage (IsDone e (later ++ H)) z e.is_drained e.inbox e.next b k.given) (sym asks) (stage_beside e.stage b k.given k.stage_is);
+        stage_is = subst (λ (z : List Request). IsAtStage e.stage (IsDone e (later ++ H)) z e.is_halted e.inbox e.next b k.given) (sym asks) (stage_beside e.stage b k.given k.stage_is);
+        halted_is = λ h. let x = k.halted_is h in record { drained = x.drained; stage = x.stage; unbroken = x.unbroken; goes_on = subst (λ (z : List Request). NoneFinishes z) (sym asks) x.goes_on };
+        told_is = subst (λ (z : Bool). IsToldAt e.stage z (is_closed e.conn (later ++ H))) (sym same.same_finishing) (subst (λ (z : Bool). IsToldAt e.stage (is_finishing e.conn H) z) (sym same.same_closed) k.told_is);
       }
 
 -- THE BEGINNING
 
-pub opened_carries : (conn pass : ℕ) (i : InboxState) (o : OutboxState) (H : History) → connection_steps conn H ≡ [] → o.pending ≡ [] → i.values.most ≡ CLIENT_MEMBERS → Holds i [] []
-    → Carries (record { conn = conn; inbox = i; outbox = o; next = None; accepted = 0; handed = 0; stage = Stage.Open; is_drained = false }) (step_by pass Event.Opened (Answer.Opened conn) ∷ H) [] []
-opened_carries conn pass i o H none empty most holds =
+pub opened_carries : (conn pass : ℕ) (i : InboxState) (o : OutboxState) (next : Option Request') (H : History) (b : List ℕ) → connection_steps conn H ≡ [] → o.pending ≡ [] → i.values.most ≡ CLIENT_MEMBERS → HoldsBehind i b (waiting_requests next)
+    → Carries (record { conn = conn; inbox = i; outbox = o; next = next; accepted = 0; handed = 0; stage = Stage.Open; is_drained = false; is_halted = false }) (step_by pass Event.Opened (Answer.Opened conn) ∷ H) [] b
+opened_carries conn pass i o next H b none empty most holds =
     let same = history.SameOfConnection-connection_steps conn H in
     let no_text : transcript conn H ≡ [] = sym same.same_transcript ∙ ap (transcript conn) none in
     let no_request : requests conn H ≡ [] = sym same.same_requests ∙ ap (requests conn) none in
     record {
-      given = [];
+      given = waiting_requests next;
       out_is = rw (no_text, empty) refl;
       holds = holds;
       most_is = most;
@@ -467,4 +505,6 @@ opened_carries conn pass i o H none empty most holds =
       accepted_is = ap (accepted_count conn) (sym none) ∙ same.same_accepted;
       handed_is = ap (handed_count conn) (sym none) ∙ same.same_handed;
       stage_is = rw no_request refl;
+      halted_is = λ h. absurd cc;
+      told_is = sym same.same_closed ∙ ap (is_closed conn) none;
     }

@@ -16,6 +16,7 @@ use Rattle.resp_core.specs.contracts.progress.Progress as Progress
 use Rattle.resp_core.specs.contracts.reader.Reader as Reader
 use Rattle.resp_core.proofs.value.Values.TheLaws.TheKnot as knot
 use Rattle.splitter.specs.contracts.request.Request as Request
+use Rattle.proxy_engines.specs.contracts.inbox.Rest as Rest
 
 pub bytes_send : IsSend (Bytes.the_row Global.the_row ghosts)
 bytes_send = search (bytes.the_send, crosses, sendable) depth 20
@@ -46,3 +47,6 @@ progress_send = search (value_send, begun_send, room_send, mutable.the_send, cro
 
 pub reader_send : IsSend Reader.the_row
 reader_send = search (progress_send, crosses, sendable) depth 40 fits 20000
+
+pub rest_send : IsSend Rest.the_row
+rest_send = search (reader_send, request_send, crosses, sendable) depth 40 fits 20000

@@ -38,6 +38,7 @@ module _ (e : Client) (o : OutboxState) (H : History) (same : o.pending ≡ e.ou
     conn = refl;
     drained = refl;
     unread = λ _. record { none = refl; left = refl; counts = refl };
+    untaken = λ _ _. record { accepted = refl; next = refl };
     adds = refl;
     moved_is = refl;
     alone = refl;
@@ -49,6 +50,8 @@ module _ (e : Client) (o : OutboxState) (H : History) (same : o.pending ≡ e.ou
       given_are = k.given_are;
       accepted_is = k.accepted_is;
       handed_is = k.handed_is;
-      stage_is = stage_with e.stage (IsDone e H) (IsDone (record e { outbox = o }) H) (asked_requests e.conn H) e.is_drained e.inbox e.next b k.given done_still k.stage_is;
+      stage_is = stage_with e.stage (IsDone e H) (IsDone (record e { outbox = o }) H) (asked_requests e.conn H) e.is_halted e.inbox e.next b k.given done_still k.stage_is;
+      halted_is = λ h. let x = k.halted_is h in record { drained = x.drained; stage = x.stage; unbroken = x.unbroken; goes_on = x.goes_on };
+      told_is = k.told_is;
     });
   }

@@ -1,12 +1,17 @@
 -- What an inbox holds after each of its moves.
-use Rattle.std.proofs.Common.{◌≡◌, ◌∙◌, ℕ, List, [], ◌∷◌, ◌++◌, Option, Some, None, map, ap, append-nil, sym}
+use Rattle.std.proofs.Common.{◌≡◌, ◌∙◌, ℕ, List, [], ◌∷◌, ◌++◌, Option, Some, None, map, ap, append_assoc, append-nil, sym, refl}
 use Rattle.std.proofs.lemmas.List.{map-append}
 use Rattle.std.specs.Prelude.{false, ⊤, IfSome, Result, Ok, Err, is_err, OnOk}
 use Rattle.resp_core.specs.Tree.{Tree}
-use Rattle.resp_core.specs.Standing.{Stands}
+use Rattle.resp_core.specs.Standing.{Stands, StandsBehind}
+use Rattle.resp_core.proofs.CallerLemmas.{splits_fed}
 use Rattle.resp_core.specs.declared.error.RespError.{RespError}
+use Rattle.resp_core.specs.declared.reader.TheConstants.{CLIENT_MEMBERS}
 use Rattle.splitter.specs.Request.{Request as Asked, read, broken}
-use Rattle.proxy_engines.specs.Ends.{InboxState, Holds}
+use Rattle.splitter.specs.Requests.{AreRequests as Asks}
+use Rattle.splitter.proofs.CallerLemmas as splits
+use Rattle.proxy_engines.specs.Device.{Counts}
+use Rattle.proxy_engines.specs.Ends.{InboxState, RestState, Holds, HoldsBehind, HasGivenAll, AreRequests, IsCut, end_with}
 
 after-none : (i : InboxState) → i.fresh ≡ [] → IfSome i.values.refusal (λ _. i.fresh ≡ [])
 after-none i e = if_some i.values.refusal e
@@ -60,3 +65,82 @@ holds-refused i j e b rs d d' n n' f h = record {
 pub fed_ok : (P : Type 0) (r : Result ⊤ RespError) → is_err r ≡ false → OnOk r P → P
 fed_ok P (Ok u) e p = p
 fed_ok P (Err x) e p = absurd cc
+
+-- an end that is taken apart, whose stream begins behind the values given
+pub cut-holds : (i : InboxState) (r : RestState) (b : List ℕ) (rs : List Asked) → i.values.refusal ≡ None → r.fresh ≡ i.fresh → r.values.refusal ≡ None
+    → ((x : List ℕ) (ts : List Tree) → Stands i.values x ts → StandsBehind i.values.most x ts r.values) → Holds i b rs → IsCut i.values.most b rs r
+cut-holds i r b rs none same none' f h =
+    let behind = f h.fed h.given h.stands in
+    record {
+      asked = h.given;
+      rest = behind.rest ++ r.fresh;
+      requests = rw (none, append-nil (map read h.given)) at h.requests;
+      splits = rw (h.bytes, same) (splits_fed i.values.most h.fed behind.rest i.fresh h.given behind.splits);
+      holds = λ left counts. record {
+        fed = behind.rest;
+        given = [];
+        bytes = refl;
+        stands = behind.stands;
+        requests = rw none' refl;
+        after = rw none' tt;
+      };
+    }
+
+-- BEHIND VALUES GIVEN BEFORE
+
+-- an end that was given all bytes itself
+pub behind_none : (i : InboxState) (b : List ℕ) (rs : List Asked) → Holds i b rs → HoldsBehind i b rs
+behind_none i b rs h = record { first = []; own = b; splits = refl; given = rs; holds = h; requests = refl }
+
+-- a move that gives nothing, one that gives more, and one that brings bytes
+pub behind_kept : (i j : InboxState) → ((b : List ℕ) (rs : List Asked) → Holds i b rs → Holds j b rs) → (b : List ℕ) (rs : List Asked) → HoldsBehind i b rs → HoldsBehind j b rs
+behind_kept i j f b rs h = record {
+  first = h.first;
+  own = h.own;
+  splits = h.splits;
+  given = h.given;
+  holds = f h.own h.given h.holds;
+  requests = h.requests;
+}
+
+pub behind_more : (i j : InboxState) (more : List Asked) → ((b : List ℕ) (rs : List Asked) → Holds i b rs → Holds j b (rs ++ more)) → (b : List ℕ) (rs : List Asked) → HoldsBehind i b rs → HoldsBehind j b (rs ++ more)
+behind_more i j more f b rs h = record {
+  first = h.first;
+  own = h.own;
+  splits = h.splits;
+  given = h.given ++ more;
+  holds = f h.own h.given h.holds;
+  requests = ap (λ z. z ++ more) h.requests ∙ append_assoc (map read h.first) h.given more;
+}
+
+pub behind_read : (i j : InboxState) (came : List ℕ) → ((b : List ℕ) (rs : List Asked) → Holds i b rs → Holds j (b ++ came) rs) → (b : List ℕ) (rs : List Asked) → HoldsBehind i b rs → HoldsBehind j (b ++ came) rs
+behind_read i j came f b rs h = record {
+  first = h.first;
+  own = h.own ++ came;
+  splits = splits_fed CLIENT_MEMBERS b h.own came h.first h.splits;
+  given = h.given;
+  holds = f h.own h.given h.holds;
+  requests = h.requests;
+}
+
+-- where the end has given all of its own, all requests of the whole are given
+pub behind_all : (i : InboxState) (b : List ℕ) (rs : List Asked) → i.values.most ≡ CLIENT_MEMBERS → HasGivenAll i → HoldsBehind i b rs → AreRequests i.values.most b rs
+behind_all i b rs most all h =
+    let own : Asks h.own h.given = rw most at (all.all h.own h.given h.holds) in
+    let whole : Asks (b ++ []) (map read h.first ++ h.given) = splits.requests_go_on b [] h.own h.first h.given h.splits (rw (append-nil h.own) own) in
+    let here : Asks b (map read h.first ++ h.given) = rw (append-nil b) at whole in
+    rw (most, h.requests) here
+
+-- an end with a rest
+with-holds : (i : InboxState) (r : RestState) (b : List ℕ) (rs : List Asked) → i.fresh ≡ r.fresh → i.values ≡ r.values → Holds (end_with i.left i.counts r) b rs → Holds i b rs
+with-holds i r b rs fresh values h = record {
+  fed = h.fed;
+  given = h.given;
+  bytes = rw fresh h.bytes;
+  stands = rw values h.stands;
+  requests = rw values h.requests;
+  after = rw (values, fresh) h.after;
+}
+
+pub with-behind : (i : InboxState) (r : RestState) (b : List ℕ) (rs : List Asked) → i.fresh ≡ r.fresh → i.values ≡ r.values → ((left : Option (List ℕ)) (counts : Counts) → HoldsBehind (end_with left counts r) b rs) → HoldsBehind i b rs
+with-behind i r b rs fresh values f = behind_kept (end_with i.left i.counts r) i (λ x qs h. with-holds i r x qs fresh values h) b rs (f i.left i.counts)

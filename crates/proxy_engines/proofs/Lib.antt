@@ -3,9 +3,11 @@ pub mod ClientMoves
 pub mod HostMoves
 pub mod FaultLemmas
 pub mod ClientLemmas
+pub mod SocketLemmas
 pub mod CallerLemmas
 pub mod InboxLemmas
 pub mod MoveLemmas
+pub mod NumberLemmas
 pub mod HostLemmas
 pub mod IdleLemmas
 pub mod OtherLemmas

@@ -1,5 +1,5 @@
 -- What contracts see of a client's engine, and how it stands to the steps of its caller.
-use Rattle.std.specs.Prelude.{◌≡◌, ◌≢◌, ⊤, ◌⊎◌, ℕ, Bool, true, false, List, [], ◌∷◌, ◌++◌, Option, Some, None, map, Result, Err}
+use Rattle.std.specs.Prelude.{◌≡◌, ◌≢◌, ⊤, ◌⊎◌, ℕ, Bool, true, false, List, [], ◌∷◌, ◌++◌, Option, Some, None, map, Result, Ok, Err}
 use Rattle.std.specs.List.{list_any}
 use Rattle.std.specs.Io.KnownBytes.{Consumes, Appends, IsAtEnd}
 use Rattle.resp_core.specs.declared.error.RespError.{RespError}
@@ -7,21 +7,21 @@ use Rattle.resp_core.specs.declared.reader.TheConstants.{CLIENT_MEMBERS}
 use Rattle.splitter.specs.Request.{Request, request_of}
 use Rattle.splitter.specs.Requests.{finishes}
 use Rattle.splitter.specs.declared.request.Request.{Request as Request'}
-use Rattle.proxy_history.specs.History.{History, Step, accepted_count, handed_count, requests, is_closed}
+use Rattle.proxy_history.specs.History.{History, Step, accepted_count, handed_count, requests, is_closed, is_finishing}
 use Rattle.proxy_history.specs.declared.event.Event.{Event}
 use Rattle.proxy_history.specs.declared.refusal.Refusal.{Refusal}
 use Rattle.proxy_history.specs.Output.{transcript}
 use Rattle.proxy_history.specs.Own.{connection_steps}
 use Rattle.proxy_engines.specs.Moves.{has_moved}
 use Rattle.proxy_engines.specs.Device.{HasPaused}
-use Rattle.proxy_engines.specs.Ends.{OutboxState, InboxState, Holds, HasGivenAll, AreRequests}
+use Rattle.proxy_engines.specs.Ends.{OutboxState, InboxState, HoldsBehind, HasGivenAll, AreRequests}
 use Rattle.proxy_engines.specs.Turned.{HasHeld}
 use Rattle.proxy_engines.specs.declared.client.Progress.{Progress}
 use Rattle.proxy_engines.specs.declared.client.Stage.{Stage}
 use Rattle.proxy_engines.specs.declared.error.EngineError.{EngineError}
 
 -- its connection, its two ends, the request that waits to be accepted, how many commands were accepted and how many replies
--- handed out, how far the connection has come, and whether nothing more is to be read
+-- handed out, how far the connection has come, whether nothing more is to be taken in, and whether reading stopped for that
 pub record Client : Type 0 where
   pub conn : ℕ
   pub inbox : InboxState
@@ -31,12 +31,17 @@ pub record Client : Type 0 where
   pub handed : ℕ
   pub stage : Stage
   pub is_drained : Bool
+  pub is_halted : Bool
 
 -- while requests are taken, its reader has refused nothing but what waits
 abbrev pub IsWhole : Stage → Option Request' → Option RespError → Type 0
 IsWhole Stage.Open None refusal = refusal ≡ None
 IsWhole Stage.Open (Some (Request'.Read v)) refusal = refusal ≡ None
 IsWhole stage next refusal = ⊤
+
+-- where reading stopped for a drain, no request is taken any more, and the reader has refused nothing
+abbrev pub IsHaltedWhole : Bool → Stage → Option RespError → Type 0
+IsHaltedWhole halted stage refusal = halted ≡ true → (stage ≢ Stage.Open) × (refusal ≡ None)
 
 -- the connection is neither closed nor to be closed for a fault
 abbrev pub IsLive : Stage → Type 0
@@ -66,28 +71,37 @@ pub record LastFinishes (rs : List Request) : Type 0 where
   pub goes_on : NoneFinishes front
   pub finishes : finishes last ≡ true
 
--- the bytes read are all that will be: nothing more is to be read, or the input has ended
+-- the bytes read are all that will be: reading was halted for a drain, or the input has ended
 abbrev pub IsOver : Bool → InboxState → Type 0
-IsOver drained i = (drained ≡ true) ⊎ IsAtEnd i.left
+IsOver halted i = (halted ≡ true) ⊎ IsAtEnd i.left
 
--- No byte is read any more, and all requests of those that were read were given.
-pub record IsAllRead (drained : Bool) (i : InboxState) (next : Option Request') (b : List ℕ) (given : List Request) : Type 0 where
-  pub end : IsOver drained i
-  pub all : AreRequests i.values.most b given
-  pub none_waits : next ≡ None
+-- No byte is read any more; and unless reading was halted all requests of those that were read were given, and none waits.
+pub record IsAllRead (halted : Bool) (i : InboxState) (next : Option Request') (b : List ℕ) (given : List Request) : Type 0 where
+  pub end : IsOver halted i
+  pub all : halted ≡ false → AreRequests i.values.most b given
+  pub none_waits : halted ≡ false → next ≡ None
 
 -- nothing more arrives: no byte is read any more, or a request finishes the connection
 abbrev pub IsFinished : List Request → Bool → InboxState → Option Request' → List ℕ → List Request → Type 0
-IsFinished asked drained i next b given = (NoneFinishes asked × IsAllRead drained i next b given) ⊎ LastFinishes asked
+IsFinished asked halted i next b given = (NoneFinishes asked × IsAllRead halted i next b given) ⊎ LastFinishes asked
 
 -- what holds at each stage, of what was asked and what was read; at the end the connection is done
 abbrev pub IsAtStage : Stage → Type 0 → List Request → Bool → InboxState → Option Request' → List ℕ → List Request → Type 0
-IsAtStage Stage.Open done asked drained i next b given = NoneFinishes asked
-IsAtStage Stage.AtEnd done asked drained i next b given = NoneFinishes asked × IsAllRead drained i next b given
-IsAtStage Stage.Finishing done asked drained i next b given = IsFinished asked drained i next b given
-IsAtStage Stage.Failed done asked drained i next b given = ⊤
-IsAtStage (Stage.Closed true) done asked drained i next b given = ⊤
-IsAtStage (Stage.Closed false) done asked drained i next b given = IsFinished asked drained i next b given × done
+IsAtStage Stage.Open done asked halted i next b given = NoneFinishes asked
+IsAtStage Stage.AtEnd done asked halted i next b given = NoneFinishes asked × IsAllRead halted i next b given
+IsAtStage Stage.Finishing done asked halted i next b given = IsFinished asked halted i next b given
+IsAtStage Stage.Failed done asked halted i next b given = ⊤
+IsAtStage (Stage.Closed true) done asked halted i next b given = ⊤
+IsAtStage (Stage.Closed false) done asked halted i next b given = IsFinished asked halted i next b given × done
+
+-- whether the connection finishes and whether it was closed, by its stage: it is closed at its end and for a fault, and not
+-- before; and it finishes before it is closed at its end
+abbrev pub IsToldAt : Stage → Bool → Bool → Type 0
+IsToldAt Stage.Open finishing closed = closed ≡ false
+IsToldAt Stage.AtEnd finishing closed = closed ≡ false
+IsToldAt Stage.Finishing finishing closed = (finishing ≡ true) × (closed ≡ false)
+IsToldAt Stage.Failed finishing closed = ⊤
+IsToldAt (Stage.Closed cut) finishing closed = closed ≡ true
 
 -- all that was accepted was handed out and written, and the connection was closed
 pub record IsDone (e : Client) (H : History) : Type 0 where
@@ -95,17 +109,31 @@ pub record IsDone (e : Client) (H : History) : Type 0 where
   pub all_handed : e.accepted ≡ e.handed
   pub closed : is_closed e.conn H ≡ true
 
+-- reading stopped for a drain: what waits is a value, if anything does, and none that was accepted finishes the connection
+pub record IsHalted (e : Client) (H : History) : Type 0 where
+  pub drained : e.is_drained ≡ true
+  pub stage : e.stage ≢ Stage.Open
+  pub unbroken : e.next ≢ Some Request'.Broken
+  pub goes_on : NoneFinishes (asked_requests e.conn H)
+
+-- closed after a drain, with all answered and written, and neither had its input ended nor did a request finish it
+abbrev pub MayGoOn : Client → Type 0
+MayGoOn e = (e.stage ≡ Stage.Closed false) × (e.is_halted ≡ true)
+
 -- Where the writer took these bytes, the reader gave the bytes b, and H is the steps of the engine's caller: what was taken
--- and what is pending is what was handed out; the requests accepted, and the one that waits, are those that were given.
+-- and what is pending is what was handed out; the requests accepted, and the one that waits, are those that were given; and it
+-- finishes and was closed as its stage says.
 pub record Carries (e : Client) (H : History) (taken b : List ℕ) : Type 0 where
   pub given : List Request
   pub out_is : taken ++ e.outbox.pending ≡ transcript e.conn H
-  pub holds : Holds e.inbox b given
+  pub holds : HoldsBehind e.inbox b given
   pub most_is : e.inbox.values.most ≡ CLIENT_MEMBERS
   pub given_are : given ≡ asked_requests e.conn H ++ waiting_requests e.next
   pub accepted_is : e.accepted ≡ accepted_count e.conn H
   pub handed_is : e.handed ≡ handed_count e.conn H
-  pub stage_is : IsAtStage e.stage (IsDone e H) (asked_requests e.conn H) e.is_drained e.inbox e.next b given
+  pub stage_is : IsAtStage e.stage (IsDone e H) (asked_requests e.conn H) e.is_halted e.inbox e.next b given
+  pub halted_is : e.is_halted ≡ true → IsHalted e H
+  pub told_is : IsToldAt e.stage (is_finishing e.conn H) (is_closed e.conn H)
 
 -- Nothing can be handed out: all that was accepted has been, or the next reply hasn't come.
 abbrev pub HandsNothing : (Refusal → Event → List Step → Type 0) → Client → List Step → List Step → Type 0
@@ -136,8 +164,13 @@ pub record IsUnread (old new : InboxState) (got : List ℕ) : Type 0 where
   pub left : new.left ≡ old.left
   pub counts : new.counts ≡ old.counts
 
--- Some moves of an engine: bytes that were read, none where it drains, bytes that were taken, steps of its connection alone,
--- whether any of these came, and what it carries.
+-- Nothing was taken in: no request was accepted, and what waited still waits.
+pub record IsUntaken (old new : Client) : Type 0 where
+  pub accepted : new.accepted ≡ old.accepted
+  pub next : new.next ≡ old.next
+
+-- Some moves of an engine: bytes that were read, bytes that were taken, steps of its connection alone, whether any of these
+-- came, and what it carries. Where it drains nothing was read, and nothing taken in but the refusal of a byte.
 pub record Goes (old new : Client) (H H' : History) (moved : Bool) : Type 0 where
   pub got : List ℕ
   pub gave : List ℕ
@@ -147,6 +180,7 @@ pub record Goes (old new : Client) (H H' : History) (moved : Bool) : Type 0 wher
   pub conn : new.conn ≡ old.conn
   pub drained : new.is_drained ≡ old.is_drained
   pub unread : old.is_drained ≡ true → IsUnread old.inbox new.inbox got
+  pub untaken : old.is_drained ≡ true → old.next ≢ Some Request'.Broken → IsUntaken old new
   pub adds : H' ≡ steps ++ H
   pub moved_is : moved ≡ has_moved got gave steps
   pub alone : connection_steps old.conn steps ≡ steps
@@ -157,3 +191,10 @@ abbrev pub Cuts : Client → Client → History → History → Result Progress 
 Cuts old new H H' answer result =
     (Goes old new H H' true × (new ≡ record old { stage = Stage.Closed true }) × (result ≡ answer))
     ⊎ (Goes old new H H' false × (new ≡ record old { stage = Stage.Failed }) × ((n : ℕ) × (result ≡ Err (EngineError.TurnRefused n))))
+
+-- What a step comes to where the connection was closed, and where it is to be closed for a fault: nothing more, or that close.
+abbrev pub ClosesFirst : Stage → Client → Client → History → History → Result Progress EngineError → Type 0
+ClosesFirst (Stage.Closed true) old new H H' result = (new ≡ old) × (H' ≡ H) × (result ≡ Ok Progress.Cut)
+ClosesFirst (Stage.Closed false) old new H H' result = (new ≡ old) × (H' ≡ H) × (result ≡ Ok Progress.Ended)
+ClosesFirst Stage.Failed old new H H' result = Cuts old new H H' (Ok Progress.Cut) result
+ClosesFirst stage old new H H' result = ⊤

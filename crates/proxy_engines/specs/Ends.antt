@@ -4,9 +4,11 @@ use Rattle.std.specs.Io.KnownBytes.{Appends}
 use Rattle.resp_core.specs.Tree.{Tree}
 use Rattle.resp_core.specs.Laws as resp
 use Rattle.resp_core.specs.Standing.{ReaderState, Stands}
-use Rattle.resp_core.specs.Stream.{HasNoRefusal}
+use Rattle.resp_core.specs.Stream.{HasNoRefusal, Splits}
 use Rattle.resp_core.specs.declared.error.RespError.{RespError}
+use Rattle.resp_core.specs.declared.reader.TheConstants.{CLIENT_MEMBERS}
 use Rattle.splitter.specs.Request.{Request, read, broken}
+use Rattle.splitter.specs.declared.request.Request.{Request as Request'}
 use Rattle.splitter.specs.Requests.{end_of}
 use Rattle.proxy_engines.specs.Device.{Counts}
 
@@ -41,6 +43,35 @@ pub record Holds (i : InboxState) (b : List ℕ) (rs : List Request) : Type 0 wh
   pub stands : Stands i.values fed given
   pub requests : rs ≡ map read given ++ refusal_requests i.values.refusal
   pub after : IfSome i.values.refusal (λ _. i.fresh ≡ [])
+
+-- The end was given the bytes b. The first of them are the texts of values that were given before, and it was given the others
+-- itself; and all these requests were given.
+pub record HoldsBehind (i : InboxState) (b : List ℕ) (rs : List Request) : Type 0 where
+  pub first : List Tree
+  pub own : List ℕ
+  pub splits : Splits CLIENT_MEMBERS b first own
+  pub given : List Request
+  pub holds : Holds i own given
+  pub requests : rs ≡ map read first ++ given
+
+-- what was read and not asked: the request that waits, the bytes that came last, and the reader of values
+pub record RestState : Type 0 where
+  pub next : Option Request'
+  pub fresh : List ℕ
+  pub values : ReaderState
+
+-- the end with these, behind a reader of which the others are told
+abbrev pub end_with : Option (List ℕ) → Counts → RestState → InboxState
+end_with left counts r = record { left = left; counts = counts; fresh = r.fresh; values = r.values }
+
+-- Where the bytes b asked these requests, they are the texts of those, and then others. Behind whatever reader, an end with this
+-- rest was given these others alone.
+pub record IsCut (most : ℕ) (b : List ℕ) (rs : List Request) (r : RestState) : Type 0 where
+  pub asked : List Tree
+  pub rest : List ℕ
+  pub requests : rs ≡ map read asked
+  pub splits : Splits most b asked rest
+  pub holds : (left : Option (List ℕ)) (counts : Counts) → Holds (end_with left counts r) rest []
 
 -- these are the requests of bytes whose arrays may have so many members: their values in order, and then a broken one where
 -- a byte behind them is refused

@@ -1,11 +1,12 @@
 -- What follows from what an engine carries.
-use Rattle.std.specs.Prelude.{◌≡◌, ◌≢◌, ℕ, false, List, [], ◌++◌, Option}
+use Rattle.std.specs.Prelude.{◌≡◌, ◌≢◌, ◌⊎◌, ℕ, false, List, [], ◌++◌, Option}
 use Rattle.splitter.specs.Request.{Request}
 use Rattle.splitter.specs.Requests.{AreRequests, up_to_last}
 use Rattle.proxy_history.specs.History.{History, accepted_count, handed_count}
 use Rattle.proxy_history.specs.Output.{transcript}
 use Rattle.proxy_history.specs.Own.{connection_steps, host_steps}
-use Rattle.proxy_engines.specs.Client.{Client, Carries, asked_requests}
+use Rattle.std.specs.Io.KnownBytes.{IsAtEnd}
+use Rattle.proxy_engines.specs.Client.{Client, Carries, LastFinishes, asked_requests}
 use Rattle.proxy_engines.specs.Host.{LineState, LinkState, CarriesHost}
 use Rattle.proxy_engines.specs.declared.client.Stage.{Stage}
 
@@ -21,10 +22,15 @@ pub record IsWholly (e : Client) (H : History) (taken : List ℕ) (rs : List Req
   pub all_handed : handed_count e.conn H ≡ accepted_count e.conn H
   pub taken_is : taken ≡ transcript e.conn H
 
--- a client that ended has answered all that it was asked
+-- a client that ended, and wasn't halted for a drain, has answered all that it was asked
 abbrev pub EndedIsWhole : Type 0
-EndedIsWhole = (e : Client) (H : History) (taken b : List ℕ) → Carries e H taken b → e.stage ≡ Stage.Closed false
+EndedIsWhole = (e : Client) (H : History) (taken b : List ℕ) → Carries e H taken b → e.stage ≡ Stage.Closed false → e.is_halted ≡ false
     → (rs : List Request) → AreRequests b rs → IsWholly e H taken rs
+
+-- A client that ended and wasn't halted for a drain has come to the end of its input, or a request finished it.
+abbrev pub EndedIsOver : Type 0
+EndedIsOver = (e : Client) (H : History) (taken b : List ℕ) → Carries e H taken b → e.stage ≡ Stage.Closed false → e.is_halted ≡ false
+    → IsAtEnd e.inbox.left ⊎ LastFinishes (asked_requests e.conn H)
 
 -- Steps of others leave what an engine carries as it is.
 abbrev pub OthersLeaveClients : Type 0

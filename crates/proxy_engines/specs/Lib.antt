@@ -7,6 +7,7 @@ pub mod OwnSteps
 pub mod Turned
 pub mod Moves
 pub mod Client
+pub mod Socket
 pub mod Host
 pub mod Faults
 pub mod HostStep

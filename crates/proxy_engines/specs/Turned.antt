@@ -1,5 +1,5 @@
 -- What one turn does to the steps of its caller.
-use Rattle.std.specs.Prelude.{◌≡◌, ◌≤◌, ⊤, ℕ, List, ◌∷◌, length}
+use Rattle.std.specs.Prelude.{◌≡◌, ◌≤◌, ◌⊎◌, ⊤, ℕ, List, ◌∷◌, length}
 use Rattle.journal_core.specs.Journal.{step_by}
 use Rattle.ticket_gate.specs.Journal.{StartsWith}
 use Rattle.proxy_history.specs.Setting.{max_steps}
@@ -8,7 +8,10 @@ use Rattle.proxy_history.specs.StepLaws.{IsAnswerTo}
 use Rattle.proxy_history.specs.declared.answer.Answer.{Answer}
 use Rattle.proxy_history.specs.declared.event.Event.{Event}
 use Rattle.proxy_history.specs.declared.refusal.Refusal.{Refusal}
+use Rattle.proxy_history.specs.Refusal.{number_of}
 use Rattle.proxy_engines.specs.declared.ask.Denied.{Denied}
+use Rattle.proxy_engines.specs.declared.ask.TheConstants.{SPENT}
+use Rattle.proxy_engines.specs.declared.error.EngineError.{EngineError}
 
 -- The caller made one step more, with an answer of the event's kind.
 pub record Adds (pass : ℕ) (old new : History) (event : Event) (answer : Answer) : Type 0 where
@@ -25,3 +28,14 @@ IsDue cause event seen (Denied.By r) = cause r event seen
 abbrev pub HasHeld : (Event → List Step → Type 0) → Event → List Step → List Step → Type 0
 HasHeld cause event old new =
     (between : List Step) × StartsWith between old × StartsWith new between × cause event between
+
+-- the number by which a turn was refused: that of the state's refusal, and another where no ticket is left
+abbrev pub denied_number : Denied → ℕ
+denied_number Denied.Spent = SPENT
+denied_number (Denied.By r) = number_of r
+
+-- where the error tells of a turn, its number is that of a refusal whose cause holds of what is seen, or says that no ticket is
+-- left
+abbrev pub IsNumbered : (Refusal → Event → List Step → Type 0) → List Step → EngineError → Type 0
+IsNumbered cause seen (EngineError.TurnRefused n) = (n ≡ SPENT) ⊎ ((r : Refusal) × (event : Event) × cause r event seen × (n ≡ number_of r))
+IsNumbered cause seen error = ⊤

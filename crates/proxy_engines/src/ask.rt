@@ -9,7 +9,7 @@ ghost use Rattle.proxy_history.specs.StepLaws.{is_last_answer};
 ghost use Rattle.proxy_history.specs.declared.answer.Answer.{Answer};
 ghost use Rattle.proxy_history.specs.declared.event.Event.{Event};
 ghost use Rattle.proxy_engines.specs.OwnSteps.{own_steps};
-ghost use Rattle.proxy_engines.specs.Turned.{Adds, IsDue};
+ghost use Rattle.proxy_engines.specs.Turned.{Adds, IsDue, denied_number};
 
 use crate::error::EngineError;
 use proxy_core::{Answer, CoreTurns, Event, Local, Refusal, Request};
@@ -32,7 +32,7 @@ const SPENT: u16 = 1202;
 impl Denied {
     /// What an engine tells of it.
     pub(crate) fn error(&self) -> EngineError
-        ensures { (number : ℕ) × (result ≡ EngineError.TurnRefused number) }
+        ensures { result ≡ EngineError.TurnRefused (denied_number self.now) }
     {
         match self {
             Denied::Spent => EngineError::TurnRefused { number: SPENT },

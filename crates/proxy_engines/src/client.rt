@@ -1,5 +1,5 @@
 //! A client's end.
-ghost use Rattle.std.specs.Prelude.{◌≡◌, ◌≢◌, ◌∷◌, ◌++◌, ◌⊎◌, ℕ, [], List, Option, None, Some, true, false, IfOk, IfErr, OnOk, OnErr};
+ghost use Rattle.std.specs.Prelude.{◌≡◌, ◌≢◌, ◌↔◌, ◌∷◌, ◌++◌, ◌⊎◌, ℕ, [], List, Option, None, Some, true, false, IfOk, IfErr, IfSome, IfNone, OnOk, OnErr};
 ghost use Rattle.splitter.specs.Request.{Request as Asked};
 ghost use Rattle.proxy_history.specs.History.{History};
 ghost use Rattle.proxy_history.specs.declared.answer.Answer.{Answer};
@@ -7,13 +7,14 @@ ghost use Rattle.proxy_history.specs.declared.event.Event.{Event};
 ghost use Rattle.proxy_engines.specs.OwnSteps.{own_steps};
 ghost use Rattle.proxy_engines.specs.Device.{HasFailed, HasPaused};
 ghost use Rattle.proxy_engines.specs.Ends.{HasGivenAll};
+ghost use Rattle.proxy_engines.specs.Turned.{IsNumbered};
 ghost use Rattle.journal_core.specs.Journal.{step_by};
 ghost use Rattle.proxy_engines.specs.Moves.{AsTold, told_by_step, told_by_turn};
 ghost use Rattle.ticket_gate.specs.Journal.{StartsWith};
 
 use crate::ask::{Denied, arrive, open, tell};
 use crate::error::EngineError;
-use crate::inbox::Inbox;
+use crate::inbox::{Inbox, Rest};
 use crate::outbox::Outbox;
 use crate::tally::{ReadTally, Told, WriteTally};
 use proxy_core::{Answer, CoreTurns, Event, Refusal, Request};
@@ -59,7 +60,7 @@ pub enum Stage {
 /// A client's end: what is read becomes requests, and what is handed out is written.
 ///
 /// Contracts see its connection, both ends, the request that waits to be accepted, how many were accepted and how many replies
-/// handed out, how far the connection has come, and whether nothing more is to be read.
+/// handed out, how far the connection has come, whether nothing more is to be taken in, and whether reading stopped for that.
 #[derive(Drop)]
 pub struct ClientEngine<R: ReadTally, W: WriteTally> {
     conn: u64,
@@ -69,12 +70,14 @@ pub struct ClientEngine<R: ReadTally, W: WriteTally> {
     accepted: u64,
     handed: u64,
     stage: Stage,
-    // Nothing more is to be read.
+    // Nothing more is to be read or taken in.
     is_drained: bool,
+    // Reading stopped for that, before the input ended or a request finished the connection.
+    is_halted: bool,
 }
 
 impl<R: ReadTally, W: WriteTally> Model for ClientEngine<R, W> {
-    ghost use Rattle.proxy_engines.specs.Client.{Client, IsWhole};
+    ghost use Rattle.proxy_engines.specs.Client.{Client, IsWhole, IsHaltedWhole};
 
     ghost Value = { Client };
 
@@ -93,14 +96,16 @@ impl<R: ReadTally, W: WriteTally> Model for ClientEngine<R, W> {
       handed = e.handed;
       stage = e.stage;
       is_drained = e.is_drained;
+      is_halted = e.is_halted;
     } };
 
-    ghost invariant = { λ e. IsWhole e.stage e.next e.inbox.values.refusal };
+    ghost invariant = { λ e. IsWhole e.stage e.next e.inbox.values.refusal
+        × IsHaltedWhole e.is_halted e.stage e.inbox.values.refusal };
 }
 
 #[tactic(auto, using(crate::proofs::ClientMoves::same_goes, crate::proofs::ClientMoves::goes_then))]
 impl<R: ReadTally, W: WriteTally> ClientEngine<R, W> {
-    ghost use Rattle.proxy_engines.specs.Client.{AwaitsBytes, AwaitsReplies, Client, Carries, Cuts, Goes, HandsNothing, IsHeldBack, IsIdle, IsLive, IsOver};
+    ghost use Rattle.proxy_engines.specs.Client.{AwaitsBytes, AwaitsReplies, Client, Carries, ClosesFirst, Cuts, Goes, HandsNothing, IsHeldBack, IsIdle, IsLive, IsOver, MayGoOn};
     ghost use Rattle.proxy_history.specs.declared.refusal.Refusal.{Refusal};
     ghost use Rattle.splitter.specs.declared.request.Request.{Request};
 
@@ -121,6 +126,8 @@ impl<R: ReadTally, W: WriteTally> ClientEngine<R, W> {
             (Event.Handed self.old.conn) (T.seen turns.new)) }
         ensures err { IfErr result (λ e. (self.new ≡ self.old)
             × ((n : ℕ) × (e ≡ EngineError.TurnRefused n))) }
+        ensures number { IfErr result
+            (IsNumbered (T.cause (T.setting turns.old)) (T.seen turns.new)) }
     {
         match tell(rt, turns, Event::Handed { conn: self.conn }) {
             Ok(Answer::Bytes { text }) => {
@@ -129,8 +136,10 @@ impl<R: ReadTally, W: WriteTally> ClientEngine<R, W> {
                 Ok(true)
             }
             Ok(_) => unreachable!(),
-            Err(Denied::By(Refusal::NotReady { .. })) => Ok(false),
-            Err(denied) => Err(denied.error()),
+            Err(denied) => match denied {
+                Denied::By(Refusal::NotReady { .. }) => Ok(false),
+                denied => Err(denied.error()),
+            },
         }
     }
 
@@ -155,6 +164,8 @@ impl<R: ReadTally, W: WriteTally> ClientEngine<R, W> {
             × (own_steps (T.pass turns.old) (T.seen turns.new)
             ≡ own_steps (T.pass turns.old) (T.seen turns.old))
             × ((n : ℕ) × (e ≡ EngineError.TurnRefused n))) }
+        ensures number { IfErr result
+            (IsNumbered (T.cause (T.setting turns.old)) (T.seen turns.new)) }
     {
         match tell(rt, turns, Event::Closed { conn: self.conn }) {
             Ok(answer) => {
@@ -178,9 +189,12 @@ impl<R: ReadTally, W: WriteTally> ClientEngine<R, W> {
         ensures seen { StartsWith (T.seen turns.new) (T.seen turns.old) }
         ensures cuts { Cuts self.old self.new (own_steps (T.pass turns.old) (T.seen turns.old))
             (own_steps (T.pass turns.old) (T.seen turns.new)) answer result }
+        ensures number { (result ≡ answer)
+            ⊎ IfErr result (IsNumbered (T.cause (T.setting turns.old)) (T.seen turns.new)) }
     {
         self.stage = Stage::Failed;
-        match tell(rt, turns, Event::Closed { conn: self.conn }) {
+        let close = Event::Closed { conn: self.conn };
+        match tell(rt, turns, close) {
             Ok(told) => {
                 drop(told);
                 self.stage = Stage::Closed { is_cut: true };
@@ -209,6 +223,8 @@ impl<R: ReadTally, W: WriteTally> ClientEngine<R, W> {
             × (own_steps (T.pass turns.old) (T.seen turns.new)
             ≡ own_steps (T.pass turns.old) (T.seen turns.old))
             × ((n : ℕ) × (e ≡ EngineError.TurnRefused n))) }
+        ensures number { IfErr result
+            (IsNumbered (T.cause (T.setting turns.old)) (T.seen turns.new)) }
     {
         match tell(rt, turns, Event::Finished { conn: self.conn }) {
             Ok(answer) => {
@@ -228,6 +244,7 @@ impl<R: ReadTally, W: WriteTally> ClientEngine<R, W> {
     ) -> Result<Progress, EngineError>
         requires stage { self.old.stage ≡ Stage.Open }
         requires waits { self.old.next ≢ None }
+        requires last { self.old.is_drained ≡ true → self.old.next ≡ Some Request.Broken }
         ensures pass { T.pass turns.new ≡ T.pass turns.old }
         ensures setting { T.setting turns.new ≡ T.setting turns.old }
         ensures seen { StartsWith (T.seen turns.new) (T.seen turns.old) }
@@ -242,6 +259,8 @@ impl<R: ReadTally, W: WriteTally> ClientEngine<R, W> {
             (T.seen turns.new))) }
         ensures err { IfErr result (λ e. (self.new ≡ self.old)
             × ((n : ℕ) × (e ≡ EngineError.TurnRefused n))) }
+        ensures number { IfErr result
+            (IsNumbered (T.cause (T.setting turns.old)) (T.seen turns.new)) }
     {
         let Some(request) = self.next.take() else {
             return Ok(Progress::Idle);
@@ -268,7 +287,9 @@ impl<R: ReadTally, W: WriteTally> ClientEngine<R, W> {
     fn fetch(&mut self) -> Result<bool, EngineError>
         requires stage { self.old.stage ≡ Stage.Open }
         requires none { self.old.next ≡ None }
+        requires reads { self.old.is_drained ≡ false }
         ensures goes { (H : History) → Goes self.old self.new H H false }
+        ensures reads { self.new.is_drained ≡ false }
         ensures stage { self.new.stage ≡ Stage.Open }
         ensures counts { self.new.inbox.counts ≡ self.old.inbox.counts }
         ensures some { IfOk result (λ b. b ≡ true → self.new.next ≢ None) }
@@ -288,9 +309,11 @@ impl<R: ReadTally, W: WriteTally> ClientEngine<R, W> {
 
     // Whether a request waits, or has come whole.
     fn has_next(&mut self) -> Result<bool, EngineError>
-        requires { self.old.stage ≡ Stage.Open }
+        requires stage { self.old.stage ≡ Stage.Open }
+        requires last { self.old.is_drained ≡ true → self.old.next ≡ Some Request.Broken }
         ensures goes { (H : History) → Goes self.old self.new H H false }
         ensures stage { self.new.stage ≡ Stage.Open }
+        ensures last { self.new.is_drained ≡ true → self.new.next ≡ Some Request.Broken }
         ensures counts { self.new.inbox.counts ≡ self.old.inbox.counts }
         ensures some { IfOk result (λ b. b ≡ true → self.new.next ≢ None) }
         ensures none { IfOk result (λ b. b ≡ false → (self.new.next ≡ None)
@@ -324,6 +347,8 @@ impl<R: ReadTally, W: WriteTally> ClientEngine<R, W> {
         ensures err { IfErr result (λ e.
             ((e ≡ EngineError.WriteFailed) × HasFailed self.old.outbox.counts self.new.outbox.counts
             × (self.new.stage ≡ Stage.Closed true)) ⊎ ((n : ℕ) × (e ≡ EngineError.TurnRefused n))) }
+        ensures number { IfErr result
+            (IsNumbered (T.cause (T.setting turns.old)) (T.seen turns.new)) }
     {
         match self.outbox.write_once() {
             Told::Moved(_) => Ok(Progress::Moved),
@@ -339,8 +364,9 @@ impl<R: ReadTally, W: WriteTally> ClientEngine<R, W> {
         turns: &mut T,
     ) -> Result<Progress, EngineError>
         requires stage { self.old.stage ≡ Stage.Open }
-        requires none { self.old.next ≡ None }
-        requires all { HasGivenAll self.old.inbox }
+        requires unbroken { self.old.next ≢ Some Request.Broken }
+        requires none { self.old.is_drained ≡ false → self.old.next ≡ None }
+        requires all { self.old.is_drained ≡ false → HasGivenAll self.old.inbox }
         requires over { IsOver self.old.is_drained self.old.inbox }
         ensures pass { T.pass turns.new ≡ T.pass turns.old }
         ensures setting { T.setting turns.new ≡ T.setting turns.old }
@@ -350,12 +376,15 @@ impl<R: ReadTally, W: WriteTally> ClientEngine<R, W> {
             (own_steps (T.pass turns.old) (T.seen turns.new))) (told_by_step result) }
         ensures ok { IfOk result (λ p. IsLive self.new.stage × (p ≡ Progress.Moved)) }
         ensures err { IfErr result (λ e. (n : ℕ) × (e ≡ EngineError.TurnRefused n)) }
+        ensures number { IfErr result
+            (IsNumbered (T.cause (T.setting turns.old)) (T.seen turns.new)) }
     {
         self.stage = Stage::AtEnd;
+        self.is_halted = self.is_drained;
         self.finish(rt, turns)
     }
 
-    // One read, unless nothing more is to be read.
+    // One read.
     fn read<Rt: Wait, T: CoreTurns>(
         &mut self,
         rt: &Rt,
@@ -363,6 +392,7 @@ impl<R: ReadTally, W: WriteTally> ClientEngine<R, W> {
     ) -> Result<Progress, EngineError>
         requires stage { self.old.stage ≡ Stage.Open }
         requires none { self.old.next ≡ None }
+        requires reads { self.old.is_drained ≡ false }
         requires all { HasGivenAll self.old.inbox }
         ensures pass { T.pass turns.new ≡ T.pass turns.old }
         ensures setting { T.setting turns.new ≡ T.setting turns.old }
@@ -377,10 +407,9 @@ impl<R: ReadTally, W: WriteTally> ClientEngine<R, W> {
             ((e ≡ EngineError.ReadFailed) × HasFailed self.old.inbox.counts self.new.inbox.counts
             × (self.new.stage ≡ Stage.Closed true)) ⊎ ((n : ℕ) × (e ≡ EngineError.TurnRefused n))) }
         ensures idle { IfOk result (λ p. p ≡ Progress.Idle → AwaitsBytes self.old self.new) }
+        ensures number { IfErr result
+            (IsNumbered (T.cause (T.setting turns.old)) (T.seen turns.new)) }
     {
-        if self.is_drained {
-            return self.stop_reading(rt, turns);
-        }
         match self.inbox.read_once() {
             Told::Moved(_) => Ok(Progress::Moved),
             Told::Paused => Ok(Progress::Idle),
@@ -389,7 +418,17 @@ impl<R: ReadTally, W: WriteTally> ClientEngine<R, W> {
         }
     }
 
-    // The next request as an Arrived turn, else one read.
+    // Whether nothing more is to be taken in. A refusal of the reader that waits is still told, since it ends the input.
+    fn is_to_stop(&self) -> bool
+        ensures stops { result ≡ true → (self.now.is_drained ≡ true)
+            × (self.now.next ≢ Some Request.Broken) }
+        ensures goes_on { result ≡ false → self.now.is_drained ≡ true
+            → self.now.next ≡ Some Request.Broken }
+    {
+        self.is_drained && !matches!(self.next, Some(Request::Broken))
+    }
+
+    // The next request as an Arrived turn, else one read. A drained engine takes in nothing more.
     fn take_in<Rt: Wait, T: CoreTurns>(
         &mut self,
         rt: &Rt,
@@ -410,7 +449,12 @@ impl<R: ReadTally, W: WriteTally> ClientEngine<R, W> {
         ensures idle { IfOk result (λ p. p ≡ Progress.Idle
             → IsHeldBack (T.cause (T.setting turns.old)) self.new (T.seen turns.old)
             (T.seen turns.new) ⊎ AwaitsBytes self.old self.new) }
+        ensures number { IfErr result
+            (IsNumbered (T.cause (T.setting turns.old)) (T.seen turns.new)) }
     {
+        if self.is_to_stop() {
+            return self.stop_reading(rt, turns);
+        }
         if !self.has_next()? {
             return self.read(rt, turns);
         }
@@ -435,6 +479,8 @@ impl<R: ReadTally, W: WriteTally> ClientEngine<R, W> {
             ⊎ ((p ≡ Progress.Ended) × (self.new.stage ≡ Stage.Closed false))) }
         ensures err { IfErr result (λ e. (n : ℕ) × (e ≡ EngineError.TurnRefused n)) }
         ensures idle { IfOk result (λ p. p ≡ Progress.Idle → AwaitsReplies self.new) }
+        ensures number { IfErr result
+            (IsNumbered (T.cause (T.setting turns.old)) (T.seen turns.new)) }
     {
         if self.accepted != self.handed {
             return Ok(Progress::Idle);
@@ -462,6 +508,8 @@ impl<R: ReadTally, W: WriteTally> ClientEngine<R, W> {
         ensures nothing { IfOk result (λ b. b ≡ false
             → HandsNothing (T.cause (T.setting turns.old)) self.old (T.seen turns.old)
             (T.seen turns.new)) }
+        ensures number { IfErr result
+            (IsNumbered (T.cause (T.setting turns.old)) (T.seen turns.new)) }
     {
         if self.accepted == self.handed {
             return Ok(false);
@@ -485,6 +533,7 @@ impl<R: ReadTally, W: WriteTally> ClientEngine<R, W> {
         ensures ended { IfOk result (λ p. p ≡ Progress.Ended → self.new.stage
             ≡ Stage.Closed false) }
         ensures cut { IfOk result (λ p. p ≢ Progress.Cut) }
+        ensures no_link { IfOk result (λ p. p ≢ Progress.NeedsLink) }
         ensures read_failed { IfErr result
             (λ e. e ≡ EngineError.ReadFailed → HasFailed self.old.inbox.counts self.new.inbox.counts
             × (self.new.stage ≡ Stage.Closed true)) }
@@ -495,6 +544,8 @@ impl<R: ReadTally, W: WriteTally> ClientEngine<R, W> {
         ensures idle { IfOk result (λ p. p ≡ Progress.Idle
             → IsIdle (T.cause (T.setting turns.old)) self.old self.new (T.seen turns.old)
             (T.seen turns.new)) }
+        ensures number { IfErr result
+            (IsNumbered (T.cause (T.setting turns.old)) (T.seen turns.new)) }
     {
         if !self.outbox.is_empty() {
             return self.write(rt, turns);
@@ -510,8 +561,9 @@ impl<R: ReadTally, W: WriteTally> ClientEngine<R, W> {
     }
 
     /// Does the first of these that applies: one write of what is pending; one reply handed out; the request that waits, or the
-    /// next one that has come, accepted; one read of at most 16,384 bytes, and none after [`drain`](ClientEngine::drain); and once
-    /// nothing more arrives and all is handed out and written, the close. A closed connection's step does nothing.
+    /// next one that has come, accepted; one read of at most 16,384 bytes; and once nothing more arrives and all is handed out
+    /// and written, the close. After [`drain`](ClientEngine::drain) no request is accepted and nothing is read. A closed
+    /// connection's step does nothing.
     ///
     /// Refused 1402 or 1403 where the reader or the writer failed in this call, and the connection was closed for it; 1401 for
     /// want of memory, and 1404 where a turn was refused: the next step goes on from the same place.
@@ -529,6 +581,10 @@ impl<R: ReadTally, W: WriteTally> ClientEngine<R, W> {
         ensures ended { IfOk result (λ p. p ≡ Progress.Ended → self.new.stage
             ≡ Stage.Closed false) }
         ensures cut { IfOk result (λ p. p ≡ Progress.Cut → self.new.stage ≡ Stage.Closed true) }
+        ensures no_link { IfOk result (λ p. p ≢ Progress.NeedsLink) }
+        ensures closed { ClosesFirst self.old.stage self.old self.new
+            (own_steps (T.pass turns.old) (T.seen turns.old))
+            (own_steps (T.pass turns.old) (T.seen turns.new)) result }
         ensures read_failed { IfErr result
             (λ e. e ≡ EngineError.ReadFailed → HasFailed self.old.inbox.counts self.new.inbox.counts
             × (self.new.stage ≡ Stage.Closed true)) }
@@ -539,6 +595,8 @@ impl<R: ReadTally, W: WriteTally> ClientEngine<R, W> {
         ensures idle { IfOk result (λ p. p ≡ Progress.Idle
             → IsIdle (T.cause (T.setting turns.old)) self.old self.new (T.seen turns.old)
             (T.seen turns.new)) }
+        ensures number { IfErr result
+            (IsNumbered (T.cause (T.setting turns.old)) (T.seen turns.new)) }
     {
         match self.stage {
             Stage::Closed { is_cut: true } => Ok(Progress::Cut),
@@ -548,8 +606,9 @@ impl<R: ReadTally, W: WriteTally> ClientEngine<R, W> {
         }
     }
 
-    /// From here on no step reads, and all else goes on as at the end of the input: what was read before is asked, what is
-    /// accepted is answered and written, and then the connection is closed. An unfinished value is dropped.
+    /// From here on no step reads or takes in a request, not even one that waits: what is accepted is answered and written, and
+    /// then the connection is closed. What was read and isn't asked stays, for another engine to go on from. Bytes that the
+    /// reader refused are still told, and finish the connection.
     ///
     /// Nothing else changes now, and the device isn't touched. What the engine carries stays true.
     pub fn drain(&mut self)
@@ -558,6 +617,14 @@ impl<R: ReadTally, W: WriteTally> ClientEngine<R, W> {
             → Carries self.new H taken b }
     {
         self.is_drained = true;
+    }
+
+    /// Whether the connection was closed after a drain, all answered and written, while its socket can go on: neither had its
+    /// input ended nor did a request finish it.
+    pub fn may_go_on(&self) -> bool
+        ensures { (result ≡ true) ↔ MayGoOn self.now }
+    {
+        self.is_halted && self.stage == Stage::Closed { is_cut: false }
     }
 
     /// Has the writer pass on what it gathered. What the engine carries stays true.
@@ -579,7 +646,8 @@ impl<R: ReadTally, W: WriteTally> ClientEngine<R, W> {
 }
 
 impl<R: ReadTally + Drop, W: WriteTally + Drop> ClientEngine<R, W> {
-    ghost use Rattle.proxy_engines.specs.Client.{Carries};
+    ghost use Rattle.proxy_engines.specs.Client.{Carries, MayGoOn};
+    ghost use Rattle.proxy_engines.specs.Socket.{IsLeft, IsRest};
 
     /// Opens a connection: all that it needs is taken first, and then one Opened turn is made.
     ///
@@ -626,6 +694,7 @@ impl<R: ReadTally + Drop, W: WriteTally + Drop> ClientEngine<R, W> {
                 handed: 0,
                 stage: Stage::Open,
                 is_drained: false,
+                is_halted: false,
             }),
             Err(denied) => {
                 drop(inbox);
@@ -633,6 +702,78 @@ impl<R: ReadTally + Drop, W: WriteTally + Drop> ClientEngine<R, W> {
                 Err(denied.error())
             }
         }
+    }
+
+    /// Opens a connection on a socket that goes on: with what the connection before it left. The request that waited there is
+    /// the first that is offered here. One Opened turn is made, and no memory is taken but what the turn takes.
+    ///
+    /// Refused 1404, and then no step was added, and all comes back.
+    pub fn open_with<Rt: Wait, T: CoreTurns>(
+        rt: &Rt,
+        turns: &mut T,
+        reader: R,
+        writer: W,
+        rest: Rest,
+    ) -> Result<ClientEngine<R, W>, (EngineError, R, W, Rest)>
+        ensures pass { T.pass turns.new ≡ T.pass turns.old }
+        ensures setting { T.setting turns.new ≡ T.setting turns.old }
+        ensures seen { StartsWith (T.seen turns.new) (T.seen turns.old) }
+        ensures opened { IfOk result (λ e. own_steps (T.pass turns.old) (T.seen turns.new)
+            ≡ step_by (T.pass turns.old) Event.Opened (Answer.Opened e.conn) ∷ own_steps
+            (T.pass turns.old) (T.seen turns.old)) }
+        ensures carries { IfOk result (λ e. (b : List ℕ) → IsRest rest b → Carries e
+            (own_steps (T.pass turns.old) (T.seen turns.new)) [] b) }
+        ensures ends { IfOk result (λ e. (e.inbox.left ≡ R.remaining reader)
+            × (e.outbox.held ≡ W.contents writer)) }
+        ensures stage { IfOk result (λ e. e.stage ≡ Stage.Open) }
+        ensures reads { IfOk result (λ e. e.is_drained ≡ false) }
+        ensures err { IfErr result (λ x.
+            (own_steps (T.pass turns.old) (T.seen turns.new)
+            ≡ own_steps (T.pass turns.old) (T.seen turns.old))
+            × ((n : ℕ) × (x.0 ≡ EngineError.TurnRefused n))) }
+        ensures back { IfErr result (λ x. (x.1 ≡ reader) × (x.2 ≡ writer) × (x.3 ≡ rest)) }
+    {
+        match open(rt, turns) {
+            Ok(conn) => {
+                let (inbox, next) = Inbox::with(reader, rest);
+                Ok(ClientEngine {
+                    conn,
+                    inbox,
+                    outbox: Outbox::new(writer),
+                    next,
+                    accepted: 0,
+                    handed: 0,
+                    stage: Stage::Open,
+                    is_drained: false,
+                    is_halted: false,
+                })
+            }
+            Err(denied) => Err((denied.error(), reader, writer, rest)),
+        }
+    }
+
+    /// What the next connection of the socket goes on from: both ends, and what was read and isn't asked, the request that waits
+    /// included. None, and all is dropped, unless [`may_go_on`](ClientEngine::may_go_on).
+    pub fn into_rest(self) -> Option<(R, W, Rest)>
+        ensures some { IfSome result (λ o. MayGoOn self) }
+        ensures none { IfNone result (MayGoOn self → ⊥) }
+        ensures ends { IfSome result (λ o. (R.remaining o.0 ≡ self.inbox.left)
+            × (W.contents o.1 ≡ self.outbox.held)) }
+        ensures left { IfSome result (λ o. (H : History) (taken b : List ℕ) → Carries self H taken b
+            → IsLeft self.conn H taken b o.2) }
+    {
+        if !self.may_go_on() {
+            drop(self);
+            return None;
+        }
+        let ClientEngine {
+            inbox,
+            outbox,
+            next,
+            ..
+        } = self;
+        let (reader, rest) = inbox.into_rest(next);
+        Some((reader, outbox.into_writer(), rest))
     }
 
     /// The writer. What is pending is dropped, and so is the reader.

@@ -1,5 +1,5 @@
 //! A host's end.
-ghost use Rattle.std.specs.Prelude.{◌≡◌, ◌≢◌, ◌⊎◌, ◌↔◌, ℕ, List, [], Option, Some, None, IfOk, IfErr, IfSome, OnOk, OnErr, true, false};
+ghost use Rattle.std.specs.Prelude.{◌≡◌, ◌≢◌, ◌⊎◌, ◌↔◌, ℕ, List, [], Option, Some, None, IfOk, IfErr, IfSome, OnOk, OnErr, true, false, unwrap_or};
 ghost use Rattle.ticket_gate.specs.Journal.{StartsWith};
 ghost use Rattle.proxy_history.specs.History.{History};
 ghost use Rattle.proxy_history.specs.Own.{host_steps};
@@ -89,7 +89,7 @@ impl<R: ReadTally, W: WriteTally> HostEngine<R, W> {
 #[tactic(auto, using(crate::proofs::HostLemmas::works_on, crate::proofs::HostLemmas::works_left, crate::proofs::HostLemmas::works_fault))]
 impl<R: ReadTally + Drop, W: WriteTally + Drop> HostEngine<R, W> {
     // Records a fault and gives the link up. Where that turn is refused, the next step tries it first.
-    fn give_up<Rt: Wait, T: CoreTurns>(
+    fn record_fault<Rt: Wait, T: CoreTurns>(
         &mut self,
         rt: &Rt,
         turns: &mut T,
@@ -160,7 +160,34 @@ impl<R: ReadTally + Drop, W: WriteTally + Drop> HostEngine<R, W> {
             ≡ own_steps (T.pass turns.old) (T.seen turns.old))) }
         ensures err { IfErr result (λ e. (n : ℕ) × (e ≡ EngineError.TurnRefused n)) }
     {
-        self.give_up(rt, turns, Kind::Refused, moment)
+        self.record_fault(rt, turns, Kind::Refused, moment)
+    }
+
+    /// Gives up what the host was asked: one Failed turn of kind Dropped, and the link, if there is one, is dropped. A fault
+    /// that is still to be recorded gives its own kind. A value that was read and waits for its turn goes with the link.
+    ///
+    /// Refused 1404, and then the next step makes that turn first.
+    pub fn give_up<Rt: Wait, T: CoreTurns>(
+        &mut self,
+        rt: &Rt,
+        turns: &mut T,
+        moment: u64,
+    ) -> Result<(), EngineError>
+        ensures pass { T.pass turns.new ≡ T.pass turns.old }
+        ensures setting { T.setting turns.new ≡ T.setting turns.old }
+        ensures seen { StartsWith (T.seen turns.new) (T.seen turns.old) }
+        ensures records { OnOk result (Records self.old self.new
+            (own_steps (T.pass turns.old) (T.seen turns.old))
+            (own_steps (T.pass turns.old) (T.seen turns.new))
+            (unwrap_or self.old.fault Kind.Dropped) moment) }
+        ensures kept { OnErr result
+            ((self.new ≡ record self.old { fault = Some (unwrap_or self.old.fault Kind.Dropped) })
+            × (own_steps (T.pass turns.old) (T.seen turns.new)
+            ≡ own_steps (T.pass turns.old) (T.seen turns.old))) }
+        ensures err { IfErr result (λ e. (n : ℕ) × (e ≡ EngineError.TurnRefused n)) }
+    {
+        let kind = self.fault.unwrap_or(Kind::Dropped);
+        self.record_fault(rt, turns, kind, moment)
     }
 
     // Records a fault, and answers what the step tells of it.
@@ -179,7 +206,7 @@ impl<R: ReadTally + Drop, W: WriteTally + Drop> HostEngine<R, W> {
             (own_steps (T.pass turns.old) (T.seen turns.old))
             (own_steps (T.pass turns.old) (T.seen turns.new)) kind error moment result }
     {
-        self.give_up(rt, turns, kind, moment)?;
+        self.record_fault(rt, turns, kind, moment)?;
         match error {
             None => Ok(Progress::Moved),
             Some(error) => Err(error),
@@ -204,7 +231,8 @@ impl<R: ReadTally + Drop, W: WriteTally + Drop> HostEngine<R, W> {
             (own_steps (T.pass turns.old) (T.seen turns.new)) moment result }
         ensures needs_link { IfOk result
             (λ p. (p ≢ Progress.NeedsLink) × (self.new.link ≡ None → self.new.line.pending ≡ [])) }
-        ensures all { IfOk result (λ p. IfSome self.new.link (λ k. HasGivenAll k.inbox)) }
+        ensures all { IfOk result (λ p. IfSome self.new.link
+            (λ k. (k.next ≡ None) × HasGivenAll k.inbox)) }
         ensures recorded { OnOk result (self.new.fault ≡ None) }
         ensures in_time { IfOk result (λ _. ¬ IsLate self.new.line moment) }
         ensures idle { IfOk result (λ p. p ≡ Progress.Idle
@@ -313,7 +341,7 @@ impl<R: ReadTally + Drop, W: WriteTally + Drop> HostEngine<R, W> {
             (λ p. (p ≡ Progress.NeedsLink)
             ↔ ((self.new.link ≡ None) × (self.new.line.pending ≢ []))) }
         ensures all { IfOk result (λ p. IfSome self.old.link
-            (λ _. IfSome self.new.link (λ k. HasGivenAll k.inbox))) }
+            (λ _. IfSome self.new.link (λ k. (k.next ≡ None) × HasGivenAll k.inbox))) }
         ensures alone { self.old.link ≡ None → self.new.link ≡ None }
         ensures recorded { OnOk result (self.new.fault ≡ None) }
         ensures in_time { IfOk result (λ _. ¬ IsLate self.new.line moment) }
@@ -357,7 +385,8 @@ impl<R: ReadTally + Drop, W: WriteTally + Drop> HostEngine<R, W> {
             (λ p. (p ≡ Progress.NeedsLink)
             ↔ ((self.new.link ≡ None) × (self.new.line.pending ≢ []))) }
         ensures all { IfOk result (λ p. self.old.fault ≡ None
-            → IfSome self.old.link (λ _. IfSome self.new.link (λ k. HasGivenAll k.inbox))) }
+            → IfSome self.old.link (λ _. IfSome self.new.link
+            (λ k. (k.next ≡ None) × HasGivenAll k.inbox))) }
         ensures recorded { OnOk result (self.new.fault ≡ None) }
         ensures in_time { IfOk result (λ _. ¬ IsLate self.new.line moment) }
         ensures idle { IfOk result (λ p. p ≡ Progress.Idle
@@ -368,7 +397,7 @@ impl<R: ReadTally + Drop, W: WriteTally + Drop> HostEngine<R, W> {
         let Some(kind) = self.fault else {
             return self.go_on(rt, turns, moment);
         };
-        self.give_up(rt, turns, kind, moment)?;
+        self.record_fault(rt, turns, kind, moment)?;
         after_fault(self.go_on(rt, turns, moment))
     }
 }

@@ -39,6 +39,44 @@ fn fitting_size(length: usize, last: usize) -> usize
     }
 }
 
+/// What was read from a client and not asked: the request that waits, an unfinished command, and what was read and not looked
+/// at.
+///
+/// Contracts see the request, the bytes that were not looked at, and the reader of values, which has refused nothing.
+#[derive(Drop)]
+pub struct Rest {
+    next: Option<Request>,
+    alloc: Global,
+    buffer: Vec<u8>,
+    fresh: usize,
+    last: usize,
+    values: Reader,
+}
+
+impl Model for Rest {
+    ghost use Rattle.std.specs.Prelude.{◌≡◌, ◌≤◌, None, take, length};
+    ghost use Rattle.proxy_engines.specs.Ends.{RestState};
+    ghost use Rattle.proxy_engines.specs.declared.inbox.TheConstants.{READ_SIZE, LEAST_READ_SIZE};
+
+    ghost Value = { RestState };
+
+    ghost use Rattle.splitter.specs.contracts.request.Request as request;
+    ghost use Rattle.std.specs.Coded.{codes};
+    ghost use Rattle.resp_core.specs.Code.{tree_code};
+
+    ghost coded = { Prim.hlevel (codes, tree_code, request.the_row.coded) };
+
+    ghost view = { λ r. record {
+      next = r.next;
+      fresh = take r.fresh r.buffer.items;
+      values = r.values;
+    } };
+
+    ghost invariant = { λ r. (LEAST_READ_SIZE ≤ length r.buffer.items)
+        × (length r.buffer.items ≤ READ_SIZE) × (r.fresh ≤ length r.buffer.items)
+        × (r.values.refusal ≡ None) };
+}
+
 /// A reader, the bytes that it read last, and the reader of values.
 #[derive(Drop)]
 pub(crate) struct Inbox<R: ReadTally> {
@@ -79,7 +117,7 @@ impl<R: ReadTally> Model for Inbox<R> {
 }
 
 impl<R: ReadTally> Inbox<R> {
-    ghost use Rattle.proxy_engines.specs.Ends.{Holds, HasGivenAll};
+    ghost use Rattle.proxy_engines.specs.Ends.{Holds, HasGivenAll, IsCut};
 
     /// An end that has read nothing yet. Where there is no memory for its buffer, the reader comes back.
     pub(crate) fn new(alloc: Global, input: R, limits: Limits) -> Result<Inbox<R>, R>
@@ -101,6 +139,64 @@ impl<R: ReadTally> Inbox<R> {
             }),
             Err(_) => Err(input),
         }
+    }
+
+    /// An end behind which this rest stands, and the request that waits.
+    pub(crate) fn with(input: R, rest: Rest) -> (Inbox<R>, Option<Request>)
+        ensures left { result.0.left ≡ R.remaining input }
+        ensures fresh { result.0.fresh ≡ rest.fresh }
+        ensures values { result.0.values ≡ rest.values }
+        ensures whole { result.0.values.refusal ≡ None }
+        ensures next { result.1 ≡ rest.next }
+    {
+        let Rest {
+            next,
+            alloc,
+            buffer,
+            fresh,
+            last,
+            values,
+        } = rest;
+        let inbox = Inbox {
+            alloc,
+            input,
+            buffer,
+            fresh,
+            last,
+            values,
+            has_given_all: false,
+        };
+        (inbox, next)
+    }
+
+    /// The reader, and what was read and not asked: the request that waits, and what is no request yet. Nothing may be refused.
+    pub(crate) fn into_rest(self, next: Option<Request>) -> (R, Rest)
+        requires { self.values.refusal ≡ None }
+        ensures left { R.remaining result.0 ≡ self.left }
+        ensures cut { (b : List ℕ) (rs : List Asked) → Holds self b rs
+            → IsCut self.values.most b rs result.1 }
+        ensures most { result.1.values.most ≡ self.values.most }
+        ensures next { result.1.next ≡ next }
+    {
+        let Inbox {
+            alloc,
+            input,
+            buffer,
+            fresh,
+            last,
+            mut values,
+            ..
+        } = self;
+        values.begin_behind();
+        let rest = Rest {
+            next,
+            alloc,
+            buffer,
+            fresh,
+            last,
+            values,
+        };
+        (input, rest)
     }
 
     // Makes the buffer twice as long where the last read filled it, and half as long where an eighth of it was enough, as far
@@ -138,7 +234,7 @@ impl<R: ReadTally> Inbox<R> {
             Told::End | Told::Paused | Told::Failed => 0,
         };
         if self.fresh > 0 {
-            self.last = self.fresh;
+            self.last = self.fresh.max(self.last / 2);
         }
         told
     }

@@ -30,8 +30,10 @@ pub use client::{ClientEngine, Progress, Stage};
 pub use error::EngineError;
 pub use faulty::Faulty;
 pub use host::HostEngine;
-pub use inbox::READ_SIZE;
-pub use laws::{accepted_are_first, ended_is_whole, engines_leave_others, others_leave_engines};
+pub use inbox::{READ_SIZE, Rest};
+pub use laws::{
+    accepted_are_first, ended_is_whole, engines_leave_others, others_leave_engines, sockets_go_on,
+};
 pub use tally::{ReadTally, Tallied, Tally, Told, WriteTally};
 pub use threads::run_all;
 pub use work::{ClientWork, Work};

@@ -29,7 +29,7 @@ use Rattle.proxy_run.specs.Stubs.{IsOfStubs}
 use Rattle.proxy_run.specs.Moves.{GoesBeside}
 use Rattle.proxy_run.specs.Local.{RunsLocal, RunsWhole}
 use Rattle.proxy_run.proofs.BytesLemmas.{Appends-gathered}
-use Rattle.proxy_run.proofs.EndLemmas.{asked-ended, at_end}
+use Rattle.proxy_run.proofs.EndLemmas.{asked-ended, at_end, unhalted_of}
 
 -- the first connection has the number 0
 opened_first : (S : Setting) (pass c : ℕ) (later H : History) → H ≡ later ++ step_by pass Event.Opened (Answer.Opened c) ∷ [] → IsLegal S H → c ≡ 0
@@ -65,7 +65,7 @@ module _ (S : Setting) (old new : Client) (pass : ℕ) (before H : History) (ope
   whole b left =
       let rs = splits.each_stream_asks b in
       let came = splits.each_stream_asks goes.got in
-      let done = engines.ended_is_whole new H goes.gave goes.got carries ended came.0 came.1 in
+      let done = engines.ended_is_whole new H goes.gave goes.got carries ended (unhalted_of new.is_halted new.is_drained (λ h. (carries.halted_is h).drained) (goes.drained ∙ reads)) came.0 came.1 in
       let all = asked-ended new H goes.gave goes.got b carries ended (goes.drained ∙ reads) (rw left at goes.reads) rs.0 rs.1 in
       let accepted : asked_requests 0 H ≡ up_to_last rs.0 = rw new_is_first at all in
       let many : length (asked_requests 0 H) ≡ length (requests 0 H) = length-map (requests 0 H) request_of in

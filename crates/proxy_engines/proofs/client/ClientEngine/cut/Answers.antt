@@ -1,6 +1,7 @@
 use Rattle.std.specs.Prelude.{Err}
 use Rattle.std.proofs.Common.{inl, inr, refl, ap}
 use Rattle.proxy_engines.proofs.ClientMoves.{cut_goes, failed_goes}
+use Rattle.proxy_engines.proofs.NumberLemmas.{is_numbered}
 use Rattle.proxy_engines.proofs.client.ClientEngine.cut.Goals as goal
 
 pub returns-in-Ok-clause-pass : goal.returns-in-Ok-clause-pass
@@ -25,4 +26,10 @@ pub returns-in-Ok-clause-cuts : goal.returns-in-Ok-clause-cuts
 returns-in-Ok-clause-cuts g c = rw (c.in-Ok.ensures.answered.steps, ← c.self.view_is) (inl (cut_goes _ (g.T.Turns.pass c.args.turns.now) c.in-Ok.told _, refl, refl))
 
 pub returns-in-Err-clause-cuts : goal.returns-in-Err-clause-cuts
-returns-in-Err-clause-cuts g c = rw (← c.self.view_is) (inr (failed_goes _ _ _ c.in-Err.ensures.rests, refl, (c.error.ensures.0, ap Err c.error.ensures.1)))
+returns-in-Err-clause-cuts g c = rw (← c.self.view_is) (inr (failed_goes _ _ _ c.in-Err.ensures.rests, refl, (_, ap Err c.error.ensures)))
+
+pub returns-in-Ok-clause-number : goal.returns-in-Ok-clause-number
+returns-in-Ok-clause-number g c = inl refl
+
+pub returns-in-Err-clause-number : goal.returns-in-Err-clause-number
+returns-in-Err-clause-number g c = inr (is_numbered (g.T.Turns.cause (g.T.Turns.setting c.args.turns.now)) _ (g.T.Turns.seen c.tell.new.turns) c.in-Err.denied c.error.result c.error.ensures c.in-Err.ensures.cause)

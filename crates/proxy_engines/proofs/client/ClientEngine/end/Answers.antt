@@ -43,3 +43,6 @@ returns-then-self-clause-ok g c = inl refl
 
 pub returns-then-self-clause-err : goal.returns-then-self-clause-err
 returns-then-self-clause-err g c = tt
+
+pub returns-clause-number : goal.returns-clause-number
+returns-clause-number g c = c.close.ensures.number

@@ -1,5 +1,6 @@
 use Rattle.std.proofs.Common.{refl, false}
 use Rattle.proxy_engines.proofs.ClientMoves.{finished_goes, same_goes}
+use Rattle.proxy_engines.proofs.NumberLemmas.{is_numbered}
 use Rattle.proxy_engines.proofs.client.ClientEngine.finish.Goals as goal
 
 pub returns-in-Ok-clause-pass : goal.returns-in-Ok-clause-pass
@@ -38,4 +39,7 @@ pub returns-in-Err-clause-ok : goal.returns-in-Err-clause-ok
 returns-in-Err-clause-ok g c = tt
 
 pub returns-in-Err-clause-err : goal.returns-in-Err-clause-err
-returns-in-Err-clause-err g c = (refl, c.in-Err.ensures.rests, c.error.ensures)
+returns-in-Err-clause-err g c = (refl, c.in-Err.ensures.rests, (_, c.error.ensures))
+
+pub returns-in-Err-clause-number : goal.returns-in-Err-clause-number
+returns-in-Err-clause-number g c = is_numbered (g.T.Turns.cause (g.T.Turns.setting c.args.turns.now)) _ (g.T.Turns.seen c.tell.new.turns) c.in-Err.denied c.error.result c.error.ensures c.in-Err.ensures.cause

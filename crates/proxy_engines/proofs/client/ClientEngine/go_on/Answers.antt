@@ -1,6 +1,6 @@
 use Rattle.proxy_engines.specs.Moves.{told_by_step}
 use Rattle.std.proofs.lemmas.Result.{IfOk-from_err, err_from_is_err_and}
-use Rattle.proxy_engines.proofs.AnswerLemmas.{if_ok, if_err, idle_for, not_ended, not_cut, still_not_ended, still_not_cut, end_is, end_not_cut, turn_unread, turn_unwritten, write_unread, write_is, read_unwritten, read_is}
+use Rattle.proxy_engines.proofs.AnswerLemmas.{if_ok, if_err, idle_for, not_ended, not_cut, not_link, still_not_ended, still_not_cut, still_not_link, end_is, end_not_cut, end_not_link, turn_unread, turn_unwritten, write_unread, write_is, read_unwritten, read_is}
 use Rattle.std.proofs.Common.{◌≡◌, ◌∙◌, [], ap, sym, inl}
 use Rattle.proxy_engines.specs.Client.{Client}
 use Rattle.proxy_engines.proofs.ClientMoves.{told_then}
@@ -83,6 +83,9 @@ returns-then-not-is_empty-clause-ended g c = if_ok _ _ c.write.result (λ p h. n
 pub returns-then-not-is_empty-clause-cut : goal.returns-then-not-is_empty-clause-cut
 returns-then-not-is_empty-clause-cut g c = if_ok _ _ c.write.result (λ p h. not_cut _ p h.1) c.write.ensures.ok
 
+pub returns-then-not-is_empty-clause-no_link : goal.returns-then-not-is_empty-clause-no_link
+returns-then-not-is_empty-clause-no_link g c = if_ok _ _ c.write.result (λ p h. not_link _ p h.1) c.write.ensures.ok
+
 pub returns-then-not-is_empty-clause-read_failed : goal.returns-then-not-is_empty-clause-read_failed
 returns-then-not-is_empty-clause-read_failed g c = write_unread _ _ _ c.write.result c.write.ensures.err
 
@@ -101,6 +104,9 @@ returns-in_err-has_handed-clause-ended g c = IfOk-from_err c.from_residual.resul
 pub returns-in_err-has_handed-clause-cut : goal.returns-in_err-has_handed-clause-cut
 returns-in_err-has_handed-clause-cut g c = IfOk-from_err c.from_residual.result _ c.from_residual.ensures.0
 
+pub returns-in_err-has_handed-clause-no_link : goal.returns-in_err-has_handed-clause-no_link
+returns-in_err-has_handed-clause-no_link g c = IfOk-from_err c.from_residual.result _ c.from_residual.ensures.0
+
 pub returns-in_err-has_handed-clause-idle : goal.returns-in_err-has_handed-clause-idle
 returns-in_err-has_handed-clause-idle g c = IfOk-from_err c.from_residual.result _ c.from_residual.ensures.0
 
@@ -118,6 +124,9 @@ returns-then-branch-clause-ended g c = λ ended. absurd cc
 
 pub returns-then-branch-clause-cut : goal.returns-then-branch-clause-cut
 returns-then-branch-clause-cut g c = λ cut. absurd cc
+
+pub returns-then-branch-clause-no_link : goal.returns-then-branch-clause-no_link
+returns-then-branch-clause-no_link g c = λ link. absurd cc
 
 pub returns-then-branch-clause-idle : goal.returns-then-branch-clause-idle
 returns-then-branch-clause-idle g c = λ idle. absurd cc
@@ -146,6 +155,9 @@ returns-in-Open-clause-ended g c = if_ok _ _ c.take_in.result (λ p h. still_not
 pub returns-in-Open-clause-cut : goal.returns-in-Open-clause-cut
 returns-in-Open-clause-cut g c = if_ok _ _ c.take_in.result (λ p h. still_not_cut p h.1) c.take_in.ensures.ok
 
+pub returns-in-Open-clause-no_link : goal.returns-in-Open-clause-no_link
+returns-in-Open-clause-no_link g c = if_ok _ _ c.take_in.result (λ p h. still_not_link p h.1) c.take_in.ensures.ok
+
 pub returns-in-Open-clause-read_failed : goal.returns-in-Open-clause-read_failed
 returns-in-Open-clause-read_failed g c = read_is _ _ c.take_in.result (rw (c.in_ok-has_handed.ensures.same c.if-branch.false) at c.take_in.ensures.err)
 
@@ -157,6 +169,9 @@ returns-in-AtEnd-clause-ended g c = if_ok _ _ c.finish.result (λ p h. still_not
 
 pub returns-in-AtEnd-clause-cut : goal.returns-in-AtEnd-clause-cut
 returns-in-AtEnd-clause-cut g c = if_ok _ _ c.finish.result (λ p h. still_not_cut p (inl h.0)) c.finish.ensures.ok
+
+pub returns-in-AtEnd-clause-no_link : goal.returns-in-AtEnd-clause-no_link
+returns-in-AtEnd-clause-no_link g c = if_ok _ _ c.finish.result (λ p h. still_not_link p (inl h.0)) c.finish.ensures.ok
 
 pub returns-in-AtEnd-clause-idle : goal.returns-in-AtEnd-clause-idle
 returns-in-AtEnd-clause-idle g c = if_ok _ _ c.finish.result (λ p (moved, _) idle. absurd cc) c.finish.ensures.ok
@@ -173,8 +188,26 @@ returns-in_default-clause-ended g c = if_ok _ _ c.end.result (λ p h. end_is _ p
 pub returns-in_default-clause-cut : goal.returns-in_default-clause-cut
 returns-in_default-clause-cut g c = if_ok _ _ c.end.result (λ p h. end_not_cut _ p h) c.end.ensures.ok
 
+pub returns-in_default-clause-no_link : goal.returns-in_default-clause-no_link
+returns-in_default-clause-no_link g c = if_ok _ _ c.end.result (λ p h. end_not_link _ p h) c.end.ensures.ok
+
 pub returns-in_default-clause-read_failed : goal.returns-in_default-clause-read_failed
 returns-in_default-clause-read_failed g c = if_err _ _ c.end.result (λ e turn. turn_unread _ e turn) c.end.ensures.err
 
 pub returns-in_default-clause-write_failed : goal.returns-in_default-clause-write_failed
 returns-in_default-clause-write_failed g c = if_err _ _ c.end.result (λ e turn. turn_unwritten _ e turn) c.end.ensures.err
+
+pub returns-then-not-is_empty-clause-number : goal.returns-then-not-is_empty-clause-number
+returns-then-not-is_empty-clause-number g c = c.write.ensures.number
+
+pub returns-in_err-has_handed-clause-number : goal.returns-in_err-has_handed-clause-number
+returns-in_err-has_handed-clause-number g c = let (_, result_is, error_is) = err_from_is_err_and c.from_residual.result c.from_residual.ensures.1 in rw (result_is, error_is) c.in_err-has_handed.ensures.number
+
+pub returns-in-Open-clause-number : goal.returns-in-Open-clause-number
+returns-in-Open-clause-number g c = rw c.has_handed.ensures.setting at c.take_in.ensures.number
+
+pub returns-in-AtEnd-clause-number : goal.returns-in-AtEnd-clause-number
+returns-in-AtEnd-clause-number g c = rw c.has_handed.ensures.setting at c.finish.ensures.number
+
+pub returns-in_default-clause-number : goal.returns-in_default-clause-number
+returns-in_default-clause-number g c = rw c.has_handed.ensures.setting at c.end.ensures.number

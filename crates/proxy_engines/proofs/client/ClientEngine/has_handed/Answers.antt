@@ -52,3 +52,6 @@ returns-then-self-clause-err g c = tt
 
 pub returns-clause-err : goal.returns-clause-err
 returns-clause-err g c = if_err _ _ c.hand.result (λ e (_, turn). turn) c.hand.ensures.err
+
+pub returns-clause-number : goal.returns-clause-number
+returns-clause-number g c = c.hand.ensures.number

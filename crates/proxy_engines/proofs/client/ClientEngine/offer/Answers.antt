@@ -2,6 +2,7 @@ use Rattle.proxy_engines.specs.Client.{Client}
 use Rattle.proxy_engines.specs.declared.client.Progress.{Progress}
 use Rattle.std.proofs.Common.{◌≡◌, ◌∙◌, IfOk, Some, refl, sym, ap, inl, inr}
 use Rattle.proxy_engines.proofs.ClientMoves.{arrived_on, arrived_last, unanswered_goes}
+use Rattle.proxy_engines.proofs.NumberLemmas.{is_numbered}
 use Rattle.proxy_engines.proofs.client.ClientEngine.offer.Goals as goal
 use Rattle.proxy_engines.proofs.HostMoves.{starts_same}
 use Rattle.proxy_engines.proofs.client.ClientEngine.offer.Goals.{in-By-Crowded, in_default-denied}
@@ -10,14 +11,14 @@ pub returns-then-is_last-clause-goes : goal.returns-then-is_last-clause-goes
 returns-then-is_last-clause-goes g c =
     let now = c.in-Ok.ensures.answered in
     rw (c.take.ensures.after, c.saturating_add-self-inside.ensures, now.1.steps, ← c.self.view_is)
-    (arrived_last _ c.in-Some.request (g.T.Turns.pass c.args.turns.now) _ now.0 (rw (← c.self.view_is) at c.requires.stage) (sym c.take.ensures.value ∙ c.in-Some.is) (rw now.1.steps at now.1.few)
+    (arrived_last _ c.in-Some.request (g.T.Turns.pass c.args.turns.now) _ now.0 (rw (← c.self.view_is) at c.requires.stage) (sym c.take.ensures.value ∙ c.in-Some.is) (rw (← c.self.view_is) at c.requires.last) (rw now.1.steps at now.1.few)
     (sym c.in-Ok.ensures.last ∙ c.if-is_last.true))
 
 pub returns-else-is_last-clause-goes : goal.returns-else-is_last-clause-goes
 returns-else-is_last-clause-goes g c =
     let now = c.in-Ok.ensures.answered in
     rw (c.take.ensures.after, c.saturating_add-self-inside.ensures, now.1.steps, ← c.self.view_is)
-    (arrived_on _ c.in-Some.request (g.T.Turns.pass c.args.turns.now) _ now.0 (rw (← c.self.view_is) at c.requires.stage) (sym c.take.ensures.value ∙ c.in-Some.is) (rw now.1.steps at now.1.few)
+    (arrived_on _ c.in-Some.request (g.T.Turns.pass c.args.turns.now) _ now.0 (rw (← c.self.view_is) at c.requires.stage) (sym c.take.ensures.value ∙ c.in-Some.is) (rw (← c.self.view_is) at c.requires.last) (rw now.1.steps at now.1.few)
     (sym c.in-Ok.ensures.last ∙ c.if-is_last.false))
 
 pub returns-after-denied-clause-goes : goal.returns-after-denied-clause-goes
@@ -101,4 +102,11 @@ returns-after-denied-clause-told g c =
     elim c.match-denied.branch [
       | in-By-Crowded w ↦ rw w.result-is (inr refl)
       | in_default-denied w ↦ rw w.result-is tt
+    ]
+
+pub returns-after-denied-clause-number : goal.returns-after-denied-clause-number
+returns-after-denied-clause-number g c =
+    elim c.match-denied.branch [
+      | in-By-Crowded w ↦ rw w.result-is tt
+      | in_default-denied w ↦ rw w.result-is (is_numbered (g.T.Turns.cause (g.T.Turns.setting c.args.turns.now)) _ (g.T.Turns.seen c.arrive.new.turns) c.in-Err.denied w.error.result w.error.ensures c.in-Err.ensures.cause)
     ]

@@ -1,11 +1,12 @@
-use Rattle.std.proofs.Common.{refl, inl, inr}
+use Rattle.std.proofs.Common.{None, [], refl, inl, inr}
 use Rattle.proxy_engines.proofs.ClientMoves.{opened_carries}
 use Rattle.proxy_engines.proofs.HostMoves.{starts_same}
+use Rattle.proxy_engines.proofs.InboxLemmas.{behind_none}
 use Rattle.proxy_engines.proofs.client.ClientEngine.open.Goals as goal
 
 pub returns-in-Ok-open-clause-carries : goal.returns-in-Ok-open-clause-carries
 returns-in-Ok-open-clause-carries g c = rw c.in-Ok-open.ensures.answered
-    (opened_carries c.in-Ok-open.conn (g.T.Turns.pass c.args.turns.now) c.in-Ok.inbox _ _ c.in-Ok-open.ensures.new c.new-in-Ok-open.ensures.pending c.in-Ok.ensures.most c.in-Ok.ensures.holds)
+    (opened_carries c.in-Ok-open.conn (g.T.Turns.pass c.args.turns.now) c.in-Ok.inbox _ None _ [] c.in-Ok-open.ensures.new c.new-in-Ok-open.ensures.pending c.in-Ok.ensures.most (behind_none c.in-Ok.inbox [] [] c.in-Ok.ensures.holds))
 
 pub returns-in-Err-open-clause-pass : goal.returns-in-Err-open-clause-pass
 returns-in-Err-open-clause-pass g c = c.open.ensures.pass
@@ -77,4 +78,4 @@ pub returns-in-Err-clause-err : goal.returns-in-Err-clause-err
 returns-in-Err-clause-err g c = (refl, inl refl)
 
 pub returns-in-Err-open-clause-err : goal.returns-in-Err-open-clause-err
-returns-in-Err-open-clause-err g c = (c.in-Err-open.ensures.rests, inr c.error.ensures)
+returns-in-Err-open-clause-err g c = (c.in-Err-open.ensures.rests, inr (_, c.error.ensures))

@@ -2,6 +2,9 @@ use Rattle.proxy_engines.proofs.AnswerLemmas.{if_ok, if_err, cut_told, cut_is, c
 use Rattle.std.proofs.Common.{false, refl}
 use Rattle.proxy_engines.proofs.ClientMoves.{same_goes}
 use Rattle.proxy_engines.proofs.HostMoves.{starts_same}
+use Rattle.std.specs.Prelude.{Ok}
+use Rattle.proxy_engines.specs.declared.client.Progress.{Progress}
+use Rattle.proxy_engines.proofs.NumberLemmas.{numbered_cut}
 use Rattle.proxy_engines.proofs.client.ClientEngine.step.Goals as goal
 
 pub returns-in-Closed-true-clause-pass : goal.returns-in-Closed-true-clause-pass
@@ -105,3 +108,21 @@ returns-in-Failed-clause-read_failed g c = if_err _ _ c.cut.result (λ e turn. t
 
 pub returns-in-Failed-clause-write_failed : goal.returns-in-Failed-clause-write_failed
 returns-in-Failed-clause-write_failed g c = if_err _ _ c.cut.result (λ e turn. turn_unwritten _ e turn) (cut_turn _ _ _ _ _ c.cut.result c.cut.ensures.cuts)
+
+pub returns-in-Open-clause-no_link : goal.returns-in-Open-clause-no_link
+returns-in-Open-clause-no_link g c = c.go_on.ensures.no_link
+
+pub returns-in-Closed-true-clause-no_link : goal.returns-in-Closed-true-clause-no_link
+returns-in-Closed-true-clause-no_link g c = λ link. absurd cc
+
+pub returns-in-Closed-false-clause-no_link : goal.returns-in-Closed-false-clause-no_link
+returns-in-Closed-false-clause-no_link g c = λ link. absurd cc
+
+pub returns-in-Failed-clause-no_link : goal.returns-in-Failed-clause-no_link
+returns-in-Failed-clause-no_link g c = if_ok _ _ c.cut.result (λ p (is, _) link. absurd cc) (cut_is _ _ _ _ c.cut.result c.cut.ensures.cuts)
+
+pub returns-in-Open-clause-number : goal.returns-in-Open-clause-number
+returns-in-Open-clause-number g c = c.go_on.ensures.number
+
+pub returns-in-Failed-clause-number : goal.returns-in-Failed-clause-number
+returns-in-Failed-clause-number g c = numbered_cut _ (Ok Progress.Cut) c.cut.result tt c.cut.ensures.number

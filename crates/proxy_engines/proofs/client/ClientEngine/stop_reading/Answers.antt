@@ -16,7 +16,7 @@ pub returns-clause-goes : goal.returns-clause-goes
 returns-clause-goes g c =
     rw (← c.self.view_is)
     (told_then _ _ _ _ _ _ (told_by_step c.finish.result)
-    (over_goes _ _ (rw (← c.self.view_is) at c.requires.stage) (rw (← c.self.view_is) at c.requires.none) (rw (← c.self.view_is) at c.requires.all) (rw (← c.self.view_is) at c.requires.over))
+    (over_goes _ _ (rw (← c.self.view_is) at c.requires.stage) (rw (← c.self.view_is) at c.requires.unbroken) (rw (← c.self.view_is) at c.requires.none) (rw (← c.self.view_is) at c.requires.all) (rw (← c.self.view_is) at c.requires.over))
     c.finish.ensures.goes)
 
 pub returns-clause-ok : goal.returns-clause-ok
@@ -24,3 +24,6 @@ returns-clause-ok g c = if_ok _ _ c.finish.result (λ p (moved, new). (rw new tt
 
 pub returns-clause-err : goal.returns-clause-err
 returns-clause-err g c = if_err _ _ c.finish.result (λ e (_, _, turn). turn) c.finish.ensures.err
+
+pub returns-clause-number : goal.returns-clause-number
+returns-clause-number g c = c.finish.ensures.number

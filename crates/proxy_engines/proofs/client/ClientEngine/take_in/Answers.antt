@@ -75,3 +75,15 @@ returns-in_err-has_next-clause-idle g c = IfOk-from_err c.from_residual.result _
 
 pub returns-in_err-has_next-clause-err : goal.returns-in_err-has_next-clause-err
 returns-in_err-has_next-clause-err g c = let (_, result_is, error_is) = err_from_is_err_and c.from_residual.result c.from_residual.ensures.1 in rw (result_is, error_is) (inl c.in_err-has_next.ensures.err)
+
+pub returns-then-is_to_stop-clause-number : goal.returns-then-is_to_stop-clause-number
+returns-then-is_to_stop-clause-number g c = c.stop_reading.ensures.number
+
+pub returns-then-not-branch-clause-number : goal.returns-then-not-branch-clause-number
+returns-then-not-branch-clause-number g c = c.read.ensures.number
+
+pub returns-clause-number : goal.returns-clause-number
+returns-clause-number g c = c.offer.ensures.number
+
+pub returns-in_err-has_next-clause-number : goal.returns-in_err-has_next-clause-number
+returns-in_err-has_next-clause-number g c = let (_, result_is, error_is) = err_from_is_err_and c.from_residual.result c.from_residual.ensures.1 in rw (result_is, error_is, c.in_err-has_next.ensures.err) tt

@@ -5,6 +5,8 @@ use Rattle.proxy_engines.proofs.AnswerLemmas.{cut_told, cut_ok, cut_err}
 use Rattle.std.proofs.Common.{true, false, refl, inl, inr}
 use Rattle.proxy_engines.proofs.ClientMoves.{wrote_goes}
 use Rattle.proxy_engines.proofs.HostMoves.{starts_same}
+use Rattle.std.specs.Prelude.{Err}
+use Rattle.proxy_engines.proofs.NumberLemmas.{numbered_cut}
 use Rattle.proxy_engines.proofs.client.ClientEngine.write.Goals as goal
 
 pub returns-in-Moved-clause-goes : goal.returns-in-Moved-clause-goes
@@ -68,3 +70,6 @@ returns-in-Moved-clause-ok g c = rw (← c.self.view_is) (refl, inl refl)
 
 pub returns-in-Paused-clause-ok : goal.returns-in-Paused-clause-ok
 returns-in-Paused-clause-ok g c = rw (← c.self.view_is) (refl, inr (refl, c.write_once.ensures.paused c.in-Paused.is))
+
+pub returns-in-End-clause-number : goal.returns-in-End-clause-number
+returns-in-End-clause-number g c = numbered_cut _ (Err EngineError.WriteFailed) c.cut.result tt c.cut.ensures.number

@@ -111,7 +111,7 @@ pub returns-in-Still-clause-in_time : goal.returns-in-Still-clause-in_time
 returns-in-Still-clause-in_time g c = c.in_ok-attend.ensures.in_time (rw c.in-Still.is refl)
 
 pub returns-in-Still-clause-all : goal.returns-in-Still-clause-all
-returns-in-Still-clause-all g c = (c.in_ok-attend.ensures.all (rw c.in-Still.is refl)).1
+returns-in-Still-clause-all g c = c.in_ok-attend.ensures.all (rw c.in-Still.is refl)
 
 pub returns-in-Moved-clause-needs_link : goal.returns-in-Moved-clause-needs_link
 returns-in-Moved-clause-needs_link g c = ((λ needs. absurd cc), (λ none. absurd cc))
@@ -123,7 +123,7 @@ pub returns-in-Moved-clause-in_time : goal.returns-in-Moved-clause-in_time
 returns-in-Moved-clause-in_time g c = c.in_ok-attend.ensures.in_time (rw c.in-Moved.is refl)
 
 pub returns-in-Moved-clause-all : goal.returns-in-Moved-clause-all
-returns-in-Moved-clause-all g c = (c.in_ok-attend.ensures.all (rw c.in-Moved.is refl)).1
+returns-in-Moved-clause-all g c = c.in_ok-attend.ensures.all (rw c.in-Moved.is refl)
 
 pub returns-in-Moved-clause-idle : goal.returns-in-Moved-clause-idle
 returns-in-Moved-clause-idle g c = λ idle. absurd cc

@@ -1,10 +1,10 @@
 use Rattle.proxy_engines.proofs.host.HostEngine.refused.Goals as goal
 
 pub returns-clause-pass : goal.returns-clause-pass
-returns-clause-pass g c = c.give_up.ensures.pass
+returns-clause-pass g c = c.record_fault.ensures.pass
 
 pub returns-clause-setting : goal.returns-clause-setting
-returns-clause-setting g c = c.give_up.ensures.setting
+returns-clause-setting g c = c.record_fault.ensures.setting
 
 pub returns-clause-seen : goal.returns-clause-seen
-returns-clause-seen g c = c.give_up.ensures.seen
+returns-clause-seen g c = c.record_fault.ensures.seen

@@ -38,12 +38,12 @@ module _ (A : Type 0) where
 pub returns-clause-steps : goal.returns-clause-steps
 returns-clause-steps g c =
     let was = ap (λ (h : HostState). h.fault) (sym c.self.view_is) ∙ c.in-Some.is in
-    let (fails, no_link, no_fault) = c.in_ok-give_up.ensures.fails in
-    inl (steps_after (g.T.Turns.cause (g.T.Turns.setting c.args.turns.now) Refusal.Unasked) (g.T.Turns.seen c.args.turns.now) (g.T.Turns.seen c.give_up.new.turns) (g.T.Turns.seen c.go_on-2.new.turns) c.args.moment c.give_up.ensures.seen
-    c.args.self.now c.give_up.new.self c.go_on-2.new.self c.in-Some.kind _ _ _ c.go_on-2.result _ was fails no_link no_fault (rw c.give_up.ensures.setting at (rw c.give_up.ensures.pass at c.go_on-2.ensures.works)) c.after_fault.ensures)
+    let (fails, no_link, no_fault) = c.in_ok-record_fault.ensures.fails in
+    inl (steps_after (g.T.Turns.cause (g.T.Turns.setting c.args.turns.now) Refusal.Unasked) (g.T.Turns.seen c.args.turns.now) (g.T.Turns.seen c.record_fault.new.turns) (g.T.Turns.seen c.go_on-2.new.turns) c.args.moment c.record_fault.ensures.seen
+    c.args.self.now c.record_fault.new.self c.go_on-2.new.self c.in-Some.kind _ _ _ c.go_on-2.result _ was fails no_link no_fault (rw c.record_fault.ensures.setting at (rw c.record_fault.ensures.pass at c.go_on-2.ensures.works)) c.after_fault.ensures)
 
 pub returns-clause-seen : goal.returns-clause-seen
-returns-clause-seen g c = starts_then (g.T.Turns.seen c.args.turns.now) (g.T.Turns.seen c.give_up.new.turns) (g.T.Turns.seen c.go_on-2.new.turns) c.give_up.ensures.seen c.go_on-2.ensures.seen
+returns-clause-seen g c = starts_then (g.T.Turns.seen c.args.turns.now) (g.T.Turns.seen c.record_fault.new.turns) (g.T.Turns.seen c.go_on-2.new.turns) c.record_fault.ensures.seen c.go_on-2.ensures.seen
 
 pub returns-in_default-clause-pass : goal.returns-in_default-clause-pass
 returns-in_default-clause-pass g c = c.go_on.ensures.pass
@@ -54,20 +54,20 @@ returns-in_default-clause-setting g c = c.go_on.ensures.setting
 pub returns-in_default-clause-seen : goal.returns-in_default-clause-seen
 returns-in_default-clause-seen g c = c.go_on.ensures.seen
 
-pub returns-in_err-give_up-clause-pass : goal.returns-in_err-give_up-clause-pass
-returns-in_err-give_up-clause-pass g c = c.give_up.ensures.pass
+pub returns-in_err-record_fault-clause-pass : goal.returns-in_err-record_fault-clause-pass
+returns-in_err-record_fault-clause-pass g c = c.record_fault.ensures.pass
 
-pub returns-in_err-give_up-clause-setting : goal.returns-in_err-give_up-clause-setting
-returns-in_err-give_up-clause-setting g c = c.give_up.ensures.setting
+pub returns-in_err-record_fault-clause-setting : goal.returns-in_err-record_fault-clause-setting
+returns-in_err-record_fault-clause-setting g c = c.record_fault.ensures.setting
 
-pub returns-in_err-give_up-clause-seen : goal.returns-in_err-give_up-clause-seen
-returns-in_err-give_up-clause-seen g c = c.give_up.ensures.seen
+pub returns-in_err-record_fault-clause-seen : goal.returns-in_err-record_fault-clause-seen
+returns-in_err-record_fault-clause-seen g c = c.record_fault.ensures.seen
 
 pub returns-clause-pass : goal.returns-clause-pass
-returns-clause-pass g c = c.go_on-2.ensures.pass ∙ c.give_up.ensures.pass
+returns-clause-pass g c = c.go_on-2.ensures.pass ∙ c.record_fault.ensures.pass
 
 pub returns-clause-setting : goal.returns-clause-setting
-returns-clause-setting g c = c.go_on-2.ensures.setting ∙ c.give_up.ensures.setting
+returns-clause-setting g c = c.go_on-2.ensures.setting ∙ c.record_fault.ensures.setting
 
 pub returns-in_default-clause-needs_link : goal.returns-in_default-clause-needs_link
 returns-in_default-clause-needs_link g c = c.go_on.ensures.needs_link
@@ -81,20 +81,20 @@ returns-in_default-clause-in_time g c = c.go_on.ensures.in_time
 pub returns-in_default-clause-idle : goal.returns-in_default-clause-idle
 returns-in_default-clause-idle g c = c.go_on.ensures.idle
 
-pub returns-in_err-give_up-clause-needs_link : goal.returns-in_err-give_up-clause-needs_link
-returns-in_err-give_up-clause-needs_link g c = IfOk-from_err c.from_residual.result _ c.from_residual.ensures.0
+pub returns-in_err-record_fault-clause-needs_link : goal.returns-in_err-record_fault-clause-needs_link
+returns-in_err-record_fault-clause-needs_link g c = IfOk-from_err c.from_residual.result _ c.from_residual.ensures.0
 
-pub returns-in_err-give_up-clause-all : goal.returns-in_err-give_up-clause-all
-returns-in_err-give_up-clause-all g c = IfOk-from_err c.from_residual.result _ c.from_residual.ensures.0
+pub returns-in_err-record_fault-clause-all : goal.returns-in_err-record_fault-clause-all
+returns-in_err-record_fault-clause-all g c = IfOk-from_err c.from_residual.result _ c.from_residual.ensures.0
 
-pub returns-in_err-give_up-clause-recorded : goal.returns-in_err-give_up-clause-recorded
-returns-in_err-give_up-clause-recorded g c = IfOk-from_err c.from_residual.result _ c.from_residual.ensures.0
+pub returns-in_err-record_fault-clause-recorded : goal.returns-in_err-record_fault-clause-recorded
+returns-in_err-record_fault-clause-recorded g c = IfOk-from_err c.from_residual.result _ c.from_residual.ensures.0
 
-pub returns-in_err-give_up-clause-in_time : goal.returns-in_err-give_up-clause-in_time
-returns-in_err-give_up-clause-in_time g c = IfOk-from_err c.from_residual.result _ c.from_residual.ensures.0
+pub returns-in_err-record_fault-clause-in_time : goal.returns-in_err-record_fault-clause-in_time
+returns-in_err-record_fault-clause-in_time g c = IfOk-from_err c.from_residual.result _ c.from_residual.ensures.0
 
-pub returns-in_err-give_up-clause-idle : goal.returns-in_err-give_up-clause-idle
-returns-in_err-give_up-clause-idle g c = IfOk-from_err c.from_residual.result _ c.from_residual.ensures.0
+pub returns-in_err-record_fault-clause-idle : goal.returns-in_err-record_fault-clause-idle
+returns-in_err-record_fault-clause-idle g c = IfOk-from_err c.from_residual.result _ c.from_residual.ensures.0
 
 pub returns-clause-needs_link : goal.returns-clause-needs_link
 returns-clause-needs_link g c = rw c.after_fault.ensures (after_needs _ c.go_on-2.result c.go_on-2.ensures.needs_link)

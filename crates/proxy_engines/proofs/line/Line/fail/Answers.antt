@@ -38,4 +38,4 @@ pub returns-in-Err-clause-same : goal.returns-in-Err-clause-same
 returns-in-Err-clause-same g c = (refl, c.in-Err.ensures.rests)
 
 pub returns-in-Err-clause-err : goal.returns-in-Err-clause-err
-returns-in-Err-clause-err g c = c.error.ensures
+returns-in-Err-clause-err g c = (_, c.error.ensures)

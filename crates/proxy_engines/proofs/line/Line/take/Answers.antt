@@ -116,7 +116,7 @@ pub returns-in-Err-clause-nothing_waits : goal.returns-in-Err-clause-nothing_wai
 returns-in-Err-clause-nothing_waits g c = tt
 
 pub returns-in-Err-clause-plain : goal.returns-in-Err-clause-plain
-returns-in-Err-clause-plain g c = rw c.error.ensures.1 tt
+returns-in-Err-clause-plain g c = rw c.error.ensures tt
 
 pub returns-in-Err-By-NothingWaiting-clause-pass : goal.returns-in-Err-By-NothingWaiting-clause-pass
 returns-in-Err-By-NothingWaiting-clause-pass g c = c.tell.ensures.pass

@@ -1,0 +1,12 @@
+use Rattle.proxy_engines.proofs.ClientMoves.{opened_carries}
+use Rattle.std.proofs.Common.{◌∙◌, ap}
+use Rattle.resp_core.specs.Standing.{ReaderState}
+use Rattle.proxy_engines.specs.Client.{waiting_requests}
+use Rattle.proxy_engines.proofs.InboxLemmas.{with-behind}
+use Rattle.proxy_engines.proofs.client.ClientEngine.open_with.Goals as goal
+
+pub returns-in-Ok-clause-carries : goal.returns-in-Ok-clause-carries
+returns-in-Ok-clause-carries g c = λ b rest. rw (c.in-Ok.ensures.answered, c.with-inbox.ensures.next)
+    (opened_carries c.in-Ok.conn (g.T.Turns.pass c.args.turns.now) c.with-inbox.result.0 _ c.args.rest.next _ b c.in-Ok.ensures.new c.new.ensures.pending
+    (ap (λ (z : ReaderState). z.most) c.with-inbox.ensures.values ∙ rest.most_is)
+    (with-behind c.with-inbox.result.0 c.args.rest b (waiting_requests c.args.rest.next) c.with-inbox.ensures.fresh c.with-inbox.ensures.values rest.holds))

@@ -1,0 +1,121 @@
+-- A socket that goes on from one connection to the next, each in a generation of its own.
+use Rattle.std.specs.Prelude.{◌≡◌, ℕ, true, false, List, [], ◌∷◌, ◌++◌, Option, map}
+use Rattle.resp_core.specs.Tree.{Tree}
+use Rattle.resp_core.specs.Stream.{Splits}
+use Rattle.resp_core.specs.declared.reader.TheConstants.{CLIENT_MEMBERS}
+use Rattle.splitter.specs.Request.{Request, read}
+use Rattle.splitter.specs.Requests.{AreRequests, up_to_last}
+use Rattle.proxy_history.specs.History.{History, accepted_count, handed_count, is_closed}
+use Rattle.proxy_history.specs.Output.{transcript}
+use Rattle.proxy_history.specs.Own.{connection_steps}
+use Rattle.proxy_engines.specs.Device.{Counts}
+use Rattle.proxy_engines.specs.Ends.{RestState, HoldsBehind, end_with}
+use Rattle.proxy_engines.specs.Client.{Client, Carries, Goes, NoneFinishes, asked_requests, waiting_requests}
+use Rattle.proxy_engines.specs.declared.client.Stage.{Stage}
+
+-- these bytes are a rest: behind whatever reader, an end with it was given them and has given the request that waits alone
+pub record IsRest (r : RestState) (b : List ℕ) : Type 0 where
+  pub most_is : r.values.most ≡ CLIENT_MEMBERS
+  pub holds : (left : Option (List ℕ)) (counts : Counts) → HoldsBehind (end_with left counts r) b (waiting_requests r.next)
+
+-- A connection was closed with all answered. The bytes are the texts of what it asked, none of which finishes it, and then
+-- this rest; and the writer took all that was handed out.
+pub record IsLeft (c : ℕ) (H : History) (taken b : List ℕ) (r : RestState) : Type 0 where
+  pub asked : List Tree
+  pub rest : List ℕ
+  pub asked_are : asked_requests c H ≡ map read asked
+  pub splits : Splits CLIENT_MEMBERS b asked rest
+  pub goes_on : NoneFinishes (asked_requests c H)
+  pub stands : IsRest r rest
+  pub taken_is : taken ≡ transcript c H
+  pub all_handed : handed_count c H ≡ accepted_count c H
+  pub closed : is_closed c H ≡ true
+
+-- a connection of a socket that is closed, and the steps of its engine's caller in its generation
+pub record Past : Type 0 where
+  pub conn : ℕ
+  pub steps : History
+
+-- what closed connections asked, and what was handed out to them; the newest of them stands first
+abbrev pub asked_before : List Past → List Request
+asked_before [] = []
+asked_before (p ∷ ps) = asked_before ps ++ asked_requests p.conn p.steps
+
+abbrev pub said_before : List Past → List ℕ
+said_before [] = []
+said_before (p ∷ ps) = said_before ps ++ transcript p.conn p.steps
+
+-- one connection more was closed: it went on from what those before it had left
+pub record FollowsOn (Before : List ℕ → List ℕ → List ℕ → Type 0) (p : Past) (taken b rest : List ℕ) : Type 0 where
+  pub took : List ℕ
+  pub came : List ℕ
+  pub left : List ℕ
+  pub gave : List ℕ
+  pub got : List ℕ
+  pub held : RestState
+  pub before : Before took came left
+  pub is_left : IsLeft p.conn p.steps gave (left ++ got) held
+  pub taken_is : taken ≡ took ++ gave
+  pub bytes_are : b ≡ came ++ got
+  pub rest_is : rest ≡ is_left.rest
+
+-- Of one socket these connections were closed, each of which went on from what the one before it left. The writer took these
+-- bytes, the reader gave the bytes b, and this rest of them was not asked.
+abbrev pub WentOn : List Past → List ℕ → List ℕ → List ℕ → Type 0
+WentOn [] taken b rest = (taken ≡ []) × (b ≡ []) × (rest ≡ [])
+WentOn (p ∷ ps) taken b rest = FollowsOn (WentOn ps) p taken b rest
+
+-- And now an engine carries on: what it reads stands behind the rest. Of the whole socket the writer took these bytes, and the
+-- reader gave the bytes b.
+pub record CarriesOn (ps : List Past) (e : Client) (H : History) (taken b : List ℕ) : Type 0 where
+  pub took : List ℕ
+  pub came : List ℕ
+  pub left : List ℕ
+  pub gave : List ℕ
+  pub got : List ℕ
+  pub before : WentOn ps took came left
+  pub carries : Carries e H gave (left ++ got)
+  pub taken_is : taken ≡ took ++ gave
+  pub bytes_are : b ≡ came ++ got
+
+-- A socket's first engine carries on from nothing.
+abbrev pub SocketBegins : Type 0
+SocketBegins = (e : Client) (H : History) (taken b : List ℕ) → Carries e H taken b → CarriesOn [] e H taken b
+
+-- Whatever moves an engine makes, it carries on.
+abbrev pub SocketMoves : Type 0
+SocketMoves = (ps : List Past) (old new : Client) (H H' : History) (moved : _) (taken b : List ℕ) → (g : Goes old new H H' moved)
+    → CarriesOn ps old H taken b → CarriesOn ps new H' (taken ++ g.gave) (b ++ g.got)
+
+-- Steps of others change nothing.
+abbrev pub SocketStays : Type 0
+SocketStays = (ps : List Past) (e : Client) (H later : History) (taken b : List ℕ) → connection_steps e.conn later ≡ []
+    → CarriesOn ps e H taken b → CarriesOn ps e (later ++ H) taken b
+
+-- An engine that was opened, in whatever generation, with the rest that another left carries on in its place.
+abbrev pub SocketGoesOver : Type 0
+SocketGoesOver = (ps : List Past) (e next : Client) (H H' : History) (r : RestState) (taken b : List ℕ)
+    → ((t x : List ℕ) → Carries e H t x → IsLeft e.conn H t x r) → ((x : List ℕ) → IsRest r x → Carries next H' [] x)
+    → CarriesOn ps e H taken b → CarriesOn (record { conn = e.conn; steps = H } ∷ ps) next H' taken b
+
+-- The requests that a socket's connections accepted, one connection after the other, are the first of those that all bytes
+-- read from it ask: none is lost between two connections, and none is asked twice.
+abbrev pub SocketAsksInOrder : Type 0
+SocketAsksInOrder = (ps : List Past) (e : Client) (H : History) (taken b : List ℕ) → CarriesOn ps e H taken b
+    → (rs : List Request) → AreRequests b rs → (more : List Request) × (rs ≡ (asked_before ps ++ asked_requests e.conn H) ++ more)
+
+-- What the writer took and what is pending is what was handed out to them, one connection after the other.
+abbrev pub SocketAnswersInOrder : Type 0
+SocketAnswersInOrder = (ps : List Past) (e : Client) (H : History) (taken b : List ℕ) → CarriesOn ps e H taken b
+    → taken ++ e.outbox.pending ≡ said_before ps ++ transcript e.conn H
+
+-- And where the last of them ended, all that was asked up to and with the first request that finishes was accepted, handed out
+-- and taken.
+pub record IsSocketWhole (ps : List Past) (e : Client) (H : History) (taken : List ℕ) (rs : List Request) : Type 0 where
+  pub accepted_are : asked_before ps ++ asked_requests e.conn H ≡ up_to_last rs
+  pub all_handed : handed_count e.conn H ≡ accepted_count e.conn H
+  pub taken_is : taken ≡ said_before ps ++ transcript e.conn H
+
+abbrev pub SocketEndsWhole : Type 0
+SocketEndsWhole = (ps : List Past) (e : Client) (H : History) (taken b : List ℕ) → CarriesOn ps e H taken b → e.stage ≡ Stage.Closed false → e.is_halted ≡ false
+    → (rs : List Request) → AreRequests b rs → IsSocketWhole ps e H taken rs
