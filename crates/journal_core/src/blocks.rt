@@ -53,6 +53,7 @@ impl<T> Blocks<T> {
     }
 
     /// Makes a place for one more, if there is none. Refused for want of memory it leaves all as it was.
+    #[inline(always)]
     pub(crate) fn reserve_one(&mut self) -> Result<(), AllocError>
         ensures items { self.new.items ≡ self.old.items }
         ensures room { OnOk result (self.new.has_room ≡ true) }

@@ -57,6 +57,7 @@ impl<E, A> Journal<E, A> {
     ///
     /// Refused 902 (journal full) exactly if 262,144 steps stand or the bytes would be more than 67,108,864, else 901 (no
     /// memory). After a refusal the journal is unchanged, and so is the room made before.
+    #[inline(always)]
     pub fn room(&mut self, bytes: u64) -> Result<(), JournalError>
         ensures room { OnOk result (self.new.room ≡ Some bytes) }
         ensures full { IsErrOf result JournalError.JournalFull ↔ IsFull self.old bytes }

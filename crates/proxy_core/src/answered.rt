@@ -23,6 +23,7 @@ use resp_core::Value;
 
 impl Machine {
     /// A turn in which a host answers.
+    #[inline(always)]
     pub(crate) fn turn_answered(
         &mut self,
         pass: u64,

@@ -39,6 +39,7 @@ use std::slice;
 
 impl Machine {
     /// A turn in which a request arrives.
+    #[inline(always)]
     pub(crate) fn turn_arrived(
         &mut self,
         pass: u64,

@@ -21,6 +21,7 @@ use std::alloc::AllocError;
 
 impl Machine {
     /// A turn in which a reply is handed out.
+    #[inline(always)]
     pub(crate) fn turn_handed(&mut self, pass: u64, conn: u64) -> Result<Answer, Refused>
         requires { IsKept self.old }
         ensures answered { IfOk result (λ a. IsMade self.old self.new pass (events.Handed conn) a) }

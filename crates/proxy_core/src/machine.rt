@@ -159,6 +159,7 @@ impl Core {
     /// would be full. It may be refused 1001, for want of memory, only where it has no cause of its own and its step fits
     /// the journal (`Handed` also where its step doesn't: its text takes memory before its length is known). The event
     /// comes back then, and nothing has changed.
+    #[inline(always)]
     pub fn turn(&mut self, pass: u64, event: Event) -> Result<Answer, Refused>
         ensures step { IfOk result
             (λ a. IsStep self.old self.new pass event
@@ -335,6 +336,7 @@ pub(crate) struct Done {
 
 impl Machine {
     // Takes one event.
+    #[inline(always)]
     fn turn(&mut self, pass: u64, event: Event) -> Result<Answer, Refused>
         requires { IsKept self.old }
         ensures answered { IfOk result (λ a. IsMade self.old self.new pass event a) }

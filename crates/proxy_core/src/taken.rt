@@ -14,6 +14,7 @@ use proxy_history::{Answer, Event, Refusal};
 
 impl Machine {
     /// A turn in which a part is taken.
+    #[inline(always)]
     pub(crate) fn turn_taken(&mut self, pass: u64, host: usize) -> Result<Answer, Refused>
         requires { IsKept self.old }
         ensures answered { IfOk result (λ a. IsMade self.old self.new pass (events.Taken host) a) }

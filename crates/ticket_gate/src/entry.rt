@@ -24,6 +24,7 @@ pub(crate) enum EntryRefusal {
 
 impl<S: Recorded> Gate<S> {
     // Enters where nobody holds or awaits the gate, and gives the ticket.
+    #[inline(always)]
     pub(crate) fn enter_at_once(&self, seat: &mut Place<S>) -> Result<u64, EntryRefusal>
         requires { MayEnter self.now.id seat.old }
         ensures gate { seat.new.table_id ≡ seat.old.table_id }
@@ -104,6 +105,7 @@ impl<S: Recorded> Gate<S> {
     }
 
     // Enters, and gives the ticket. None where all tickets are drawn.
+    #[inline(always)]
     pub(crate) fn enter<R: Wait>(&self, rt: &R, seat: &mut Place<S>) -> Option<u64>
         requires { MayEnter self.now.id seat.old }
         ensures gate { seat.new.table_id ≡ seat.old.table_id }

@@ -96,6 +96,7 @@ impl<'a, S: Recorded> Turns for Seated<'a, S> {
 
     ghost spent = { λ s. s.pass.known.last_drawn ≡ 2 ^ 64 - 1 };
 
+    #[inline(always)]
     fn turn<R: Wait>(
         &mut self,
         rt: &R,

@@ -14,6 +14,7 @@ use std::sync::Wait;
 
 impl<S: Recorded> Gate<S> {
     // Makes the turn, and serves the next ticket.
+    #[inline(always)]
     fn work(
         &self,
         seat: &mut Place<S>,
@@ -48,6 +49,7 @@ impl<S: Recorded> Gate<S> {
     /// its step. Refused `Spent` (1202), where all tickets were drawn: the pass has seen nothing
     /// new. Refused `State`: the journal has no step of this turn, and the state's cause holds
     /// over what the pass sees now. Each refusal hands the event back. It is never `Busy`.
+    #[inline(always)]
     pub fn take_turn<R: Wait>(
         &self,
         rt: &R,
