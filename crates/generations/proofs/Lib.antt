@@ -1,0 +1,5 @@
+pub mod HistoryLemmas
+pub mod ConnectionLemmas
+pub mod StandsLemmas
+pub mod LawLemmas
+pub mod BudgetLemmas

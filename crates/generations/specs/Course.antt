@@ -1,0 +1,22 @@
+-- What a generation is to do.
+use Rattle.std.specs.Prelude.{◌≡◌, ◌↔◌, ◌⊎◌, ℕ, true, false, Some, List}
+use Rattle.generations.specs.Events.{Event, newest, draining, has_connections, is_asked, is_near}
+use Rattle.generations.specs.declared.course.Course.{Course}
+use Rattle.generations.specs.declared.course.Course.TheVariants.{Serves, Drains, GivesUp, Stops}
+
+module _ {H : Type 0} where
+  -- a generation drains, and no further one is asked for
+  abbrev pub IsLeft : List (Event H) → ℕ → Type 0
+  IsLeft es n = (draining es ≡ Some n) × (is_asked es ≡ false)
+
+  -- a generation drains while a further one is asked for
+  abbrev pub IsInTheWay : List (Event H) → ℕ → Type 0
+  IsInTheWay es n = (draining es ≡ Some n) × (is_asked es ≡ true)
+
+  -- The newest one alone serves. The one that drains is given up where the newest one has said that it is near its marks, and
+  -- stops where a further one is asked for; one with no connections stops too.
+  pub record IsCourse (course : Course) (es : List (Event H)) (n : ℕ) : Type 0 where
+    pub serves : (course ≡ Serves) ↔ (newest es ≡ Some n)
+    pub drains : (course ≡ Drains) ↔ (IsLeft es n × (is_near es ≡ false))
+    pub gives_up : (course ≡ GivesUp) ↔ (IsLeft es n × (is_near es ≡ true))
+    pub stops : (course ≡ Stops) ↔ (IsInTheWay es n ⊎ (has_connections n es ≡ false))

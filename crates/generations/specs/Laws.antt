@@ -1,0 +1,51 @@
+-- What follows of generations, from what may happen.
+use Rattle.std.specs.Prelude.{◌≡◌, ◌⊎◌, ◌↔◌, ◌<◌, ℕ, true, None, Some, IsSome, List, ◌∷◌, ◌++◌}
+use Rattle.generations.specs.Events.{Event, Opened, Near, Full, newest, draining, has_connections, is_asked, is_near, asker, last_number}
+use Rattle.generations.specs.History.{IsHistory}
+
+-- At most two generations have connections: the newest one, and the one that opened before it.
+abbrev pub TwoHaveConnections : Type 0 → Type 0
+TwoHaveConnections H = (es : List (Event H)) → IsHistory es → (n : ℕ)
+    → (has_connections n es ≡ true) ↔ ((newest es ≡ Some n) ⊎ (draining es ≡ Some n))
+
+-- The newest one isn't the one that drains.
+abbrev pub NewestIsAnother : Type 0 → Type 0
+NewestIsAnother H = (es : List (Event H)) → IsHistory es → (n : ℕ) → newest es ≡ Some n → draining es ≡ Some n → ⊥
+
+-- From the first opening on there always is a newest one, whatever comes later.
+abbrev pub OneIsOpen : Type 0 → Type 0
+OneIsOpen H = (later earlier : List (Event H)) (n now : ℕ) → IsSome (newest (later ++ Opened n now ∷ earlier))
+
+-- As long as a generation is asked for, the newest one is the one that handed over last.
+abbrev pub NewestHandsOver : Type 0 → Type 0
+NewestHandsOver H = (es : List (Event H)) → IsHistory es → is_asked es ≡ true → asker es ≡ newest es
+
+-- A generation opens as long as it is asked for, under its own number, above that of the newest one, and once the older one has
+-- no connections.
+pub record OpensInTurn {H : Type 0} (n : ℕ) (es : List (Event H)) : Type 0 where
+  pub is_asked : is_asked es ≡ true
+  pub number : n ≡ last_number es
+  pub is_above : (m : ℕ) → newest es ≡ Some m → m < n
+  pub is_alone : draining es ≡ None
+
+abbrev pub AllOpenInTurn : Type 0 → Type 0
+AllOpenInTurn H = (es : List (Event H)) (n now : ℕ) → IsHistory (Opened n now ∷ es) → OpensInTurn n es
+
+-- An event of the newest one came while the generation n drained.
+pub record CameWhileDraining {H : Type 0} (n : ℕ) (event_of : ℕ → Event H) (es : List (Event H)) : Type 0 where
+  pub by : ℕ
+  pub later : List (Event H)
+  pub earlier : List (Event H)
+  pub are : es ≡ later ++ event_of by ∷ earlier
+  pub by_newest : newest earlier ≡ Some by
+  pub drained : draining earlier ≡ Some n
+
+-- A generation is given up only where the newest one said that it is near its marks, while the older one had connections.
+abbrev pub GivenUpIfNear : Type 0 → Type 0
+GivenUpIfNear H = (es : List (Event H)) → IsHistory es → (n : ℕ) → draining es ≡ Some n → is_near es ≡ true
+    → CameWhileDraining n Near es
+
+-- It stops only where the newest one was full, while the older one had connections.
+abbrev pub StopsIfFull : Type 0 → Type 0
+StopsIfFull H = (es : List (Event H)) → IsHistory es → (n : ℕ) → draining es ≡ Some n → is_asked es ≡ true
+    → (handover : H) × CameWhileDraining n (λ by. Full by handover) es

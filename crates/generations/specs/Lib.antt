@@ -1,0 +1,10 @@
+pub mod Kept
+pub mod Events
+pub mod History
+pub mod Course
+pub mod Stands
+pub mod Laws
+pub mod Steps
+pub mod Budget
+pub mod BudgetLaws
+pub mod Payload

@@ -1,0 +1,44 @@
+-- What contracts see of the payload of a journal.
+use Rattle.std.specs.Prelude.{◌≡◌, ◌≤◌, ◌⊎◌, ◌+◌, ◌-◌, ◌*◌, ◌/◌, ℕ, max, nat_lt, ◌==◌, if◌then◌else◌}
+use Rattle.generations.specs.declared.budget.TheConstants.{MAX_BYTES}
+use Rattle.generations.specs.declared.payload.TheConstants.{MAX_REPLY_BYTES, MAX_READ_BYTES, MAX_ERROR_BYTES, FIRST_STEPS}
+
+-- bytes of payload in the journal, bytes of hosts' replies that came, bytes handed out to clients, the steps that have payload,
+-- and the average of the generation before
+pub record PayloadState : Type 0 where
+  pub used : ℕ
+  pub came : ℕ
+  pub handed : ℕ
+  pub steps : ℕ
+  pub before : ℕ
+
+-- How many bytes a step has: the journal's own average once enough steps were made, the greater of that and the one before
+-- while there are fewer, and the one before while there is none.
+abbrev pub average_of : PayloadState → ℕ
+average_of p =
+    if p.steps == 0 then p.before
+    else (if nat_lt p.steps FIRST_STEPS then max (p.used / p.steps) p.before else p.used / p.steps)
+
+-- the average with which the next generation begins: its own, and at least half of the one before
+abbrev pub next_average_of : PayloadState → ℕ
+next_average_of p = max (if p.steps == 0 then 0 else p.used / p.steps) (p.before / 2)
+
+-- the bytes there, and those of replies that came and are still to be handed out
+abbrev pub kept_bytes : PayloadState → ℕ
+kept_bytes p = p.used + (p.came - p.handed)
+
+-- the bytes that so many owed steps may bring: one and a half times the average each, and at least two greatest replies and
+-- their handing out
+abbrev pub owed_bytes : PayloadState → ℕ → ℕ
+owed_bytes p owed = max (owed * average_of p * 3 / 2) (4 * MAX_REPLY_BYTES)
+
+-- A further command has room, of a client with so many unfinished bytes: what is kept, what the owed steps may bring, and
+-- those bytes and as many of their answer fit. Where nothing is owed and there is no payload, it always has.
+abbrev pub HasRoomForCommand : PayloadState → ℕ → ℕ → Type 0
+HasRoomForCommand p owed unfinished =
+    (kept_bytes p + owed_bytes p owed + 2 * unfinished ≤ MAX_BYTES) ⊎ ((owed ≡ 0) × (p.used ≡ 0))
+
+-- Hosts' replies have room of which so many bytes have come: what is kept, those bytes and one more read, as many to hand them
+-- out, and the texts of errors fit.
+abbrev pub HasRoomForReply : PayloadState → ℕ → Type 0
+HasRoomForReply p unfinished = kept_bytes p + 2 * (unfinished + MAX_READ_BYTES) + MAX_ERROR_BYTES ≤ MAX_BYTES

@@ -1,0 +1,150 @@
+//! The steps of one journal: a generation takes in no command that it can't finish.
+ghost use Rattle.std.specs.Prelude.{◌≡◌, ◌↔◌, ◌≤◌, ◌+◌, ◌-◌, IsTrue};
+ghost use Rattle.std.specs.Bool.{OnTrue, OnFalse};
+
+use crate::step_kind::StepKind;
+use std::marker::Model;
+
+/// The most steps that a journal has.
+pub const MAX_STEPS: u64 = 262_144;
+
+/// The most bytes of payload that a journal has.
+pub const MAX_BYTES: u64 = 67_108_864;
+
+/// The most steps that one command costs: accepting a command of 1,023 parts, sending and answering each, and handing out.
+pub const MAX_COMMAND_STEPS: u64 = 2_048;
+
+/// Steps that a worker has been lent by the budget of its generation, and what it spent of them.
+#[derive(Debug, Drop)]
+pub struct Loan {
+    lent: u64,
+    spent: u64,
+    freed: u64,
+}
+
+impl Model for Loan {
+    ghost use Rattle.generations.specs.Budget.{LoanState};
+
+    ghost Value = { LoanState };
+
+    ghost view = { λ l. record { lent = l.lent; spent = l.spent; freed = l.freed } };
+}
+
+impl Loan {
+    ghost use Rattle.generations.specs.Budget.{no_loan, free_steps, borrowed, loan_after};
+
+    /// Nothing is lent and nothing spent.
+    pub fn new() -> Loan
+        ensures { result ≡ no_loan }
+    {
+        Loan {
+            lent: 0,
+            spent: 0,
+            freed: 0,
+        }
+    }
+
+    /// How many steps may still be spent: those lent and those set free, less those spent; 0 where more was spent.
+    pub fn free(&self) -> u64
+        ensures { result ≡ free_steps self.now }
+    {
+        self.lent
+            .saturating_add(self.freed)
+            .saturating_sub(self.spent)
+    }
+
+    /// Whether the greatest command may still be accepted: `MAX_COMMAND_STEPS` steps are free.
+    pub fn has_room_for_a_command(&self) -> bool
+        ensures { IsTrue result ↔ (MAX_COMMAND_STEPS ≤ free_steps self.now) }
+    {
+        self.free() >= MAX_COMMAND_STEPS
+    }
+
+    /// So many steps more are lent; call it once `Budget::lend` has said yes to as many.
+    pub fn borrow(&mut self, steps: u64)
+        ensures { self.new ≡ borrowed steps self.old }
+    {
+        self.lent = self.lent.saturating_add(steps);
+    }
+
+    /// A step was made: what it costs is spent, and what it sets free is free again.
+    ///
+    /// What is spent counts on where more is spent than is free, so that what is set free later makes up for it first.
+    pub fn note(&mut self, kind: StepKind)
+        ensures { self.new ≡ loan_after kind self.old }
+    {
+        self.spent = self.spent.saturating_add(kind.cost());
+        self.freed = self.freed.saturating_add(kind.freed());
+    }
+}
+
+/// The steps of one journal: those that are spent for good, and those that are lent to workers.
+///
+/// Together they are never more than `MAX_STEPS`.
+#[derive(Debug, Drop)]
+pub struct Budget {
+    spent: u64,
+    lent: u64,
+}
+
+impl Model for Budget {
+    ghost use Rattle.std.specs.Prelude.{◌+◌, ◌≤◌};
+    ghost use Rattle.generations.specs.declared.budget.TheConstants.{MAX_STEPS};
+    ghost use Rattle.generations.specs.Budget.{BudgetState};
+
+    ghost Value = { BudgetState };
+
+    ghost view = { λ b. record { spent = b.spent; lent = b.lent } };
+
+    ghost invariant = { λ b. b.spent + b.lent ≤ MAX_STEPS };
+}
+
+impl Budget {
+    ghost use Rattle.generations.specs.Budget.{no_loan, no_budget, lent_more, settled};
+
+    /// Nothing is spent and nothing lent.
+    pub fn new() -> Budget
+        ensures { result ≡ no_budget }
+    {
+        Budget { spent: 0, lent: 0 }
+    }
+
+    /// How many steps are spent for good.
+    pub fn spent(&self) -> u64
+        ensures spent { result ≡ self.now.spent }
+        ensures fits { self.now.spent + self.now.lent ≤ MAX_STEPS }
+    {
+        self.spent
+    }
+
+    /// Lends so many steps where they fit, beside those that are spent and those that are lent. Where they don't, nothing
+    /// changes and the answer is `false`.
+    pub fn lend(&mut self, steps: u64) -> bool
+        ensures fits { IsTrue result ↔ (self.old.spent + self.old.lent + steps ≤ MAX_STEPS) }
+        ensures lent { OnTrue result (self.new ≡ lent_more steps self.old) }
+        ensures unchanged { OnFalse result (self.new ≡ self.old) }
+    {
+        if steps > MAX_STEPS - self.spent - self.lent {
+            return false;
+        }
+        self.lent += steps;
+        true
+    }
+
+    /// A worker settles: what it spent, less what it set free, is spent for good, and what was lent to it is given back. Where
+    /// it set free more than it spent, that much less is spent for good. The loan is empty afterwards.
+    ///
+    /// Of a loan that isn't of this budget no more is spent than fits, and no more is given back than is lent.
+    pub fn settle(&mut self, loan: &mut Loan)
+        ensures settled { self.new ≡ settled MAX_STEPS loan.old self.old }
+        ensures empty { loan.new ≡ no_loan }
+    {
+        self.lent = self.lent.saturating_sub(loan.lent);
+        let spent = self
+            .spent
+            .saturating_add(loan.spent.saturating_sub(loan.freed))
+            .saturating_sub(loan.freed.saturating_sub(loan.spent));
+        self.spent = spent.min(MAX_STEPS - self.lent);
+        *loan = Loan::new();
+    }
+}

@@ -1,0 +1,268 @@
+//! Which generation does what.
+ghost use Rattle.std.specs.Prelude.{◌≡◌, ◌↔◌, true, [], List, IsTrue};
+ghost use Rattle.std.specs.Option.{SomeIff};
+ghost use Rattle.generations.specs.Events.{Event, Opened, Failed, Near, Full, Drained, Swept, newest, draining, has_connections, last_sweep};
+ghost use Rattle.generations.specs.History.{MayHappen};
+
+use crate::opened::Open;
+use std::mem;
+
+/// What a generation is to do.
+#[derive(Clone, Copy, Debug, PartialEq, Eq)]
+pub enum Course {
+    /// It is the newest open one, and takes sockets.
+    Serves,
+    /// It takes in nothing more, and answers what it accepted.
+    Drains,
+    /// As `Drains`, and what still waits for hosts is given up: its links are closed.
+    GivesUp,
+    /// Its connections are closed at once.
+    Stops,
+}
+
+/// A generation that is to be opened.
+#[derive(Debug, Drop)]
+pub struct Due<H> {
+    /// Its number. No other one has it, whether it opens or not.
+    pub number: u64,
+    /// From what it goes on; `None`: from nothing.
+    pub from: Option<H>,
+}
+
+// The further one.
+#[derive(Drop)]
+enum Next<H> {
+    // None was asked for since the last one opened or failed.
+    Unasked,
+    // It goes on from there.
+    Wanted(Option<H>),
+    // It was given to be opened.
+    Opening,
+}
+
+/// The generations of one run of `redproxy serve`: which are open, which one is to be opened, and what each one does.
+///
+/// `H` is what one generation hands to the next. Moments are milliseconds of one clock.
+#[derive(Drop)]
+pub struct Generations<H> {
+    interval_ms: u64,
+    max_failures: u32,
+    // Failures that are still borne.
+    tries_left: u32,
+    newest: Option<Open>,
+    // The one before, as long as it has connections.
+    older: Option<Open>,
+    // Whether the newest one is near its marks.
+    is_near: bool,
+    next: Next<H>,
+    // How many were asked for, beside the first one: the number of the further one.
+    asked: u64,
+    // The moment of the last sweep that the last one that was full knew then.
+    handed_sweep: Option<u64>,
+}
+
+impl<H: Drop> Generations<H> {
+    ghost use Rattle.generations.specs.Course.{IsCourse};
+    ghost use Rattle.generations.specs.Stands.{Settings, Stands, Tells, Gives, EndsServing, IsSweepDue};
+
+    /// None is open, and the first generation, number 0, is due, from nothing. A sweep is due every `interval_ms` milliseconds,
+    /// and `max_failures` failures in a row end the serving.
+    pub fn new(interval_ms: u64, max_failures: u32) -> Generations<H>
+        ensures { Stands result
+            (record { interval_ms = interval_ms; max_failures = max_failures }) [] }
+    {
+        Generations {
+            interval_ms,
+            max_failures,
+            tries_left: max_failures,
+            newest: None,
+            older: None,
+            is_near: false,
+            next: Next::Wanted(None),
+            asked: 0,
+            handed_sweep: None,
+        }
+    }
+
+    /// The generation that is to be opened, given once: one is wanted, and the older one has no connections. It's being opened
+    /// from then on, until `opened` or `failed`.
+    pub fn take_due(&mut self) -> Option<Due<H>>
+        ensures { Gives result self.old self.new }
+    {
+        if self.older.is_some() {
+            return None;
+        }
+        match mem::replace(&mut self.next, Next::Unasked) {
+            Next::Wanted(from) => {
+                self.next = Next::Opening;
+                Some(Due {
+                    number: self.asked,
+                    from,
+                })
+            }
+            other => {
+                self.next = other;
+                None
+            }
+        }
+    }
+
+    // Whether this is the number of the one being opened.
+    fn is_opening(&self, number: u64) -> bool
+        ensures { IsTrue result ↔ ((self.now.next ≡ Next.Opening) × (number ≡ self.now.asked)) }
+    {
+        match &self.next {
+            Next::Opening => number == self.asked,
+            _ => false,
+        }
+    }
+
+    /// All threads of the generation have come, at the moment `now`: it is the newest one from here on, and the one before
+    /// drains. Ignored unless it is the one being opened.
+    pub fn opened(&mut self, number: u64, now: u64)
+        ensures { Tells (Opened number now) self.old self.new }
+    {
+        if self.is_opening(number) {
+            self.older = self.newest;
+            self.newest = Some(Open {
+                number,
+                swept: self.handed_sweep.unwrap_or(now),
+            });
+            self.is_near = false;
+            self.next = Next::Unasked;
+            self.tries_left = self.max_failures;
+        }
+    }
+
+    /// The generation could not be opened. `true` says that the serving is to end: it was the `max_failures`-th failure in a
+    /// row, or none is open. Otherwise the newest one asks again, by `full`. Ignored, and `false`, unless it is the one being
+    /// opened.
+    pub fn failed(&mut self, number: u64) -> bool
+        ensures tells { Tells (Failed number) self.old self.new }
+        ensures ends { (s : Settings) (es : List (Event H)) → Stands self.old s es
+            → IsTrue result ↔ (MayHappen (Failed number) es × EndsServing s es) }
+    {
+        if !self.is_opening(number) {
+            return false;
+        }
+        self.next = Next::Unasked;
+        self.tries_left = self.tries_left.saturating_sub(1);
+        self.tries_left == 0 || self.newest.is_none()
+    }
+
+    /// The newest generation is near its marks: an older one that still has connections is given up. Ignored unless `by` is the
+    /// newest one.
+    pub fn near(&mut self, by: u64)
+        ensures { Tells (Near by) self.old self.new }
+    {
+        if Open::has_number(self.newest, by) {
+            self.is_near = true;
+        }
+    }
+
+    /// The newest generation has reached its marks, or takes in nothing more: another one is wanted, from this handover. An
+    /// older one that still has connections stops, and the new one is due once it has none.
+    ///
+    /// Ignored, and the handover dropped, unless `by` is the newest one and none is wanted or being opened; and where 2^64
+    /// generations were asked for.
+    pub fn full(&mut self, by: u64, handover: H)
+        ensures { Tells (Full by handover) self.old self.new }
+    {
+        let Next::Unasked = &self.next else {
+            return;
+        };
+        let Some(newest) = self.newest else {
+            return;
+        };
+        let Some(asked) = self.asked.checked_add(1) else {
+            return;
+        };
+        if newest.number == by {
+            self.next = Next::Wanted(Some(handover));
+            self.asked = asked;
+            self.handed_sweep = Some(newest.swept);
+        }
+    }
+
+    /// The draining generation has no connection left. Ignored unless it is the older one.
+    pub fn drained(&mut self, number: u64)
+        ensures { Tells (Drained number) self.old self.new }
+    {
+        if Open::has_number(self.older, number) {
+            self.older = None;
+        }
+    }
+
+    /// What a generation is to do. One that is not open, that isn't open yet, or that has drained `Stops`: so a generation asks
+    /// only once `opened` was called.
+    pub fn course(&self, number: u64) -> Course
+        ensures { (s : Settings) (es : List (Event H)) → Stands self.now s es
+            → IsCourse result es number }
+    {
+        if Open::has_number(self.newest, number) {
+            return Course::Serves;
+        }
+        if !Open::has_number(self.older, number) {
+            return Course::Stops;
+        }
+        match &self.next {
+            Next::Wanted(_) => Course::Stops,
+            _ if self.is_near => Course::GivesUp,
+            _ => Course::Drains,
+        }
+    }
+
+    /// The number of the newest open generation, `None` before the first one opens.
+    pub fn newest(&self) -> Option<u64>
+        ensures { (s : Settings) (es : List (Event H)) → Stands self.now s es → result ≡ newest es }
+    {
+        match self.newest {
+            None => None,
+            Some(newest) => Some(newest.number),
+        }
+    }
+
+    // The moment of the last sweep that a generation knows, where it has connections.
+    fn last_sweep(&self, number: u64) -> Option<u64>
+        ensures { (s : Settings) (es : List (Event H)) → Stands self.now s es
+            → SomeIff result (has_connections number es ≡ true) (last_sweep number es) }
+    {
+        match Open::sweep_of(self.newest, number) {
+            Some(moment) => Some(moment),
+            None => Open::sweep_of(self.older, number),
+        }
+    }
+
+    /// The number of the one that drains: that which opened before the newest, as long as it has connections.
+    pub fn older(&self) -> Option<u64>
+        ensures { (s : Settings) (es : List (Event H)) → Stands self.now s es
+            → result ≡ draining es }
+    {
+        match self.older {
+            None => None,
+            Some(older) => Some(older.number),
+        }
+    }
+
+    /// Whether a sweep of the generation is due at the moment `now`: the interval has passed since the last sweep that it
+    /// knows. That is its own last one, or else the last one that the generation from which it goes on knew when its handover
+    /// was taken, and for the first generation the moment when it opened. None is due where the clock went back, nor of a
+    /// generation that isn't open or has drained.
+    pub fn is_sweep_due(&self, number: u64, now: u64) -> bool
+        ensures { (s : Settings) (es : List (Event H)) → Stands self.now s es
+            → IsTrue result ↔ IsSweepDue s es number now }
+    {
+        match self.last_sweep(number) {
+            None => false,
+            Some(last) => now >= last && now - last >= self.interval_ms,
+        }
+    }
+
+    /// The generation made a sweep at the moment `now`. Ignored where it isn't open, or has drained.
+    pub fn swept(&mut self, number: u64, now: u64)
+        ensures { Tells (Swept number now) self.old self.new }
+    {
+        self.newest = Open::swept_at(self.newest, number, now);
+        self.older = Open::swept_at(self.older, number, now);
+    }
+}
