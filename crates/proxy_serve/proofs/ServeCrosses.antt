@@ -5,32 +5,53 @@ use Rattle.std.proofs.Crossing.{crosses}
 use Rattle.proxy_config.specs.contracts.config.Config as Config
 use Rattle.proxy_core.specs.contracts.handover.Handover as Handover
 use Rattle.proxy_stats.specs.contracts.tally.Counts as Counts
-use Rattle.proxy_serve.specs.contracts.house.Asked as Asked
+use Rattle.proxy_engines.proofs.CallerLemmas.{rest_send}
+use Rattle.generations.specs.contracts.course.Due as Due
+use Rattle.generations.specs.contracts.course.Generations as Generations
+use Rattle.proxy_serve.specs.contracts.board.Board as Board
+use Rattle.proxy_serve.specs.contracts.client.Carried as Carried
 use Rattle.proxy_serve.specs.contracts.house.Door as Door
 use Rattle.proxy_serve.specs.contracts.house.House as House
+use Rattle.proxy_serve.specs.contracts.generation.Plan as Plan
 use Rattle.proxy_serve.specs.contracts.hall.Desk as Desk
 use Rattle.proxy_serve.specs.contracts.hall.Hall as Hall
+use Rattle.proxy_serve.specs.contracts.ledger.Ledger as Ledger
 
-handover_send : IsSend Handover.the_row
+pub handover_send : IsSend Handover.the_row
 handover_send = search (crosses, sendable) depth 40 fits 20000
 
-asked_send : IsSend Asked.the_row
-asked_send = search (handover_send, crosses, sendable) depth 30 fits 20000
+due_send : IsSend (Due.the_row Handover.the_row)
+due_send = search (handover_send, crosses, sendable) depth 30 fits 20000
+
+generations_send : IsSend (Generations.the_row Handover.the_row)
+generations_send = search (handover_send, crosses, sendable) depth 40 fits 20000
+
+board_sync : IsSync Board.the_row
+board_sync = search (crosses, sendable) depth 30 fits 20000
+
+ledger_send : IsSend Ledger.the_row
+ledger_send = search (crosses, sendable) depth 30 fits 20000
 
 counts_send : IsSend Counts.the_row
 counts_send = search (crosses, sendable) depth 30 fits 20000
 
-door_sync : IsSync Door.the_row
-door_sync = search (crosses, sendable) depth 40 fits 20000
+carried_send : IsSend Carried.the_row
+carried_send = search (rest_send, crosses, sendable) depth 40 fits 20000
 
-house_sync : IsSync House.the_row
-house_sync = search (asked_send, counts_send, door_sync, crosses, sendable) depth 40 fits 20000
+door_sync : IsSync Door.the_row
+door_sync = search (carried_send, crosses, sendable) depth 40 fits 20000
+
+pub house_sync : IsSync House.the_row
+house_sync = search (generations_send, board_sync, counts_send, door_sync, crosses, sendable) depth 40 fits 20000
 
 desk_sync : IsSync Desk.the_row
 desk_sync = search (crosses, sendable) depth 40 fits 20000
 
 pub hall_sync : (κ : NamedLft) → IsSync (Hall.the_row κ)
-hall_sync κ = search (house_sync, desk_sync, crosses, sendable) depth 40 fits 20000
+hall_sync κ = search (house_sync, desk_sync, ledger_send, crosses, sendable) depth 40 fits 20000
 
 pub config_sync : IsSync Config.the_row
 config_sync = search (crosses, sendable) depth 40 fits 20000
+
+pub plan_send : (κ : NamedLft) → IsSend (Plan.the_row κ)
+plan_send κ = search (house_sync, config_sync, due_send, crosses, sendable) depth 40 fits 20000

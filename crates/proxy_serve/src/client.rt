@@ -1,12 +1,13 @@
 //! A client's connection, as a worker has it.
 
-use crate::hall::Hall;
+use crate::hall::{Hall, LARGE, LARGE_STEP};
 use crate::port::{Port, PortReader, PortWriter, ends};
 use crate::watched::Watched;
 use mio::event::Event as Readiness;
 use mio::net::TcpStream;
+use mio::{Registry, Token};
 use proxy_core::CoreTurns;
-use proxy_engines::{ClientEngine, EngineError, Progress, Tallied};
+use proxy_engines::{ClientEngine, EngineError, Progress, Rest, Tallied};
 use proxy_run::Ending;
 use std::alloc::Global;
 use std::cell::RefCell;
@@ -35,6 +36,15 @@ enum Stage {
     Lingering { until: u64 },
 }
 
+/// A worker's pass over its clients.
+#[derive(Clone, Copy, Drop)]
+pub(crate) struct Pass {
+    /// The moment of it, in milliseconds.
+    pub(crate) now: u64,
+    /// Steps of the journal that the worker keeps for its links.
+    pub(crate) reserve: u64,
+}
+
 /// What a pass over a client did.
 #[derive(Clone, Copy, Drop)]
 pub(crate) enum Attended {
@@ -44,6 +54,28 @@ pub(crate) enum Attended {
     Goes,
     /// The socket is to be let go.
     Gone,
+    /// All was answered, and the socket goes over to the newest generation.
+    GoesOver,
+}
+
+/// A socket on its way from one generation to the next, with what was read from it and not asked, and what it is still to be
+/// given.
+#[derive(Drop)]
+pub(crate) struct Carried {
+    port: Port,
+    rest: Rest,
+    // How many bytes had come when a command was last accepted.
+    begun: u64,
+}
+
+impl Carried {
+    /// The newest generation takes no further connection: what is gathered is written as far as the socket takes it, and nothing
+    /// more is sent.
+    pub(crate) fn part(mut self, room: &mut Vec<u8>) {
+        self.port.write_out(room);
+        self.port.shut();
+        let _ = self.port.throw_away();
+    }
 }
 
 #[derive(Drop)]
@@ -57,6 +89,8 @@ pub(crate) struct Client {
     replies: u64,
     // The last pass ended before all was done.
     has_more: bool,
+    // Nothing more is taken in.
+    is_drained: bool,
     // How many bytes had come when a command was last accepted, and how many came since.
     begun: u64,
     unfinished: u64,
@@ -67,6 +101,8 @@ pub(crate) struct Client {
 pub(crate) enum Hitch {
     /// There was no memory; the step is made again.
     Memory,
+    /// The journal has no room for it.
+    Full,
     /// The serving ends.
     Ends(Ending),
     /// The device failed, or the turn has no meaning: the connection or link ends alone.
@@ -77,10 +113,20 @@ pub(crate) enum Hitch {
 pub(crate) fn hitch_of(error: EngineError) -> Hitch {
     match error {
         EngineError::NoMemory | EngineError::TurnRefused { number: 1001 } => Hitch::Memory,
-        EngineError::TurnRefused { number: 1002 } => Hitch::Ends(Ending::JournalFull),
+        EngineError::TurnRefused { number: 1002 } => Hitch::Full,
         EngineError::TurnRefused { number: 1202 } => Hitch::Ends(Ending::Spent),
         _ => Hitch::Alone,
     }
+}
+
+// The socket, once no engine has its ends any more.
+fn bring(port: Rc<RefCell<Port>>, registry: &Registry, rest: Rest, begun: u64) -> Option<Carried> {
+    let Ok(cell) = Rc::try_unwrap(port) else {
+        return None;
+    };
+    let port = cell.into_inner();
+    port.deregister(registry);
+    Some(Carried { port, rest, begun })
 }
 
 impl Client {
@@ -111,9 +157,81 @@ impl Client {
             unanswered: 0,
             replies: 0,
             has_more: true,
+            is_drained: false,
             begun: 0,
             unfinished: 0,
         })
+    }
+
+    /// Opens a connection on a socket that comes from another generation. Where the turn is refused the socket comes back.
+    pub(crate) fn go_on<R: Wait, T: CoreTurns>(
+        rt: &R,
+        alloc: Global,
+        turns: &mut Watched<T>,
+        registry: &Registry,
+        token: Token,
+        carried: Carried,
+    ) -> Result<Client, (EngineError, Option<Carried>)> {
+        let Carried {
+            mut port,
+            rest,
+            begun,
+        } = carried;
+        let taken = port.taken();
+        if port.register(registry, token).is_err() {
+            return Err((EngineError::ReadFailed, Some(Carried { port, rest, begun })));
+        }
+        let port = match Rc::new(alloc, RefCell::new(port)) {
+            Ok(port) => port,
+            Err(failed) => {
+                let port = failed.value.into_inner();
+                port.deregister(registry);
+                return Err((EngineError::NoMemory, Some(Carried { port, rest, begun })));
+            }
+        };
+        let Some((reader, writer)) = ends(&port) else {
+            return Err((EngineError::NoMemory, None));
+        };
+        let unfinished = taken.saturating_sub(begun);
+        match ClientEngine::open_with(rt, turns, Tallied::new(reader), Tallied::new(writer), rest) {
+            Ok(engine) => Ok(Client {
+                engine,
+                port,
+                stage: Stage::Served,
+                unanswered: 0,
+                replies: 0,
+                has_more: true,
+                is_drained: false,
+                begun,
+                unfinished,
+            }),
+            Err((error, reader, writer, rest)) => {
+                drop(reader);
+                drop(writer);
+                Err((error, bring(port, registry, rest, begun)))
+            }
+        }
+    }
+
+    /// Counts what has come of its unfinished command.
+    pub(crate) fn note_carried(&self, hall: &Hall<'_>) {
+        hall.note_unfinished(self.unfinished, 0);
+    }
+
+    /// The socket with what was read and not asked, for the newest generation.
+    pub(crate) fn carry(self, registry: &Registry, hall: &Hall<'_>) -> Option<Carried> {
+        let Client {
+            engine,
+            port,
+            begun,
+            unfinished,
+            ..
+        } = self;
+        hall.note_unfinished(0, unfinished);
+        let (reader, writer, rest) = engine.into_rest()?;
+        drop(reader);
+        drop(writer);
+        bring(port, registry, rest, begun)
     }
 
     /// Takes note of what the poll tells.
@@ -123,9 +241,10 @@ impl Client {
         }
     }
 
-    /// Reads nothing more: what was asked is answered, and then the connection is closed.
+    /// Takes nothing more in: what was accepted is answered, and then the connection is closed.
     pub(crate) fn drain(&mut self) {
         self.engine.drain();
+        self.is_drained = true;
         self.has_more = true;
     }
 
@@ -142,6 +261,11 @@ impl Client {
     /// Whether its connection isn't counted as closed yet.
     pub(crate) fn is_uncounted(&self) -> bool {
         !matches!(self.stage, Stage::Lingering { .. })
+    }
+
+    /// Whether it waits for replies.
+    pub(crate) fn awaits_reply(&self) -> bool {
+        self.unanswered > 0
     }
 
     /// Whether a pass can bring anything.
@@ -178,14 +302,14 @@ impl Client {
         turns: &mut Watched<T>,
         hall: &Hall<'_>,
         room: &mut Vec<u8>,
-        now: u64,
+        pass: Pass,
     ) -> Result<Attended, Hitch> {
         self.has_more = false;
         match self.stage {
             Stage::Served => {
                 self.replies = hall.replies();
                 self.lend(room);
-                let stepped = self.step_on(rt, turns, hall.share());
+                let stepped = self.step_on(rt, turns, hall, pass.reserve);
                 self.count(turns, hall);
                 self.write_out(room);
                 self.has_more = self.has_more || stepped.is_err();
@@ -194,7 +318,28 @@ impl Client {
             Stage::Leaving => self.write_out(room),
             Stage::Lingering { .. } => {}
         }
-        Ok(self.leave(hall, now))
+        if matches!(self.stage, Stage::Leaving) && self.may_go_over(hall) {
+            return Ok(Attended::GoesOver);
+        }
+        Ok(self.leave(hall, pass.now))
+    }
+
+    // The journal has no room for a further command: none is taken in any more, from any client.
+    fn close_up(&mut self, hall: &Hall<'_>) {
+        hall.close_up();
+        self.drain();
+    }
+
+    // Whether the socket can go on in a newer generation.
+    fn may_go_over(&self, hall: &Hall<'_>) -> bool {
+        self.engine.may_go_on() && hall.house().runs() && !self.is_broken()
+    }
+
+    fn is_broken(&self) -> bool {
+        match self.port.try_borrow() {
+            Ok(port) => port.is_broken(),
+            Err(_) => true,
+        }
     }
 
     fn lend(&mut self, room: &mut Vec<u8>) {
@@ -209,16 +354,27 @@ impl Client {
         }
     }
 
-    // Steps until nothing more can be done for now, for so many steps, or until so many parts have come.
+    // Steps until nothing more can be done for now, for so many steps, or until many parts have come. A command is taken in only
+    // with all steps that it will owe.
     fn step_on<R: Wait, T: CoreTurns>(
         &mut self,
         rt: &R,
         turns: &mut Watched<T>,
-        most_parts: u64,
+        hall: &Hall<'_>,
+        reserve: u64,
     ) -> Result<(), Hitch> {
+        let most_parts = hall.share();
+        // (there is room for as many commands as this and one more)
+        let mut room_for = None;
         for _ in 0..MOST_STEPS {
-            if turns.parts() >= most_parts {
+            if turns.notes().parts >= most_parts {
                 break;
+            }
+            if !self.is_drained && room_for != Some(turns.notes().accepted) {
+                room_for = Some(turns.notes().accepted);
+                if !self.may_take_in(rt, turns, hall, reserve) {
+                    self.close_up(hall);
+                }
             }
             match self.engine.step(rt, turns) {
                 Ok(Progress::Moved) => {}
@@ -227,16 +383,38 @@ impl Client {
                     self.stage = Stage::Leaving;
                     return Ok(());
                 }
-                Err(error) => match hitch_of(error) {
-                    Hitch::Alone => {
-                        self.stage = Stage::Leaving;
-                        return Ok(());
-                    }
-                    other => return Err(other),
-                },
+                Err(error) => self.bear(hitch_of(error), hall)?,
+            }
+            if matches!(self.stage, Stage::Leaving) {
+                return Ok(());
             }
         }
         self.has_more = true;
+        Ok(())
+    }
+
+    // Whether the journal has room for a further command of the client, with all that it will owe.
+    fn may_take_in<R: Wait, T: CoreTurns>(
+        &self,
+        rt: &R,
+        turns: &mut Watched<T>,
+        hall: &Hall<'_>,
+        reserve: u64,
+    ) -> bool {
+        if self.unfinished.max(turns.untold_bytes()) >= LARGE || turns.average() >= LARGE_STEP {
+            hall.settle(rt, turns, reserve);
+        }
+        hall.lend(rt, turns, reserve) && turns.has_room_for_command(self.unfinished)
+    }
+
+    // What a hitch means. A command for which the journal has no room isn't taken in; where it has none for an answer, the
+    // connection can't go on.
+    fn bear(&mut self, hitch: Hitch, hall: &Hall<'_>) -> Result<(), Hitch> {
+        match hitch {
+            Hitch::Full if !self.is_drained => self.close_up(hall),
+            Hitch::Full | Hitch::Alone => self.stage = Stage::Leaving,
+            Hitch::Memory | Hitch::Ends(_) => return Err(hitch),
+        }
         Ok(())
     }
 

@@ -7,6 +7,7 @@ use crate::hall::{Desk, Hall};
 use crate::house::House;
 use crate::sweeping::Sweeps;
 use crate::worker::{WAKER, Worker};
+use generations::{Due, Marks};
 use mio::{Poll, Waker};
 use proxy_config::Config;
 use proxy_core::{Core, Handover, Settings};
@@ -37,28 +38,6 @@ impl<
         + Eprint
         + Sync,
 > Ground for R {}
-
-/// How long a journal may be before another generation is opened.
-#[derive(Clone, Copy, Debug, PartialEq, Eq)]
-pub struct Marks {
-    /// Steps of the journal.
-    pub steps: u64,
-    /// Bytes of payload in it.
-    pub bytes: u64,
-}
-
-impl Marks {
-    /// Seven eighths of what a journal holds: 229,376 steps, 58,720,256 bytes.
-    pub const FULL: Marks = Marks {
-        steps: 229_376,
-        bytes: 58_720_256,
-    };
-
-    /// Whether a journal is as long.
-    pub(crate) fn are_reached(&self, sight: &Handover) -> bool {
-        sight.steps() >= self.steps || sight.bytes() >= self.bytes
-    }
-}
 
 /// What each thread of a generation is given beside its seat at the gate.
 #[derive(Clone, Copy, Drop)]
@@ -181,17 +160,22 @@ struct Furniture {
     wakers: Vec<Waker>,
 }
 
-fn furnish<R: Net>(rt: &R, alloc: Global, workers: usize) -> Result<Furniture, Ending> {
+fn furnish<R: Net>(
+    rt: &R,
+    alloc: Global,
+    workers: usize,
+    hosts: usize,
+) -> Result<Furniture, Ending> {
     let mut all = Furniture {
         polls: Vec::new(alloc),
         desks: Vec::new(alloc),
         wakers: Vec::new(alloc),
     };
-    for _ in 0..workers {
+    for place in 0..workers {
         let Ok(poll) = Poll::new(rt) else {
             return Err(Ending::Socket);
         };
-        all.desks.push(Desk::new(waker_of(&poll)?))?;
+        all.desks.push(Desk::new(waker_of(&poll)?, place < hosts))?;
         all.wakers.push(waker_of(&poll)?)?;
         all.polls.push(poll)?;
     }
@@ -204,24 +188,21 @@ pub(crate) struct Plan<'a> {
     pub(crate) house: &'a House,
     pub(crate) config: &'a Config,
     pub(crate) marks: Marks,
-    /// Its number.
-    pub(crate) number: u64,
-    /// From where it goes on; None is from nothing.
-    pub(crate) from: Option<Handover>,
+    pub(crate) due: Due<Handover>,
 }
 
 /// Opens the generation, and serves in it until its threads have ended. What it did is added to the house's counts.
 ///
-/// Where it can't be opened, the house is told; the first one ends the serving then.
+/// Where it can't be opened, the house is told.
 pub(crate) fn keep<R: Ground>(rt: &R, alloc: Global, plan: Plan<'_>)
     requires { AreRingParts plan.config.now.hosts.items plan.config.now.weights.items }
 {
-    let (house, number) = (plan.house, plan.number);
+    let (house, number) = (plan.house, plan.due.number);
     if let Err(ending) = serve_in(rt, alloc, plan) {
-        if house.newest() < number {
-            house.fail(number);
-        } else {
+        if house.has_opened(number) {
             house.end(ending);
+        } else {
+            house.fail(rt, number, ending);
         }
     }
 }
@@ -234,14 +215,14 @@ fn serve_in<R: Ground>(rt: &R, alloc: Global, plan: Plan<'_>) -> Result<(), Endi
         house,
         config,
         marks,
-        number,
-        from,
+        due,
     } = plan;
+    let Due { number, from } = due;
     let Furniture {
         polls,
         desks,
         wakers,
-    } = furnish(rt, alloc, house.workers())?;
+    } = furnish(rt, alloc, house.workers(), config.hosts.len())?;
     let hall = Hall::new(house, number, desks);
     let Ok((gate, spare)) = Gate::new(alloc, core(alloc, config, from)?) else {
         return Err(Ending::Memory);

@@ -1,9 +1,14 @@
 //! What the threads of one generation share beside their gate.
 
 use crate::house::House;
+use crate::ledger::Ledger;
+use crate::watched::Watched;
+use generations::{Course, MAX_COMMAND_STEPS};
 use mio::Waker;
+use proxy_core::CoreTurns;
 use std::rt::Clock;
 use std::sync::atomic::{AtomicBool, AtomicU8, AtomicU64, Ordering};
+use std::sync::{Mutex, Wait};
 use std::thread;
 use std::time::Duration;
 
@@ -13,6 +18,15 @@ const MOST_UNSEEN: u64 = 256;
 
 // So many parts or more may all workers together let come between two looks at that.
 const MOST_AT_ONCE: u64 = 512;
+
+/// Payload of so many bytes is told to the other workers before it is decided what the journal has room for.
+pub(crate) const LARGE: u64 = 65_536;
+
+/// Where a step has so many bytes of payload on the average, each command that is accepted is told at once.
+pub(crate) const LARGE_STEP: u64 = 8_192;
+
+// So many steps of a journal are lent to all workers together at most.
+const MAX_LENT: u64 = 65_536;
 
 // So many bytes may the unfinished commands of all connections have, before those connections that add to them are ended.
 const MOST_UNFINISHED: u64 = 67_108_864;
@@ -31,21 +45,16 @@ const GIVEN_UP: u8 = 2;
 #[derive(Drop)]
 pub(crate) struct Desk {
     waker: Waker,
+    // Whether it has hosts.
+    has_hosts: bool,
+    // Whether clients of it wait for replies.
+    awaits: AtomicBool,
+    // Whether it takes in nothing until others have looked for their parts.
+    is_held: AtomicBool,
     // Whether it may be asleep.
     is_asleep: AtomicBool,
     // So many parts had come when it last looked for those of its hosts.
     seen: AtomicU64,
-}
-
-/// What a generation has to do.
-#[derive(Clone, Copy, PartialEq, Eq, Drop)]
-pub(crate) enum Course {
-    /// It serves, and takes new connections.
-    Serves,
-    /// It takes nothing more, and answers what it accepted.
-    Drains,
-    /// Its connections are closed at once.
-    Stops,
 }
 
 /// What the threads of a generation look at.
@@ -60,8 +69,10 @@ pub(crate) struct Hall<'a> {
     start: AtomicU8,
     // Connections that are open.
     open: AtomicU64,
-    // Whether the journal takes no further step.
-    is_full: AtomicBool,
+    // How much of its journal is spent and lent.
+    ledger: Mutex<Ledger>,
+    // Whether no further commands are to be accepted, so that those that were can be answered before the journal is full.
+    is_closing: AtomicBool,
     // How many parts came for hosts.
     parts: AtomicU64,
     // Rises once replies came for clients.
@@ -71,9 +82,12 @@ pub(crate) struct Hall<'a> {
 }
 
 impl Desk {
-    pub(crate) fn new(waker: Waker) -> Desk {
+    pub(crate) fn new(waker: Waker, has_hosts: bool) -> Desk {
         Desk {
             waker,
+            has_hosts,
+            awaits: AtomicBool::new(false),
+            is_held: AtomicBool::new(false),
             is_asleep: AtomicBool::new(false),
             seen: AtomicU64::new(0),
         }
@@ -92,7 +106,9 @@ impl Desk {
     }
 
     /// The worker may sleep from here on.
-    pub(crate) fn rest(&self) {
+    pub(crate) fn rest(&self, awaits: bool, is_held: bool) {
+        self.awaits.store(awaits, Ordering::SeqCst);
+        self.is_held.store(is_held, Ordering::SeqCst);
         self.is_asleep.store(true, Ordering::SeqCst);
     }
 
@@ -119,7 +135,8 @@ impl<'a> Hall<'a> {
             come: AtomicU64::new(0),
             start: AtomicU8::new(GATHERS),
             open: AtomicU64::new(0),
-            is_full: AtomicBool::new(false),
+            ledger: Mutex::new(Ledger::new(house.average())),
+            is_closing: AtomicBool::new(false),
             parts: AtomicU64::new(0),
             replies: AtomicU64::new(0),
             unfinished: AtomicU64::new(0),
@@ -144,7 +161,7 @@ impl<'a> Hall<'a> {
     /// Counts a thread that has come, and waits for the others. False says that some didn't come in time: then none begins.
     pub(crate) fn meet<R: Clock>(&self, rt: &R) -> bool {
         if self.come.fetch_add(1, Ordering::SeqCst).saturating_add(1) == self.threads() {
-            self.settle(BEGUN);
+            self.decide(BEGUN);
         }
         for _ in 0..MOST_WAITS {
             if self.start.load(Ordering::SeqCst) != GATHERS {
@@ -158,11 +175,11 @@ impl<'a> Hall<'a> {
 
     /// Lets the generation not begin, unless it has.
     pub(crate) fn give_up(&self) {
-        self.settle(GIVEN_UP);
+        self.decide(GIVEN_UP);
     }
 
-    // What becomes of the generation, unless that is settled.
-    fn settle(&self, start: u8) {
+    // What becomes of the generation, unless that is decided.
+    fn decide(&self, start: u8) {
         let _ = self
             .start
             .compare_exchange(GATHERS, start, Ordering::SeqCst, Ordering::SeqCst);
@@ -178,29 +195,97 @@ impl<'a> Hall<'a> {
         self.desks.get(place)
     }
 
-    /// What is to be done.
+    /// What is to be done. Sockets wait at the doors while nothing more is taken in and no newer generation is open.
     pub(crate) fn course(&self) -> Course {
-        if !self.house.runs() || self.house.is_shut(self.number) {
-            return Course::Stops;
-        }
-        if self.house.newest() <= self.number {
-            return Course::Serves;
-        }
-        if self.is_full() || self.open.load(Ordering::SeqCst) == 0 {
-            Course::Stops
-        } else {
+        let course = self.house.course(self.number);
+        if course == Course::Serves && self.is_closing() {
             Course::Drains
+        } else {
+            course
         }
     }
 
-    /// Whether the journal takes no further step.
-    pub(crate) fn is_full(&self) -> bool {
-        self.is_full.load(Ordering::SeqCst)
+    /// Whether no connection is open in it and none will be: it serves no more, by what was said before it was counted.
+    pub(crate) fn is_drained(&self) -> bool {
+        self.house.course(self.number) != Course::Serves && self.open.load(Ordering::SeqCst) == 0
     }
 
-    /// The journal takes no further step.
-    pub(crate) fn fill(&self) {
-        self.is_full.store(true, Ordering::SeqCst);
+    /// Tells what the worker's turns did since it was last here, and what it was lent and didn't spend comes back. So many
+    /// steps are lent to it anew that it may always make.
+    pub(crate) fn settle<R: Wait, T: CoreTurns>(
+        &self,
+        rt: &R,
+        turns: &mut Watched<T>,
+        reserve: u64,
+    ) {
+        let mut ledger = self.ledger.lock(rt);
+        let ledger = &mut *ledger;
+        turns.settle(ledger, self.open.load(Ordering::SeqCst));
+        turns.borrow_steps(ledger, reserve);
+    }
+
+    /// Lends so many steps. False says that so many aren't left.
+    pub(crate) fn lend_steps<R: Wait, T: CoreTurns>(
+        &self,
+        rt: &R,
+        turns: &mut Watched<T>,
+        steps: u64,
+    ) -> bool {
+        turns.borrow_steps(&mut self.ledger.lock(rt), steps)
+    }
+
+    /// Lends steps to the worker until it has enough for any command beside these. False says that so many aren't left.
+    pub(crate) fn lend<R: Wait, T: CoreTurns>(
+        &self,
+        rt: &R,
+        turns: &mut Watched<T>,
+        reserve: u64,
+    ) -> bool {
+        let least = reserve.saturating_add(MAX_COMMAND_STEPS);
+        if turns.free_steps() >= least {
+            return true;
+        }
+        let workers = (self.desks.len() as u64).max(1);
+        let many = (MAX_LENT / workers).clamp(MAX_COMMAND_STEPS, 2 * MAX_COMMAND_STEPS);
+        let missing = least.saturating_sub(turns.free_steps());
+        let mut ledger = self.ledger.lock(rt);
+        let ledger = &mut *ledger;
+        turns.borrow_steps(ledger, many.max(missing)) || turns.borrow_steps(ledger, missing)
+    }
+
+    /// Of a host's reply so many bytes have come, where so many had when it was last told. Whether the journal has room for it,
+    /// beside all others that are coming, by what all workers have told.
+    pub(crate) fn takes_reply<R: Wait, T: CoreTurns>(
+        &self,
+        rt: &R,
+        turns: &mut Watched<T>,
+        came: u64,
+        before: u64,
+    ) -> bool {
+        let mut ledger = self.ledger.lock(rt);
+        let ledger = &mut *ledger;
+        turns.tell_payload(ledger);
+        ledger.takes_reply(came, before)
+    }
+
+    /// How many steps were made or are owed, as far as workers have told.
+    pub(crate) fn spent<R: Wait>(&self, rt: &R) -> u64 {
+        self.ledger.lock(rt).budget.spent()
+    }
+
+    /// Bytes a step with which the next generation is to reckon.
+    pub(crate) fn average<R: Wait>(&self, rt: &R) -> u64 {
+        self.ledger.lock(rt).payload.next_average()
+    }
+
+    /// Whether no further commands are to be accepted.
+    pub(crate) fn is_closing(&self) -> bool {
+        self.is_closing.load(Ordering::SeqCst)
+    }
+
+    /// No further commands are to be accepted.
+    pub(crate) fn close_up(&self) {
+        self.is_closing.store(true, Ordering::SeqCst);
     }
 
     /// Counts a connection that was opened.
@@ -263,10 +348,31 @@ impl<'a> Hall<'a> {
         self.replies.fetch_add(1, Ordering::SeqCst);
     }
 
-    /// Wakes the workers beside this one.
-    pub(crate) fn wake_others(&self, place: usize) {
+    /// Wakes those of the workers beside this one that are behind with the parts of their hosts.
+    pub(crate) fn wake_behind(&self, place: usize) {
+        let parts = self.parts();
         for (other, desk) in self.desks.iter().enumerate() {
-            if other != place {
+            if other != place && desk.is_behind(parts) {
+                desk.wake();
+            }
+        }
+    }
+
+    /// Wakes those of the workers beside this one that were held back.
+    pub(crate) fn wake_held(&self, place: usize) {
+        for (other, desk) in self.desks.iter().enumerate() {
+            if other != place && desk.is_held.load(Ordering::SeqCst) {
+                desk.wake();
+            }
+        }
+    }
+
+    /// Wakes those of the workers beside this one whom parts or replies that came may concern.
+    pub(crate) fn wake_for(&self, place: usize, has_parts: bool, has_replies: bool) {
+        for (other, desk) in self.desks.iter().enumerate() {
+            let concerns = (has_parts && desk.has_hosts)
+                || (has_replies && desk.awaits.load(Ordering::SeqCst));
+            if other != place && concerns {
                 desk.wake();
             }
         }

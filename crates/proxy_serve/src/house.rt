@@ -1,38 +1,39 @@
 //! What all threads of a serving share, whichever generation they belong to.
 
+use crate::board::Board;
+use crate::client::Carried;
+use generations::{Course, Due, Generations};
 use mio::Waker;
 use mio::net::TcpStream;
 use proxy_core::Handover;
 use proxy_run::Ending;
 use proxy_stats::Counts;
 use std::alloc::{AllocFailed, Global};
+use std::collections::VecDeque;
 use std::sync::atomic::{AtomicU8, AtomicU64, Ordering};
-use std::sync::{Mutex, Wait};
+use std::sync::{Mutex, MutexGuard, Wait};
+
+/// So many sockets of clients are open at a time, over all generations.
+pub(crate) const MAX_SOCKETS: u64 = 4_096;
+
+/// After so many tries in a row that found no memory the serving ends, and after so many generations in a row that could not
+/// be opened.
+pub(crate) const MAX_TRIES: u32 = 1_000;
 
 const RUNS: u8 = 0;
 
 const DONE: u8 = 1;
 
-/// Where the new sockets of a worker's place wait, and how the worker that has that place now is woken.
+/// Where the new sockets of a worker's place wait, and those that go over to the newest generation, and how the worker that
+/// has that place now is woken.
 #[derive(Drop)]
 pub(crate) struct Door {
-    sockets: Mutex<Vec<TcpStream>>,
+    sockets: Mutex<VecDeque<TcpStream>>,
+    carried: Mutex<VecDeque<Carried>>,
     waker: Mutex<Option<Waker>>,
 }
 
-/// That another generation is wanted.
-#[derive(Drop)]
-pub(crate) struct Asked {
-    /// The generation that is nearly full.
-    pub(crate) by: u64,
-    /// From where the next one is to go on.
-    pub(crate) from: Handover,
-}
-
 /// What all threads look at.
-///
-/// Generations are numbered from 0. The newest one that is open takes the new connections; the one before it drains; those
-/// before that are shut.
 #[derive(Drop)]
 pub(crate) struct House {
     doors: Vec<Door>,
@@ -43,27 +44,30 @@ pub(crate) struct House {
     closed: AtomicU64,
     // After so many closed connections the serving is done; 0 is never.
     most: u64,
-    newest: AtomicU64,
-    // Generations below this number are shut.
-    shut_below: AtomicU64,
-    // The last generation that could not be opened.
-    failed: AtomicU64,
-    asked: Mutex<Option<Asked>>,
+    // Sockets of clients that are open.
+    sockets: AtomicU64,
+    // Which generation does what, and what of it stands on the board for who looks without waiting.
+    generations: Mutex<Generations<Handover>>,
+    board: Board,
+    // Bytes a step of the generation that asked for another one last.
+    average: AtomicU64,
     counts: Mutex<Option<Counts>>,
 }
 
 impl House {
-    /// A house with a door for each worker.
+    /// A house with a door for each worker. The first generation is due.
     pub(crate) fn new(
         alloc: Global,
         workers: u32,
+        interval_ms: u32,
         waker: Waker,
         most: u64,
     ) -> Result<House, AllocFailed<Door>> {
         let mut doors = Vec::new(alloc);
         for _ in 0..workers {
             doors.push(Door {
-                sockets: Mutex::new(Vec::new(alloc)),
+                sockets: Mutex::new(VecDeque::new(alloc)),
+                carried: Mutex::new(VecDeque::new(alloc)),
                 waker: Mutex::new(None),
             })?;
         }
@@ -73,10 +77,10 @@ impl House {
             flag: AtomicU8::new(RUNS),
             closed: AtomicU64::new(0),
             most,
-            newest: AtomicU64::new(0),
-            shut_below: AtomicU64::new(0),
-            failed: AtomicU64::new(0),
-            asked: Mutex::new(None),
+            sockets: AtomicU64::new(0),
+            generations: Mutex::new(Generations::new(u64::from(interval_ms), MAX_TRIES)),
+            board: Board::new(),
+            average: AtomicU64::new(0),
             counts: Mutex::new(None),
         })
     }
@@ -86,20 +90,78 @@ impl House {
         self.doors.len()
     }
 
-    /// Puts a socket down at a worker's door, and wakes the worker. Where there is no memory the socket is closed.
-    pub(crate) fn put<R: Wait>(&self, rt: &R, place: usize, stream: TcpStream) {
-        let Some(door) = self.doors.get(place) else {
-            return;
-        };
-        let _ = door.sockets.lock(rt).push(stream);
+    // Wakes the worker that has this door now.
+    fn wake<R: Wait>(&self, rt: &R, door: &Door) {
         if let Some(waker) = &*door.waker.lock(rt) {
             let _ = waker.wake();
         }
     }
 
-    /// Takes a socket from a worker's door.
+    /// Counts a socket that was accepted. False says that as many as may be are open: it is to be closed.
+    pub(crate) fn has_room_for_socket(&self) -> bool {
+        if self.sockets.load(Ordering::SeqCst) >= MAX_SOCKETS {
+            return false;
+        }
+        self.sockets.fetch_add(1, Ordering::SeqCst);
+        true
+    }
+
+    /// Counts a socket that is let go without having had a connection.
+    pub(crate) fn let_go(&self) {
+        self.sockets.fetch_sub(1, Ordering::SeqCst);
+    }
+
+    /// Puts a socket down at a worker's door, and wakes the worker. Where there is no memory the socket is closed.
+    pub(crate) fn put<R: Wait>(&self, rt: &R, place: usize, stream: TcpStream) {
+        let Some(door) = self.doors.get(place) else {
+            return self.let_go();
+        };
+        if door.sockets.lock(rt).push_back(stream).is_err() {
+            self.let_go();
+        }
+        self.wake(rt, door);
+    }
+
+    /// Takes the socket that waits longest at a worker's door.
     pub(crate) fn take<R: Wait>(&self, rt: &R, place: usize) -> Option<TcpStream> {
-        self.doors.get(place)?.sockets.lock(rt).pop()
+        self.doors.get(place)?.sockets.lock(rt).pop_front()
+    }
+
+    /// Makes room at the door of the place for one socket more that goes over. False says that there is no memory.
+    ///
+    /// Of each place one worker alone puts sockets down that go over, and the other takes them; so the room stays.
+    pub(crate) fn has_room_to_carry<R: Wait>(&self, rt: &R, place: usize) -> bool {
+        match self.doors.get(place) {
+            Some(door) => door.carried.lock(rt).reserve(1).is_ok(),
+            None => false,
+        }
+    }
+
+    /// Puts a socket that goes over down at the door of its place, and wakes the worker that has the place now. Where there is
+    /// no memory the socket is closed, and is counted as closed.
+    pub(crate) fn carry<R: Wait>(&self, rt: &R, place: usize, carried: Carried) {
+        let Some(door) = self.doors.get(place) else {
+            return self.count_closed();
+        };
+        if door.carried.lock(rt).push_back(carried).is_err() {
+            self.count_closed();
+        }
+        self.wake(rt, door);
+    }
+
+    /// Puts a socket that could not go on yet back in front of the others, as `carry` does.
+    pub(crate) fn carry_back<R: Wait>(&self, rt: &R, place: usize, carried: Carried) {
+        let Some(door) = self.doors.get(place) else {
+            return self.count_closed();
+        };
+        if door.carried.lock(rt).push_front(carried).is_err() {
+            self.count_closed();
+        }
+    }
+
+    /// Takes the socket that goes over and waits longest at a worker's door.
+    pub(crate) fn take_carried<R: Wait>(&self, rt: &R, place: usize) -> Option<Carried> {
+        self.doors.get(place)?.carried.lock(rt).pop_front()
     }
 
     /// Whether the serving goes on.
@@ -130,56 +192,104 @@ impl House {
         }
     }
 
-    /// Counts a closed connection. With the last that is waited for the serving is done.
+    /// Counts a socket that is closed. With the last that is waited for the serving is done.
     pub(crate) fn count_closed(&self) {
+        self.let_go();
         let before = self.closed.fetch_add(1, Ordering::SeqCst);
         if self.most != 0 && before >= self.most - 1 {
             self.set(DONE);
         }
     }
 
-    /// The newest generation that is open.
-    pub(crate) fn newest(&self) -> u64 {
-        self.newest.load(Ordering::SeqCst)
-    }
-
-    /// The generation is open: new connections come to it, each to the worker that this wakes.
-    pub(crate) fn open<R: Wait>(&self, rt: &R, number: u64, wakers: Vec<Waker>) {
-        self.newest.store(number, Ordering::SeqCst);
-        for (door, waker) in self.doors.iter().zip(wakers) {
-            *door.waker.lock(rt) = Some(waker);
+    /// What the generation is to do.
+    pub(crate) fn course(&self, number: u64) -> Course {
+        if self.runs() {
+            self.board.course(number)
+        } else {
+            Course::Stops
         }
     }
 
-    /// Shuts all generations before this one.
-    pub(crate) fn shut_before(&self, number: u64) {
-        self.shut_below.store(number, Ordering::SeqCst);
+    /// Whether a generation drains that still has connections.
+    pub(crate) fn has_older(&self) -> bool {
+        self.board.has_older()
     }
 
-    /// Whether the generation is shut.
-    pub(crate) fn is_shut(&self, number: u64) -> bool {
-        self.shut_below.load(Ordering::SeqCst) > number
+    /// Whether the generation was the newest at some time.
+    pub(crate) fn has_opened(&self, number: u64) -> bool {
+        self.board.has_opened(number)
     }
 
-    /// The generation asks for one that goes on from there.
-    pub(crate) fn ask_next<R: Wait>(&self, rt: &R, by: u64, from: Handover) {
-        *self.asked.lock(rt) = Some(Asked { by, from });
+    // What was decided is put on the board, and a generation that is due wakes the thread that opens it.
+    fn publish(&self, generations: MutexGuard<'_, Generations<Handover>>) {
+        self.board.show(&generations);
+        drop(generations);
         let _ = self.waker.wake();
     }
 
-    /// What was asked for last.
-    pub(crate) fn take_asked<R: Wait>(&self, rt: &R) -> Option<Asked> {
-        self.asked.lock(rt).take()
+    /// The generation that is to be opened now, told once.
+    pub(crate) fn take_due<R: Wait>(&self, rt: &R) -> Option<Due<Handover>> {
+        self.generations.lock(rt).take_due()
     }
 
-    /// The generation could not be opened.
-    pub(crate) fn fail(&self, number: u64) {
-        self.failed.store(number, Ordering::SeqCst);
+    /// The generation is open at this moment: sockets come to it, each to the worker that its waker wakes.
+    pub(crate) fn open<R: Wait>(&self, rt: &R, number: u64, now: u64, wakers: Vec<Waker>) {
+        let mut generations = self.generations.lock(rt);
+        generations.opened(number, now);
+        self.publish(generations);
+        for (door, waker) in self.doors.iter().zip(wakers) {
+            *door.waker.lock(rt) = Some(waker);
+            self.wake(rt, door);
+        }
     }
 
-    /// Whether it was this generation that could not be opened.
-    pub(crate) fn has_failed(&self, number: u64) -> bool {
-        self.failed.load(Ordering::SeqCst) == number
+    /// The generation could not be opened. After too many in a row the serving ends so.
+    pub(crate) fn fail<R: Wait>(&self, rt: &R, number: u64, ending: Ending) {
+        let is_last = self.generations.lock(rt).failed(number);
+        if is_last {
+            self.end(ending);
+        }
+    }
+
+    /// The newest generation is at three quarters of its marks.
+    pub(crate) fn near<R: Wait>(&self, rt: &R, number: u64) {
+        let mut generations = self.generations.lock(rt);
+        generations.near(number);
+        self.publish(generations);
+    }
+
+    /// The newest generation has reached its marks, or takes nothing more in: another one is wanted, which goes on from there.
+    pub(crate) fn ask_next<R: Wait>(&self, rt: &R, number: u64, from: Handover) {
+        let mut generations = self.generations.lock(rt);
+        generations.full(number, from);
+        self.publish(generations);
+    }
+
+    /// The generation that drains has no connection left.
+    pub(crate) fn drained<R: Wait>(&self, rt: &R, number: u64) {
+        let mut generations = self.generations.lock(rt);
+        generations.drained(number);
+        self.publish(generations);
+    }
+
+    /// Whether a sweep of the generation is due at this moment.
+    pub(crate) fn is_sweep_due<R: Wait>(&self, rt: &R, number: u64, now: u64) -> bool {
+        self.generations.lock(rt).is_sweep_due(number, now)
+    }
+
+    /// The generation made a sweep at this moment.
+    pub(crate) fn swept<R: Wait>(&self, rt: &R, number: u64, now: u64) {
+        self.generations.lock(rt).swept(number, now);
+    }
+
+    /// Bytes a step of the generation that asked for another one last.
+    pub(crate) fn average(&self) -> u64 {
+        self.average.load(Ordering::SeqCst)
+    }
+
+    /// The newest generation has so many bytes a step, and asks for another one.
+    pub(crate) fn note_average(&self, average: u64) {
+        self.average.store(average, Ordering::SeqCst);
     }
 
     /// Adds what a generation did.

@@ -9,10 +9,12 @@
 //! moments to them.
 #![tactic(auto)]
 
+mod board;
 mod client;
 mod generation;
 mod hall;
 mod house;
+mod ledger;
 mod port;
 mod serving;
 mod sweeping;
@@ -20,5 +22,5 @@ mod upstream;
 mod watched;
 mod worker;
 
-pub use generation::Marks;
+pub use generations::Marks;
 pub use serving::serve_run;

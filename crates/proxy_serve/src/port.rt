@@ -3,12 +3,15 @@ ghost use Rattle.std.specs.Io.{ReadsAtMost, WritesAtMost};
 
 use mio::event::Event;
 use mio::net::TcpStream;
+use mio::unix::SourceFd;
+use mio::{Interest, Registry, Token};
 use serve_parts::Gatherer;
 use std::alloc::Global;
 use std::cell::RefCell;
 use std::io;
 use std::io::{ErrorKind, Read, Write};
 use std::net::Shutdown;
+use std::os::fd::AsRawFd;
 use std::rc::Rc;
 
 // So many reads of a closed connection's socket are made at most.
@@ -44,6 +47,26 @@ impl Port {
             has_room: false,
             taken: 0,
         }
+    }
+
+    /// Has the poll tell of the socket from here on, by this token. It may have something, and may take something.
+    pub(crate) fn register(&mut self, registry: &Registry, token: Token) -> io::Result<()> {
+        let fd = self.output.writer().as_raw_fd();
+        registry.register(
+            &mut SourceFd(&fd),
+            token,
+            Interest::READABLE | Interest::WRITABLE,
+        )?;
+        self.is_readable = true;
+        self.output.reopen();
+        self.has_room = self.is_short;
+        Ok(())
+    }
+
+    /// Has the poll tell no more of the socket.
+    pub(crate) fn deregister(&self, registry: &Registry) {
+        let fd = self.output.writer().as_raw_fd();
+        let _ = registry.deregister(&mut SourceFd(&fd));
     }
 
     /// Takes note of what the poll tells.

@@ -1,13 +1,12 @@
 //! Serving, from its listener to its last line.
 ghost use Rattle.proxy_config.specs.RingParts.{AreRingParts};
 
-use crate::generation::{Ground, Marks, Plan, keep};
-use crate::house::{Asked, House};
-use crate::worker::MOST_TRIES;
+use crate::generation::{Ground, Plan, keep};
+use crate::house::House;
+use generations::Marks;
 use mio::net::TcpListener;
 use mio::{Events, Interest, Poll, Token, Waker};
 use proxy_config::Config;
-use proxy_core::Handover;
 use proxy_run::Ending;
 use proxy_stats::Counts;
 use serve_parts::Rota;
@@ -55,11 +54,15 @@ impl<'a> Porter<'a> {
         }
     }
 
-    // Deals the sockets of new connections to the workers in turn.
+    // Deals the sockets of new connections to the workers in turn. One for which there is no room is closed.
     fn deal<R: Wait>(&mut self, rt: &R) -> Result<(), Ending> {
         for _ in 0..MOST_TAKEN {
             match self.listener.accept() {
-                Ok((stream, _)) => self.house.put(rt, self.rota.take(), stream),
+                Ok((stream, _)) => {
+                    if self.house.has_room_for_socket() {
+                        self.house.put(rt, self.rota.take(), stream);
+                    }
+                }
                 Err(error) => {
                     if error.kind() == ErrorKind::WouldBlock || has_no_room(&error) {
                         break;
@@ -126,7 +129,13 @@ pub fn serve_run<
     requires { AreRingParts config.hosts.items config.weights.items }
 {
     let (poll, waker) = open(rt, &mut listener)?;
-    let house = House::new(alloc, config.workers, waker, connections)?;
+    let house = House::new(
+        alloc,
+        config.workers,
+        config.interval_ms,
+        waker,
+        connections,
+    )?;
     tell_start(rt, &listener, &config);
     let porter = Porter {
         poll,
@@ -159,18 +168,19 @@ fn serve_on<R: Ground>(
         |scope|
             requires { AreRingParts config.now.hosts.items config.now.weights.items }
         {
-            let mut line = Line::new();
+            let mut threads = Generated::new();
             for _ in rt.forever() {
                 if !house.runs() {
                     break;
                 }
-                if let Some(from) = line.due.take() {
+                if let Some(due) = house.take_due(rt) {
+                    let number = due.number;
+                    threads.make_room(rt, house);
                     let plan = Plan {
                         house,
                         config,
                         marks,
-                        number: line.number,
-                        from,
+                        due,
                     };
                     let begun = scope.spawn(
                         move ||
@@ -179,19 +189,15 @@ fn serve_on<R: Ground>(
                         { keep(rt, alloc, plan) },
                     );
                     match begun {
-                        Ok(handle) => line.newer = Some(handle),
-                        Err(_) => line.miss(house),
+                        Ok(handle) => threads.add(number, handle),
+                        Err(_) => house.fail(rt, number, Ending::Memory),
                     }
                 }
                 if porter.wait(&mut events).is_err() || porter.deal(rt).is_err() {
                     house.end(Ending::Socket);
                 }
-                if let Some(asked) = house.take_asked(rt) {
-                    line.ask(rt, house, asked);
-                }
             }
-            join(rt, line.older.take());
-            join(rt, line.newer.take());
+            threads.join_all(rt);
         },
     );
     Ok(())
@@ -203,59 +209,46 @@ fn join<R: Threads>(rt: &R, generation: Option<JoinHandle<()>>) {
     }
 }
 
-/// The generations that there are: one that serves, one before it that drains, and one that is to be opened.
+/// The threads of the generations that were begun last. At most two of them have connections; the third closes its gate.
 #[derive(Drop)]
-struct Line {
-    older: Option<JoinHandle<()>>,
-    newer: Option<JoinHandle<()>>,
-    // The number of the last one that was begun or is due.
+struct Generated {
+    newest: Option<JoinHandle<()>>,
+    // The number of that one.
     number: u64,
-    // That one is due, and from where it goes on.
-    due: Option<Option<Handover>>,
-    // Tries in a row to open one.
-    tries: u32,
+    older: Option<JoinHandle<()>>,
+    oldest: Option<JoinHandle<()>>,
 }
 
-impl Line {
-    // The first one is due.
-    fn new() -> Line {
-        Line {
-            older: None,
-            newer: None,
+impl Generated {
+    fn new() -> Generated {
+        Generated {
+            newest: None,
             number: 0,
-            due: Some(None),
-            tries: 0,
+            older: None,
+            oldest: None,
         }
     }
 
-    // There is no thread for the one that was due. It is asked for again, but for the first one.
-    fn miss(&self, house: &House) {
-        if self.number == 0 {
-            house.end(Ending::Memory);
-        } else {
-            house.fail(self.number);
+    // Makes room for a thread more: waits for the newest one where that could not be opened, else for the one that has had no
+    // connection the longest. So few journals stand at a time.
+    fn make_room<R: Threads>(&mut self, rt: &R, house: &House) {
+        if !house.has_opened(self.number) {
+            return join(rt, self.newest.take());
         }
+        join(rt, self.oldest.take());
+        self.oldest = self.older.take();
+        self.older = self.newest.take();
     }
 
-    // Makes another one due: those before the one that asks are shut, and it drains once the new one is open.
-    fn ask<R: Threads>(&mut self, rt: &R, house: &House, asked: Asked) {
-        if asked.by == self.number {
-            self.tries = 0;
-            house.shut_before(asked.by);
-            join(rt, self.older.take());
-            self.older = self.newer.take();
-        } else if house.has_failed(self.number) {
-            // (the one that asks is the older one still)
-            self.tries = self.tries.saturating_add(1);
-            join(rt, self.newer.take());
-            if self.tries >= MOST_TRIES {
-                house.end(Ending::Memory);
-            }
-        } else {
-            return;
-        }
-        self.number = self.number.saturating_add(1);
-        self.due = Some(Some(asked.from));
+    fn add(&mut self, number: u64, handle: JoinHandle<()>) {
+        self.number = number;
+        self.newest = Some(handle);
+    }
+
+    fn join_all<R: Threads>(&mut self, rt: &R) {
+        join(rt, self.oldest.take());
+        join(rt, self.older.take());
+        join(rt, self.newest.take());
     }
 }
 

@@ -1,8 +1,11 @@
 //! Sweeps at their pace, and looks how hosts and journal stand.
 
-use crate::generation::{Marks, Post};
-use crate::hall::{Course, Hall};
-use crate::worker::{MOST_TRIES, now};
+use crate::generation::Post;
+use crate::hall::Hall;
+use crate::house::MAX_TRIES;
+use crate::watched::Watched;
+use crate::worker::now;
+use generations::{Course, Marks};
 use mio::Waker;
 use proxy_config::Config;
 use proxy_core::{Core, Handover};
@@ -12,16 +15,19 @@ use std::rt::Clock;
 use std::sync::Wait;
 use std::time::Duration;
 use std::{mem, thread};
-use sweeper::{Pace, SweepRefusal, sweep_once};
+use sweeper::{SweepRefusal, sweep_once};
 use ticket_gate::Seated;
 
 // Between two looks, in milliseconds.
 const PAUSE_MS: u64 = 5;
 
+// So long an older generation that gives up has for answering by name, in milliseconds, before its last sockets are closed.
+const GIVING_UP_MS: u64 = 50;
+
 /// What sweeps, tells which hosts are put aside and come back, and asks for another generation in time.
 #[derive(Drop)]
 pub(crate) struct Sweeps<'a> {
-    seat: Seated<'a, Core>,
+    turns: Watched<Seated<'a, Core>>,
     hall: &'a Hall<'a>,
     config: &'a Config,
     marks: Marks,
@@ -31,6 +37,8 @@ pub(crate) struct Sweeps<'a> {
     tries: u32,
     // Whether each host was put aside when they were last looked at.
     are_out: Vec<bool>,
+    // Since when the journal is near its marks.
+    near_since: Option<u64>,
 }
 
 impl<'a> Sweeps<'a> {
@@ -47,13 +55,14 @@ impl<'a> Sweeps<'a> {
             marks,
         } = post;
         Ok(Sweeps {
-            seat,
+            turns: Watched::new(seat),
             hall,
             config,
             marks,
             wakers,
             tries: 0,
             are_out: vec![in alloc; false; config.hosts.len()]?,
+            near_since: None,
         })
     }
 
@@ -69,59 +78,66 @@ impl<'a> Sweeps<'a> {
         }
     }
 
-    fn open<R: Wait>(&mut self, rt: &R) {
+    fn open<R: Wait + Clock>(&mut self, rt: &R) {
         let alloc = *self.wakers.allocator();
         let wakers = mem::replace(&mut self.wakers, Vec::new(alloc));
-        self.hall.house().open(rt, self.hall.number(), wakers);
+        self.hall
+            .house()
+            .open(rt, self.hall.number(), now(rt), wakers);
     }
 
     fn sweep_on<R: Wait + Clock + Eprint>(&mut self, rt: &R) -> Result<(), Ending> {
-        let pace = Pace {
-            interval_ms: u64::from(self.config.interval_ms),
-        };
-        let mut last = now(rt);
+        let (house, number) = (self.hall.house(), self.hall.number());
         self.note_first(rt)?;
         for _ in rt.forever() {
-            let course = self.hall.course();
-            if course == Course::Stops {
+            if !house.runs() {
                 return Ok(());
             }
+            if self.hall.is_drained() {
+                house.drained(rt, number);
+                return Ok(());
+            }
+            let course = house.course(number);
             let moment = now(rt);
-            if pace.due(last, moment) && self.sweep(rt, moment)? {
-                last = moment;
+            if course != Course::Stops
+                && house.is_sweep_due(rt, number, moment)
+                && self.sweep(rt, moment)?
+            {
+                house.swept(rt, number, moment);
             }
             if course == Course::Serves {
-                self.look(rt)?;
+                self.look(rt, moment)?;
             }
             thread::sleep(rt, Duration::from_millis(PAUSE_MS));
         }
         unreachable!()
     }
 
-    // One sweep. False says that it has to be made again.
+    // One sweep, where the journal has a step for it that nobody owes. False says that it has to be made again.
     fn sweep<R: Wait>(&mut self, rt: &R, moment: u64) -> Result<bool, Ending> {
-        match sweep_once(rt, &mut self.seat, moment) {
-            Ok(_) => {
+        if !self.hall.lend_steps(rt, &mut self.turns, 1) {
+            return Ok(false);
+        }
+        let swept = sweep_once(rt, &mut self.turns, moment);
+        self.hall.settle(rt, &mut self.turns, 0);
+        match swept {
+            Ok(_) | Err(SweepRefusal::JournalFull) => {
                 self.tries = 0;
                 Ok(true)
             }
             Err(SweepRefusal::NoMemory) => {
                 self.tries = self.tries.saturating_add(1);
-                if self.tries >= MOST_TRIES {
+                if self.tries >= MAX_TRIES {
                     return Err(Ending::Memory);
                 }
                 Ok(false)
-            }
-            Err(SweepRefusal::JournalFull) => {
-                self.hall.fill();
-                Ok(true)
             }
             Err(SweepRefusal::Spent) => Err(Ending::Spent),
         }
     }
 
     fn sight<R: Wait>(&mut self, rt: &R) -> Result<Handover, Ending> {
-        match self.seat.sight(rt) {
+        match self.turns.inner().sight(rt) {
             Ok(sight) => Ok(sight),
             Err(_) => Err(Ending::Spent),
         }
@@ -137,14 +153,24 @@ impl<'a> Sweeps<'a> {
         Ok(())
     }
 
-    // Tells of the hosts, and asks for another generation where a mark is reached.
-    fn look<R: Wait + Eprint>(&mut self, rt: &R) -> Result<(), Ending> {
+    // Tells of the hosts, and of how full the journal is. Steps that are owed count as steps.
+    fn look<R: Wait + Eprint>(&mut self, rt: &R, moment: u64) -> Result<(), Ending> {
         let sight = self.sight(rt)?;
         for host in 0..self.are_out.len() {
             self.tell(rt, &sight, host);
         }
-        if self.marks.are_reached(&sight) || self.hall.is_full() {
-            self.hall.house().ask_next(rt, self.hall.number(), sight);
+        let (house, number) = (self.hall.house(), self.hall.number());
+        let steps = sight.steps().max(self.hall.spent(rt));
+        let bytes = sight.bytes();
+        let is_full = self.marks.are_reached(steps, bytes) || self.hall.is_closing();
+        if !is_full && !self.marks.are_near(steps, bytes) {
+            return Ok(());
+        }
+        let since = *self.near_since.get_or_insert(moment);
+        house.near(rt, number);
+        if is_full && (!house.has_older() || moment.saturating_sub(since) >= GIVING_UP_MS) {
+            house.note_average(self.hall.average(rt));
+            house.ask_next(rt, number, sight);
         }
         Ok(())
     }

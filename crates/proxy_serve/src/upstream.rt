@@ -1,8 +1,8 @@
 //! A host, as its worker has it.
-ghost use Rattle.std.specs.Prelude.{◌≡◌, None};
+ghost use Rattle.std.specs.Prelude.{◌≡◌, None, IfOk};
 
 use crate::client::{Hitch, hitch_of};
-use crate::hall::Hall;
+use crate::hall::{Hall, LARGE};
 use crate::port::{Port, PortReader, PortWriter, ends};
 use crate::watched::Watched;
 use mio::event::Event as Readiness;
@@ -53,6 +53,15 @@ enum Dialled {
     Stands,
 }
 
+/// When and how a host is attended.
+#[derive(Clone, Copy, Drop)]
+pub(crate) struct Call {
+    /// The moment, in milliseconds.
+    pub(crate) now: u64,
+    /// Whether what waits for the host is given up.
+    pub(crate) gives_up: bool,
+}
+
 #[derive(Drop)]
 pub(crate) struct Upstream {
     alloc: Global,
@@ -65,6 +74,10 @@ pub(crate) struct Upstream {
     parts: u64,
     looked: u64,
     has_more: bool,
+    // How many bytes had come on the link when a reply was last taken.
+    begun: u64,
+    // How many bytes of a large reply that is coming were told.
+    coming: u64,
     // When it was last told that the host can't be reached.
     told: Option<u64>,
 }
@@ -87,6 +100,8 @@ impl Upstream {
             parts: 0,
             looked: 0,
             has_more: true,
+            begun: 0,
+            coming: 0,
             told: None,
         }
     }
@@ -145,19 +160,19 @@ impl Upstream {
         hall: &Hall<'_>,
         registry: &Registry,
         room: &mut Vec<u8>,
-        now: u64,
+        call: Call,
     ) -> Result<bool, Hitch> {
         self.has_more = false;
-        self.looked = now;
+        self.looked = call.now;
         self.parts = hall.parts();
         self.lend(room);
-        let stepped = self.step_on(rt, turns, registry, now);
+        let stepped = self.step_on(rt, turns, hall, registry, call);
         self.write_out(room);
         if turns.take_notes().has_replies {
             hall.tell_replies();
         }
         self.has_more = self.has_more || stepped.is_err();
-        Ok(stepped? && self.is_to_be_told(now))
+        Ok(stepped? && self.is_to_be_told(call.now))
     }
 
     // Whether it is time to tell again that the host can't be reached.
@@ -192,32 +207,142 @@ impl Upstream {
         &mut self,
         rt: &R,
         turns: &mut Watched<T>,
+        hall: &Hall<'_>,
         registry: &Registry,
-        now: u64,
+        call: Call,
     ) -> Result<bool, Hitch> {
         let mut is_refused = false;
         for _ in 0..MOST_STEPS {
-            let stepped = self.engine.step(rt, turns, now);
-            self.let_go();
-            match stepped {
-                Ok(Progress::Moved) => {}
-                Ok(Progress::NeedsLink) => match self.link_up(rt, registry, now)? {
+            match self.step(rt, turns, hall, call)? {
+                Progress::Moved => {}
+                Progress::NeedsLink if call.gives_up || turns.free_steps() == 0 => {
+                    self.give_up(rt, turns, call.now)?;
+                }
+                Progress::NeedsLink => match self.link_up(rt, registry, call.now)? {
                     Dialled::Waits => return Ok(is_refused),
                     Dialled::Refused => {
                         is_refused = true;
-                        self.refuse(rt, turns, now)?;
+                        self.refuse(rt, turns, call.now)?;
                     }
                     Dialled::Stands => self.attach()?,
                 },
-                Ok(Progress::Idle | Progress::Cut | Progress::Ended) => return Ok(is_refused),
-                Err(error) => match hitch_of(error) {
-                    Hitch::Alone => {}
-                    other => return Err(other),
-                },
+                Progress::Idle | Progress::Cut | Progress::Ended => {
+                    self.forget_dial();
+                    return Ok(is_refused);
+                }
             }
         }
         self.has_more = true;
         Ok(is_refused)
+    }
+
+    // One step of the engine, and what it says of the socket. A link that has to go is given up before it.
+    fn step<R: Wait, T: CoreTurns>(
+        &mut self,
+        rt: &R,
+        turns: &mut Watched<T>,
+        hall: &Hall<'_>,
+        call: Call,
+    ) -> Result<Progress, Hitch>
+        ensures { IfOk result (λ p. p ≡ Progress.NeedsLink
+            → (self.new.engine.link ≡ None) × (self.new.engine.fault ≡ None)) }
+    {
+        if self.is_to_be_given_up(rt, turns, hall, call.gives_up) {
+            self.give_up(rt, turns, call.now)?;
+        }
+        let before = turns.notes();
+        let stepped = self.engine.step(rt, turns, call.now);
+        if turns.notes().matched != before.matched {
+            self.note_reply();
+        }
+        if turns.notes().faults != before.faults {
+            self.forget_dial();
+        }
+        self.let_go();
+        match stepped {
+            Ok(progress) => Ok(progress),
+            Err(error) => {
+                self.bear(rt, turns, hitch_of(error), call.now)?;
+                Ok(Progress::Moved)
+            }
+        }
+    }
+
+    // What a hitch means: a reply that doesn't fit the journal goes with its link.
+    fn bear<R: Wait, T: CoreTurns>(
+        &mut self,
+        rt: &R,
+        turns: &mut Watched<T>,
+        hitch: Hitch,
+        now: u64,
+    ) -> Result<(), Hitch> {
+        match hitch {
+            Hitch::Alone => Ok(()),
+            Hitch::Full => self.give_up(rt, turns, now),
+            Hitch::Memory | Hitch::Ends(_) => Err(hitch),
+        }
+    }
+
+    // Whether the link has to go: what waits for the host is given up, or the journal has no room for the reply that comes.
+    fn is_to_be_given_up<R: Wait, T: CoreTurns>(
+        &mut self,
+        rt: &R,
+        turns: &mut Watched<T>,
+        hall: &Hall<'_>,
+        gives_up: bool,
+    ) -> bool
+        ensures { self.new.engine ≡ self.old.engine }
+    {
+        let taken = self.taken();
+        let came = taken.unwrap_or(0).saturating_sub(self.begun);
+        let is_small = came.max(self.coming).max(turns.untold_bytes()) < LARGE;
+        let has_room = if is_small {
+            turns.has_room_for_reply(came)
+        } else {
+            hall.takes_reply(rt, turns, came, self.coming)
+        };
+        if !is_small {
+            self.coming = came;
+        }
+        taken.is_some() && (gives_up || !has_room)
+    }
+
+    // How many bytes came on the link.
+    fn taken(&self) -> Option<u64> {
+        match &self.socket {
+            Socket::Attached(port) => match port.try_borrow() {
+                Ok(port) => Some(port.taken()),
+                Err(_) => None,
+            },
+            Socket::Absent | Socket::Dialled { .. } => None,
+        }
+    }
+
+    // What comes from here on belongs to another reply.
+    fn note_reply(&mut self)
+        ensures { self.new.engine ≡ self.old.engine }
+    {
+        if let Some(taken) = self.taken() {
+            self.begun = taken;
+        }
+    }
+
+    // Gives up what waits for the host and the link to it: each part is answered by name.
+    fn give_up<R: Wait, T: CoreTurns>(
+        &mut self,
+        rt: &R,
+        turns: &mut Watched<T>,
+        now: u64,
+    ) -> Result<(), Hitch> {
+        let given_up = self.engine.give_up(rt, turns, now);
+        self.put(Socket::Absent);
+        match given_up {
+            Ok(()) => Ok(()),
+            Err(error) => match hitch_of(error) {
+                Hitch::Alone => Ok(()),
+                other => Err(other),
+            },
+        }
     }
 
     // Lets the socket go once the engine has given the link up.
@@ -228,6 +353,16 @@ impl Upstream {
             if Rc::strong_count(port) < 3 {
                 self.put(Socket::Absent);
             }
+        }
+    }
+
+    // Lets a connection go that is being made, once nothing waits for it or what waited is lost: what comes next has one made
+    // anew.
+    fn forget_dial(&mut self)
+        ensures { self.new.engine ≡ self.old.engine }
+    {
+        if matches!(self.socket, Socket::Dialled { .. }) {
+            self.put(Socket::Absent);
         }
     }
 
@@ -313,6 +448,7 @@ impl Upstream {
                     return Err(Hitch::Memory);
                 }
                 self.put(Socket::Attached(port));
+                self.begun = 0;
                 Ok(())
             }
             other => {

@@ -1,8 +1,15 @@
 //! Turns that are looked at as they go by.
 
+use crate::ledger::Ledger;
+use generations::{Loan, Payload, StepKind};
 use proxy_core::{Answer, CoreTurns, Event, Refusal};
+use std::mem;
 use std::sync::Wait;
 use ticket_gate::{TurnRefusal, Turns};
+
+// A command of one part has so many steps. Payload is reckoned over the replies that came, so that parts that failed don't make
+// the average smaller than what the others bring.
+const STEPS_A_REPLY: u64 = 4;
 
 /// What happened since it was last looked at.
 #[derive(Clone, Copy, Drop)]
@@ -13,6 +20,10 @@ pub(crate) struct Notes {
     pub(crate) handed: u64,
     /// Parts came for hosts, so many.
     pub(crate) parts: u64,
+    /// Replies of hosts were taken, so many.
+    pub(crate) matched: u64,
+    /// Faults of hosts were recorded, so many.
+    pub(crate) faults: u64,
     /// Replies came for clients, or parts were lost.
     pub(crate) has_replies: bool,
 }
@@ -22,45 +33,267 @@ impl Notes {
         accepted: 0,
         handed: 0,
         parts: 0,
+        matched: 0,
+        faults: 0,
         has_replies: false,
     };
 
-    fn note(&mut self, answer: &Answer) {
-        match answer {
-            Answer::Accepted { parts, .. } => {
+    fn note(&mut self, kind: StepKind) {
+        match kind {
+            StepKind::Accepted { parts } => {
                 self.accepted = self.accepted.saturating_add(1);
-                self.parts = self.parts.saturating_add(*parts);
+                self.parts = self.parts.saturating_add(parts);
             }
-            Answer::Bytes { .. } => self.handed = self.handed.saturating_add(1),
-            Answer::Matched { .. } | Answer::Lost { .. } => self.has_replies = true,
+            StepKind::Handed => self.handed = self.handed.saturating_add(1),
+            StepKind::Matched => {
+                self.matched = self.matched.saturating_add(1);
+                self.has_replies = true;
+            }
+            StepKind::Lost { .. } => {
+                self.faults = self.faults.saturating_add(1);
+                self.has_replies = true;
+            }
             _ => {}
         }
     }
 }
 
-/// A worker's turns, with notes of what they were answered.
+/// Bytes of payload of some steps: of all that was kept, of what hosts answered, and of what was handed out to clients; and over
+/// how many steps they are reckoned.
+#[derive(Clone, Copy, Drop)]
+struct Bytes {
+    kept: u64,
+    came: u64,
+    handed: u64,
+    steps: u64,
+}
+
+impl Bytes {
+    const NONE: Bytes = Bytes {
+        kept: 0,
+        came: 0,
+        handed: 0,
+        steps: 0,
+    };
+
+    // What an event brings.
+    fn of_event(event: &Event) -> Bytes {
+        match event {
+            Event::Arrived { request, .. } => Bytes {
+                kept: request.text_len(),
+                ..Bytes::NONE
+            },
+            Event::Answered { value, .. } => {
+                let length = value.text_len();
+                Bytes {
+                    kept: length,
+                    came: length,
+                    handed: 0,
+                    steps: STEPS_A_REPLY,
+                }
+            }
+            _ => Bytes::NONE,
+        }
+    }
+
+    // Together with others.
+    fn plus(self, more: Bytes) -> Bytes {
+        Bytes {
+            kept: self.kept.saturating_add(more.kept),
+            came: self.came.saturating_add(more.came),
+            handed: self.handed.saturating_add(more.handed),
+            steps: self.steps.saturating_add(more.steps),
+        }
+    }
+
+    // Tells of them.
+    fn tell(self, payload: &mut Payload) {
+        payload.note(self.kept, self.came, self.handed, self.steps);
+    }
+
+    // What the answer to such an event adds.
+    fn with_answer(self, answer: &Answer) -> Bytes {
+        match answer {
+            Answer::Sent { text, .. } => Bytes {
+                kept: text.len() as u64,
+                ..self
+            },
+            Answer::Bytes { text } => Bytes {
+                kept: text.len() as u64,
+                handed: text.len() as u64,
+                ..self
+            },
+            _ => self,
+        }
+    }
+}
+
+// What kind of step stands behind an answer. A part that got its value at once is neither sent nor answered.
+fn kind_of(answer: &Answer) -> StepKind {
+    match answer {
+        Answer::Opened { .. } => StepKind::Opened,
+        Answer::Accepted {
+            parts,
+            no_host,
+            busy,
+            ..
+        } => StepKind::Accepted {
+            parts: parts.saturating_sub(*no_host).saturating_sub(*busy),
+        },
+        Answer::Finishing => StepKind::Finished,
+        Answer::Sent { .. } => StepKind::Sent,
+        Answer::Matched { .. } => StepKind::Matched,
+        Answer::Lost { parts, .. } => StepKind::Lost { parts: *parts },
+        Answer::Swept { .. } => StepKind::Swept,
+        Answer::Bytes { .. } => StepKind::Handed,
+        Answer::Closed => StepKind::Closed,
+    }
+}
+
+/// What a worker knows of its turns' answers and of the journal: notes, the steps that it was lent, and the payload.
+#[derive(Drop)]
+struct Account {
+    notes: Notes,
+    loan: Loan,
+    // Steps since it last settled, what they cost, and their bytes.
+    steps: u64,
+    cost: u64,
+    bytes: Bytes,
+    // What all workers had told by then, and how many steps with payload were owed.
+    payload: Payload,
+    owed: u64,
+}
+
+impl Account {
+    fn new() -> Account {
+        Account {
+            notes: Notes::NONE,
+            loan: Loan::new(),
+            steps: 0,
+            cost: 0,
+            bytes: Bytes::NONE,
+            payload: Payload::new(0),
+            owed: 0,
+        }
+    }
+
+    fn note(&mut self, bytes: Bytes, answer: &Answer) {
+        let kind = kind_of(answer);
+        self.notes.note(kind);
+        self.loan.note(kind);
+        self.steps = self.steps.saturating_add(1);
+        self.cost = self.cost.saturating_add(kind.cost());
+        self.bytes = self.bytes.plus(bytes.with_answer(answer));
+    }
+
+    // Tells of payload, and takes note of what all workers have told of it.
+    fn tell(&mut self, ledger: &mut Ledger) {
+        let bytes = mem::replace(&mut self.bytes, Bytes::NONE);
+        bytes.tell(&mut ledger.payload);
+        self.payload = ledger.payload;
+    }
+
+    // Tells what was done, and takes note of what all workers have told.
+    fn settle(&mut self, ledger: &mut Ledger, open: u64) {
+        self.tell(ledger);
+        ledger.budget.settle(&mut self.loan);
+        let steps = mem::replace(&mut self.steps, 0);
+        self.cost = 0;
+        ledger.note_steps(steps);
+        // (what a connection owes for its end has no payload)
+        let ends = open.saturating_mul(StepKind::Opened.cost());
+        self.owed = ledger.owed().saturating_sub(ends);
+    }
+
+    // What is known of the payload now.
+    fn known(&self) -> Payload {
+        let mut known = self.payload;
+        self.bytes.tell(&mut known);
+        known
+    }
+
+    // How many steps with payload are owed now.
+    fn owed(&self) -> u64 {
+        self.owed
+            .saturating_add(self.cost)
+            .saturating_sub(self.steps)
+    }
+}
+
+/// A worker's turns, looked at as they go by.
 #[derive(Drop)]
 pub(crate) struct Watched<T: CoreTurns> {
     turns: T,
-    notes: Notes,
+    account: Account,
 }
 
 impl<T: CoreTurns> Watched<T> {
     pub(crate) fn new(turns: T) -> Watched<T> {
         Watched {
             turns,
-            notes: Notes::NONE,
+            account: Account::new(),
         }
     }
 
-    /// How many parts came for hosts since it was last asked what happened.
-    pub(crate) fn parts(&self) -> u64 {
-        self.notes.parts
+    /// The turns themselves, to be asked what is no turn.
+    pub(crate) fn inner(&mut self) -> &mut T {
+        &mut self.turns
+    }
+
+    /// What happened since it was last asked, which goes on being noted.
+    pub(crate) fn notes(&self) -> Notes {
+        self.account.notes
     }
 
     /// What happened since it was last asked.
     pub(crate) fn take_notes(&mut self) -> Notes {
-        std::mem::replace(&mut self.notes, Notes::NONE)
+        mem::replace(&mut self.account.notes, Notes::NONE)
+    }
+
+    /// How many steps more may be made or owed of those that were lent.
+    pub(crate) fn free_steps(&self) -> u64 {
+        self.account.loan.free()
+    }
+
+    /// Borrows steps of the journal. False says that so many aren't left.
+    pub(crate) fn borrow_steps(&mut self, ledger: &mut Ledger, steps: u64) -> bool {
+        let is_lent = ledger.budget.lend(steps);
+        if is_lent {
+            self.account.loan.borrow(steps);
+        }
+        is_lent
+    }
+
+    /// Tells what was done, gives back what was lent and not spent, and takes note of what all workers have told. So many
+    /// connections are open.
+    pub(crate) fn settle(&mut self, ledger: &mut Ledger, open: u64) {
+        self.account.settle(ledger, open);
+    }
+
+    /// Tells of payload, and takes note of what all workers have told of it.
+    pub(crate) fn tell_payload(&mut self, ledger: &mut Ledger) {
+        self.account.tell(ledger);
+    }
+
+    /// How many bytes of payload a step has on the average, as far as all workers have told.
+    pub(crate) fn average(&self) -> u64 {
+        self.account.payload.average()
+    }
+
+    /// How many bytes of payload were kept since it was last told.
+    pub(crate) fn untold_bytes(&self) -> u64 {
+        self.account.bytes.kept
+    }
+
+    /// Whether the journal has room for the payload of a further command, of a client that has so many bytes unfinished.
+    pub(crate) fn has_room_for_command(&self, unfinished: u64) -> bool {
+        let owed = self.account.owed();
+        self.account.known().takes_in(owed, unfinished)
+    }
+
+    /// Whether the journal has room for a host's reply of which so many bytes have come.
+    pub(crate) fn has_room_for_reply(&self, unfinished: u64) -> bool {
+        self.account.known().takes_reply(unfinished)
     }
 }
 
@@ -89,14 +322,16 @@ impl<T: CoreTurns> Turns for Watched<T> {
 
     ghost spent = { λ w. T.spent w.turns };
 
+    #[inline(always)]
     fn turn<R: Wait>(
         &mut self,
         rt: &R,
         event: Event,
     ) -> Result<Answer, TurnRefusal<Refusal, Event>> {
+        let bytes = Bytes::of_event(&event);
         let result = self.turns.turn(rt, event);
         if let Ok(answer) = &result {
-            self.notes.note(answer);
+            self.account.note(bytes, answer);
         }
         result
     }

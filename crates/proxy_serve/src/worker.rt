@@ -1,10 +1,12 @@
 //! A worker: a thread with a poll of its own, over its clients and hosts.
 
-use crate::client::{Attended, Client, Hitch, hitch_of};
+use crate::client::{Attended, Carried, Client, Hitch, Pass, hitch_of};
 use crate::generation::Post;
-use crate::hall::{Course, Hall};
-use crate::upstream::Upstream;
+use crate::hall::Hall;
+use crate::house::{MAX_SOCKETS, MAX_TRIES};
+use crate::upstream::{Call, Upstream};
 use crate::watched::Watched;
+use generations::{Course, StepKind};
 use mio::net::TcpStream;
 use mio::{Events, Interest, Poll, Token};
 use proxy_config::Config;
@@ -29,14 +31,14 @@ pub(crate) const WAKER: Token = Token(usize::MAX);
 // A worker without anything to do looks again after so many milliseconds at the latest.
 const PAUSE_MS: u64 = 10;
 
+// So many passes are made at most before the last sockets of a generation are closed.
+const LAST_PASSES: u32 = 16;
+
 // After a try that found no memory the next one is made so many milliseconds later.
 const NO_MEMORY_MS: u64 = 1;
 
 // So many events are taken from the poll, and so many sockets from the door, at once.
 const EVENTS: usize = 1_024;
-
-/// After so many tries in a row that found no memory the serving ends.
-pub(crate) const MOST_TRIES: u32 = 1_000;
 
 /// The milliseconds of the clock.
 pub(crate) fn now<R: Clock>(rt: &R) -> u64 {
@@ -82,7 +84,7 @@ impl<'a> Worker<'a> {
             return;
         }
         match floor.serve(rt, events) {
-            Ok(()) => floor.leave(),
+            Ok(()) => floor.leave(rt),
             Err(ending) => hall.house().end(ending),
         }
     }
@@ -112,6 +114,8 @@ impl<'a> Worker<'a> {
             next: 0,
             is_held: false,
             is_draining: false,
+            gives_up: false,
+            awaiting: 0,
         })
     }
 }
@@ -136,6 +140,17 @@ fn hosts_of(
     Ok(hosts)
 }
 
+/// What became of the socket that stood first at a worker's door.
+#[derive(Clone, Copy, Drop)]
+enum Welcomed {
+    /// It has a connection.
+    Opened,
+    /// It was closed.
+    LetGo,
+    /// None stands there, or it can't be opened for now.
+    None,
+}
+
 /// What a worker has before it while it works.
 #[derive(Drop)]
 struct Floor<'a> {
@@ -155,6 +170,10 @@ struct Floor<'a> {
     // No further parts may come until other workers have looked for theirs.
     is_held: bool,
     is_draining: bool,
+    // What waits for hosts is given up.
+    gives_up: bool,
+    // How many clients wait for replies.
+    awaiting: usize,
 }
 
 impl<'a> Floor<'a> {
@@ -168,7 +187,11 @@ impl<'a> Floor<'a> {
             match self.hall.course() {
                 Course::Serves => {}
                 Course::Drains => self.drain(),
-                Course::Stops => return Ok(()),
+                Course::GivesUp => {
+                    self.drain();
+                    self.gives_up = true;
+                }
+                Course::Stops => return self.finish(rt),
             }
             if self
                 .poll
@@ -181,21 +204,40 @@ impl<'a> Floor<'a> {
                 desk.rise();
             }
             self.note(&events);
-            if self.hall.is_full() {
-                // (until another generation is open nothing can be done here)
-                thread::sleep(rt, Duration::from_millis(1));
-                continue;
-            }
             let before = (self.hall.parts(), self.hall.replies());
             let moves = self.pass(rt)?;
             pause = self.pause(moves, before);
+            self.settle(rt);
         }
         unreachable!()
     }
 
-    // Reads nothing more from any client.
+    // What can still be answered is answered, and sockets that can go over do, before the others are closed.
+    fn finish<R: Wait + Net + Clock + Eprint>(&mut self, rt: &R) -> Result<(), Ending> {
+        self.drain();
+        self.gives_up = true;
+        for _ in 0..LAST_PASSES {
+            if !self.hall.house().runs() || !self.pass(rt)? {
+                break;
+            }
+        }
+        Ok(())
+    }
+
+    // Tells what was done. Of what was lent the worker keeps a step for a fault of each of its links, by which nothing may be
+    // lost.
+    fn settle<R: Wait>(&mut self, rt: &R) {
+        let reserve = self.reserve();
+        self.hall.settle(rt, &mut self.turns, reserve);
+    }
+
+    fn reserve(&self) -> u64 {
+        self.hosts.len() as u64
+    }
+
+    // Takes nothing more in from any client.
     fn drain(&mut self) {
-        if self.is_draining {
+        if self.is_draining || self.clients.is_empty() {
             return;
         }
         self.is_draining = true;
@@ -207,7 +249,7 @@ impl<'a> Floor<'a> {
     }
 
     // The connections that are cut short get what is gathered for them, and are counted as closed.
-    fn leave(&mut self) {
+    fn leave<R: Wait>(&mut self, rt: &R) {
         for key in 0..self.clients.capacity() {
             if let Some(client) = self.clients.get_mut(key) {
                 if client.is_uncounted() {
@@ -216,6 +258,22 @@ impl<'a> Floor<'a> {
                 client.part(&mut self.room);
                 self.hall.count_gone();
             }
+        }
+        self.part_with_carried(rt);
+    }
+
+    // Once the serving ends no generation takes what waits at the door.
+    fn part_with_carried<R: Wait>(&mut self, rt: &R) {
+        let house = self.hall.house();
+        for _ in 0..MAX_SOCKETS {
+            if house.runs() {
+                return;
+            }
+            let Some(carried) = house.take_carried(rt, self.place) else {
+                return;
+            };
+            carried.part(&mut self.room);
+            house.count_closed();
         }
     }
 
@@ -228,14 +286,15 @@ impl<'a> Floor<'a> {
             return 0;
         }
         if let Some(desk) = self.hall.desk(self.place) {
-            desk.rest();
+            desk.rest(self.awaiting > 0, self.is_held);
         }
         if self.has_news(before) { 0 } else { PAUSE_MS }
     }
 
     // Whether something came since the pass began, or what held clients back is gone.
     fn has_news(&self, before: (u64, u64)) -> bool {
-        before != (self.hall.parts(), self.hall.replies())
+        (!self.hosts.is_empty() && before.0 != self.hall.parts())
+            || (self.awaiting > 0 && before.1 != self.hall.replies())
             || (self.is_held && !self.hall.is_pressed())
     }
 
@@ -263,8 +322,10 @@ impl<'a> Floor<'a> {
         let hosts = self.attend_hosts(rt, now)?;
         let clients = self.attend_clients(rt, now)?;
         let after = self.attend_hosts(rt, now)?;
-        if before != (self.hall.parts(), self.hall.replies()) {
-            self.hall.wake_others(self.place);
+        let has_parts = before.0 != self.hall.parts();
+        let has_replies = before.1 != self.hall.replies();
+        if has_parts || has_replies {
+            self.hall.wake_for(self.place, has_parts, has_replies);
         }
         Ok(hosts || clients || after)
     }
@@ -272,7 +333,7 @@ impl<'a> Floor<'a> {
     // Counts tries in a row that found no memory.
     fn try_again(&mut self) -> Result<(), Ending> {
         self.tries = self.tries.saturating_add(1);
-        if self.tries >= MOST_TRIES {
+        if self.tries >= MAX_TRIES {
             Err(Ending::Memory)
         } else {
             Ok(())
@@ -282,8 +343,8 @@ impl<'a> Floor<'a> {
     // What a hitch means.
     fn bear(&mut self, hitch: Hitch) -> Result<(), Ending> {
         match hitch {
-            Hitch::Ends(Ending::JournalFull) => {
-                self.hall.fill();
+            Hitch::Full => {
+                self.hall.close_up();
                 Ok(())
             }
             Hitch::Ends(ending) => Err(ending),
@@ -292,29 +353,104 @@ impl<'a> Floor<'a> {
         }
     }
 
-    // Takes the sockets that stand at the worker's door. Each is counted before it is looked whether the generation still
-    // serves: so none comes to one that has ended.
+    // Whether a connection more may be opened: the generation serves, and its journal has room for the connection and a command.
+    fn may_open<R: Wait>(&mut self, rt: &R) -> bool {
+        if self.hall.course() != Course::Serves {
+            return false;
+        }
+        let reserve = self.reserve().saturating_add(StepKind::Opened.cost());
+        let has_room = self.hall.lend(rt, &mut self.turns, reserve);
+        if !has_room {
+            self.hall.close_up();
+        }
+        has_room
+    }
+
+    // Takes the sockets that stand at the worker's door, those that go over first. Each is counted before it is looked whether
+    // the generation still serves: so none comes to one that has drained.
     fn welcome<R: Wait>(&mut self, rt: &R) -> Result<(), Ending> {
-        let hall = self.hall;
         for _ in 0..EVENTS {
-            hall.count_opened();
-            if hall.course() != Course::Serves || hall.is_full() {
-                hall.count_gone();
-                break;
-            }
-            let Some(stream) = hall.house().take(rt, self.place) else {
-                hall.count_gone();
-                break;
+            self.hall.count_opened();
+            let welcomed = if self.may_open(rt) {
+                self.welcome_one(rt)?
+            } else {
+                Welcomed::None
             };
-            if !self.open(rt, stream)? {
-                hall.count_gone();
+            match welcomed {
+                Welcomed::Opened => {}
+                Welcomed::LetGo => self.hall.count_gone(),
+                Welcomed::None => {
+                    self.hall.count_gone();
+                    break;
+                }
             }
         }
         Ok(())
     }
 
-    // A socket whose connection can't be opened is let go, and the answer is false.
-    fn open<R: Wait>(&mut self, rt: &R, mut stream: TcpStream) -> Result<bool, Ending> {
+    fn welcome_one<R: Wait>(&mut self, rt: &R) -> Result<Welcomed, Ending> {
+        let house = self.hall.house();
+        if self.clients.reserve(1).is_err() {
+            self.try_again()?;
+            return Ok(Welcomed::None);
+        }
+        if let Some(carried) = house.take_carried(rt, self.place) {
+            return self.go_on(rt, carried);
+        }
+        match house.take(rt, self.place) {
+            Some(stream) => self.open(rt, stream),
+            None => Ok(Welcomed::None),
+        }
+    }
+
+    // The client has a connection from here on.
+    fn keep(&mut self, client: Client) -> Welcomed {
+        match self.clients.insert(client) {
+            Ok(_) => Welcomed::Opened,
+            Err(_) => {
+                self.hall.house().count_closed();
+                Welcomed::LetGo
+            }
+        }
+    }
+
+    // A socket that comes from another generation. Where there is no memory, or the journal takes no further step, it waits at
+    // the door once more. Where its connection can't be opened otherwise it gets what is gathered for it and is closed.
+    fn go_on<R: Wait>(&mut self, rt: &R, carried: Carried) -> Result<Welcomed, Ending> {
+        let house = self.hall.house();
+        let token = Token(self.clients.vacant_key());
+        let gone_on = Client::go_on(
+            rt,
+            self.alloc,
+            &mut self.turns,
+            self.poll.registry(),
+            token,
+            carried,
+        );
+        match gone_on {
+            Ok(client) => {
+                client.note_carried(self.hall);
+                Ok(self.keep(client))
+            }
+            Err((error, carried)) => {
+                let hitch = hitch_of(error);
+                self.bear(hitch)?;
+                match (hitch, carried) {
+                    (Hitch::Memory | Hitch::Full | Hitch::Ends(_), Some(carried)) => {
+                        house.carry_back(rt, self.place, carried);
+                        return Ok(Welcomed::None);
+                    }
+                    (Hitch::Alone, Some(carried)) => carried.part(&mut self.room),
+                    (_, None) => {}
+                }
+                house.count_closed();
+                Ok(Welcomed::LetGo)
+            }
+        }
+    }
+
+    // A new socket. One whose connection can't be opened is let go.
+    fn open<R: Wait>(&mut self, rt: &R, mut stream: TcpStream) -> Result<Welcomed, Ending> {
         let _ = stream.set_nodelay(true);
         let token = Token(self.clients.vacant_key());
         let interests = Interest::READABLE | Interest::WRITABLE;
@@ -324,17 +460,15 @@ impl<'a> Floor<'a> {
             .register(&mut stream, token, interests)
             .is_err()
         {
-            return Ok(false);
-        }
-        if self.clients.reserve(1).is_err() {
-            self.try_again()?;
-            return Ok(false);
+            self.hall.house().let_go();
+            return Ok(Welcomed::LetGo);
         }
         match Client::open(rt, self.alloc, &mut self.turns, stream) {
-            Ok(client) => Ok(self.clients.insert(client).is_ok()),
+            Ok(client) => Ok(self.keep(client)),
             Err(error) => {
+                self.hall.house().let_go();
                 self.bear(hitch_of(error))?;
-                Ok(false)
+                Ok(Welcomed::LetGo)
             }
         }
     }
@@ -355,7 +489,10 @@ impl<'a> Floor<'a> {
                 self.hall,
                 self.poll.registry(),
                 &mut self.room,
-                now,
+                Call {
+                    now,
+                    gives_up: self.gives_up,
+                },
             );
             moves = moves || host.may_go(self.hall, now);
             match attended {
@@ -383,7 +520,7 @@ impl<'a> Floor<'a> {
                 parts
             };
             if desk.note_seen(seen) {
-                self.hall.wake_others(self.place);
+                self.hall.wake_held(self.place);
             }
         }
     }
@@ -399,7 +536,7 @@ impl<'a> Floor<'a> {
                 moves = self.attend_hosts(rt, now)? || moves;
                 if self.hall.is_pressed() {
                     // (others have to look for theirs first)
-                    self.hall.wake_others(self.place);
+                    self.hall.wake_behind(self.place);
                     self.next = key;
                     self.is_held = true;
                     return Ok(true);
@@ -410,6 +547,23 @@ impl<'a> Floor<'a> {
         Ok(moves)
     }
 
+    // The worker of this place in the newest generation gets the socket. Where there is no memory for that it stays for now.
+    fn go_over<R: Wait>(&mut self, rt: &R, key: usize) -> Result<bool, Ending> {
+        let house = self.hall.house();
+        if !house.has_room_to_carry(rt, self.place) {
+            self.try_again()?;
+            return Ok(true);
+        }
+        if let Some(client) = self.clients.try_remove(key) {
+            match client.carry(self.poll.registry(), self.hall) {
+                Some(carried) => house.carry(rt, self.place, carried),
+                None => house.count_closed(),
+            }
+        }
+        self.hall.count_gone();
+        Ok(false)
+    }
+
     fn attend_client<R: Wait>(&mut self, rt: &R, key: usize, now: u64) -> Result<bool, Ending> {
         let Some(client) = self.clients.get_mut(key) else {
             return Ok(false);
@@ -417,7 +571,23 @@ impl<'a> Floor<'a> {
         if !client.may_go(self.hall, now) {
             return Ok(false);
         }
-        match client.attend(rt, &mut self.turns, self.hall, &mut self.room, now) {
+        let did_await = client.awaits_reply();
+        let reserve = self.hosts.len() as u64;
+        let attended = client.attend(
+            rt,
+            &mut self.turns,
+            self.hall,
+            &mut self.room,
+            Pass { now, reserve },
+        );
+        let awaits = client.awaits_reply() && !matches!(attended, Ok(Attended::Gone));
+        if did_await && !awaits {
+            self.awaiting = self.awaiting.saturating_sub(1);
+        }
+        if awaits && !did_await {
+            self.awaiting = self.awaiting.saturating_add(1);
+        }
+        match attended {
             Ok(Attended::Rests) => {
                 self.tries = 0;
                 Ok(false)
@@ -428,6 +598,7 @@ impl<'a> Floor<'a> {
                 self.hall.count_gone();
                 Ok(false)
             }
+            Ok(Attended::GoesOver) => self.go_over(rt, key),
             Err(hitch) => {
                 self.bear(hitch)?;
                 Ok(true)
