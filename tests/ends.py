@@ -217,6 +217,19 @@ class Client:
         return self.file.read(1) == b""
 
 
+def is_ended(client):
+    """Whether a connection ended, as far as can be told without waiting."""
+    client.socket.setblocking(False)
+    try:
+        return client.socket.recv(1) == b""
+    except BlockingIOError:
+        return False
+    except ConnectionError:
+        return True
+    finally:
+        client.socket.settimeout(PATIENCE)
+
+
 def text(*words):
     words = [word if isinstance(word, bytes) else str(word).encode() for word in words]
     return b"*%d\r\n" % len(words) + b"".join(b"$%d\r\n%s\r\n" % (len(word), word) for word in words)
@@ -233,11 +246,15 @@ def each(checks):
             result.result()
 
 
+def compiler():
+    """The name of a C compiler."""
+    return next(word for word in (os.environ.get("CC"), "cc", "clang", "gcc") if word and shutil.which(word))
+
+
 def preloaded(source, room):
     """The shared object of a C source that lies beside this file, compiled into a room."""
-    compiler = next(word for word in (os.environ.get("CC"), "cc", "clang", "gcc") if word and shutil.which(word))
     found = os.path.join(room, source + ".so")
-    subprocess.run([compiler, "-O1", "-shared", "-fPIC", "-o", found, os.path.join(TOP, "tests", source)], check=True)
+    subprocess.run([compiler(), "-O1", "-shared", "-fPIC", "-o", found, os.path.join(TOP, "tests", source)], check=True)
     return found
 
 
@@ -248,86 +265,49 @@ def counts_in(line):
 
 
 class Stream(threading.Thread):
-    """A client that sends pipelines of 100 and compares all that comes with what has to come. Where its connection ends it
-    connects again, and goes on with the next pipeline."""
+    """A client that sends pipelines of 100, one after the other over one socket, and compares all that comes with what has to
+    come."""
 
     # Ten digits that stand for a number of the pipeline, and so for values that no other has.
     MARK = b"@@@@@@@@@@"
 
-    def __init__(self, proxy, number, on_end=None):
+    def __init__(self, proxy, number):
         super().__init__(daemon=True)
-        self.proxy, self.number, self.on_end = proxy, number, on_end
-        self.goes, self.wrong = True, None
-        # Replies that came, and commands without one; connections that were made, those that the proxy ended, and of them
-        # those that were reset.
-        self.good, self.unanswered, self.made, self.ended, self.resets = 0, 0, 0, 0, 0
-        asked, wanted, self.ends = [], [], [0]
+        self.proxy, self.number = proxy, number
+        # Whether it goes on, what was wrong, and how many replies came.
+        self.goes, self.wrong, self.good = True, None, 0
+        asked, wanted = [], []
         for place in range(50):
             key, value = b"s%d-%d" % (number, place), b"%d-%d-" % (number, place) + self.MARK
-            for request, reply in ((text("SET", key, value), b"+OK\r\n"),
-                                   (text("GET", key), b"$%d\r\n%s\r\n" % (len(value), value))):
-                asked.append(request)
-                wanted.append(reply)
-                self.ends.append(self.ends[-1] + len(reply))
+            asked += [text("SET", key, value), text("GET", key)]
+            wanted += [b"+OK\r\n", b"$%d\r\n%s\r\n" % (len(value), value)]
         self.asked, self.wanted = b"".join(asked), b"".join(wanted)
 
     def run(self):
         turn = 0
         try:
-            while self.goes:
-                with socket.create_connection(("127.0.0.1", self.proxy.port), PATIENCE) as connection:
-                    self.made += 1
-                    while self.goes and self.turn(connection, turn):
-                        turn += 1
+            with Client(self.proxy.port) as client:
+                while self.goes:
+                    client.socket.sendall(self.asked.replace(self.MARK, b"%010d" % turn))
+                    wanted = self.wanted.replace(self.MARK, b"%010d" % turn)
+                    equal(client.file.read(len(wanted)), wanted)
+                    self.good += 100
                     turn += 1
         except Exception as problem:  # pylint: disable=broad-except
             self.wrong = problem
 
-    def turn(self, connection, turn):
-        """One pipeline. False says that the connection ended."""
-        mark = b"%010d" % turn
-        with contextlib.suppress(BrokenPipeError, ConnectionResetError):
-            connection.sendall(self.asked.replace(self.MARK, mark))
-        wanted, got, is_reset = self.wanted.replace(self.MARK, mark), b"", False
-        while len(got) < len(wanted):
-            try:
-                piece = connection.recv(65_536)
-            except ConnectionResetError:
-                is_reset = True
-                break
-            if not piece:
-                break
-            got += piece
-        assert wanted.startswith(got), f"{got[-200:]!r} came of client {self.number}, pipeline {turn}"
-        # (a reset takes bytes that had come and weren't read yet)
-        assert is_reset or len(got) in self.ends, "a reply was cut"
-        replies = bisect.bisect_right(self.ends, len(got)) - 1
-        self.good += replies
-        self.unanswered += len(self.ends) - 1 - replies
-        self.resets += is_reset
-        if len(got) == len(wanted):
-            return True
-        self.ended += 1
-        if self.on_end:
-            self.on_end()
-        return False
+
+# So many PINGs fill a journal, which has 262,144 steps: once they are answered another generation has begun.
+PINGS = 131_072
 
 
-def ping_until_the_end(proxy):
-    """How many answers a client gets that asks until its connection ends. Another generation is opened behind 114,687 PINGs;
-    those before come in pipelines, and the last ones one at a time, so that each that was accepted is known."""
-    answers = 0
-    with Client(proxy.port) as client:
-        for count in [1_000] * 112 + [1] * 50_000:
-            got = b""
-            with contextlib.suppress(BrokenPipeError, ConnectionResetError):
-                client.socket.sendall(text("PING") * count)
-                got = client.file.read(7 * count)
-            if not got:
-                return answers
-            equal(got, b"+PONG\r\n" * count)
-            answers += count
-    raise AssertionError("the connection doesn't end")
+def ping(client, count=PINGS):
+    """A client asks so often, in pipelines, and is answered as often."""
+    while count:
+        some = min(count, 1_000)
+        client.socket.sendall(text("PING") * some)
+        equal(client.file.read(7 * some), b"+PONG\r\n" * some)
+        count -= some
 
 
 def resident_mib(process):
@@ -339,6 +319,16 @@ def resident_mib(process):
 def thread_count(process):
     """How many threads a process has now."""
     return len(os.listdir(f"/proc/{process.pid}/task"))
+
+
+def made_ready(servers):
+    """The servers, all of them started, going and empty."""
+    for server in servers:
+        if server.process.poll() is not None:
+            server.start()
+        server.go_on()
+        server.clear()
+    return servers
 
 
 def install():
