@@ -183,6 +183,7 @@ impl<'a> Floor<'a> {
         mut events: Events,
     ) -> Result<(), Ending> {
         let mut pause = 0;
+        self.settle(rt);
         for _ in rt.forever() {
             match self.hall.course() {
                 Course::Serves => {}
