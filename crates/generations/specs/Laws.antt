@@ -28,6 +28,7 @@ pub record OpensInTurn {H : Type 0} (n : ℕ) (es : List (Event H)) : Type 0 whe
   pub is_above : (m : ℕ) → newest es ≡ Some m → m < n
   pub is_alone : draining es ≡ None
 
+-- and so it is at each opening
 abbrev pub AllOpenInTurn : Type 0 → Type 0
 AllOpenInTurn H = (es : List (Event H)) (n now : ℕ) → IsHistory (Opened n now ∷ es) → OpensInTurn n es
 

@@ -42,9 +42,10 @@ IsOwed (k ∷ ks) = (done_by k ≤ owed ks) × IsOwed ks
 abbrev pub made : List StepKind → ℕ
 made ks = length ks
 
--- what they cost, and what they set free
+-- what they cost
 abbrev pub cost : List StepKind → ℕ
 cost ks = sum_by cost_of ks
 
+-- what they set free
 abbrev pub freed : List StepKind → ℕ
 freed ks = sum_by freed_of ks

@@ -36,11 +36,12 @@ pub record Past : Type 0 where
   pub conn : ℕ
   pub steps : History
 
--- what closed connections asked, and what was handed out to them; the newest of them stands first
+-- what closed connections asked; the newest of them stands first
 abbrev pub asked_before : List Past → List Request
 asked_before [] = []
 asked_before (p ∷ ps) = asked_before ps ++ asked_requests p.conn p.steps
 
+-- what was handed out to them
 abbrev pub said_before : List Past → List ℕ
 said_before [] = []
 said_before (p ∷ ps) = said_before ps ++ transcript p.conn p.steps
@@ -116,6 +117,7 @@ pub record IsSocketWhole (ps : List Past) (e : Client) (H : History) (taken : Li
   pub all_handed : handed_count e.conn H ≡ accepted_count e.conn H
   pub taken_is : taken ≡ said_before ps ++ transcript e.conn H
 
+-- So it is wherever the last connection ended and was not halted for a drain.
 abbrev pub SocketEndsWhole : Type 0
 SocketEndsWhole = (ps : List Past) (e : Client) (H : History) (taken b : List ℕ) → CarriesOn ps e H taken b → e.stage ≡ Stage.Closed false → e.is_halted ≡ false
     → (rs : List Request) → AreRequests b rs → IsSocketWhole ps e H taken rs
