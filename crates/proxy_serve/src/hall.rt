@@ -25,7 +25,7 @@ pub(crate) const LARGE: u64 = 65_536;
 /// Where a step has so many bytes of payload on the average, each command that is accepted is told at once.
 pub(crate) const LARGE_STEP: u64 = 8_192;
 
-// So many steps of a journal are lent to all workers together at most.
+// So many steps of a journal are lent to all workers together at most; but each is lent what one command may take.
 const MAX_LENT: u64 = 65_536;
 
 // So many bytes may the unfinished commands of all connections have, before those connections that add to them are ended.

@@ -2,8 +2,8 @@
 //!
 //! One thread listens, and deals sockets to workers in turn. The workers of a generation step the engines of their clients
 //! and of their hosts, which make their turns at the generation's gate; one thread of it sweeps. When its journal is nearly
-//! full another generation is opened, which goes on from its state of outlier detection; new connections go there, and the
-//! old one ends once its clients have got their answers.
+//! full another generation is opened, which goes on from its state of outlier detection; new sockets go there, and those of
+//! the old one go over to it, once their clients have got the answers to all that was accepted.
 //!
 //! What is proved of the answers is proved of the engines and of the core. Here stands what brings bytes, readiness and
 //! moments to them.
