@@ -1,10 +1,12 @@
 -- Why a link broke, over several moves.
 use Rattle.std.proofs.Common.{◌≡◌, ◌⊎◌, ◌∙◌, ◌≤◌, ◌-◌, ◌≢◌, arith, ℕ, Bool, true, false, List, [], ◌∷◌, Option, Some, None, inl, inr, refl, sym, ap}
-use Rattle.std.specs.Prelude.{◌↔◌}
+use Rattle.std.specs.Prelude.{◌↔◌, IfErr}
 use Rattle.proxy_history.specs.History.{Step}
 use Rattle.proxy_history.specs.declared.event.Kind.{Kind}
+use Rattle.proxy_history.specs.declared.refusal.Refusal.{Refusal}
 use Rattle.proxy_engines.specs.Host.{LineState, LinkState, next_link}
-use Rattle.proxy_engines.specs.Faults.{IsCauseOf, IsLate, IfFault, is_fault, either}
+use Rattle.proxy_engines.specs.Faults.{IsCauseOf, IsLate, IsNumberedOn, IfFault, is_fault, either}
+use Rattle.proxy_engines.specs.HostStep.{answer_of}
 use Rattle.ticket_gate.specs.Journal.{StartsWith}
 use Rattle.proxy_history.specs.declared.event.Event.{Event}
 use Rattle.proxy_engines.specs.Turned.{HasHeld}
@@ -29,6 +31,17 @@ module _ (l l' : LineState) (i j k : LinkState) (P Q : Type 0) (m : ℕ) (inbox 
   fault_later (Outcome.Fault kind error) b = cause_later kind error b
   fault_later Outcome.Moved b = tt
   fault_later Outcome.Still b = tt
+
+-- the error of a fault tells of no turn
+pub cause_numbered : (cause : Refusal → Event → List Step → Type 0) (seen : List Step) (on l : LineState) (kind : Kind) (error : Option EngineError) (j k : LinkState) (P : Type 0) (m : ℕ) → IsCauseOf kind error l j k P m → IfErr (answer_of error) (IsNumberedOn cause seen on)
+cause_numbered cause seen on l kind None j k P m b = tt
+cause_numbered cause seen on l kind (Some EngineError.NoMemory) j k P m b = inl tt
+cause_numbered cause seen on l kind (Some EngineError.ReadFailed) j k P m b = inl tt
+cause_numbered cause seen on l kind (Some EngineError.WriteFailed) j k P m b = inl tt
+cause_numbered cause seen on l Kind.Dropped (Some (EngineError.TurnRefused n)) j k P m b = absurd b
+cause_numbered cause seen on l Kind.Garbled (Some (EngineError.TurnRefused n)) j k P m b = absurd b
+cause_numbered cause seen on l Kind.Late (Some (EngineError.TurnRefused n)) j k P m b = absurd b
+cause_numbered cause seen on l Kind.Refused (Some (EngineError.TurnRefused n)) j k P m b = absurd b
 
 -- a fault of a move that only writes
 pub write_fault : (l : LineState) (j k : LinkState) (P : Type 0) (m : ℕ) (o : Outcome) → IfFault o (λ kind error. IsCauseOf kind error l j k ⊥ 0) → IfFault o (λ kind error. IsCauseOf kind error l j k P m)

@@ -1,8 +1,8 @@
 -- Whether anything moved, over several moves.
 use Rattle.std.proofs.Common.{◌≡◌, ◌≢◌, ◌<◌, ℕ, Bool, true, false, List, [], ◌∷◌, ◌++◌, Option, None, arith, length, refl}
-use Rattle.std.specs.Prelude.{◌||◌, ◌≤◌, zero, suc, take, Result, Ok, Err, IsErr, OnErr}
+use Rattle.std.specs.Prelude.{◌||◌, ◌≤◌, zero, suc, take, Result, Ok, Err, IfOk, IsErr, OnErr}
 use Rattle.proxy_history.specs.History.{History}
-use Rattle.proxy_engines.specs.Moves.{has_moved, AsTold, told_by_step}
+use Rattle.proxy_engines.specs.Moves.{has_moved, AsTold, told_by_step, told_by_turn}
 use Rattle.proxy_engines.specs.Faults.{is_fault, told_by_moves, told_by_outcome}
 use Rattle.proxy_engines.specs.declared.client.Progress.{Progress}
 use Rattle.proxy_engines.specs.declared.link.Outcome.{Outcome}
@@ -48,6 +48,16 @@ step-err Goes (Err x) e g = g
 pub moves-err : (Goes : Bool → Type 0) (r : Result Outcome EngineError) → IsErr r → ((moved : Bool) × Goes moved) → AsTold Goes (told_by_moves r)
 moves-err Goes (Ok o) e g = absurd cc
 moves-err Goes (Err x) e g = g
+
+-- a turn that was refused moved nothing
+pub turn_told : (Goes : Bool → Type 0) (r : Result Bool EngineError) → IfOk r (λ b. b ≡ false) → Goes false → AsTold Goes (told_by_turn r)
+turn_told Goes (Ok b) is g = rw is g
+turn_told Goes (Err e) is g = (false, g)
+
+-- an error, or a fault
+pub moves_none : (Goes : Bool → Type 0) (r : Result Outcome EngineError) → IfOk r (λ o. told_by_outcome o ≡ None) → ((moved : Bool) × Goes moved) → AsTold Goes (told_by_moves r)
+moves_none Goes (Ok o) is g = rw is g
+moves_none Goes (Err x) is g = g
 
 -- what holds, holds after any error
 pub any_err : (P : Type 0) (r : Result Outcome EngineError) → P → OnErr r P

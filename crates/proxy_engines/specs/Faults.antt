@@ -1,9 +1,13 @@
 -- What a move of a host's engine came to, and why a link broke.
 use Rattle.std.specs.Prelude.{◌≡◌, ◌≢◌, ◌⊎◌, ◌≤◌, ◌-◌, ⊤, ℕ, Bool, true, false, List, ◌∷◌, Option, Some, None, Result, Ok, Err}
 use Rattle.std.specs.Io.KnownBytes.{IsAtEnd}
+use Rattle.proxy_history.specs.History.{Step}
+use Rattle.proxy_history.specs.declared.event.Event.{Event}
 use Rattle.proxy_history.specs.declared.event.Kind.{Kind}
+use Rattle.proxy_history.specs.declared.refusal.Refusal.{Refusal}
 use Rattle.proxy_engines.specs.Device.{HasRisen}
 use Rattle.proxy_engines.specs.Host.{LineState, LinkState}
+use Rattle.proxy_engines.specs.Turned.{IsNumbered}
 use Rattle.proxy_engines.specs.declared.error.EngineError.{EngineError}
 use Rattle.proxy_engines.specs.declared.link.Outcome.{Outcome}
 
@@ -29,6 +33,15 @@ abbrev pub IsOfNoDevice : EngineError → Type 0
 IsOfNoDevice EngineError.NoMemory = ⊤
 IsOfNoDevice (EngineError.TurnRefused n) = ⊤
 IsOfNoDevice e = ⊥
+
+-- the number of a refused turn of a host's engine; one that is astray, since someone else failed its host, tells that its epoch
+-- is over
+abbrev pub IsNumberedOn : (Refusal → Event → List Step → Type 0) → List Step → LineState → EngineError → Type 0
+IsNumberedOn cause seen l error = IsNumbered cause seen error ⊎ ((l.is_astray ≡ true) × (error ≡ EngineError.TurnRefused 1006))
+
+-- an error that tells of no device, and of a turn by its number
+abbrev pub IsPlain : (Refusal → Event → List Step → Type 0) → List Step → LineState → EngineError → Type 0
+IsPlain cause seen l error = IsOfNoDevice error × IsNumberedOn cause seen l error
 
 -- the first of two moves at which anything came, or the second
 abbrev pub either : Outcome → Outcome → Outcome

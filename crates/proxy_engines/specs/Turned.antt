@@ -1,5 +1,5 @@
 -- What one turn does to the steps of its caller.
-use Rattle.std.specs.Prelude.{◌≡◌, ◌≤◌, ◌⊎◌, ⊤, ℕ, List, ◌∷◌, length}
+use Rattle.std.specs.Prelude.{◌≡◌, ◌≤◌, ◌⊎◌, ⊤, ℕ, Bool, true, false, if◌then◌else◌, List, ◌∷◌, length, Result, Ok, Err}
 use Rattle.journal_core.specs.Journal.{step_by}
 use Rattle.ticket_gate.specs.Journal.{StartsWith}
 use Rattle.proxy_history.specs.Setting.{max_steps}
@@ -10,7 +10,6 @@ use Rattle.proxy_history.specs.declared.event.Event.{Event}
 use Rattle.proxy_history.specs.declared.refusal.Refusal.{Refusal}
 use Rattle.proxy_history.specs.Refusal.{number_of}
 use Rattle.proxy_engines.specs.declared.ask.Denied.{Denied}
-use Rattle.proxy_engines.specs.declared.ask.TheConstants.{SPENT}
 use Rattle.proxy_engines.specs.declared.error.EngineError.{EngineError}
 
 -- The caller made one step more, with an answer of the event's kind.
@@ -29,13 +28,28 @@ abbrev pub HasHeld : (Event → List Step → Type 0) → Event → List Step �
 HasHeld cause event old new =
     (between : List Step) × StartsWith between old × StartsWith new between × cause event between
 
--- the number by which a turn was refused: that of the state's refusal, and another where no ticket is left
+-- the number by which a turn was refused: that of the state's refusal, and 1202 where no ticket is left
 abbrev pub denied_number : Denied → ℕ
-denied_number Denied.Spent = SPENT
+denied_number Denied.Spent = 1202
 denied_number (Denied.By r) = number_of r
 
--- where the error tells of a turn, its number is that of a refusal whose cause holds of what is seen, or says that no ticket is
--- left
+-- whether a refusal is an error; none is that the next reply hasn't come, that a command is held back, that no part waits, and
+-- that a host has spoken unasked
+abbrev pub is_error : Refusal → Bool
+is_error Refusal.Crowded = false
+is_error Refusal.NothingWaiting = false
+is_error Refusal.Unasked = false
+is_error (Refusal.NotReady left) = false
+is_error refusal = true
+
+-- what is told of a turn that was not made: its error, or this answer where it is none
+abbrev pub told_as : {A : Type 0} → Denied → A → Result A EngineError
+told_as Denied.Spent answer = Err (EngineError.TurnRefused 1202)
+told_as (Denied.By r) answer = if is_error r then Err (EngineError.TurnRefused (number_of r)) else Ok answer
+
+-- where the error tells of a turn, its number is that of a refusal that is an error, and whose cause holds of what is seen; or
+-- it is 1202, and no ticket is left
 abbrev pub IsNumbered : (Refusal → Event → List Step → Type 0) → List Step → EngineError → Type 0
-IsNumbered cause seen (EngineError.TurnRefused n) = (n ≡ SPENT) ⊎ ((r : Refusal) × (event : Event) × cause r event seen × (n ≡ number_of r))
+IsNumbered cause seen (EngineError.TurnRefused n) =
+    (n ≡ 1202) ⊎ ((r : Refusal) × (event : Event) × (is_error r ≡ true) × cause r event seen × (n ≡ number_of r))
 IsNumbered cause seen error = ⊤

@@ -9,7 +9,7 @@ ghost use Rattle.proxy_history.specs.StepLaws.{is_last_answer};
 ghost use Rattle.proxy_history.specs.declared.answer.Answer.{Answer};
 ghost use Rattle.proxy_history.specs.declared.event.Event.{Event};
 ghost use Rattle.proxy_engines.specs.OwnSteps.{own_steps};
-ghost use Rattle.proxy_engines.specs.Turned.{Adds, IsDue, denied_number};
+ghost use Rattle.proxy_engines.specs.Turned.{Adds, IsDue, denied_number, told_as};
 
 use crate::error::EngineError;
 use proxy_core::{Answer, CoreTurns, Event, Local, Refusal, Request};
@@ -39,6 +39,22 @@ impl Denied {
             Denied::By(refusal) => EngineError::TurnRefused {
                 number: refusal.number(),
             },
+        }
+    }
+
+    /// What an engine tells of it: its error, or this answer where it is none. It is none that the next reply hasn't come, that
+    /// a command is held back, that no part waits, and that a host has spoken unasked.
+    pub(crate) fn told_as<A: Drop>(&self, answer: A) -> Result<A, EngineError>
+        ensures { result ≡ told_as self.now answer }
+    {
+        match self {
+            Denied::By(
+                Refusal::NotReady { .. }
+                | Refusal::Crowded
+                | Refusal::NothingWaiting
+                | Refusal::Unasked,
+            ) => Ok(answer),
+            Denied::By(_) | Denied::Spent => Err(self.error()),
         }
     }
 }
@@ -150,6 +166,8 @@ pub(crate) fn open<Rt: Wait, T: CoreTurns>(rt: &Rt, turns: &mut T) -> Result<u64
         (own_steps (T.pass turns.old) (T.seen turns.old)) ≡ []) }
     ensures rests { IfErr result (λ r. own_steps (T.pass turns.old) (T.seen turns.new)
         ≡ own_steps (T.pass turns.old) (T.seen turns.old)) }
+    ensures cause { IfErr result (λ r. IsDue (T.cause (T.setting turns.old)) Event.Opened
+        (T.seen turns.new) r) }
 {
     match tell(rt, turns, Event::Opened) {
         Ok(Answer::Opened { conn }) => Ok(conn),

@@ -12,12 +12,12 @@ ghost use Rattle.journal_core.specs.Journal.{step_by};
 ghost use Rattle.proxy_engines.specs.Moves.{AsTold, told_by_step, told_by_turn};
 ghost use Rattle.ticket_gate.specs.Journal.{StartsWith};
 
-use crate::ask::{Denied, arrive, open, tell};
+use crate::ask::{arrive, open, tell};
 use crate::error::EngineError;
 use crate::inbox::{Inbox, Rest};
 use crate::outbox::Outbox;
 use crate::tally::{ReadTally, Told, WriteTally};
-use proxy_core::{Answer, CoreTurns, Event, Refusal, Request};
+use proxy_core::{Answer, CoreTurns, Event, Request};
 use resp_core::Limits;
 use std::alloc::Global;
 use std::marker::Model;
@@ -136,10 +136,7 @@ impl<R: ReadTally, W: WriteTally> ClientEngine<R, W> {
                 Ok(true)
             }
             Ok(_) => unreachable!(),
-            Err(denied) => match denied {
-                Denied::By(Refusal::NotReady { .. }) => Ok(false),
-                denied => Err(denied.error()),
-            },
+            Err(denied) => denied.told_as(false),
         }
     }
 
@@ -275,10 +272,7 @@ impl<R: ReadTally, W: WriteTally> ClientEngine<R, W> {
             }
             Err((denied, request)) => {
                 drop(self.next.replace(request));
-                match denied {
-                    Denied::By(Refusal::Crowded) => Ok(Progress::Idle),
-                    denied => Err(denied.error()),
-                }
+                denied.told_as(Progress::Idle)
             }
         }
     }
@@ -675,6 +669,8 @@ impl<R: ReadTally + Drop, W: WriteTally + Drop> ClientEngine<R, W> {
             (own_steps (T.pass turns.old) (T.seen turns.new)
             ≡ own_steps (T.pass turns.old) (T.seen turns.old))
             × ((e ≡ EngineError.NoMemory) ⊎ ((n : ℕ) × (e ≡ EngineError.TurnRefused n)))) }
+        ensures number { IfErr result
+            (IsNumbered (T.cause (T.setting turns.old)) (T.seen turns.new)) }
     {
         let inbox = match Inbox::new(alloc, reader, Limits::CLIENT) {
             Ok(inbox) => inbox,
@@ -731,6 +727,8 @@ impl<R: ReadTally + Drop, W: WriteTally + Drop> ClientEngine<R, W> {
             (own_steps (T.pass turns.old) (T.seen turns.new)
             ≡ own_steps (T.pass turns.old) (T.seen turns.old))
             × ((n : ℕ) × (x.0 ≡ EngineError.TurnRefused n))) }
+        ensures number { IfErr result
+            (λ x. IsNumbered (T.cause (T.setting turns.old)) (T.seen turns.new) x.0) }
         ensures back { IfErr result (λ x. (x.1 ≡ reader) × (x.2 ≡ writer) × (x.3 ≡ rest)) }
     {
         match open(rt, turns) {

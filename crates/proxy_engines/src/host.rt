@@ -8,10 +8,10 @@ ghost use Rattle.proxy_history.specs.declared.refusal.Refusal.{Refusal};
 ghost use Rattle.proxy_engines.specs.OwnSteps.{own_steps};
 ghost use Rattle.proxy_engines.specs.Turned.{HasHeld};
 ghost use Rattle.proxy_engines.specs.Moves.{AsTold, told_by_turn};
-ghost use Rattle.proxy_engines.specs.Faults.{IsLate, IsOfNoDevice};
+ghost use Rattle.proxy_engines.specs.Faults.{IsLate, IsNumberedOn, IsPlain};
 ghost use Rattle.proxy_engines.specs.Ends.{HasGivenAll};
 ghost use Rattle.proxy_engines.specs.Host.{LinkState, GoesOn, FailsHost, CarriesHost};
-ghost use Rattle.proxy_engines.specs.HostStep.{IsIdleOn, IsUnasked, Records, RestsHost, StepsHost, TellsFault, WorksHost, after_fault};
+ghost use Rattle.proxy_engines.specs.HostStep.{IsIdleOn, IsUnasked, Records, RestsHost, StepsHost, TellsFault, WorksHost, after_fault, answer_of};
 
 use crate::client::Progress;
 use crate::error::EngineError;
@@ -107,6 +107,8 @@ impl<R: ReadTally + Drop, W: WriteTally + Drop> HostEngine<R, W> {
             × (own_steps (T.pass turns.old) (T.seen turns.new)
             ≡ own_steps (T.pass turns.old) (T.seen turns.old))) }
         ensures err { IfErr result (λ e. (n : ℕ) × (e ≡ EngineError.TurnRefused n)) }
+        ensures number { IfErr result
+            (IsNumberedOn (T.cause (T.setting turns.old)) (T.seen turns.new) self.new.line) }
     {
         self.fault = Some(kind);
         self.line.fail(rt, turns, kind, moment)?;
@@ -159,6 +161,8 @@ impl<R: ReadTally + Drop, W: WriteTally + Drop> HostEngine<R, W> {
             × (own_steps (T.pass turns.old) (T.seen turns.new)
             ≡ own_steps (T.pass turns.old) (T.seen turns.old))) }
         ensures err { IfErr result (λ e. (n : ℕ) × (e ≡ EngineError.TurnRefused n)) }
+        ensures number { IfErr result
+            (IsNumberedOn (T.cause (T.setting turns.old)) (T.seen turns.new) self.new.line) }
     {
         self.record_fault(rt, turns, Kind::Refused, moment)
     }
@@ -185,6 +189,8 @@ impl<R: ReadTally + Drop, W: WriteTally + Drop> HostEngine<R, W> {
             × (own_steps (T.pass turns.old) (T.seen turns.new)
             ≡ own_steps (T.pass turns.old) (T.seen turns.old))) }
         ensures err { IfErr result (λ e. (n : ℕ) × (e ≡ EngineError.TurnRefused n)) }
+        ensures number { IfErr result
+            (IsNumberedOn (T.cause (T.setting turns.old)) (T.seen turns.new) self.new.line) }
     {
         let kind = self.fault.unwrap_or(Kind::Dropped);
         self.record_fault(rt, turns, kind, moment)
@@ -205,6 +211,8 @@ impl<R: ReadTally + Drop, W: WriteTally + Drop> HostEngine<R, W> {
         ensures tells { TellsFault self.old self.new
             (own_steps (T.pass turns.old) (T.seen turns.old))
             (own_steps (T.pass turns.old) (T.seen turns.new)) kind error moment result }
+        ensures number { (result ≡ answer_of error) ⊎ IfErr result
+            (IsNumberedOn (T.cause (T.setting turns.old)) (T.seen turns.new) self.new.line) }
     {
         self.record_fault(rt, turns, kind, moment)?;
         match error {
@@ -239,6 +247,8 @@ impl<R: ReadTally + Drop, W: WriteTally + Drop> HostEngine<R, W> {
             → IsIdleOn (HasHeld (T.cause (T.setting turns.old) Refusal.NothingWaiting)
             (Event.Taken self.old.line.host) (T.seen turns.old)
             (T.seen turns.new)) self.old.line self.old.link self.new.link) }
+        ensures number { IfErr result
+            (IsNumberedOn (T.cause (T.setting turns.old)) (T.seen turns.new) self.new.line) }
     {
         let Some(link) = &mut self.link else {
             unreachable!()
@@ -274,7 +284,8 @@ impl<R: ReadTally + Drop, W: WriteTally + Drop> HostEngine<R, W> {
             → T.cause (T.setting turns.old) Refusal.NothingWaiting (Event.Taken self.old.line.host)
             (T.seen turns.new)) }
         ensures same { IfOk result (λ b. b ≡ false → self.new.line ≡ self.old.line) }
-        ensures plain { IfErr result IsOfNoDevice }
+        ensures plain { IfErr result
+            (IsPlain (T.cause (T.setting turns.old)) (T.seen turns.new) self.new.line) }
     {
         if self.line.is_empty() {
             self.line.take(rt, turns, moment)
@@ -307,6 +318,8 @@ impl<R: ReadTally + Drop, W: WriteTally + Drop> HostEngine<R, W> {
         ensures idle { IfOk result (λ p. p ≡ Progress.Idle → (self.old.line.pending ≡ [])
             × HasHeld (T.cause (T.setting turns.old) Refusal.NothingWaiting)
             (Event.Taken self.old.line.host) (T.seen turns.old) (T.seen turns.new)) }
+        ensures number { IfErr result
+            (IsNumberedOn (T.cause (T.setting turns.old)) (T.seen turns.new) self.new.line) }
     {
         let taken = self.take_one(rt, turns, moment)?;
         if self.line.is_late(moment) {
@@ -349,6 +362,8 @@ impl<R: ReadTally + Drop, W: WriteTally + Drop> HostEngine<R, W> {
             → IsIdleOn (HasHeld (T.cause (T.setting turns.old) Refusal.NothingWaiting)
             (Event.Taken self.old.line.host) (T.seen turns.old)
             (T.seen turns.new)) self.old.line self.old.link self.new.link) }
+        ensures number { IfErr result
+            (IsNumberedOn (T.cause (T.setting turns.old)) (T.seen turns.new) self.new.line) }
     {
         if self.link.is_some() {
             self.go_on_link(rt, turns, moment)
@@ -393,6 +408,8 @@ impl<R: ReadTally + Drop, W: WriteTally + Drop> HostEngine<R, W> {
             → IsIdleOn (HasHeld (T.cause (T.setting turns.old) Refusal.NothingWaiting)
             (Event.Taken self.old.line.host) (T.seen turns.old)
             (T.seen turns.new)) self.old.line self.old.link self.new.link) }
+        ensures number { IfErr result
+            (IsNumberedOn (T.cause (T.setting turns.old)) (T.seen turns.new) self.new.line) }
     {
         let Some(kind) = self.fault else {
             return self.go_on(rt, turns, moment);

@@ -7,14 +7,14 @@ ghost use Rattle.proxy_history.specs.declared.refusal.Refusal.{Refusal};
 ghost use Rattle.proxy_engines.specs.OwnSteps.{own_steps};
 ghost use Rattle.proxy_engines.specs.Device.{HasFailed, HasPaused, is_moved};
 ghost use Rattle.proxy_engines.specs.Moves.{AsTold, has_moved, told_by_turn};
-ghost use Rattle.proxy_engines.specs.Faults.{IsLate, IsOfNoDevice};
+ghost use Rattle.proxy_engines.specs.Faults.{IsLate, IsNumberedOn, IsPlain};
 ghost use Rattle.proxy_engines.specs.Host.{LinkState, GoesOn, FailsHost};
 
-use crate::ask::{Denied, tell};
+use crate::ask::tell;
 use crate::error::EngineError;
 use crate::tally::{Told, WriteTally};
 use bytes::Bytes;
-use proxy_core::{Answer, CoreTurns, Event, Kind, Refusal};
+use proxy_core::{Answer, CoreTurns, Event, Kind};
 use std::alloc::Global;
 use std::collections::VecDeque;
 use std::marker::Model;
@@ -91,7 +91,8 @@ impl Line {
         ensures nothing_waits { IfOk result
             (λ b. b ≡ false → T.cause (T.setting turns.old) Refusal.NothingWaiting
             (Event.Taken self.old.host) (T.seen turns.new)) }
-        ensures plain { IfErr result IsOfNoDevice }
+        ensures plain { IfErr result
+            (IsPlain (T.cause (T.setting turns.old)) (T.seen turns.new) self.new) }
     {
         if self.is_astray {
             return Err(EngineError::TurnRefused { number: STALE });
@@ -110,8 +111,7 @@ impl Line {
                 Ok(true)
             }
             Ok(_) => unreachable!(),
-            Err(Denied::By(Refusal::NothingWaiting)) => Ok(false),
-            Err(denied) => Err(denied.error()),
+            Err(denied) => denied.told_as(false),
         }
     }
 
@@ -133,6 +133,8 @@ impl Line {
             × (own_steps (T.pass turns.old) (T.seen turns.new)
             ≡ own_steps (T.pass turns.old) (T.seen turns.old))) }
         ensures err { IfErr result (λ e. (n : ℕ) × (e ≡ EngineError.TurnRefused n)) }
+        ensures number { IfErr result
+            (IsNumberedOn (T.cause (T.setting turns.old)) (T.seen turns.new) self.new) }
     {
         if self.is_astray {
             return Err(EngineError::TurnRefused { number: STALE });

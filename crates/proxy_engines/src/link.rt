@@ -12,14 +12,14 @@ ghost use Rattle.proxy_engines.specs.Turned.{HasHeld};
 ghost use Rattle.proxy_engines.specs.Ends.{HasGivenAll};
 ghost use Rattle.proxy_engines.specs.Host.{LineState, LinkState, GoesOn};
 ghost use Rattle.proxy_engines.specs.Moves.{AsTold};
-ghost use Rattle.proxy_engines.specs.Faults.{either, is_fault, IfFault, IsCauseOf, IsLate, IsOfNoDevice, told_by_moves, told_by_outcome};
+ghost use Rattle.proxy_engines.specs.Faults.{either, is_fault, IfFault, IsCauseOf, IsLate, IsPlain, told_by_moves, told_by_outcome};
 
-use crate::ask::{Denied, give};
+use crate::ask::give;
 use crate::error::EngineError;
 use crate::inbox::Inbox;
 use crate::line::Line;
 use crate::tally::{ReadTally, Told, WriteTally};
-use proxy_core::{CoreTurns, Kind, Refusal, Request};
+use proxy_core::{CoreTurns, Kind, Request};
 use resp_core::{Limits, Value};
 use std::alloc::Global;
 use std::marker::Model;
@@ -154,7 +154,7 @@ impl<R: ReadTally, W: WriteTally> Link<R, W> {
         ensures err { OnErr result (self.new.inbox.values.refusal ≡ None) }
         ensures counts { (self.new.inbox.counts ≡ self.old.inbox.counts)
             × (self.new.counts ≡ self.old.counts) }
-        ensures plain { IfErr result IsOfNoDevice }
+        ensures plain { IfErr result (λ e. e ≡ EngineError.NoMemory) }
     {
         if self.next.is_some() {
             return Ok(Found::Value);
@@ -193,7 +193,8 @@ impl<R: ReadTally, W: WriteTally> Link<R, W> {
             ((v : Value) × (self.new.next ≡ Some v)
             × T.cause (T.setting turns.old) Refusal.Unasked
             (Event.Answered line.new.host line.new.epoch v moment) (T.seen turns.new)) moment)) }
-        ensures plain { IfErr result IsOfNoDevice }
+        ensures plain { IfErr result
+            (IsPlain (T.cause (T.setting turns.old)) (T.seen turns.new) line.new) }
     {
         let Some(value) = self.next.take() else {
             return Ok(Outcome::Moved);
@@ -205,13 +206,10 @@ impl<R: ReadTally, W: WriteTally> Link<R, W> {
             }
             Err((denied, value)) => {
                 drop(self.next.replace(value));
-                match denied {
-                    Denied::By(Refusal::Unasked) => Ok(Outcome::Fault {
-                        kind: Kind::Garbled,
-                        error: None,
-                    }),
-                    denied => Err(denied.error()),
-                }
+                denied.told_as(Outcome::Fault {
+                    kind: Kind::Garbled,
+                    error: None,
+                })
             }
         }
     }
@@ -272,7 +270,8 @@ impl<R: ReadTally, W: WriteTally> Link<R, W> {
         ensures reads { self.new.inbox.counts ≡ self.old.inbox.counts }
         ensures writes { self.new.counts ≡ self.old.counts }
         ensures err { OnErr result (self.new.inbox.values.refusal ≡ None) }
-        ensures plain { IfErr result IsOfNoDevice }
+        ensures plain { IfErr result
+            (IsPlain (T.cause (T.setting turns.old)) (T.seen turns.new) line.new) }
     {
         match self.seek()? {
             Found::Nothing => Ok(Outcome::Still),
@@ -309,7 +308,8 @@ impl<R: ReadTally, W: WriteTally> Link<R, W> {
         ensures reads { self.new.inbox.counts ≡ self.old.inbox.counts }
         ensures writes { self.new.counts ≡ self.old.counts }
         ensures err { OnErr result (self.new.inbox.values.refusal ≡ None) }
-        ensures plain { IfErr result IsOfNoDevice }
+        ensures plain { IfErr result
+            (IsPlain (T.cause (T.setting turns.old)) (T.seen turns.new) line.new) }
     {
         let mut outcome = Outcome::Still;
         for _ in rt.forever() {
@@ -346,7 +346,8 @@ impl<R: ReadTally, W: WriteTally> Link<R, W> {
             ≡ self.old.counts.failed) }
         ensures fault { IfOk result (λ o. IfFault o
             (λ kind error. IsCauseOf kind error line.new self.old self.new ⊥ 0)) }
-        ensures plain { IfErr result IsOfNoDevice }
+        ensures plain { IfErr result
+            (IsPlain (T.cause (T.setting turns.old)) (T.seen turns.new) line.new) }
     {
         if !line.is_empty() {
             return Ok(self.write(line));
@@ -384,7 +385,8 @@ impl<R: ReadTally, W: WriteTally> Link<R, W> {
             (Event.Answered line.new.host line.new.epoch v moment) (T.seen turns.new)) moment)) }
         ensures writes { self.new.counts ≡ self.old.counts }
         ensures err { OnErr result (self.new.inbox.values.refusal ≡ None) }
-        ensures plain { IfErr result IsOfNoDevice }
+        ensures plain { IfErr result
+            (IsPlain (T.cause (T.setting turns.old)) (T.seen turns.new) line.new) }
     {
         let before = self.answer_all(line, rt, turns, moment)?;
         if before.is_fault() {
@@ -431,7 +433,8 @@ impl<R: ReadTally, W: WriteTally> Link<R, W> {
             (Event.Answered line.new.host line.new.epoch v moment) (T.seen turns.new)) moment)) }
         ensures in_time { IfOk result (λ o. is_fault o ≡ false → ¬ IsLate line.new moment) }
         ensures err { OnErr result (self.new.inbox.values.refusal ≡ None) }
-        ensures plain { IfErr result IsOfNoDevice }
+        ensures plain { IfErr result
+            (IsPlain (T.cause (T.setting turns.old)) (T.seen turns.new) line.new) }
     {
         let sent = self.send(line, rt, turns, moment)?;
         if sent.is_fault() {

@@ -12,3 +12,9 @@ returns-clause-new g c = elim c.match-tell.branch [
       (g.met.T.CoreTurns.openings_are_new _ (before ++ makes.between) _ w.in-Ok-Opened.conn (rw makes.ends at makes.is_legal)))
   | in-Err w ↦ rw w.result-is tt
 ]
+
+pub returns-clause-cause : goal.returns-clause-cause
+returns-clause-cause g c = elim c.match-tell.branch [
+  | in-Ok-Opened w ↦ rw w.result-is tt
+  | in-Err w ↦ rw w.result-is w.in-Err.ensures.cause
+]

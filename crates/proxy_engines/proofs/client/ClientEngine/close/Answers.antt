@@ -42,4 +42,4 @@ pub returns-in-Err-clause-err : goal.returns-in-Err-clause-err
 returns-in-Err-clause-err g c = (refl, c.in-Err.ensures.rests, (_, c.error.ensures))
 
 pub returns-in-Err-clause-number : goal.returns-in-Err-clause-number
-returns-in-Err-clause-number g c = is_numbered (g.T.Turns.cause (g.T.Turns.setting c.args.turns.now)) _ (g.T.Turns.seen c.tell.new.turns) c.in-Err.denied c.error.result c.error.ensures c.in-Err.ensures.cause
+returns-in-Err-clause-number g c = is_numbered g.T.Turns.cause g.met.T.CoreTurns.refusals_mean (g.T.Turns.setting c.args.turns.now) _ (g.T.Turns.seen c.tell.new.turns) c.in-Err.denied c.in-Err.ensures.cause c.error.result c.error.ensures (λ x none. none)

@@ -32,4 +32,4 @@ pub returns-in-Ok-clause-number : goal.returns-in-Ok-clause-number
 returns-in-Ok-clause-number g c = inl refl
 
 pub returns-in-Err-clause-number : goal.returns-in-Err-clause-number
-returns-in-Err-clause-number g c = inr (is_numbered (g.T.Turns.cause (g.T.Turns.setting c.args.turns.now)) _ (g.T.Turns.seen c.tell.new.turns) c.in-Err.denied c.error.result c.error.ensures c.in-Err.ensures.cause)
+returns-in-Err-clause-number g c = inr (is_numbered g.T.Turns.cause g.met.T.CoreTurns.refusals_mean (g.T.Turns.setting c.args.turns.now) _ (g.T.Turns.seen c.tell.new.turns) c.in-Err.denied c.in-Err.ensures.cause c.error.result c.error.ensures (λ x none. none))

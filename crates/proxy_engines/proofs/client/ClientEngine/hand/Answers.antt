@@ -1,8 +1,10 @@
 use Rattle.proxy_engines.specs.Client.{Client}
-use Rattle.std.proofs.Common.{false, ap}
+use Rattle.std.proofs.Common.{◌≡◌, false, ap, refl}
+use Rattle.proxy_history.specs.declared.event.Event.{Event}
+use Rattle.proxy_engines.proofs.MoveLemmas.{turn_told}
+use Rattle.proxy_engines.proofs.NumberLemmas.{expected, is_not_ready, told_ok, told_turn, told_number}
 use Rattle.proxy_engines.proofs.ClientMoves.{handed_goes, same_goes}
 use Rattle.proxy_engines.proofs.client.ClientEngine.hand.Goals as goal
-use Rattle.proxy_engines.proofs.client.ClientEngine.hand.Goals.{in-By-NotReady, in_default}
 
 pub returns-in-Ok-Bytes-clause-goes : goal.returns-in-Ok-Bytes-clause-goes
 returns-in-Ok-Bytes-clause-goes g c =
@@ -31,9 +33,36 @@ returns-in-Ok-Bytes-clause-same g c = λ e. absurd cc
 pub returns-in-Ok-Bytes-clause-not_ready : goal.returns-in-Ok-Bytes-clause-not_ready
 returns-in-Ok-Bytes-clause-not_ready g c = λ e. absurd cc
 
-pub returns-after-denied-clause-goes : goal.returns-after-denied-clause-goes
-returns-after-denied-clause-goes g c =
-    elim c.match-denied.branch [
-      | in-By-NotReady w ↦ rw w.result-is (same_goes _ _ _ c.in-Err.ensures.rests)
-      | in_default w ↦ rw w.result-is (false, same_goes _ _ _ c.in-Err.ensures.rests)
-    ]
+pub returns-in-Err-clause-pass : goal.returns-in-Err-clause-pass
+returns-in-Err-clause-pass g c = c.tell.ensures.pass
+
+pub returns-in-Err-clause-setting : goal.returns-in-Err-clause-setting
+returns-in-Err-clause-setting g c = c.tell.ensures.setting
+
+pub returns-in-Err-clause-seen : goal.returns-in-Err-clause-seen
+returns-in-Err-clause-seen g c = c.tell.ensures.seen
+
+pub returns-in-Err-clause-goes : goal.returns-in-Err-clause-goes
+returns-in-Err-clause-goes g c = turn_told _ c.told_as.result (told_ok c.in-Err.denied false c.told_as.result c.told_as.ensures (λ b. b ≡ false) (λ x is soft. refl)) (same_goes _ _ _ c.in-Err.ensures.rests)
+
+pub returns-in-Err-clause-stage : goal.returns-in-Err-clause-stage
+returns-in-Err-clause-stage g c = refl
+
+pub returns-in-Err-clause-same : goal.returns-in-Err-clause-same
+returns-in-Err-clause-same g c = told_ok c.in-Err.denied false c.told_as.result c.told_as.ensures _ (λ x is soft _. refl)
+
+pub returns-in-Err-clause-not_ready : goal.returns-in-Err-clause-not_ready
+returns-in-Err-clause-not_ready g c =
+    let made = g.T.Turns.setting c.args.turns.now in
+    let seen = g.T.Turns.seen c.tell.new.turns in
+    let event = Event.Handed c.self.inside.conn in
+    rw (← c.self.view_is)
+    (told_ok c.in-Err.denied false c.told_as.result c.told_as.ensures _
+    (λ x is soft _. is_not_ready (λ r. g.T.Turns.cause made r event seen) c.self.inside.conn x (expected g.T.Turns.cause g.met.T.CoreTurns.refusals_mean made event seen c.in-Err.denied c.in-Err.ensures.cause x is soft)))
+
+pub returns-in-Err-clause-err : goal.returns-in-Err-clause-err
+returns-in-Err-clause-err g c = told_turn c.in-Err.denied false c.told_as.result c.told_as.ensures _ refl
+
+pub returns-in-Err-clause-number : goal.returns-in-Err-clause-number
+returns-in-Err-clause-number g c =
+    told_number c.in-Err.denied false c.told_as.result c.told_as.ensures (g.T.Turns.cause (g.T.Turns.setting c.args.turns.now)) (Event.Handed c.self.inside.conn) (g.T.Turns.seen c.tell.new.turns) c.in-Err.ensures.cause

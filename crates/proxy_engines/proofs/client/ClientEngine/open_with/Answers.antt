@@ -3,6 +3,7 @@ use Rattle.std.proofs.Common.{◌∙◌, ap}
 use Rattle.resp_core.specs.Standing.{ReaderState}
 use Rattle.proxy_engines.specs.Client.{waiting_requests}
 use Rattle.proxy_engines.proofs.InboxLemmas.{with-behind}
+use Rattle.proxy_engines.proofs.NumberLemmas.{is_numbered}
 use Rattle.proxy_engines.proofs.client.ClientEngine.open_with.Goals as goal
 
 pub returns-in-Ok-clause-carries : goal.returns-in-Ok-clause-carries
@@ -10,3 +11,10 @@ returns-in-Ok-clause-carries g c = λ b rest. rw (c.in-Ok.ensures.answered, c.wi
     (opened_carries c.in-Ok.conn (g.T.Turns.pass c.args.turns.now) c.with-inbox.result.0 _ c.args.rest.next _ b c.in-Ok.ensures.new c.new.ensures.pending
     (ap (λ (z : ReaderState). z.most) c.with-inbox.ensures.values ∙ rest.most_is)
     (with-behind c.with-inbox.result.0 c.args.rest b (waiting_requests c.args.rest.next) c.with-inbox.ensures.fresh c.with-inbox.ensures.values rest.holds))
+
+pub returns-in-Ok-clause-number : goal.returns-in-Ok-clause-number
+returns-in-Ok-clause-number g c = tt
+
+pub returns-in-Err-clause-number : goal.returns-in-Err-clause-number
+returns-in-Err-clause-number g c =
+    is_numbered g.T.Turns.cause g.met.T.CoreTurns.refusals_mean (g.T.Turns.setting c.args.turns.now) _ (g.T.Turns.seen c.open.new.turns) c.in-Err.denied c.in-Err.ensures.cause c.error.result c.error.ensures (λ x none. none)

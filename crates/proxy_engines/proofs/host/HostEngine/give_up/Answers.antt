@@ -8,3 +8,6 @@ returns-clause-setting g c = c.record_fault.ensures.setting
 
 pub returns-clause-seen : goal.returns-clause-seen
 returns-clause-seen g c = c.record_fault.ensures.seen
+
+pub returns-clause-number : goal.returns-clause-number
+returns-clause-number g c = c.record_fault.ensures.number

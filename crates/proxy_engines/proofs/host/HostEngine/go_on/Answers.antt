@@ -36,3 +36,9 @@ returns-else-is_some-clause-in_time g c = c.go_on_alone.ensures.in_time
 
 pub returns-then-is_some-clause-works : goal.returns-then-is_some-clause-works
 returns-then-is_some-clause-works g c = c.go_on_link.ensures.works
+
+pub returns-then-is_some-clause-number : goal.returns-then-is_some-clause-number
+returns-then-is_some-clause-number g c = c.go_on_link.ensures.number
+
+pub returns-else-is_some-clause-number : goal.returns-else-is_some-clause-number
+returns-else-is_some-clause-number g c = c.go_on_alone.ensures.number

@@ -11,6 +11,7 @@ use Rattle.proxy_engines.specs.Faults.{IsLate}
 use Rattle.proxy_history.specs.declared.event.Kind.{Kind}
 use Rattle.proxy_engines.proofs.HostMoves.{some_told, starts_then}
 use Rattle.proxy_engines.proofs.HostLemmas.{empty_is, works_told, works_on, told_needs_alone, told_recorded, told_in_time, told_moved, told_link}
+use Rattle.proxy_engines.proofs.NumberLemmas.{numbered_cut}
 use Rattle.proxy_engines.proofs.host.HostEngine.go_on_alone.Goals as goal
 use Rattle.proxy_engines.proofs.host.HostEngine.go_on_alone.Goals.{then-taken, else-taken}
 
@@ -113,7 +114,23 @@ returns-in_err-taken-clause-works g c =
     let (_, result_is, error_is) = err_from_is_err_and c.from_residual.result c.from_residual.ensures.1 in
     let went = c.in_err-taken.ensures.goes in
     rw (result_is, error_is)
-    (on_alone _ _ c.take_one.new.self _ _ c.args.moment went.0 _ c.take_one.ensures.link went.1 c.in_err-taken.ensures.plain (c.take_one.ensures.fault ∙ c.requires.no_fault))
+    (on_alone _ _ c.take_one.new.self _ _ c.args.moment went.0 _ c.take_one.ensures.link went.1 c.in_err-taken.ensures.plain.0 (c.take_one.ensures.fault ∙ c.requires.no_fault))
 
 pub returns-then-not-is_empty-clause-idle : goal.returns-then-not-is_empty-clause-idle
 returns-then-not-is_empty-clause-idle g c = λ idle. absurd cc
+
+pub returns-in_err-taken-clause-number : goal.returns-in_err-taken-clause-number
+returns-in_err-taken-clause-number g c = let (_, result_is, error_is) = err_from_is_err_and c.from_residual.result c.from_residual.ensures.1 in rw (result_is, error_is) c.in_err-taken.ensures.plain.1
+
+pub returns-then-is_late-clause-number : goal.returns-then-is_late-clause-number
+returns-then-is_late-clause-number g c = numbered_cut _ _ c.tell_fault.result tt (rw c.take_one.ensures.setting at c.tell_fault.ensures.number)
+
+pub returns-then-not-is_empty-clause-number : goal.returns-then-not-is_empty-clause-number
+returns-then-not-is_empty-clause-number g c = tt
+
+pub returns-clause-number : goal.returns-clause-number
+returns-clause-number g c =
+    elim c.if-taken.branch [
+      | then-taken w ↦ rw w.result-is tt
+      | else-taken w ↦ rw w.result-is tt
+    ]

@@ -5,6 +5,8 @@ use Rattle.proxy_engines.specs.Faults.{told_by_moves}
 use Rattle.proxy_engines.specs.HostStep.{HostState}
 use Rattle.proxy_engines.proofs.HostMoves.{some_told, starts_then}
 use Rattle.proxy_engines.proofs.HostLemmas.{works_on, unasked_here, works_told, told_needs, told_all, told_recorded, told_in_time, told_moved}
+use Rattle.proxy_engines.proofs.FaultLemmas.{cause_numbered}
+use Rattle.proxy_engines.proofs.NumberLemmas.{numbered_cut}
 use Rattle.proxy_engines.proofs.host.HostEngine.go_on_link.Goals as goal
 
 pub returns-in_err-attend-clause-works : goal.returns-in_err-attend-clause-works
@@ -12,7 +14,7 @@ returns-in_err-attend-clause-works g c =
     let (_, result_is, error_is) = err_from_is_err_and c.from_residual.result c.from_residual.ensures.1 in
     let went = c.in_err-attend.ensures.goes in
     rw (result_is, error_is, ← c.self.view_is, c.in-Some.is)
-    (works_on _ _ _ _ _ _ c.args.moment went.0 _ went.1 c.in_err-attend.ensures.plain (rw (← c.self.view_is) at c.requires.no_fault))
+    (works_on _ _ _ _ _ _ c.args.moment went.0 _ went.1 c.in_err-attend.ensures.plain.0 (rw (← c.self.view_is) at c.requires.no_fault))
 
 pub returns-in-Still-clause-works : goal.returns-in-Still-clause-works
 returns-in-Still-clause-works g c =
@@ -127,3 +129,17 @@ returns-in-Moved-clause-all g c = c.in_ok-attend.ensures.all (rw c.in-Moved.is r
 
 pub returns-in-Moved-clause-idle : goal.returns-in-Moved-clause-idle
 returns-in-Moved-clause-idle g c = λ idle. absurd cc
+
+pub returns-in_err-attend-clause-number : goal.returns-in_err-attend-clause-number
+returns-in_err-attend-clause-number g c = let (_, result_is, error_is) = err_from_is_err_and c.from_residual.result c.from_residual.ensures.1 in rw (result_is, error_is) c.in_err-attend.ensures.plain.1
+
+pub returns-in-Still-clause-number : goal.returns-in-Still-clause-number
+returns-in-Still-clause-number g c = tt
+
+pub returns-in-Moved-clause-number : goal.returns-in-Moved-clause-number
+returns-in-Moved-clause-number g c = tt
+
+pub returns-in-Fault-clause-number : goal.returns-in-Fault-clause-number
+returns-in-Fault-clause-number g c =
+    let cause = rw c.in-Fault.is at c.in_ok-attend.ensures.fault in
+    numbered_cut _ _ c.tell_fault.result (cause_numbered (g.T.Turns.cause (g.T.Turns.setting c.args.turns.now)) (g.T.Turns.seen c.tell_fault.new.turns) c.tell_fault.new.self.line _ c.in-Fault.kind c.in-Fault.error _ _ _ _ cause) (rw c.attend.ensures.setting at c.tell_fault.ensures.number)

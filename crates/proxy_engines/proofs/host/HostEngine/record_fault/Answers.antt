@@ -30,3 +30,9 @@ returns-in_err-fail-clause-fails g c = IfOk-from_err c.from_residual.result _ c.
 
 pub returns-in_err-fail-clause-err : goal.returns-in_err-fail-clause-err
 returns-in_err-fail-clause-err g c = let (_, result_is, error_is) = err_from_is_err_and c.from_residual.result c.from_residual.ensures.1 in rw (result_is, error_is) c.in_err-fail.ensures.err
+
+pub returns-clause-number : goal.returns-clause-number
+returns-clause-number g c = tt
+
+pub returns-in_err-fail-clause-number : goal.returns-in_err-fail-clause-number
+returns-in_err-fail-clause-number g c = let (_, result_is, error_is) = err_from_is_err_and c.from_residual.result c.from_residual.ensures.1 in rw (result_is, error_is) c.in_err-fail.ensures.number

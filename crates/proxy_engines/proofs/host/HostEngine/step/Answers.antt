@@ -1,13 +1,22 @@
 use Rattle.proxy_engines.specs.declared.error.EngineError.{EngineError}
 use Rattle.proxy_engines.specs.declared.client.Progress.{Progress}
-use Rattle.std.specs.Prelude.{Result, Err, IfOk}
+use Rattle.std.specs.Prelude.{Result, Err, IfOk, IfErr}
 use Rattle.std.proofs.Common.{◌∙◌, Ok, sym, ap, inl, ◌≡◌, ◌↔◌}
-use Rattle.std.proofs.lemmas.Result.{IfOk-from_err}
+use Rattle.std.proofs.lemmas.Result.{IfOk-from_err, err_from_is_err_and}
 use Rattle.proxy_history.specs.declared.refusal.Refusal.{Refusal}
 use Rattle.proxy_engines.specs.HostStep.{HostState, after_fault}
 use Rattle.proxy_engines.proofs.HostLemmas.{steps_after}
 use Rattle.proxy_engines.proofs.HostMoves.{starts_then}
 use Rattle.proxy_engines.proofs.host.HostEngine.step.Goals as goal
+
+-- an error stays behind an earlier fault
+after_err : (P : EngineError → Type 0) (r : Result Progress EngineError) → IfErr r P → IfErr (after_fault r) P
+after_err P (Ok Progress.NeedsLink) h = tt
+after_err P (Ok Progress.Moved) h = tt
+after_err P (Ok Progress.Idle) h = tt
+after_err P (Ok Progress.Cut) h = tt
+after_err P (Ok Progress.Ended) h = tt
+after_err P (Err e) h = h
 
 -- what the answer comes to behind an earlier fault
 module _ (A : Type 0) where
@@ -107,3 +116,12 @@ returns-clause-in_time g c = rw c.after_fault.ensures (after_any _ c.go_on-2.res
 
 pub returns-clause-idle : goal.returns-clause-idle
 returns-clause-idle g c = rw c.after_fault.ensures (after_idle _ c.go_on-2.result)
+
+pub returns-in_default-clause-number : goal.returns-in_default-clause-number
+returns-in_default-clause-number g c = c.go_on.ensures.number
+
+pub returns-in_err-record_fault-clause-number : goal.returns-in_err-record_fault-clause-number
+returns-in_err-record_fault-clause-number g c = let (_, result_is, error_is) = err_from_is_err_and c.from_residual.result c.from_residual.ensures.1 in rw (result_is, error_is) c.in_err-record_fault.ensures.number
+
+pub returns-clause-number : goal.returns-clause-number
+returns-clause-number g c = rw c.after_fault.ensures (after_err _ c.go_on-2.result (rw c.record_fault.ensures.setting at c.go_on-2.ensures.number))

@@ -1,4 +1,6 @@
-use Rattle.std.proofs.Common.{refl}
+use Rattle.std.proofs.Common.{◌∙◌, ap, refl, sym, inl, inr}
+use Rattle.proxy_engines.specs.Host.{LineState}
+use Rattle.proxy_engines.proofs.NumberLemmas.{is_numbered}
 use Rattle.proxy_engines.proofs.HostMoves.{fault_records}
 use Rattle.proxy_engines.proofs.line.Line.fail.Goals as goal
 
@@ -39,3 +41,13 @@ returns-in-Err-clause-same g c = (refl, c.in-Err.ensures.rests)
 
 pub returns-in-Err-clause-err : goal.returns-in-Err-clause-err
 returns-in-Err-clause-err g c = (_, c.error.ensures)
+
+pub returns-then-self-clause-number : goal.returns-then-self-clause-number
+returns-then-self-clause-number g c = inr (ap (λ (l : LineState). l.is_astray) (sym c.self.view_is) ∙ c.if-self.true, refl)
+
+pub returns-in-Ok-clause-number : goal.returns-in-Ok-clause-number
+returns-in-Ok-clause-number g c = tt
+
+pub returns-in-Err-clause-number : goal.returns-in-Err-clause-number
+returns-in-Err-clause-number g c =
+    inl (is_numbered g.T.Turns.cause g.met.T.CoreTurns.refusals_mean (g.T.Turns.setting c.args.turns.now) _ (g.T.Turns.seen c.tell.new.turns) c.in-Err.denied c.in-Err.ensures.cause c.error.result c.error.ensures (λ x none. none))

@@ -1,4 +1,9 @@
-use Rattle.std.proofs.Common.{refl, true, false}
+use Rattle.std.proofs.Common.{◌≡◌, ◌∙◌, ap, refl, sym, true, false, inl, inr}
+use Rattle.proxy_history.specs.declared.event.Event.{Event}
+use Rattle.proxy_engines.specs.Host.{LineState}
+use Rattle.proxy_engines.proofs.AnswerLemmas.{if_err}
+use Rattle.proxy_engines.proofs.MoveLemmas.{turn_told}
+use Rattle.proxy_engines.proofs.NumberLemmas.{expected, is_nothing_waiting, told_ok, told_plain}
 use Rattle.proxy_engines.proofs.HostMoves.{stays_on, taken_on, taken_astray, starts_same}
 use Rattle.proxy_engines.proofs.line.Line.take.Goals as goal
 
@@ -19,11 +24,9 @@ returns-else-epoch-self-clause-goes g c = λ k.
     rw (c.push_back_reserved.ensures.items, c.reserve.ensures.items, adds.steps, ← c.self.view_is)
     (taken_on _ (g.T.Turns.pass c.args.turns.now) _ c.in-Ok-Sent.epoch _ c.args.moment c.in-Ok-Sent.text (rw (← c.self.view_is) at c.requires.nothing) c.if-self.false k c.if-epoch-self.false)
 
-pub returns-in-Err-By-NothingWaiting-clause-goes : goal.returns-in-Err-By-NothingWaiting-clause-goes
-returns-in-Err-By-NothingWaiting-clause-goes g c = λ k. rw (c.reserve.ensures.items, ← c.self.view_is) (stays_on _ k _ _ c.args.moment c.in-Err-By-NothingWaiting.ensures.rests)
-
 pub returns-in-Err-clause-goes : goal.returns-in-Err-clause-goes
-returns-in-Err-clause-goes g c = λ k. (false, rw (c.reserve.ensures.items, ← c.self.view_is) (stays_on _ k _ _ c.args.moment c.in-Err.ensures.rests))
+returns-in-Err-clause-goes g c = λ k.
+    turn_told _ c.told_as.result (told_ok c.in-Err.denied false c.told_as.result c.told_as.ensures (λ b. b ≡ false) (λ x is soft. refl)) (rw (c.reserve.ensures.items, ← c.self.view_is) (stays_on _ k _ _ c.args.moment c.in-Err.ensures.rests))
 
 pub returns-then-self-clause-goes : goal.returns-then-self-clause-goes
 returns-then-self-clause-goes g c = λ k. (false, stays_on _ k _ _ c.args.moment refl)
@@ -80,7 +83,7 @@ pub returns-then-self-clause-nothing_waits : goal.returns-then-self-clause-nothi
 returns-then-self-clause-nothing_waits g c = tt
 
 pub returns-then-self-clause-plain : goal.returns-then-self-clause-plain
-returns-then-self-clause-plain g c = tt
+returns-then-self-clause-plain g c = (tt, inr (ap (λ (l : LineState). l.is_astray) (sym c.self.view_is) ∙ c.if-self.true, refl))
 
 pub returns-then-is_err-clause-none : goal.returns-then-is_err-clause-none
 returns-then-is_err-clause-none g c = tt
@@ -89,7 +92,7 @@ pub returns-then-is_err-clause-nothing_waits : goal.returns-then-is_err-clause-n
 returns-then-is_err-clause-nothing_waits g c = tt
 
 pub returns-then-is_err-clause-plain : goal.returns-then-is_err-clause-plain
-returns-then-is_err-clause-plain g c = tt
+returns-then-is_err-clause-plain g c = (tt, inl tt)
 
 pub returns-then-epoch-self-clause-none : goal.returns-then-epoch-self-clause-none
 returns-then-epoch-self-clause-none g c = tt
@@ -98,7 +101,7 @@ pub returns-then-epoch-self-clause-nothing_waits : goal.returns-then-epoch-self-
 returns-then-epoch-self-clause-nothing_waits g c = tt
 
 pub returns-then-epoch-self-clause-plain : goal.returns-then-epoch-self-clause-plain
-returns-then-epoch-self-clause-plain g c = tt
+returns-then-epoch-self-clause-plain g c = (tt, inr (refl, refl))
 
 pub returns-else-epoch-self-clause-none : goal.returns-else-epoch-self-clause-none
 returns-else-epoch-self-clause-none g c = λ none. absurd cc
@@ -110,25 +113,18 @@ pub returns-else-epoch-self-clause-plain : goal.returns-else-epoch-self-clause-p
 returns-else-epoch-self-clause-plain g c = tt
 
 pub returns-in-Err-clause-none : goal.returns-in-Err-clause-none
-returns-in-Err-clause-none g c = tt
+returns-in-Err-clause-none g c = told_ok c.in-Err.denied false c.told_as.result c.told_as.ensures _ (λ x is soft _. rw c.reserve.ensures.items c.self.view_is)
 
 pub returns-in-Err-clause-nothing_waits : goal.returns-in-Err-clause-nothing_waits
-returns-in-Err-clause-nothing_waits g c = tt
+returns-in-Err-clause-nothing_waits g c =
+    let made = g.T.Turns.setting c.args.turns.now in
+    let seen = g.T.Turns.seen c.tell.new.turns in
+    let event = Event.Taken c.self.inside.host in
+    rw (← c.self.view_is)
+    (told_ok c.in-Err.denied false c.told_as.result c.told_as.ensures _
+    (λ x is soft _. is_nothing_waiting (λ r. g.T.Turns.cause made r event seen) c.self.inside.host x (expected g.T.Turns.cause g.met.T.CoreTurns.refusals_mean made event seen c.in-Err.denied c.in-Err.ensures.cause x is soft)))
 
 pub returns-in-Err-clause-plain : goal.returns-in-Err-clause-plain
-returns-in-Err-clause-plain g c = rw c.error.ensures tt
-
-pub returns-in-Err-By-NothingWaiting-clause-pass : goal.returns-in-Err-By-NothingWaiting-clause-pass
-returns-in-Err-By-NothingWaiting-clause-pass g c = c.tell.ensures.pass
-
-pub returns-in-Err-By-NothingWaiting-clause-setting : goal.returns-in-Err-By-NothingWaiting-clause-setting
-returns-in-Err-By-NothingWaiting-clause-setting g c = c.tell.ensures.setting
-
-pub returns-in-Err-By-NothingWaiting-clause-seen : goal.returns-in-Err-By-NothingWaiting-clause-seen
-returns-in-Err-By-NothingWaiting-clause-seen g c = c.tell.ensures.seen
-
-pub returns-in-Err-By-NothingWaiting-clause-none : goal.returns-in-Err-By-NothingWaiting-clause-none
-returns-in-Err-By-NothingWaiting-clause-none g c = λ _. rw c.reserve.ensures.items c.self.view_is
-
-pub returns-in-Err-By-NothingWaiting-clause-plain : goal.returns-in-Err-By-NothingWaiting-clause-plain
-returns-in-Err-By-NothingWaiting-clause-plain g c = tt
+returns-in-Err-clause-plain g c =
+    if_err _ _ c.told_as.result (λ e (plain, number). (plain, inl number))
+    (told_plain c.in-Err.denied false c.told_as.result c.told_as.ensures (g.T.Turns.cause (g.T.Turns.setting c.args.turns.now)) (Event.Taken c.self.inside.host) (g.T.Turns.seen c.tell.new.turns) c.in-Err.ensures.cause)

@@ -101,7 +101,10 @@ pub returns-in_err-fault-clause-fault : goal.returns-in_err-fault-clause-fault
 returns-in_err-fault-clause-fault g c = IfOk-from_err c.from_residual.result _ c.from_residual.ensures.0
 
 pub returns-in_err-fault-clause-plain : goal.returns-in_err-fault-clause-plain
-returns-in_err-fault-clause-plain g c = let (_, result_is, error_is) = err_from_is_err_and c.from_residual.result c.from_residual.ensures.1 in rw (result_is, error_is) c.in_err-fault.ensures.plain
+returns-in_err-fault-clause-plain g c =
+    let (_, _, _, _, _, _, setting, _) = c.loop.invariant in
+    let (_, result_is, error_is) = err_from_is_err_and c.from_residual.result c.from_residual.ensures.1 in
+    rw (result_is, error_is) (rw setting at c.in_err-fault.ensures.plain)
 
 pub returns-in_err-fault-clause-err : goal.returns-in_err-fault-clause-err
 returns-in_err-fault-clause-err g c = any_err _ c.from_residual.result c.in_err-fault.ensures.err

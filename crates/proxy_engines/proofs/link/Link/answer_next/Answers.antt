@@ -83,7 +83,7 @@ pub returns-in_err-seek-clause-err : goal.returns-in_err-seek-clause-err
 returns-in_err-seek-clause-err g c = any_err _ c.from_residual.result c.in_err-seek.ensures.err
 
 pub returns-in_err-seek-clause-plain : goal.returns-in_err-seek-clause-plain
-returns-in_err-seek-clause-plain g c = let (_, result_is, error_is) = err_from_is_err_and c.from_residual.result c.from_residual.ensures.1 in rw (result_is, error_is) c.in_err-seek.ensures.plain
+returns-in_err-seek-clause-plain g c = let (_, result_is, error_is) = err_from_is_err_and c.from_residual.result c.from_residual.ensures.1 in rw (result_is, error_is, c.in_err-seek.ensures.plain) (tt, inl tt)
 
 pub returns-in-Nothing-clause-goes : goal.returns-in-Nothing-clause-goes
 returns-in-Nothing-clause-goes g c = c.seek.ensures.goes _ _ _

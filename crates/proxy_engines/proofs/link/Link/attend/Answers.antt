@@ -164,7 +164,7 @@ pub returns-in_err-received-clause-in_time : goal.returns-in_err-received-clause
 returns-in_err-received-clause-in_time g c = IfOk-from_err c.from_residual-in_err-received.result _ c.from_residual-in_err-received.ensures.0
 
 pub returns-in_err-received-clause-plain : goal.returns-in_err-received-clause-plain
-returns-in_err-received-clause-plain g c = let (_, result_is, error_is) = err_from_is_err_and c.from_residual-in_err-received.result c.from_residual-in_err-received.ensures.1 in rw (result_is, error_is) c.in_err-received.ensures.plain
+returns-in_err-received-clause-plain g c = let (_, result_is, error_is) = err_from_is_err_and c.from_residual-in_err-received.result c.from_residual-in_err-received.ensures.1 in rw (result_is, error_is) (rw c.send.ensures.setting at c.in_err-received.ensures.plain)
 
 pub returns-in_err-received-clause-err : goal.returns-in_err-received-clause-err
 returns-in_err-received-clause-err g c = any_err _ c.from_residual-in_err-received.result c.in_err-received.ensures.err

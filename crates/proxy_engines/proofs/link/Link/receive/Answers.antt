@@ -173,7 +173,7 @@ pub returns-in_err-after-clause-writes : goal.returns-in_err-after-clause-writes
 returns-in_err-after-clause-writes g c = c.answer_all-2.ensures.writes ∙ c.listen-heard.ensures.counts ∙ c.answer_all.ensures.writes
 
 pub returns-in_err-after-clause-plain : goal.returns-in_err-after-clause-plain
-returns-in_err-after-clause-plain g c = let (_, result_is, error_is) = err_from_is_err_and c.from_residual-in_err-after.result c.from_residual-in_err-after.ensures.1 in rw (result_is, error_is) c.in_err-after.ensures.plain
+returns-in_err-after-clause-plain g c = let (_, result_is, error_is) = err_from_is_err_and c.from_residual-in_err-after.result c.from_residual-in_err-after.ensures.1 in rw (result_is, error_is) (rw c.answer_all.ensures.setting at c.in_err-after.ensures.plain)
 
 pub returns-in_err-after-clause-err : goal.returns-in_err-after-clause-err
 returns-in_err-after-clause-err g c = any_err _ c.from_residual-in_err-after.result c.in_err-after.ensures.err

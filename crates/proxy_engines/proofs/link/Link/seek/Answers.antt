@@ -129,7 +129,7 @@ pub returns-in-Err-clause-err : goal.returns-in-Err-clause-err
 returns-in-Err-clause-err g c = c.in-Err.ensures.still
 
 pub returns-in-Err-clause-plain : goal.returns-in-Err-clause-plain
-returns-in-Err-clause-plain g c = tt
+returns-in-Err-clause-plain g c = refl
 
 pub returns-in-Err-clause-counts : goal.returns-in-Err-clause-counts
 returns-in-Err-clause-counts g c = (c.next_request.ensures.counts ∙ ap (λ (k : LinkState). k.inbox.counts) c.self.view_is, ap (λ (k : LinkState). k.counts) c.self.view_is)
