@@ -1,11 +1,12 @@
 -- Why a link broke, over several moves.
-use Rattle.std.proofs.Common.{◌≡◌, ◌⊎◌, ◌∙◌, ◌≤◌, ◌-◌, ◌≢◌, arith, ℕ, Bool, true, false, List, [], ◌∷◌, Option, Some, None, inl, inr, refl, sym, ap}
+use Rattle.std.proofs.Common.{◌≡◌, ◌⊎◌, ◌∙◌, ◌≤◌, ◌-◌, ◌≢◌, ℕ, Bool, true, false, List, [], ◌∷◌, Option, Some, None, inl, inr, refl, sym, ap}
 use Rattle.std.specs.Prelude.{◌↔◌, IfErr}
 use Rattle.proxy_history.specs.History.{Step}
 use Rattle.proxy_history.specs.declared.event.Kind.{Kind}
 use Rattle.proxy_history.specs.declared.refusal.Refusal.{Refusal}
+use Rattle.proxy_engines.specs.Ends.{InboxState, KeepsReader}
 use Rattle.proxy_engines.specs.Host.{LineState, LinkState, next_link}
-use Rattle.proxy_engines.specs.Faults.{IsCauseOf, IsLate, IsNumberedOn, IfFault, is_fault, either}
+use Rattle.proxy_engines.specs.Faults.{HasRead, IsCauseOf, IsLate, IsNumberedOn, IfFault, is_fault, either}
 use Rattle.proxy_engines.specs.HostStep.{answer_of}
 use Rattle.ticket_gate.specs.Journal.{StartsWith}
 use Rattle.proxy_history.specs.declared.event.Event.{Event}
@@ -13,51 +14,44 @@ use Rattle.proxy_engines.specs.Turned.{HasHeld}
 use Rattle.proxy_engines.specs.declared.error.EngineError.{EngineError}
 use Rattle.proxy_engines.specs.declared.link.Outcome.{Outcome}
 
-module _ (l l' : LineState) (i j k : LinkState) (P Q : Type 0) (m : ℕ) (inbox : j.inbox.counts.failed ≡ i.inbox.counts.failed) (writer : j.counts.failed ≡ i.counts.failed) (line : l ≡ l') (more : P → Q) where
-  pub cause_later : (kind : Kind) (error : Option EngineError) → IsCauseOf kind error l j k P m → IsCauseOf kind error l' i k Q m
+module _ (i j k : LinkState) (P Q L M : Type 0) (inbox : j.inbox.counts.failed ≡ i.inbox.counts.failed) (writer : j.counts.failed ≡ i.counts.failed) (more : P → Q) (later : L → M) where
+  pub cause_later : (kind : Kind) (error : Option EngineError) → IsCauseOf kind error j k P L → IsCauseOf kind error i k Q M
   cause_later Kind.Dropped None b = b
   cause_later Kind.Dropped (Some EngineError.ReadFailed) b = rw (← inbox) b
   cause_later Kind.Dropped (Some EngineError.WriteFailed) b = rw (← writer) b
   cause_later Kind.Garbled None (inl b) = inl b
   cause_later Kind.Garbled None (inr b) = inr (more b)
-  cause_later Kind.Late None b = rw (← line) b
+  cause_later Kind.Late None b = later b
   cause_later Kind.Refused e b = absurd b
   cause_later Kind.Dropped (Some EngineError.NoMemory) b = absurd b
   cause_later Kind.Dropped (Some (EngineError.TurnRefused n)) b = absurd b
   cause_later Kind.Garbled (Some e) b = absurd b
   cause_later Kind.Late (Some e) b = absurd b
 
-  pub fault_later : (o : Outcome) → IfFault o (λ kind error. IsCauseOf kind error l j k P m) → IfFault o (λ kind error. IsCauseOf kind error l' i k Q m)
+  pub fault_later : (o : Outcome) → IfFault o (λ kind error. IsCauseOf kind error j k P L) → IfFault o (λ kind error. IsCauseOf kind error i k Q M)
   fault_later (Outcome.Fault kind error) b = cause_later kind error b
   fault_later Outcome.Moved b = tt
   fault_later Outcome.Still b = tt
 
--- the error of a fault tells of no turn
-pub cause_numbered : (cause : Refusal → Event → List Step → Type 0) (seen : List Step) (on l : LineState) (kind : Kind) (error : Option EngineError) (j k : LinkState) (P : Type 0) (m : ℕ) → IsCauseOf kind error l j k P m → IfErr (answer_of error) (IsNumberedOn cause seen on)
-cause_numbered cause seen on l kind None j k P m b = tt
-cause_numbered cause seen on l kind (Some EngineError.NoMemory) j k P m b = inl tt
-cause_numbered cause seen on l kind (Some EngineError.ReadFailed) j k P m b = inl tt
-cause_numbered cause seen on l kind (Some EngineError.WriteFailed) j k P m b = inl tt
-cause_numbered cause seen on l Kind.Dropped (Some (EngineError.TurnRefused n)) j k P m b = absurd b
-cause_numbered cause seen on l Kind.Garbled (Some (EngineError.TurnRefused n)) j k P m b = absurd b
-cause_numbered cause seen on l Kind.Late (Some (EngineError.TurnRefused n)) j k P m b = absurd b
-cause_numbered cause seen on l Kind.Refused (Some (EngineError.TurnRefused n)) j k P m b = absurd b
-
 -- a fault of a move that only writes
-pub write_fault : (l : LineState) (j k : LinkState) (P : Type 0) (m : ℕ) (o : Outcome) → IfFault o (λ kind error. IsCauseOf kind error l j k ⊥ 0) → IfFault o (λ kind error. IsCauseOf kind error l j k P m)
-write_fault l j k P m Outcome.Moved b = tt
-write_fault l j k P m Outcome.Still b = tt
-write_fault l j k P m (Outcome.Fault Kind.Dropped None) b = b
-write_fault l j k P m (Outcome.Fault Kind.Dropped (Some EngineError.ReadFailed)) b = b
-write_fault l j k P m (Outcome.Fault Kind.Dropped (Some EngineError.WriteFailed)) b = b
-write_fault l j k P m (Outcome.Fault Kind.Garbled None) (inl b) = inl b
-write_fault l j k P m (Outcome.Fault Kind.Garbled None) (inr b) = absurd b
-write_fault l j k P m (Outcome.Fault Kind.Late None) (first, rest, is, waited) = (first, rest, is, omega (arith, waited))
-write_fault l j k P m (Outcome.Fault Kind.Refused e) b = absurd b
-write_fault l j k P m (Outcome.Fault Kind.Dropped (Some EngineError.NoMemory)) b = absurd b
-write_fault l j k P m (Outcome.Fault Kind.Dropped (Some (EngineError.TurnRefused n))) b = absurd b
-write_fault l j k P m (Outcome.Fault Kind.Garbled (Some e)) b = absurd b
-write_fault l j k P m (Outcome.Fault Kind.Late (Some e)) b = absurd b
+pub write_fault : (j k : LinkState) (P L : Type 0) (o : Outcome) → IfFault o (λ kind error. IsCauseOf kind error j k ⊥ ⊥) → IfFault o (λ kind error. IsCauseOf kind error j k P L)
+write_fault j k P L o b = fault_later j j k ⊥ P ⊥ L refl refl (λ x. absurd x) (λ x. absurd x) o b
+
+-- a read, and moves before and after it that make none
+pub read_kept : (i j k l : InboxState) → KeepsReader i j → KeepsReader k l → HasRead j k → HasRead i l
+read_kept i j k l (left, counts) (left', counts') (inl (got, some, took)) = inl (got, some, rw (left', ← left) took)
+read_kept i j k l (left, counts) (left', counts') (inr paused) = inr (rw (counts', ← counts) paused)
+
+-- the error of a fault tells of no turn
+pub cause_numbered : (cause : Refusal → Event → List Step → Type 0) (seen : List Step) (on : LineState) (kind : Kind) (error : Option EngineError) (j k : LinkState) (P L : Type 0) → IsCauseOf kind error j k P L → IfErr (answer_of error) (IsNumberedOn cause seen on)
+cause_numbered cause seen on kind None j k P L b = tt
+cause_numbered cause seen on kind (Some EngineError.NoMemory) j k P L b = inl tt
+cause_numbered cause seen on kind (Some EngineError.ReadFailed) j k P L b = inl tt
+cause_numbered cause seen on kind (Some EngineError.WriteFailed) j k P L b = inl tt
+cause_numbered cause seen on Kind.Dropped (Some (EngineError.TurnRefused n)) j k P L b = absurd b
+cause_numbered cause seen on Kind.Garbled (Some (EngineError.TurnRefused n)) j k P L b = absurd b
+cause_numbered cause seen on Kind.Late (Some (EngineError.TurnRefused n)) j k P L b = absurd b
+cause_numbered cause seen on Kind.Refused (Some (EngineError.TurnRefused n)) j k P L b = absurd b
 
 pub faulty_calm : (A : Type 0) (o : Outcome) → is_fault o ≡ true → is_fault o ≡ false → A
 faulty_calm A o fault calm = let e : true ≡ false = sym fault ∙ calm in absurd cc

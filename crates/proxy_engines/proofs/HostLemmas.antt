@@ -9,7 +9,7 @@ use Rattle.std.proofs.lemmas.Bool.{ne_eqb}
 use Rattle.ticket_gate.specs.Journal.{StartsWith}
 use Rattle.resp_core.specs.declared.value.Value.{Value}
 use Rattle.proxy_history.specs.declared.event.Event.{Event}
-use Rattle.proxy_engines.specs.Faults.{IsCauseOf, IsLate}
+use Rattle.proxy_engines.specs.Faults.{IsCauseOf, IsLate, IsLateOn}
 use Rattle.proxy_engines.proofs.FaultLemmas.{cause_later, not_late-anew}
 use Rattle.proxy_engines.proofs.AnswerLemmas.{if_ok, on_ok}
 use Rattle.proxy_engines.proofs.HostMoves.{starts_then}
@@ -70,8 +70,8 @@ module _ (old new : HostState) (H I : History) (kind : Kind) (m : ℕ) where
 
 -- the cause of a fault, of the lists before and after it was recorded
 pub unasked_here : (C : Event → List Step → Type 0) (x y z : List Step) (m : ℕ) → StartsWith y x → StartsWith z y → (kind : Kind) (error : Option EngineError) (l : LineState) (j k : LinkState)
-    → IsCauseOf kind error l j k ((v : Value) × (k.next ≡ Some v) × C (Event.Answered l.host l.epoch v m) y) m → IsCauseOf kind error l j k (IsUnasked C x z m l k) m
-unasked_here C x y z m later last kind error l j k cause = cause_later l l j j k _ _ m refl refl refl (λ (value, next, unasked). (value, next, (y, later, last, unasked))) kind error cause
+    → IsCauseOf kind error j k ((v : Value) × (k.next ≡ Some v) × C (Event.Answered l.host l.epoch v m) y) (IsLateOn l j k m) → IsCauseOf kind error j k (IsUnasked C x z m l k) (IsLateOn l j k m)
+unasked_here C x y z m later last kind error l j k cause = cause_later j j k _ _ _ _ refl refl (λ (value, next, unasked). (value, next, (y, later, last, unasked))) (λ late. late) kind error cause
 
 -- the causes of faults over longer lists
 module _ (C : Event → List Step → Type 0) (x y z : List Step) (m : ℕ) (later : StartsWith y x) where
@@ -80,7 +80,7 @@ module _ (C : Event → List Step → Type 0) (x y z : List Step) (m : ℕ) (lat
 
   caused_earlier : (kind : Kind) (error : Option EngineError) (l : LineState) (j k : Option LinkState) → IsCausedOn (IsUnasked C y z m) kind error l j k m → IsCausedOn (IsUnasked C x z m) kind error l j k m
   caused_earlier kind error l None None c = c
-  caused_earlier kind error l (Some j) (Some k) c = cause_later l l j j k _ _ m refl refl refl (unasked_earlier l k) kind error c
+  caused_earlier kind error l (Some j) (Some k) c = cause_later j j k _ _ _ _ refl refl (unasked_earlier l k) (λ late. late) kind error c
   caused_earlier kind error l None (Some k) c = absurd c
   caused_earlier kind error l (Some j) None c = absurd c
 

@@ -1,6 +1,6 @@
 -- What is told of a turn that was refused, and by which number.
-use Rattle.std.proofs.Common.{◌≡◌, ◌⊎◌, ◌∙◌, ℕ, Bool, true, false, List, inl, inr, refl, sym}
-use Rattle.std.specs.Prelude.{⊤, Result, IfOk, IfErr, Ok, Err, Some}
+use Rattle.std.proofs.Common.{◌≡◌, ◌⊎◌, ℕ, Bool, true, false, List, inl, inr, refl}
+use Rattle.std.specs.Prelude.{⊤, Result, IfOk, IfErr}
 use Rattle.proxy_core.specs.CoreTurns.{RefusalsMean}
 use Rattle.proxy_core.specs.Recorded.{Origin, setting_by}
 use Rattle.proxy_history.specs.Setting.{Setting}

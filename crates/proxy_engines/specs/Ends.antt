@@ -30,6 +30,10 @@ pub record InboxState : Type 0 where
   pub fresh : List ℕ
   pub values : ReaderState
 
+-- the reader is as it was: it has left what it had, and its counts are the same
+abbrev pub KeepsReader : InboxState → InboxState → Type 0
+KeepsReader old new = (new.left ≡ old.left) × (new.counts ≡ old.counts)
+
 -- a refusal of the reader of values is a request too
 abbrev pub refusal_requests : Option RespError → List Request
 refusal_requests None = []

@@ -1,11 +1,12 @@
 -- What a move of a host's engine came to, and why a link broke.
-use Rattle.std.specs.Prelude.{◌≡◌, ◌≢◌, ◌⊎◌, ◌≤◌, ◌-◌, ⊤, ℕ, Bool, true, false, List, ◌∷◌, Option, Some, None, Result, Ok, Err}
-use Rattle.std.specs.Io.KnownBytes.{IsAtEnd}
+use Rattle.std.specs.Prelude.{◌≡◌, ◌≢◌, ◌⊎◌, ◌≤◌, ◌-◌, ⊤, ℕ, Bool, true, false, List, [], ◌∷◌, Option, Some, None, Result, Ok, Err}
+use Rattle.std.specs.Io.KnownBytes.{Consumes, IsAtEnd}
 use Rattle.proxy_history.specs.History.{Step}
 use Rattle.proxy_history.specs.declared.event.Event.{Event}
 use Rattle.proxy_history.specs.declared.event.Kind.{Kind}
 use Rattle.proxy_history.specs.declared.refusal.Refusal.{Refusal}
 use Rattle.proxy_engines.specs.Device.{HasRisen}
+use Rattle.proxy_engines.specs.Ends.{InboxState, HasGivenAll}
 use Rattle.proxy_engines.specs.Host.{LineState, LinkState}
 use Rattle.proxy_engines.specs.Turned.{IsNumbered}
 use Rattle.proxy_engines.specs.declared.error.EngineError.{EngineError}
@@ -59,12 +60,24 @@ IfFault Outcome.Still P = ⊤
 abbrev pub IsLate : LineState → ℕ → Type 0
 IsLate l m = (first : ℕ) × (rest : List ℕ) × (l.moments ≡ first ∷ rest) × (l.reply_ms ≤ m - first)
 
--- Why a link broke, and the error that tells it: the input ended; a device failed; a byte was refused, or a value came that
--- nobody asked for; or a reply is late.
-abbrev pub IsCauseOf : Kind → Option EngineError → LineState → LinkState → LinkState → Type 0 → ℕ → Type 0
-IsCauseOf Kind.Dropped None l k k' unasked m = IsAtEnd k'.inbox.left
-IsCauseOf Kind.Dropped (Some EngineError.ReadFailed) l k k' unasked m = HasRisen k.inbox.counts.failed k'.inbox.counts.failed
-IsCauseOf Kind.Dropped (Some EngineError.WriteFailed) l k k' unasked m = HasRisen k.counts.failed k'.counts.failed
-IsCauseOf Kind.Garbled None l k k' unasked m = (k'.inbox.values.refusal ≢ None) ⊎ unasked
-IsCauseOf Kind.Late None l k k' unasked m = IsLate l m
-IsCauseOf kind error l k k' unasked m = ⊥
+-- a read was made: it brought bytes, or it paused
+abbrev pub HasRead : InboxState → InboxState → Type 0
+HasRead i i' = ((got : List ℕ) × (got ≢ []) × Consumes i.left i'.left got) ⊎ HasRisen i.counts.paused i'.counts.paused
+
+-- A reply is late on a link: the oldest part without reply was taken so long ago, though from one state of the link to the next
+-- a read was made, and each value that came was answered.
+pub record IsLateOn (l : LineState) (k k' : LinkState) (m : ℕ) : Type 0 where
+  pub late : IsLate l m
+  pub reads : HasRead k.inbox k'.inbox
+  pub none_waits : k'.next ≡ None
+  pub all : HasGivenAll k'.inbox
+
+-- Why a link broke, from one state of it to the next, and the error that tells it: the input ended; a device failed; a byte was
+-- refused, or a value came that nobody asked for; or a reply is late.
+abbrev pub IsCauseOf : Kind → Option EngineError → LinkState → LinkState → Type 0 → Type 0 → Type 0
+IsCauseOf Kind.Dropped None k k' unasked late = IsAtEnd k'.inbox.left
+IsCauseOf Kind.Dropped (Some EngineError.ReadFailed) k k' unasked late = HasRisen k.inbox.counts.failed k'.inbox.counts.failed
+IsCauseOf Kind.Dropped (Some EngineError.WriteFailed) k k' unasked late = HasRisen k.counts.failed k'.counts.failed
+IsCauseOf Kind.Garbled None k k' unasked late = (k'.inbox.values.refusal ≢ None) ⊎ unasked
+IsCauseOf Kind.Late None k k' unasked late = late
+IsCauseOf kind error k k' unasked late = ⊥

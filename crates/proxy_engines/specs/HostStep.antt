@@ -7,7 +7,7 @@ use Rattle.proxy_history.specs.declared.event.Kind.{Kind}
 use Rattle.proxy_engines.specs.Device.{HasRisen}
 use Rattle.proxy_engines.specs.Host.{LineState, LinkState, GoesOn, FailsHost}
 use Rattle.proxy_engines.specs.Turned.{HasHeld}
-use Rattle.proxy_engines.specs.Faults.{IsLate, IsCauseOf, IsOfNoDevice}
+use Rattle.proxy_engines.specs.Faults.{IsLate, IsLateOn, IsCauseOf, IsOfNoDevice}
 use Rattle.proxy_engines.specs.declared.client.Progress.{Progress}
 use Rattle.proxy_engines.specs.declared.error.EngineError.{EngineError}
 
@@ -30,7 +30,7 @@ IsUnasked cause old new m l k = (v : Value) × (k.next ≡ Some v) × HasHeld ca
 -- says that a value came that nobody asked for.
 abbrev pub IsCausedOn : (LineState → LinkState → Type 0) → Kind → Option EngineError → LineState → Option LinkState → Option LinkState → ℕ → Type 0
 IsCausedOn U kind error l None None m = (kind ≡ Kind.Late) × (error ≡ None) × IsLate l m
-IsCausedOn U kind error l (Some j) (Some k) m = IsCauseOf kind error l j k (U l k) m
+IsCausedOn U kind error l (Some j) (Some k) m = IsCauseOf kind error j k (U l k) (IsLateOn l j k m)
 IsCausedOn U kind error l j k m = ⊥
 
 -- a fault is recorded

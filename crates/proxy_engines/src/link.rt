@@ -9,10 +9,10 @@ ghost use Rattle.resp_core.specs.declared.value.Value.{Value};
 ghost use Rattle.proxy_engines.specs.OwnSteps.{own_steps};
 ghost use Rattle.proxy_engines.specs.Device.{HasPaused, HasRisen};
 ghost use Rattle.proxy_engines.specs.Turned.{HasHeld};
-ghost use Rattle.proxy_engines.specs.Ends.{HasGivenAll};
+ghost use Rattle.proxy_engines.specs.Ends.{HasGivenAll, KeepsReader};
 ghost use Rattle.proxy_engines.specs.Host.{LineState, LinkState, GoesOn};
 ghost use Rattle.proxy_engines.specs.Moves.{AsTold};
-ghost use Rattle.proxy_engines.specs.Faults.{either, is_fault, IfFault, IsCauseOf, IsLate, IsPlain, told_by_moves, told_by_outcome};
+ghost use Rattle.proxy_engines.specs.Faults.{either, is_fault, HasRead, IfFault, IsCauseOf, IsLate, IsLateOn, IsPlain, told_by_moves, told_by_outcome};
 
 use crate::ask::give;
 use crate::error::EngineError;
@@ -128,7 +128,7 @@ impl<R: ReadTally, W: WriteTally> Link<R, W> {
         ensures still { result ≡ Outcome.Still → HasPaused self.old.counts self.new.counts }
         ensures writer { is_fault result ≡ false → self.new.counts.failed ≡ self.old.counts.failed }
         ensures fault { IfFault result
-            (λ kind error. IsCauseOf kind error line.new self.old self.new ⊥ 0) }
+            (λ kind error. IsCauseOf kind error self.old self.new ⊥ ⊥) }
     {
         match line.write_to(&mut self.writer) {
             Told::Moved(_) => Outcome::Moved,
@@ -152,7 +152,7 @@ impl<R: ReadTally, W: WriteTally> Link<R, W> {
         ensures garbled { IfOk result (λ f. f ≡ Found.Garbled
             → self.new.inbox.values.refusal ≢ None) }
         ensures err { OnErr result (self.new.inbox.values.refusal ≡ None) }
-        ensures counts { (self.new.inbox.counts ≡ self.old.inbox.counts)
+        ensures counts { KeepsReader self.old.inbox self.new.inbox
             × (self.new.counts ≡ self.old.counts) }
         ensures plain { IfErr result (λ e. e ≡ EngineError.NoMemory) }
     {
@@ -189,10 +189,10 @@ impl<R: ReadTally, W: WriteTally> Link<R, W> {
         ensures counts { self.new.counts ≡ self.old.counts }
         ensures moved { IfOk result (λ o. o ≢ Outcome.Still) }
         ensures fault { IfOk result (λ o. IfFault o
-            (λ kind error. IsCauseOf kind error line.new self.old self.new
+            (λ kind error. IsCauseOf kind error self.old self.new
             ((v : Value) × (self.new.next ≡ Some v)
             × T.cause (T.setting turns.old) Refusal.Unasked
-            (Event.Answered line.new.host line.new.epoch v moment) (T.seen turns.new)) moment)) }
+            (Event.Answered line.new.host line.new.epoch v moment) (T.seen turns.new)) ⊥)) }
         ensures plain { IfErr result
             (IsPlain (T.cause (T.setting turns.old)) (T.seen turns.new) line.new) }
     {
@@ -226,8 +226,9 @@ impl<R: ReadTally, W: WriteTally> Link<R, W> {
             → HasPaused self.old.inbox.counts self.new.inbox.counts }
         ensures reader { is_fault result ≡ false → self.new.inbox.counts.failed
             ≡ self.old.inbox.counts.failed }
-        ensures fault { (l : LineState) (m : ℕ)
-            → IfFault result (λ kind error. IsCauseOf kind error l self.old self.new ⊥ m) }
+        ensures reads { is_fault result ≡ false → HasRead self.old.inbox self.new.inbox }
+        ensures fault { IfFault result
+            (λ kind error. IsCauseOf kind error self.old self.new ⊥ ⊥) }
     {
         match self.inbox.read_once() {
             Told::Moved(_) => Outcome::Moved,
@@ -263,11 +264,11 @@ impl<R: ReadTally, W: WriteTally> Link<R, W> {
         ensures moved { IfOk result (λ o. o ≡ Outcome.Moved → self.new.inbox.values.refusal
             ≡ None) }
         ensures fault { IfOk result (λ o. IfFault o
-            (λ kind error. IsCauseOf kind error line.new self.old self.new
+            (λ kind error. IsCauseOf kind error self.old self.new
             ((v : Value) × (self.new.next ≡ Some v)
             × T.cause (T.setting turns.old) Refusal.Unasked
-            (Event.Answered line.new.host line.new.epoch v moment) (T.seen turns.new)) moment)) }
-        ensures reads { self.new.inbox.counts ≡ self.old.inbox.counts }
+            (Event.Answered line.new.host line.new.epoch v moment) (T.seen turns.new)) ⊥)) }
+        ensures reads { KeepsReader self.old.inbox self.new.inbox }
         ensures writes { self.new.counts ≡ self.old.counts }
         ensures err { OnErr result (self.new.inbox.values.refusal ≡ None) }
         ensures plain { IfErr result
@@ -301,11 +302,11 @@ impl<R: ReadTally, W: WriteTally> Link<R, W> {
         ensures all { IfOk result (λ o. is_fault o ≡ false → (self.new.next ≡ None)
             × HasGivenAll self.new.inbox) }
         ensures fault { IfOk result (λ o. IfFault o
-            (λ kind error. IsCauseOf kind error line.new self.old self.new
+            (λ kind error. IsCauseOf kind error self.old self.new
             ((v : Value) × (self.new.next ≡ Some v)
             × T.cause (T.setting turns.old) Refusal.Unasked
-            (Event.Answered line.new.host line.new.epoch v moment) (T.seen turns.new)) moment)) }
-        ensures reads { self.new.inbox.counts ≡ self.old.inbox.counts }
+            (Event.Answered line.new.host line.new.epoch v moment) (T.seen turns.new)) ⊥)) }
+        ensures reads { KeepsReader self.old.inbox self.new.inbox }
         ensures writes { self.new.counts ≡ self.old.counts }
         ensures err { OnErr result (self.new.inbox.values.refusal ≡ None) }
         ensures plain { IfErr result
@@ -345,7 +346,7 @@ impl<R: ReadTally, W: WriteTally> Link<R, W> {
         ensures writer { IfOk result (λ o. is_fault o ≡ false → self.new.counts.failed
             ≡ self.old.counts.failed) }
         ensures fault { IfOk result (λ o. IfFault o
-            (λ kind error. IsCauseOf kind error line.new self.old self.new ⊥ 0)) }
+            (λ kind error. IsCauseOf kind error self.old self.new ⊥ ⊥)) }
         ensures plain { IfErr result
             (IsPlain (T.cause (T.setting turns.old)) (T.seen turns.new) line.new) }
     {
@@ -378,11 +379,13 @@ impl<R: ReadTally, W: WriteTally> Link<R, W> {
             → HasRisen self.old.inbox.counts.paused self.new.inbox.counts.paused) }
         ensures all { IfOk result (λ o. is_fault o ≡ false → (self.new.next ≡ None)
             × HasGivenAll self.new.inbox) }
+        ensures reads { IfOk result (λ o. is_fault o ≡ false → HasRead self.old.inbox
+            self.new.inbox) }
         ensures fault { IfOk result (λ o. IfFault o
-            (λ kind error. IsCauseOf kind error line.new self.old self.new
+            (λ kind error. IsCauseOf kind error self.old self.new
             ((v : Value) × (self.new.next ≡ Some v)
             × T.cause (T.setting turns.old) Refusal.Unasked
-            (Event.Answered line.new.host line.new.epoch v moment) (T.seen turns.new)) moment)) }
+            (Event.Answered line.new.host line.new.epoch v moment) (T.seen turns.new)) ⊥)) }
         ensures writes { self.new.counts ≡ self.old.counts }
         ensures err { OnErr result (self.new.inbox.values.refusal ≡ None) }
         ensures plain { IfErr result
@@ -427,10 +430,11 @@ impl<R: ReadTally, W: WriteTally> Link<R, W> {
         ensures all { IfOk result (λ o. is_fault o ≡ false → (self.new.next ≡ None)
             × HasGivenAll self.new.inbox) }
         ensures fault { IfOk result (λ o. IfFault o
-            (λ kind error. IsCauseOf kind error line.new self.old self.new
+            (λ kind error. IsCauseOf kind error self.old self.new
             ((v : Value) × (self.new.next ≡ Some v)
             × T.cause (T.setting turns.old) Refusal.Unasked
-            (Event.Answered line.new.host line.new.epoch v moment) (T.seen turns.new)) moment)) }
+            (Event.Answered line.new.host line.new.epoch v moment) (T.seen turns.new))
+            (IsLateOn line.new self.old self.new moment))) }
         ensures in_time { IfOk result (λ o. is_fault o ≡ false → ¬ IsLate line.new moment) }
         ensures err { OnErr result (self.new.inbox.values.refusal ≡ None) }
         ensures plain { IfErr result

@@ -142,4 +142,4 @@ returns-in-Moved-clause-number g c = tt
 pub returns-in-Fault-clause-number : goal.returns-in-Fault-clause-number
 returns-in-Fault-clause-number g c =
     let cause = rw c.in-Fault.is at c.in_ok-attend.ensures.fault in
-    numbered_cut _ _ c.tell_fault.result (cause_numbered (g.T.Turns.cause (g.T.Turns.setting c.args.turns.now)) (g.T.Turns.seen c.tell_fault.new.turns) c.tell_fault.new.self.line _ c.in-Fault.kind c.in-Fault.error _ _ _ _ cause) (rw c.attend.ensures.setting at c.tell_fault.ensures.number)
+    numbered_cut _ _ c.tell_fault.result (cause_numbered (g.T.Turns.cause (g.T.Turns.setting c.args.turns.now)) (g.T.Turns.seen c.tell_fault.new.turns) c.tell_fault.new.self.line c.in-Fault.kind c.in-Fault.error _ _ _ _ cause) (rw c.attend.ensures.setting at c.tell_fault.ensures.number)

@@ -7,14 +7,14 @@ use Rattle.proxy_engines.proofs.MoveLemmas.{moves-err, as_fault, any_err}
 use Rattle.proxy_engines.proofs.link.Link.answer_all.Goals as goal
 
 pub loop-init : goal.loop-init
-loop-init g c = (stays_on _ _ _ _ _ refl, c.requires.whole, refl, refl, refl, refl, refl, ([], sym (append-nil _)))
+loop-init g c = (stays_on _ _ _ _ _ refl, c.requires.whole, (refl, refl), refl, refl, refl, refl, ([], sym (append-nil _)))
 
 pub loop-preserved : goal.loop-preserved
 loop-preserved g c =
     let (goes, _, reads, writes, _, pass, setting, seen) = c.loop.invariant in (
       told_moved _ _ _ _ _ _ _ _ _ _ _ goes (rw pass at (rw c.in-Moved.is at c.in_ok-fault.ensures.goes)),
       c.in_ok-fault.ensures.moved c.in-Moved.is,
-      c.answer_next.ensures.reads ∙ reads,
+      (c.answer_next.ensures.reads.0 ∙ reads.0, c.answer_next.ensures.reads.1 ∙ reads.1),
       c.answer_next.ensures.writes ∙ writes,
       refl,
       c.answer_next.ensures.pass ∙ pass,
@@ -47,7 +47,7 @@ pub returns-in-Still-clause-seen : goal.returns-in-Still-clause-seen
 returns-in-Still-clause-seen g c = let (_, _, _, _, _, _, _, seen) = c.loop.invariant in starts_then _ _ _ seen c.answer_next.ensures.seen
 
 pub returns-in-Still-clause-reads : goal.returns-in-Still-clause-reads
-returns-in-Still-clause-reads g c = let (_, _, reads, _, _, _, _, _) = c.loop.invariant in c.answer_next.ensures.reads ∙ reads
+returns-in-Still-clause-reads g c = let (_, _, reads, _, _, _, _, _) = c.loop.invariant in (c.answer_next.ensures.reads.0 ∙ reads.0, c.answer_next.ensures.reads.1 ∙ reads.1)
 
 pub returns-in-Still-clause-writes : goal.returns-in-Still-clause-writes
 returns-in-Still-clause-writes g c = let (_, _, _, writes, _, _, _, _) = c.loop.invariant in c.answer_next.ensures.writes ∙ writes
@@ -62,7 +62,7 @@ pub returns-in_default-clause-seen : goal.returns-in_default-clause-seen
 returns-in_default-clause-seen g c = let (_, _, _, _, _, _, _, seen) = c.loop.invariant in starts_then _ _ _ seen c.answer_next.ensures.seen
 
 pub returns-in_default-clause-reads : goal.returns-in_default-clause-reads
-returns-in_default-clause-reads g c = let (_, _, reads, _, _, _, _, _) = c.loop.invariant in c.answer_next.ensures.reads ∙ reads
+returns-in_default-clause-reads g c = let (_, _, reads, _, _, _, _, _) = c.loop.invariant in (c.answer_next.ensures.reads.0 ∙ reads.0, c.answer_next.ensures.reads.1 ∙ reads.1)
 
 pub returns-in_default-clause-writes : goal.returns-in_default-clause-writes
 returns-in_default-clause-writes g c = let (_, _, _, writes, _, _, _, _) = c.loop.invariant in c.answer_next.ensures.writes ∙ writes
@@ -77,7 +77,7 @@ pub returns-in_err-fault-clause-seen : goal.returns-in_err-fault-clause-seen
 returns-in_err-fault-clause-seen g c = let (_, _, _, _, _, _, _, seen) = c.loop.invariant in starts_then _ _ _ seen c.answer_next.ensures.seen
 
 pub returns-in_err-fault-clause-reads : goal.returns-in_err-fault-clause-reads
-returns-in_err-fault-clause-reads g c = let (_, _, reads, _, _, _, _, _) = c.loop.invariant in c.answer_next.ensures.reads ∙ reads
+returns-in_err-fault-clause-reads g c = let (_, _, reads, _, _, _, _, _) = c.loop.invariant in (c.answer_next.ensures.reads.0 ∙ reads.0, c.answer_next.ensures.reads.1 ∙ reads.1)
 
 pub returns-in_err-fault-clause-writes : goal.returns-in_err-fault-clause-writes
 returns-in_err-fault-clause-writes g c = let (_, _, _, writes, _, _, _, _) = c.loop.invariant in c.answer_next.ensures.writes ∙ writes
@@ -115,7 +115,7 @@ returns-in_default-clause-all g c = λ calm. faulty_calm _ c.in_ok-fault.fault (
 pub returns-in_default-clause-fault : goal.returns-in_default-clause-fault
 returns-in_default-clause-fault g c =
     let (_, _, reads, writes, _, _, setting, _) = c.loop.invariant in
-    fault_later c.answer_next.new.line c.answer_next.new.line c.args.self.now c.loop.self c.answer_next.new.self _ _ c.args.moment (ap (λ (n : Counts). n.failed) reads) (ap (λ (n : Counts). n.failed) writes) refl (λ x. x) c.in_ok-fault.fault (rw setting at c.in_ok-fault.ensures.fault)
+    fault_later c.args.self.now c.loop.self c.answer_next.new.self _ _ _ _ (ap (λ (n : Counts). n.failed) reads.1) (ap (λ (n : Counts). n.failed) writes) (λ x. x) (λ x. x) c.in_ok-fault.fault (rw setting at c.in_ok-fault.ensures.fault)
 
 pub returns-in-Still-clause-all : goal.returns-in-Still-clause-all
 returns-in-Still-clause-all g c = λ _. c.in_ok-fault.ensures.still c.in-Still.is

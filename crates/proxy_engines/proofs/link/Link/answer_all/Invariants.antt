@@ -1,6 +1,7 @@
 use Rattle.std.proofs.Common.{◌≡◌, Some, None, false}
 use Rattle.ticket_gate.specs.Journal.{StartsWith}
 use Rattle.proxy_engines.specs.OwnSteps.{own_steps}
+use Rattle.proxy_engines.specs.Ends.{KeepsReader}
 use Rattle.proxy_engines.specs.Host.{GoesOn}
 use Rattle.proxy_engines.specs.Moves.{AsTold}
 use Rattle.proxy_engines.specs.Faults.{is_fault, told_by_outcome}
@@ -11,7 +12,7 @@ invariant-loop g l =
     AsTold (GoesOn l.fn.line l.line (Some l.fn.self) (Some l.self) (own_steps (g.T.Turns.pass l.fn.turns) (g.T.Turns.seen l.fn.turns))
     (own_steps (g.T.Turns.pass l.fn.turns) (g.T.Turns.seen l.turns)) l.fn.moment) (told_by_outcome l.outcome)
     × (l.self.inbox.values.refusal ≡ None)
-    × (l.self.inbox.counts ≡ l.fn.self.inbox.counts)
+    × KeepsReader l.fn.self.inbox l.self.inbox
     × (l.self.counts ≡ l.fn.self.counts)
     × (is_fault l.outcome ≡ false)
     × (g.T.Turns.pass l.turns ≡ g.T.Turns.pass l.fn.turns)

@@ -127,11 +127,11 @@ returns-in-Value-clause-moved g c = IfOk-weaker c.answer.result _ _ (λ o _ _. (
 pub returns-in-Value-clause-fault : goal.returns-in-Value-clause-fault
 returns-in-Value-clause-fault g c =
     IfOk-weaker c.answer.result _ _
-    (λ o. fault_later c.answer.new.line c.answer.new.line c.args.self.now c.seek.new.self c.answer.new.self _ _ c.args.moment (ap (λ (n : Counts). n.failed) c.seek.ensures.counts.0) (ap (λ (n : Counts). n.failed) c.seek.ensures.counts.1) refl (λ x. x) o)
+    (λ o. fault_later c.args.self.now c.seek.new.self c.answer.new.self _ _ _ _ (ap (λ (n : Counts). n.failed) c.seek.ensures.counts.0.1) (ap (λ (n : Counts). n.failed) c.seek.ensures.counts.1) (λ x. x) (λ x. x) o)
     c.answer.ensures.fault
 
 pub returns-in-Value-clause-reads : goal.returns-in-Value-clause-reads
-returns-in-Value-clause-reads g c = ap (λ (i : InboxState). i.counts) c.answer.ensures.inbox ∙ c.seek.ensures.counts.0
+returns-in-Value-clause-reads g c = (ap (λ (i : InboxState). i.left) c.answer.ensures.inbox ∙ c.seek.ensures.counts.0.0, ap (λ (i : InboxState). i.counts) c.answer.ensures.inbox ∙ c.seek.ensures.counts.0.1)
 
 pub returns-in-Value-clause-writes : goal.returns-in-Value-clause-writes
 returns-in-Value-clause-writes g c = c.answer.ensures.counts ∙ c.seek.ensures.counts.1

@@ -1,5 +1,5 @@
 use Rattle.std.proofs.lemmas.Result.{IfOk-from_err, err_from_is_err_and}
-use Rattle.std.proofs.Common.{◌≡◌, ◌⊎◌, ◌∙◌, [], sym, subst, ap, refl}
+use Rattle.std.proofs.Common.{◌≡◌, ◌⊎◌, ◌∙◌, [], sym, subst, ap}
 use Rattle.proxy_engines.proofs.HostMoves.{told_both, told_either, starts_then}
 use Rattle.proxy_history.specs.declared.event.Event.{Event}
 use Rattle.proxy_history.specs.declared.refusal.Refusal.{Refusal}
@@ -149,7 +149,7 @@ pub returns-then-is_fault-clause-in_time : goal.returns-then-is_fault-clause-in_
 returns-then-is_fault-clause-in_time g c = λ calm. faulty_calm _ c.in_ok-sent.sent (sym c.is_fault.ensures ∙ c.if-is_fault.true) calm
 
 pub returns-then-is_fault-clause-fault : goal.returns-then-is_fault-clause-fault
-returns-then-is_fault-clause-fault g c = write_fault c.send.new.line c.args.self.now c.send.new.self _ c.args.moment c.in_ok-sent.sent c.in_ok-sent.ensures.fault
+returns-then-is_fault-clause-fault g c = write_fault c.args.self.now c.send.new.self _ _ c.in_ok-sent.sent c.in_ok-sent.ensures.fault
 
 pub returns-in_err-received-clause-idle : goal.returns-in_err-received-clause-idle
 returns-in_err-received-clause-idle g c = IfOk-from_err c.from_residual-in_err-received.result _ c.from_residual-in_err-received.ensures.0
@@ -180,7 +180,7 @@ returns-then-is_fault-2-clause-in_time g c = λ calm. faulty_calm _ c.in_ok-rece
 
 pub returns-then-is_fault-2-clause-fault : goal.returns-then-is_fault-2-clause-fault
 returns-then-is_fault-2-clause-fault g c =
-    fault_later c.receive.new.line c.receive.new.line c.args.self.now c.send.new.self c.receive.new.self _ _ c.args.moment (ap (λ (i : InboxState). i.counts.failed) c.send.ensures.inbox) (c.in_ok-sent.ensures.writer (sym c.is_fault.ensures ∙ c.if-is_fault.false)) refl (λ x. x) c.in_ok-received.received (rw c.send.ensures.setting at c.in_ok-received.ensures.fault)
+    fault_later c.args.self.now c.send.new.self c.receive.new.self _ _ ⊥ _ (ap (λ (i : InboxState). i.counts.failed) c.send.ensures.inbox) (c.in_ok-sent.ensures.writer (sym c.is_fault.ensures ∙ c.if-is_fault.false)) (λ x. x) (λ x. absurd x) c.in_ok-received.received (rw c.send.ensures.setting at c.in_ok-received.ensures.fault)
 
 pub returns-then-is_late-clause-idle : goal.returns-then-is_late-clause-idle
 returns-then-is_late-clause-idle g c = λ still. absurd cc
@@ -192,7 +192,10 @@ pub returns-then-is_late-clause-in_time : goal.returns-then-is_late-clause-in_ti
 returns-then-is_late-clause-in_time g c = λ calm. absurd cc
 
 pub returns-then-is_late-clause-fault : goal.returns-then-is_late-clause-fault
-returns-then-is_late-clause-fault g c = c.is_late.ensures.0 c.if-is_late.true
+returns-then-is_late-clause-fault g c =
+    let calm = sym c.is_fault-2.ensures ∙ c.if-is_fault-2.false in
+    let (none, all) = c.in_ok-received.ensures.all calm in
+    record { late = c.is_late.ensures.0 c.if-is_late.true; reads = rw c.send.ensures.inbox at (c.in_ok-received.ensures.reads calm); none_waits = none; all = all }
 
 pub returns-clause-all : goal.returns-clause-all
 returns-clause-all g c = λ _. c.in_ok-received.ensures.all (sym c.is_fault-2.ensures ∙ c.if-is_fault-2.false)

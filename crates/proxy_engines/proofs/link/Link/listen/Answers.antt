@@ -1,4 +1,4 @@
-use Rattle.std.proofs.Common.{ap, true, false}
+use Rattle.std.proofs.Common.{ap, true, false, inl, inr}
 use Rattle.proxy_engines.specs.Faults.{told_by_outcome}
 use Rattle.proxy_engines.proofs.HostMoves.{heard_on}
 use Rattle.proxy_engines.proofs.MoveLemmas.{as-none}
@@ -14,4 +14,14 @@ returns-clause-goes g c = λ l H m.
       | in-Paused w ↦ rw w.result-is (heard_on l _ c.read_once.new.self H m false (rw w.in-Paused.is at c.read_once.ensures.told) given c.read_once.ensures.bytes c.read_once.ensures.values)
       | in-End w ↦ as-none _ _ (ap told_by_outcome w.result-is) (_, heard_on l _ c.read_once.new.self H m _ c.read_once.ensures.told given c.read_once.ensures.bytes c.read_once.ensures.values)
       | in-Failed w ↦ as-none _ _ (ap told_by_outcome w.result-is) (_, heard_on l _ c.read_once.new.self H m _ c.read_once.ensures.told given c.read_once.ensures.bytes c.read_once.ensures.values)
+    ])
+
+pub returns-clause-reads : goal.returns-clause-reads
+returns-clause-reads g c =
+    rw (← c.self.view_is)
+    (elim c.match-read_once.branch [
+      | in-Moved w ↦ λ _. inl (_, (c.read_once.ensures.moved _ w.in-Moved.is).0, c.read_once.ensures.bytes)
+      | in-Paused w ↦ λ _. inr (c.read_once.ensures.paused w.in-Paused.is).1.paused
+      | in-End w ↦ rw w.result-is (λ calm. absurd cc)
+      | in-Failed w ↦ rw w.result-is (λ calm. absurd cc)
     ])

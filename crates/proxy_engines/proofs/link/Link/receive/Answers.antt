@@ -1,8 +1,8 @@
 use Rattle.proxy_engines.specs.Device.{Counts}
 use Rattle.std.proofs.lemmas.Result.{IfOk-from_err, err_from_is_err_and}
-use Rattle.std.proofs.Common.{◌∙◌, Some, sym, refl, ap}
+use Rattle.std.proofs.Common.{◌∙◌, Some, sym, ap}
 use Rattle.proxy_engines.proofs.HostMoves.{told_both, told_either, starts_then}
-use Rattle.proxy_engines.proofs.FaultLemmas.{fault_later, either_still, faulty_still, faulty_calm, no_fault}
+use Rattle.proxy_engines.proofs.FaultLemmas.{fault_later, read_kept, either_still, faulty_still, faulty_calm, no_fault}
 use Rattle.proxy_engines.proofs.MoveLemmas.{moves-err, as_faulty, any_err}
 use Rattle.proxy_engines.proofs.link.Link.receive.Goals as goal
 
@@ -12,7 +12,7 @@ returns-then-is_fault-2-clause-goes g c =
 
 pub returns-then-is_fault-2-clause-fault : goal.returns-then-is_fault-2-clause-fault
 returns-then-is_fault-2-clause-fault g c =
-    fault_later c.answer_all.new.line c.answer_all.new.line c.args.self.now c.answer_all.new.self c.listen-heard.new.self ⊥ _ c.args.moment (ap (λ (n : Counts). n.failed) c.answer_all.ensures.reads) (ap (λ (n : Counts). n.failed) c.answer_all.ensures.writes) refl (λ x. absurd x) c.listen-heard.result (c.listen-heard.ensures.fault c.answer_all.new.line c.args.moment)
+    fault_later c.args.self.now c.answer_all.new.self c.listen-heard.new.self ⊥ _ ⊥ _ (ap (λ (n : Counts). n.failed) c.answer_all.ensures.reads.1) (ap (λ (n : Counts). n.failed) c.answer_all.ensures.writes) (λ x. absurd x) (λ x. x) c.listen-heard.result c.listen-heard.ensures.fault
 
 pub returns-in_err-after-clause-goes : goal.returns-in_err-after-clause-goes
 returns-in_err-after-clause-goes g c =
@@ -29,7 +29,7 @@ returns-clause-idle g c = λ e.
     let last = either_still c.or.result c.in_ok-after.after (sym c.or-2.ensures.is ∙ e) in
     let first = either_still c.in_ok-before.before c.listen-heard.result (sym c.or.ensures.is ∙ last.0) in
     let paused = c.listen-heard.ensures.still first.1 in
-    rw c.answer_all-2.ensures.reads (rw c.answer_all.ensures.reads at paused.paused)
+    rw c.answer_all-2.ensures.reads.1 (rw c.answer_all.ensures.reads.1 at paused.paused)
 
 pub returns-clause-goes : goal.returns-clause-goes
 returns-clause-goes g c =
@@ -189,7 +189,7 @@ returns-then-is_fault-3-clause-all g c = λ calm. faulty_calm _ c.in_ok-after.af
 
 pub returns-then-is_fault-3-clause-fault : goal.returns-then-is_fault-3-clause-fault
 returns-then-is_fault-3-clause-fault g c =
-    fault_later c.answer_all-2.new.line c.answer_all-2.new.line c.args.self.now c.listen-heard.new.self c.answer_all-2.new.self _ _ c.args.moment (c.listen-heard.ensures.reader (sym c.is_fault-2.ensures ∙ c.if-is_fault-2.false) ∙ ap (λ (n : Counts). n.failed) c.answer_all.ensures.reads) (ap (λ (n : Counts). n.failed) (c.listen-heard.ensures.counts ∙ c.answer_all.ensures.writes)) refl (λ x. x) c.in_ok-after.after (rw c.answer_all.ensures.setting at c.in_ok-after.ensures.fault)
+    fault_later c.args.self.now c.listen-heard.new.self c.answer_all-2.new.self _ _ _ _ (c.listen-heard.ensures.reader (sym c.is_fault-2.ensures ∙ c.if-is_fault-2.false) ∙ ap (λ (n : Counts). n.failed) c.answer_all.ensures.reads.1) (ap (λ (n : Counts). n.failed) (c.listen-heard.ensures.counts ∙ c.answer_all.ensures.writes)) (λ x. x) (λ x. x) c.in_ok-after.after (rw c.answer_all.ensures.setting at c.in_ok-after.ensures.fault)
 
 pub returns-clause-writes : goal.returns-clause-writes
 returns-clause-writes g c = c.answer_all-2.ensures.writes ∙ c.listen-heard.ensures.counts ∙ c.answer_all.ensures.writes
@@ -199,3 +199,22 @@ returns-clause-all g c = λ _. c.in_ok-after.ensures.all (sym c.is_fault-3.ensur
 
 pub returns-clause-fault : goal.returns-clause-fault
 returns-clause-fault g c = no_fault c.or-2.result _ (c.or-2.ensures.calm (c.or.ensures.calm (sym c.is_fault.ensures ∙ c.if-is_fault.false) (sym c.is_fault-2.ensures ∙ c.if-is_fault-2.false)) (sym c.is_fault-3.ensures ∙ c.if-is_fault-3.false))
+
+pub returns-in_err-before-clause-reads : goal.returns-in_err-before-clause-reads
+returns-in_err-before-clause-reads g c = IfOk-from_err c.from_residual.result _ c.from_residual.ensures.0
+
+pub returns-then-is_fault-clause-reads : goal.returns-then-is_fault-clause-reads
+returns-then-is_fault-clause-reads g c = λ calm. faulty_calm _ c.in_ok-before.before (sym c.is_fault.ensures ∙ c.if-is_fault.true) calm
+
+pub returns-then-is_fault-2-clause-reads : goal.returns-then-is_fault-2-clause-reads
+returns-then-is_fault-2-clause-reads g c = λ calm. faulty_calm _ c.listen-heard.result (sym c.is_fault-2.ensures ∙ c.if-is_fault-2.true) calm
+
+pub returns-in_err-after-clause-reads : goal.returns-in_err-after-clause-reads
+returns-in_err-after-clause-reads g c = IfOk-from_err c.from_residual-in_err-after.result _ c.from_residual-in_err-after.ensures.0
+
+pub returns-then-is_fault-3-clause-reads : goal.returns-then-is_fault-3-clause-reads
+returns-then-is_fault-3-clause-reads g c = λ calm. faulty_calm _ c.in_ok-after.after (sym c.is_fault-3.ensures ∙ c.if-is_fault-3.true) calm
+
+pub returns-clause-reads : goal.returns-clause-reads
+returns-clause-reads g c = λ _.
+    read_kept c.args.self.now.inbox c.answer_all.new.self.inbox c.listen-heard.new.self.inbox c.answer_all-2.new.self.inbox c.answer_all.ensures.reads c.answer_all-2.ensures.reads (c.listen-heard.ensures.reads (sym c.is_fault-2.ensures ∙ c.if-is_fault-2.false))

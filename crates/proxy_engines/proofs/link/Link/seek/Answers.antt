@@ -54,7 +54,7 @@ pub returns-then-is_some-clause-plain : goal.returns-then-is_some-clause-plain
 returns-then-is_some-clause-plain g c = tt
 
 pub returns-then-is_some-clause-counts : goal.returns-then-is_some-clause-counts
-returns-then-is_some-clause-counts g c = (refl, refl)
+returns-then-is_some-clause-counts g c = ((refl, refl), refl)
 
 pub returns-in-Ok-Some-Read-clause-nothing : goal.returns-in-Ok-Some-Read-clause-nothing
 returns-in-Ok-Some-Read-clause-nothing g c = λ nothing. absurd cc
@@ -69,7 +69,7 @@ pub returns-in-Ok-Some-Read-clause-plain : goal.returns-in-Ok-Some-Read-clause-p
 returns-in-Ok-Some-Read-clause-plain g c = tt
 
 pub returns-in-Ok-Some-Read-clause-counts : goal.returns-in-Ok-Some-Read-clause-counts
-returns-in-Ok-Some-Read-clause-counts g c = (c.next_request.ensures.counts ∙ ap (λ (k : LinkState). k.inbox.counts) c.self.view_is, ap (λ (k : LinkState). k.counts) c.self.view_is)
+returns-in-Ok-Some-Read-clause-counts g c = ((c.next_request.ensures.left ∙ ap (λ (k : LinkState). k.inbox.left) c.self.view_is, c.next_request.ensures.counts ∙ ap (λ (k : LinkState). k.inbox.counts) c.self.view_is), ap (λ (k : LinkState). k.counts) c.self.view_is)
 
 pub returns-in-Ok-Some-Read-clause-value : goal.returns-in-Ok-Some-Read-clause-value
 returns-in-Ok-Some-Read-clause-value g c =
@@ -89,7 +89,7 @@ pub returns-in-Ok-Some-Broken-clause-plain : goal.returns-in-Ok-Some-Broken-clau
 returns-in-Ok-Some-Broken-clause-plain g c = tt
 
 pub returns-in-Ok-Some-Broken-clause-counts : goal.returns-in-Ok-Some-Broken-clause-counts
-returns-in-Ok-Some-Broken-clause-counts g c = (c.next_request.ensures.counts ∙ ap (λ (k : LinkState). k.inbox.counts) c.self.view_is, ap (λ (k : LinkState). k.counts) c.self.view_is)
+returns-in-Ok-Some-Broken-clause-counts g c = ((c.next_request.ensures.left ∙ ap (λ (k : LinkState). k.inbox.left) c.self.view_is, c.next_request.ensures.counts ∙ ap (λ (k : LinkState). k.inbox.counts) c.self.view_is), ap (λ (k : LinkState). k.counts) c.self.view_is)
 
 pub returns-in-Ok-Some-Broken-clause-garbled : goal.returns-in-Ok-Some-Broken-clause-garbled
 returns-in-Ok-Some-Broken-clause-garbled g c =
@@ -109,7 +109,7 @@ pub returns-in-Ok-None-clause-plain : goal.returns-in-Ok-None-clause-plain
 returns-in-Ok-None-clause-plain g c = tt
 
 pub returns-in-Ok-None-clause-counts : goal.returns-in-Ok-None-clause-counts
-returns-in-Ok-None-clause-counts g c = (c.next_request.ensures.counts ∙ ap (λ (k : LinkState). k.inbox.counts) c.self.view_is, ap (λ (k : LinkState). k.counts) c.self.view_is)
+returns-in-Ok-None-clause-counts g c = ((c.next_request.ensures.left ∙ ap (λ (k : LinkState). k.inbox.left) c.self.view_is, c.next_request.ensures.counts ∙ ap (λ (k : LinkState). k.inbox.counts) c.self.view_is), ap (λ (k : LinkState). k.counts) c.self.view_is)
 
 pub returns-in-Ok-None-clause-nothing : goal.returns-in-Ok-None-clause-nothing
 returns-in-Ok-None-clause-nothing g c =
@@ -132,4 +132,4 @@ pub returns-in-Err-clause-plain : goal.returns-in-Err-clause-plain
 returns-in-Err-clause-plain g c = refl
 
 pub returns-in-Err-clause-counts : goal.returns-in-Err-clause-counts
-returns-in-Err-clause-counts g c = (c.next_request.ensures.counts ∙ ap (λ (k : LinkState). k.inbox.counts) c.self.view_is, ap (λ (k : LinkState). k.counts) c.self.view_is)
+returns-in-Err-clause-counts g c = ((c.next_request.ensures.left ∙ ap (λ (k : LinkState). k.inbox.left) c.self.view_is, c.next_request.ensures.counts ∙ ap (λ (k : LinkState). k.inbox.counts) c.self.view_is), ap (λ (k : LinkState). k.counts) c.self.view_is)
