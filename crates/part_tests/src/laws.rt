@@ -142,4 +142,5 @@ fn laws_of_engines() {
     proxy_engines::ended_is_whole();
     proxy_engines::engines_leave_others();
     proxy_engines::others_leave_engines();
+    proxy_engines::reads_are_limited();
 }

@@ -1,5 +1,5 @@
 //! What is read and not yet asked.
-ghost use Rattle.std.specs.Prelude.{true, ◌≡◌, ◌≢◌, ◌≤◌, ◌↔◌, ◌++◌, ◌∷◌, ℕ, List, [], Some, None, IfOk, IfErr, IfSome, IfNone, OnErr, OnOk};
+ghost use Rattle.std.specs.Prelude.{true, ◌≡◌, ◌≢◌, ◌≤◌, ◌↔◌, ◌++◌, ◌∷◌, ℕ, List, [], length, Some, None, IfOk, IfErr, IfSome, IfNone, OnErr, OnOk};
 ghost use Rattle.std.specs.Io.KnownBytes.{Consumes, IsAtEnd};
 ghost use Rattle.resp_core.specs.declared.error.RespError.{RespError};
 ghost use Rattle.splitter.specs.Request.{Request as Asked, request_of};
@@ -217,6 +217,7 @@ impl<R: ReadTally> Inbox<R> {
     pub(crate) fn read_once(&mut self) -> Told
         requires { self.old.fresh ≡ [] }
         ensures bytes { Consumes self.old.left self.new.left self.new.fresh }
+        ensures few { length self.new.fresh ≤ READ_SIZE }
         ensures told { is_moved result ≡ has_moved self.new.fresh [] [] }
         ensures values { self.new.values ≡ self.old.values }
         ensures moved { (n : ℕ) → result ≡ Told.Moved n → (self.new.fresh ≢ [])

@@ -1,6 +1,14 @@
-//! What follows from what engines carry.
+//! What follows from what engines carry, and how much they read at once.
+ghost use Rattle.std.specs.Prelude.{◌≡◌};
 ghost use Rattle.proxy_engines.specs.Laws.{AcceptedAreFirst, ClientsLeaveOthers, EndedIsOver, EndedIsWhole, HostsLeaveOthers, OthersLeaveClients, OthersLeaveHosts};
 ghost use Rattle.proxy_engines.specs.Socket.{SocketAnswersInOrder, SocketAsksInOrder, SocketBegins, SocketEndsWhole, SocketGoesOver, SocketMoves, SocketStays};
+
+use crate::inbox::READ_SIZE;
+
+/// One read takes at most 16,384 bytes.
+pub fn reads_are_limited()
+    ensures { READ_SIZE ≡ 16384 }
+{}
 
 /// The requests accepted are the first of those that the bytes read ask.
 pub fn accepted_are_first()

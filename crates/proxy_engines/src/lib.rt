@@ -32,7 +32,8 @@ pub use faulty::Faulty;
 pub use host::HostEngine;
 pub use inbox::{READ_SIZE, Rest};
 pub use laws::{
-    accepted_are_first, ended_is_whole, engines_leave_others, others_leave_engines, sockets_go_on,
+    accepted_are_first, ended_is_whole, engines_leave_others, others_leave_engines,
+    reads_are_limited, sockets_go_on,
 };
 pub use tally::{ReadTally, Tallied, Tally, Told, WriteTally};
 pub use threads::run_all;

@@ -1,5 +1,6 @@
 //! Readers and writers that count their faults and pauses.
-ghost use Rattle.std.specs.Prelude.{◌≡◌, ◌≢◌, ◌<◌, ◌⊎◌, [], ℕ, length};
+ghost use Rattle.std.specs.Prelude.{◌≡◌, ◌≢◌, ◌<◌, ◌⊎◌, ◌↔◌, [], ℕ, length};
+ghost use Rattle.std.specs.declared.io.ErrorKind.TheVariants.{Interrupted, WouldBlock};
 ghost use Rattle.proxy_engines.specs.Tallied.{counts_of};
 ghost use Rattle.proxy_engines.specs.Device.{Counts, IsRead, IsWritten, HasFailed, HasPaused};
 
@@ -96,6 +97,7 @@ impl<S> Tallied<S> {
         ensures told { ((result ≡ Told.Paused)
             × HasPaused (counts_of self.old) (counts_of self.new))
             ⊎ ((result ≡ Told.Failed) × HasFailed (counts_of self.old) (counts_of self.new)) }
+        ensures paused { (result ≡ Told.Paused) ↔ ((kind ≡ WouldBlock) ⊎ (kind ≡ Interrupted)) }
     {
         match kind {
             ErrorKind::WouldBlock | ErrorKind::Interrupted => {
