@@ -189,12 +189,72 @@ fn room_for<T>(alloc: Global, count: usize) -> Result<Vec<T>, EngineError>
     }
 }
 
+// Room for works: for those that are begun, for those that are settled, and for their answers.
+#[derive(Drop)]
+struct Room<Rt: Wait, K: Work<Rt>, F> {
+    begun: Vec<Begun<Rt, K, F>>,
+    settled: Vec<Settled<Rt, K>>,
+    answers: Vec<WorkResult>,
+}
+
+impl<Rt: Wait, K: Work<Rt> + Drop, F: Drop> Room<Rt, K, F> {
+    // Room for so many works.
+    fn for_works(alloc: Global, count: usize) -> Result<Room<Rt, K, F>, EngineError>
+        ensures begun { IfOk result (λ r. (r.begun.items ≡ []) × (count ≤ vec_capacity r.begun)) }
+        ensures settled { IfOk result
+            (λ r. (r.settled.items ≡ []) × (count ≤ vec_capacity r.settled)) }
+        ensures answers { IfOk result
+            (λ r. (r.answers.items ≡ []) × (count ≤ vec_capacity r.answers)) }
+        ensures err { IfErr result (λ e. e ≡ EngineError.NoMemory) }
+    {
+        let begun = room_for(alloc, count)?;
+        let settled = room_for(alloc, count)?;
+        let answers = room_for(alloc, count)?;
+        Ok(Room {
+            begun,
+            settled,
+            answers,
+        })
+    }
+}
+
 // Runs the work in whichever thread this is.
 fn run_one<Rt: Wait, K: Work<Rt> + Drop>(rt: &Rt, mut work: K) -> WorkResult
     requires { K.is_fresh work }
     ensures { K.may_answer work result }
 {
     work.run(rt)
+}
+
+// Runs the works, each as the call that `make` makes of it, and waits for their answers. There is room for them, so it can't
+// be refused.
+fn run_in<
+    's,
+    E,
+    Rt: Threads + Wait,
+    K: Work<Rt> + Drop,
+    F: FnOnce() -> WorkResult + Send + Drop + 's,
+    G: Fn(K) -> F,
+>(scope: &Scope<'s, E>, rt: &Rt, works: Vec<K>, make: G, room: Room<Rt, K, F>) -> Vec<WorkResult>
+    requires begun { (room.begun.items ≡ []) × (vec_len works ≤ vec_capacity room.begun) }
+    requires settled { (room.settled.items ≡ []) × (vec_len works ≤ vec_capacity room.settled) }
+    requires answered { (room.answers.items ≡ []) × (vec_len works ≤ vec_capacity room.answers) }
+    requires fresh { All K.is_fresh works.items }
+    requires makes { (work : K) → K.is_fresh work → G.pre make work }
+    requires callable { (work : K) (call : F) → K.is_fresh work → G.post make work call
+        → F.pre call }
+    requires answers { (work : K) (call : F) (answer : Result ⊤ EngineError)
+        → G.post make work call → F.post call answer → K.may_answer work answer }
+    ensures { AllZip K.may_answer works.items result.items }
+{
+    let Room {
+        begun,
+        settled,
+        answers,
+    } = room;
+    let begun = begin_all(scope, works, make, begun);
+    let settled = settle_all(begun, settled);
+    answer_all(rt, settled, answers)
 }
 
 /// Runs each work once, all at the same time: a thread is started for each, and the works for which none could be had are run
@@ -218,14 +278,8 @@ pub fn run_all<Rt: Threads + Wait + Sync, K: Work<Rt> + Send + Drop>(
             ensures each { IfOk result (λ answers. AllZip K.may_answer works.items answers.items) }
             ensures err { IfErr result (λ e. e ≡ EngineError.NoMemory) }
         {
-            let count = works.len();
-            let begun = room_for(alloc, count)?;
-            let settled = room_for(alloc, count)?;
-            let answers = room_for(alloc, count)?;
-            let begun = begin_all(scope, works, |work| move || run_one(rt, work), begun);
-            let settled = settle_all(begun, settled);
-            let answers = answer_all(rt, settled, answers);
-            Ok(answers)
+            let room = Room::for_works(alloc, works.len())?;
+            Ok(run_in(scope, rt, works, |work| move || run_one(rt, work), room))
         },
     )
 }
