@@ -2,7 +2,7 @@
 use Rattle.std.proofs.Common.{◌≡◌, ◌≢◌, ◌⊎◌, ◌∙◌, ℕ, Bool, true, false, None, inl, inr, refl, ap}
 use Rattle.std.specs.Prelude.{Result, Ok, Err, IfOk, IfErr, OnOk}
 use Rattle.proxy_history.specs.History.{History}
-use Rattle.proxy_engines.specs.Client.{Client, Goes, Cuts}
+use Rattle.proxy_engines.specs.Client.{Client, Goes, Cuts, HasNoFault}
 use Rattle.proxy_engines.specs.Moves.{AsTold, told_by_step}
 use Rattle.proxy_engines.specs.declared.client.Progress.{Progress}
 use Rattle.proxy_engines.specs.declared.client.Stage.{Stage}
@@ -127,6 +127,10 @@ module _ (b c : Client) (y z : History) where
   pub cut_is : (result : Result Progress EngineError) → Cuts b c y z (Ok Progress.Cut) result → IfOk result (λ p. (p ≡ Progress.Cut) × (c.stage ≡ Stage.Closed true))
   cut_is result (inl (_, new, is)) = rw is (refl, ap (λ (e : Client). e.stage) new)
   cut_is result (inr (_, _, (n, is))) = rw is tt
+
+  pub cut_unfailed : (p : Progress) (result : Result Progress EngineError) → Cuts b c y z (Ok p) result → OnOk result (HasNoFault b c)
+  cut_unfailed p result (inl (_, new, is)) = rw (is, new) (refl, refl)
+  cut_unfailed p result (inr (_, _, (n, is))) = rw is tt
 
   pub cut_turn : (p : Progress) (result : Result Progress EngineError) → Cuts b c y z (Ok p) result → IfErr result IsTurn
   cut_turn p result (inl (_, _, is)) = rw is tt

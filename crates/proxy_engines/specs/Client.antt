@@ -94,6 +94,10 @@ IsAtStage Stage.Failed done asked halted i next b given = ⊤
 IsAtStage (Stage.Closed true) done asked halted i next b given = ⊤
 IsAtStage (Stage.Closed false) done asked halted i next b given = IsFinished asked halted i next b given × done
 
+-- neither the reader nor the writer has failed
+abbrev pub HasNoFault : Client → Client → Type 0
+HasNoFault old new = (new.inbox.counts.failed ≡ old.inbox.counts.failed) × (new.outbox.counts.failed ≡ old.outbox.counts.failed)
+
 -- whether the connection finishes and whether it was closed, by its stage: it is closed at its end and for a fault, and not
 -- before; and it finishes before it is closed at its end
 abbrev pub IsToldAt : Stage → Bool → Bool → Type 0

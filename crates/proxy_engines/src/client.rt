@@ -105,7 +105,7 @@ impl<R: ReadTally, W: WriteTally> Model for ClientEngine<R, W> {
 
 #[tactic(auto, using(crate::proofs::ClientMoves::same_goes, crate::proofs::ClientMoves::goes_then))]
 impl<R: ReadTally, W: WriteTally> ClientEngine<R, W> {
-    ghost use Rattle.proxy_engines.specs.Client.{AwaitsBytes, AwaitsReplies, Client, Carries, ClosesFirst, Cuts, Goes, HandsNothing, IsHeldBack, IsIdle, IsLive, IsOver, MayGoOn};
+    ghost use Rattle.proxy_engines.specs.Client.{AwaitsBytes, AwaitsReplies, Client, Carries, ClosesFirst, Cuts, Goes, HandsNothing, HasNoFault, IsHeldBack, IsIdle, IsLive, IsOver, MayGoOn};
     ghost use Rattle.proxy_history.specs.declared.refusal.Refusal.{Refusal};
     ghost use Rattle.splitter.specs.declared.request.Request.{Request};
 
@@ -126,6 +126,7 @@ impl<R: ReadTally, W: WriteTally> ClientEngine<R, W> {
             (Event.Handed self.old.conn) (T.seen turns.new)) }
         ensures err { IfErr result (λ e. (self.new ≡ self.old)
             × ((n : ℕ) × (e ≡ EngineError.TurnRefused n))) }
+        ensures unfailed { HasNoFault self.old self.new }
         ensures number { IfErr result
             (IsNumbered (T.cause (T.setting turns.old)) (T.seen turns.new)) }
     {
@@ -256,6 +257,7 @@ impl<R: ReadTally, W: WriteTally> ClientEngine<R, W> {
             (T.seen turns.new))) }
         ensures err { IfErr result (λ e. (self.new ≡ self.old)
             × ((n : ℕ) × (e ≡ EngineError.TurnRefused n))) }
+        ensures unfailed { HasNoFault self.old self.new }
         ensures number { IfErr result
             (IsNumbered (T.cause (T.setting turns.old)) (T.seen turns.new)) }
     {
@@ -285,7 +287,8 @@ impl<R: ReadTally, W: WriteTally> ClientEngine<R, W> {
         ensures goes { (H : History) → Goes self.old self.new H H false }
         ensures reads { self.new.is_drained ≡ false }
         ensures stage { self.new.stage ≡ Stage.Open }
-        ensures counts { self.new.inbox.counts ≡ self.old.inbox.counts }
+        ensures counts { (self.new.inbox.counts ≡ self.old.inbox.counts)
+            × (self.new.outbox.counts ≡ self.old.outbox.counts) }
         ensures some { IfOk result (λ b. b ≡ true → self.new.next ≢ None) }
         ensures none { IfOk result (λ b. b ≡ false → (self.new.next ≡ None)
             × HasGivenAll self.new.inbox) }
@@ -308,7 +311,8 @@ impl<R: ReadTally, W: WriteTally> ClientEngine<R, W> {
         ensures goes { (H : History) → Goes self.old self.new H H false }
         ensures stage { self.new.stage ≡ Stage.Open }
         ensures last { self.new.is_drained ≡ true → self.new.next ≡ Some Request.Broken }
-        ensures counts { self.new.inbox.counts ≡ self.old.inbox.counts }
+        ensures counts { (self.new.inbox.counts ≡ self.old.inbox.counts)
+            × (self.new.outbox.counts ≡ self.old.outbox.counts) }
         ensures some { IfOk result (λ b. b ≡ true → self.new.next ≢ None) }
         ensures none { IfOk result (λ b. b ≡ false → (self.new.next ≡ None)
             × HasGivenAll self.new.inbox) }
@@ -341,6 +345,7 @@ impl<R: ReadTally, W: WriteTally> ClientEngine<R, W> {
         ensures err { IfErr result (λ e.
             ((e ≡ EngineError.WriteFailed) × HasFailed self.old.outbox.counts self.new.outbox.counts
             × (self.new.stage ≡ Stage.Closed true)) ⊎ ((n : ℕ) × (e ≡ EngineError.TurnRefused n))) }
+        ensures unfailed { OnOk result (HasNoFault self.old self.new) }
         ensures number { IfErr result
             (IsNumbered (T.cause (T.setting turns.old)) (T.seen turns.new)) }
     {
@@ -370,6 +375,7 @@ impl<R: ReadTally, W: WriteTally> ClientEngine<R, W> {
             (own_steps (T.pass turns.old) (T.seen turns.new))) (told_by_step result) }
         ensures ok { IfOk result (λ p. IsLive self.new.stage × (p ≡ Progress.Moved)) }
         ensures err { IfErr result (λ e. (n : ℕ) × (e ≡ EngineError.TurnRefused n)) }
+        ensures unfailed { OnOk result (HasNoFault self.old self.new) }
         ensures number { IfErr result
             (IsNumbered (T.cause (T.setting turns.old)) (T.seen turns.new)) }
     {
@@ -401,6 +407,7 @@ impl<R: ReadTally, W: WriteTally> ClientEngine<R, W> {
             ((e ≡ EngineError.ReadFailed) × HasFailed self.old.inbox.counts self.new.inbox.counts
             × (self.new.stage ≡ Stage.Closed true)) ⊎ ((n : ℕ) × (e ≡ EngineError.TurnRefused n))) }
         ensures idle { IfOk result (λ p. p ≡ Progress.Idle → AwaitsBytes self.old self.new) }
+        ensures unfailed { OnOk result (HasNoFault self.old self.new) }
         ensures number { IfErr result
             (IsNumbered (T.cause (T.setting turns.old)) (T.seen turns.new)) }
     {
@@ -443,6 +450,7 @@ impl<R: ReadTally, W: WriteTally> ClientEngine<R, W> {
         ensures idle { IfOk result (λ p. p ≡ Progress.Idle
             → IsHeldBack (T.cause (T.setting turns.old)) self.new (T.seen turns.old)
             (T.seen turns.new) ⊎ AwaitsBytes self.old self.new) }
+        ensures unfailed { OnOk result (HasNoFault self.old self.new) }
         ensures number { IfErr result
             (IsNumbered (T.cause (T.setting turns.old)) (T.seen turns.new)) }
     {
@@ -473,6 +481,7 @@ impl<R: ReadTally, W: WriteTally> ClientEngine<R, W> {
             ⊎ ((p ≡ Progress.Ended) × (self.new.stage ≡ Stage.Closed false))) }
         ensures err { IfErr result (λ e. (n : ℕ) × (e ≡ EngineError.TurnRefused n)) }
         ensures idle { IfOk result (λ p. p ≡ Progress.Idle → AwaitsReplies self.new) }
+        ensures unfailed { OnOk result (HasNoFault self.old self.new) }
         ensures number { IfErr result
             (IsNumbered (T.cause (T.setting turns.old)) (T.seen turns.new)) }
     {
@@ -502,6 +511,7 @@ impl<R: ReadTally, W: WriteTally> ClientEngine<R, W> {
         ensures nothing { IfOk result (λ b. b ≡ false
             → HandsNothing (T.cause (T.setting turns.old)) self.old (T.seen turns.old)
             (T.seen turns.new)) }
+        ensures unfailed { HasNoFault self.old self.new }
         ensures number { IfErr result
             (IsNumbered (T.cause (T.setting turns.old)) (T.seen turns.new)) }
     {
@@ -538,6 +548,7 @@ impl<R: ReadTally, W: WriteTally> ClientEngine<R, W> {
         ensures idle { IfOk result (λ p. p ≡ Progress.Idle
             → IsIdle (T.cause (T.setting turns.old)) self.old self.new (T.seen turns.old)
             (T.seen turns.new)) }
+        ensures unfailed { OnOk result (HasNoFault self.old self.new) }
         ensures number { IfErr result
             (IsNumbered (T.cause (T.setting turns.old)) (T.seen turns.new)) }
     {
@@ -589,6 +600,7 @@ impl<R: ReadTally, W: WriteTally> ClientEngine<R, W> {
         ensures idle { IfOk result (λ p. p ≡ Progress.Idle
             → IsIdle (T.cause (T.setting turns.old)) self.old self.new (T.seen turns.old)
             (T.seen turns.new)) }
+        ensures unfailed { OnOk result (HasNoFault self.old self.new) }
         ensures number { IfErr result
             (IsNumbered (T.cause (T.setting turns.old)) (T.seen turns.new)) }
     {

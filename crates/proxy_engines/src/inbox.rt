@@ -222,7 +222,8 @@ impl<R: ReadTally> Inbox<R> {
         ensures values { self.new.values ≡ self.old.values }
         ensures moved { (n : ℕ) → result ≡ Told.Moved n → (self.new.fresh ≢ [])
             × (self.new.counts ≡ self.old.counts) }
-        ensures end { result ≡ Told.End → (self.new.fresh ≡ []) × IsAtEnd self.new.left }
+        ensures end { result ≡ Told.End → (self.new.fresh ≡ []) × IsAtEnd self.new.left
+            × (self.new.counts ≡ self.old.counts) }
         ensures paused { result ≡ Told.Paused → (self.new.fresh ≡ [])
             × HasPaused self.old.counts self.new.counts }
         ensures failed { result ≡ Told.Failed → (self.new.fresh ≡ [])

@@ -65,7 +65,8 @@ impl<W: WriteTally> Outbox<W> {
         ensures bytes { (gave : List ℕ) × Sends self.old self.new gave
             × (is_moved result ≡ has_moved [] gave []) }
         ensures moved { (n : ℕ) → result ≡ Told.Moved n
-            → length self.new.pending < length self.old.pending }
+            → (length self.new.pending < length self.old.pending)
+            × (self.new.counts ≡ self.old.counts) }
         ensures failed { (result ≡ Told.End) ⊎ (result ≡ Told.Failed)
             → HasFailed self.old.counts self.new.counts }
         ensures paused { result ≡ Told.Paused → HasPaused self.old.counts self.new.counts }

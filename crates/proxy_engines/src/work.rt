@@ -1,7 +1,7 @@
 //! What a thread does, from its start to its end.
 ghost use Rattle.std.specs.Prelude.{◌≡◌, ◌⊎◌, Result, Bool, true, None, IfErr, OnOk, ⊤};
 ghost use Rattle.ticket_gate.specs.Journal.{StartsWith};
-ghost use Rattle.proxy_engines.specs.Client.{Goes};
+ghost use Rattle.proxy_engines.specs.Client.{Goes, HasNoFault};
 ghost use Rattle.proxy_engines.specs.Moves.{AsTold};
 ghost use Rattle.proxy_engines.specs.OwnSteps.{own_steps};
 ghost use Rattle.proxy_engines.specs.declared.client.Stage.{Stage};
@@ -58,6 +58,7 @@ impl<Rt: Wait, T: CoreTurns, R: ReadTally, W: WriteTally> Work<Rt> for ClientWor
             × (self.new.engine.stage ≡ Stage.Closed is_cut)) }
         ensures failed { IfErr result (λ e. (e ≡ EngineError.ReadFailed)
             ⊎ (e ≡ EngineError.WriteFailed) → self.new.engine.stage ≡ Stage.Closed true) }
+        ensures unfailed { OnOk result (HasNoFault self.old.engine self.new.engine) }
     {
         for _ in rt.forever() {
             match self.engine.step(rt, &mut self.turns)? {

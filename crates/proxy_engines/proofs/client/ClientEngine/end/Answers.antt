@@ -1,6 +1,6 @@
 use Rattle.proxy_engines.proofs.ClientMoves.{same_goes}
 use Rattle.proxy_engines.specs.Client.{Client}
-use Rattle.proxy_engines.proofs.AnswerLemmas.{if_ok, if_err}
+use Rattle.proxy_engines.proofs.AnswerLemmas.{if_ok, if_err, on_ok}
 use Rattle.std.proofs.Common.{refl, inl, inr, ap}
 use Rattle.proxy_engines.proofs.HostMoves.{starts_same}
 use Rattle.proxy_engines.proofs.client.ClientEngine.end.Goals as goal
@@ -46,3 +46,9 @@ returns-then-self-clause-err g c = tt
 
 pub returns-clause-number : goal.returns-clause-number
 returns-clause-number g c = c.close.ensures.number
+
+pub returns-clause-unfailed : goal.returns-clause-unfailed
+returns-clause-unfailed g c = on_ok _ _ c.close.result (λ p (_, new). rw new (refl, refl)) c.close.ensures.ok
+
+pub returns-then-self-clause-unfailed : goal.returns-then-self-clause-unfailed
+returns-then-self-clause-unfailed g c = (refl, refl)

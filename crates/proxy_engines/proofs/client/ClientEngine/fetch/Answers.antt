@@ -16,13 +16,13 @@ pub returns-in-Ok-clause-stage : goal.returns-in-Ok-clause-stage
 returns-in-Ok-clause-stage g c = ap (λ (e : Client). e.stage) c.self.view_is ∙ c.requires.stage
 
 pub returns-in-Ok-clause-counts : goal.returns-in-Ok-clause-counts
-returns-in-Ok-clause-counts g c = c.next_request.ensures.counts ∙ ap (λ (e : Client). e.inbox.counts) c.self.view_is
+returns-in-Ok-clause-counts g c = (c.next_request.ensures.counts ∙ ap (λ (e : Client). e.inbox.counts) c.self.view_is, ap (λ (e : Client). e.outbox.counts) c.self.view_is)
 
 pub returns-in-Err-clause-stage : goal.returns-in-Err-clause-stage
 returns-in-Err-clause-stage g c = ap (λ (e : Client). e.stage) c.self.view_is ∙ c.requires.stage
 
 pub returns-in-Err-clause-counts : goal.returns-in-Err-clause-counts
-returns-in-Err-clause-counts g c = c.next_request.ensures.counts ∙ ap (λ (e : Client). e.inbox.counts) c.self.view_is
+returns-in-Err-clause-counts g c = (c.next_request.ensures.counts ∙ ap (λ (e : Client). e.inbox.counts) c.self.view_is, ap (λ (e : Client). e.outbox.counts) c.self.view_is)
 
 pub returns-in-Err-clause-some : goal.returns-in-Err-clause-some
 returns-in-Err-clause-some g c = tt

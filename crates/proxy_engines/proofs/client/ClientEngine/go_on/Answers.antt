@@ -1,7 +1,7 @@
 use Rattle.proxy_engines.specs.Moves.{told_by_step}
 use Rattle.std.proofs.lemmas.Result.{IfOk-from_err, err_from_is_err_and}
-use Rattle.proxy_engines.proofs.AnswerLemmas.{if_ok, if_err, idle_for, not_ended, not_cut, not_link, still_not_ended, still_not_cut, still_not_link, end_is, end_not_cut, end_not_link, turn_unread, turn_unwritten, write_unread, write_is, read_unwritten, read_is}
-use Rattle.std.proofs.Common.{◌≡◌, ◌∙◌, [], ap, sym, inl}
+use Rattle.proxy_engines.proofs.AnswerLemmas.{if_ok, if_err, on_ok, idle_for, not_ended, not_cut, not_link, still_not_ended, still_not_cut, still_not_link, end_is, end_not_cut, end_not_link, turn_unread, turn_unwritten, write_unread, write_is, read_unwritten, read_is}
+use Rattle.std.proofs.Common.{◌≡◌, ◌∙◌, [], ap, sym, refl, inl}
 use Rattle.proxy_engines.specs.Client.{Client}
 use Rattle.proxy_engines.proofs.ClientMoves.{told_then}
 use Rattle.proxy_engines.proofs.HostLemmas.{empty_is}
@@ -211,3 +211,21 @@ returns-in-AtEnd-clause-number g c = rw c.has_handed.ensures.setting at c.finish
 
 pub returns-in_default-clause-number : goal.returns-in_default-clause-number
 returns-in_default-clause-number g c = rw c.has_handed.ensures.setting at c.end.ensures.number
+
+pub returns-then-not-is_empty-clause-unfailed : goal.returns-then-not-is_empty-clause-unfailed
+returns-then-not-is_empty-clause-unfailed g c = c.write.ensures.unfailed
+
+pub returns-in_err-has_handed-clause-unfailed : goal.returns-in_err-has_handed-clause-unfailed
+returns-in_err-has_handed-clause-unfailed g c = IfOk-from_err c.from_residual.result _ c.from_residual.ensures.0
+
+pub returns-then-branch-clause-unfailed : goal.returns-then-branch-clause-unfailed
+returns-then-branch-clause-unfailed g c = c.has_handed.ensures.unfailed
+
+pub returns-in-Open-clause-unfailed : goal.returns-in-Open-clause-unfailed
+returns-in-Open-clause-unfailed g c = rw (c.in_ok-has_handed.ensures.same c.if-branch.false) at c.take_in.ensures.unfailed
+
+pub returns-in-AtEnd-clause-unfailed : goal.returns-in-AtEnd-clause-unfailed
+returns-in-AtEnd-clause-unfailed g c = on_ok _ _ c.finish.result (λ p (_, new). rw (new, c.in_ok-has_handed.ensures.same c.if-branch.false) (refl, refl)) c.finish.ensures.ok
+
+pub returns-in_default-clause-unfailed : goal.returns-in_default-clause-unfailed
+returns-in_default-clause-unfailed g c = rw (c.in_ok-has_handed.ensures.same c.if-branch.false) at c.end.ensures.unfailed

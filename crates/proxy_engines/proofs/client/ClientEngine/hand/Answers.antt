@@ -66,3 +66,9 @@ returns-in-Err-clause-err g c = told_turn c.in-Err.denied false c.told_as.result
 pub returns-in-Err-clause-number : goal.returns-in-Err-clause-number
 returns-in-Err-clause-number g c =
     told_number c.in-Err.denied false c.told_as.result c.told_as.ensures (g.T.Turns.cause (g.T.Turns.setting c.args.turns.now)) (Event.Handed c.self.inside.conn) (g.T.Turns.seen c.tell.new.turns) c.in-Err.ensures.cause
+
+pub returns-in-Ok-Bytes-clause-unfailed : goal.returns-in-Ok-Bytes-clause-unfailed
+returns-in-Ok-Bytes-clause-unfailed g c = rw (c.put.ensures, ← c.self.view_is) (refl, refl)
+
+pub returns-in-Err-clause-unfailed : goal.returns-in-Err-clause-unfailed
+returns-in-Err-clause-unfailed g c = (refl, refl)

@@ -55,3 +55,9 @@ returns-clause-err g c = if_err _ _ c.hand.result (λ e (_, turn). turn) c.hand.
 
 pub returns-clause-number : goal.returns-clause-number
 returns-clause-number g c = c.hand.ensures.number
+
+pub returns-clause-unfailed : goal.returns-clause-unfailed
+returns-clause-unfailed g c = c.hand.ensures.unfailed
+
+pub returns-then-self-clause-unfailed : goal.returns-then-self-clause-unfailed
+returns-then-self-clause-unfailed g c = (refl, refl)

@@ -121,3 +121,15 @@ returns-else-is_last-clause-told g c = inl refl
 
 pub returns-else-is_last-clause-held : goal.returns-else-is_last-clause-held
 returns-else-is_last-clause-held g c = λ idle. absurd cc
+
+pub returns-then-is_last-clause-unfailed : goal.returns-then-is_last-clause-unfailed
+returns-then-is_last-clause-unfailed g c = rw (← c.self.view_is) (refl, refl)
+
+pub returns-else-is_last-clause-unfailed : goal.returns-else-is_last-clause-unfailed
+returns-else-is_last-clause-unfailed g c = rw (← c.self.view_is) (refl, refl)
+
+pub returns-in-Err-clause-unfailed : goal.returns-in-Err-clause-unfailed
+returns-in-Err-clause-unfailed g c = rw (← c.self.view_is) (refl, refl)
+
+pub returns-in_default-clause-unfailed : goal.returns-in_default-clause-unfailed
+returns-in_default-clause-unfailed g c = rw (← c.self.view_is) (refl, refl)

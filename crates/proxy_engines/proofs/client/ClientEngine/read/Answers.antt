@@ -1,5 +1,5 @@
 use Rattle.proxy_engines.specs.declared.error.EngineError.{EngineError}
-use Rattle.proxy_engines.specs.Device.{HasFailed}
+use Rattle.proxy_engines.specs.Device.{Counts, HasFailed}
 use Rattle.proxy_engines.specs.Client.{Client}
 use Rattle.proxy_engines.proofs.AnswerLemmas.{cut_told, cut_ok, cut_err, if_ok, if_err}
 use Rattle.std.proofs.Common.{true, false, refl, inl, inr, ◌∙◌, ap}
@@ -125,3 +125,17 @@ returns-in-End-clause-number g c = c.stop_reading.ensures.number
 
 pub returns-in-Failed-clause-number : goal.returns-in-Failed-clause-number
 returns-in-Failed-clause-number g c = numbered_cut _ (Err EngineError.ReadFailed) c.cut.result tt c.cut.ensures.number
+
+pub returns-in-Moved-clause-unfailed : goal.returns-in-Moved-clause-unfailed
+returns-in-Moved-clause-unfailed g c = rw (← c.self.view_is) (ap (λ (n : Counts). n.failed) (c.read_once.ensures.moved _ c.in-Moved.is).1, refl)
+
+pub returns-in-Paused-clause-unfailed : goal.returns-in-Paused-clause-unfailed
+returns-in-Paused-clause-unfailed g c = rw (← c.self.view_is) ((c.read_once.ensures.paused c.in-Paused.is).1.failed, refl)
+
+pub returns-in-End-clause-unfailed : goal.returns-in-End-clause-unfailed
+returns-in-End-clause-unfailed g c =
+    let (_, _, same) = c.read_once.ensures.end c.in-End.is in
+    rw (← c.self.view_is) (if_ok _ _ c.stop_reading.result (λ p (read, written). (read ∙ ap (λ (n : Counts). n.failed) same, written)) c.stop_reading.ensures.unfailed)
+
+pub returns-in-Failed-clause-unfailed : goal.returns-in-Failed-clause-unfailed
+returns-in-Failed-clause-unfailed g c = cut_ok _ _ _ _ _ EngineError.ReadFailed c.cut.result c.cut.ensures.cuts

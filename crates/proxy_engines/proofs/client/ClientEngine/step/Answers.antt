@@ -1,4 +1,4 @@
-use Rattle.proxy_engines.proofs.AnswerLemmas.{if_ok, if_err, cut_told, cut_is, cut_turn, turn_unread, turn_unwritten}
+use Rattle.proxy_engines.proofs.AnswerLemmas.{if_ok, if_err, cut_told, cut_is, cut_turn, cut_unfailed, turn_unread, turn_unwritten}
 use Rattle.std.proofs.Common.{false, refl}
 use Rattle.proxy_engines.proofs.ClientMoves.{same_goes}
 use Rattle.proxy_engines.proofs.HostMoves.{starts_same}
@@ -126,3 +126,15 @@ returns-in-Open-clause-number g c = c.go_on.ensures.number
 
 pub returns-in-Failed-clause-number : goal.returns-in-Failed-clause-number
 returns-in-Failed-clause-number g c = numbered_cut _ (Ok Progress.Cut) c.cut.result tt c.cut.ensures.number
+
+pub returns-in-Closed-true-clause-unfailed : goal.returns-in-Closed-true-clause-unfailed
+returns-in-Closed-true-clause-unfailed g c = (refl, refl)
+
+pub returns-in-Closed-false-clause-unfailed : goal.returns-in-Closed-false-clause-unfailed
+returns-in-Closed-false-clause-unfailed g c = (refl, refl)
+
+pub returns-in-Failed-clause-unfailed : goal.returns-in-Failed-clause-unfailed
+returns-in-Failed-clause-unfailed g c = cut_unfailed _ _ _ _ Progress.Cut c.cut.result c.cut.ensures.cuts
+
+pub returns-in-Open-clause-unfailed : goal.returns-in-Open-clause-unfailed
+returns-in-Open-clause-unfailed g c = c.go_on.ensures.unfailed

@@ -1,5 +1,6 @@
-use Rattle.proxy_engines.proofs.AnswerLemmas.{if_ok, if_err}
+use Rattle.proxy_engines.proofs.AnswerLemmas.{if_ok, if_err, on_ok}
 use Rattle.proxy_engines.specs.Moves.{told_by_step}
+use Rattle.std.proofs.Common.{refl}
 use Rattle.proxy_engines.proofs.ClientMoves.{over_goes, told_then}
 use Rattle.proxy_engines.proofs.client.ClientEngine.stop_reading.Goals as goal
 
@@ -27,3 +28,6 @@ returns-clause-err g c = if_err _ _ c.finish.result (λ e (_, _, turn). turn) c.
 
 pub returns-clause-number : goal.returns-clause-number
 returns-clause-number g c = c.finish.ensures.number
+
+pub returns-clause-unfailed : goal.returns-clause-unfailed
+returns-clause-unfailed g c = on_ok _ _ c.finish.result (λ p (moved, new). rw (new, ← c.self.view_is) (refl, refl)) c.finish.ensures.ok

@@ -59,10 +59,10 @@ pub returns-then-not-branch-clause-ok : goal.returns-then-not-branch-clause-ok
 returns-then-not-branch-clause-ok g c = if_ok _ _ c.read.result (λ p (live, told). (live, moved_or_idle _ p told)) c.read.ensures.ok
 
 pub returns-then-not-branch-clause-err : goal.returns-then-not-branch-clause-err
-returns-then-not-branch-clause-err g c = if_err _ _ c.read.result (λ e told. inr told) (rw c.has_next.ensures.counts at c.read.ensures.err)
+returns-then-not-branch-clause-err g c = if_err _ _ c.read.result (λ e told. inr told) (rw c.has_next.ensures.counts.0 at c.read.ensures.err)
 
 pub returns-then-not-branch-clause-idle : goal.returns-then-not-branch-clause-idle
-returns-then-not-branch-clause-idle g c = if_ok _ _ c.read.result (λ p awaits idle. inr (awaits idle)) (rw c.has_next.ensures.counts at c.read.ensures.idle)
+returns-then-not-branch-clause-idle g c = if_ok _ _ c.read.result (λ p awaits idle. inr (awaits idle)) (rw c.has_next.ensures.counts.0 at c.read.ensures.idle)
 
 pub returns-in_err-has_next-clause-goes : goal.returns-in_err-has_next-clause-goes
 returns-in_err-has_next-clause-goes g c = step-err _ c.from_residual.result c.from_residual.ensures.0 (false, c.has_next.ensures.goes _)
@@ -87,3 +87,15 @@ returns-clause-number g c = c.offer.ensures.number
 
 pub returns-in_err-has_next-clause-number : goal.returns-in_err-has_next-clause-number
 returns-in_err-has_next-clause-number g c = let (_, result_is, error_is) = err_from_is_err_and c.from_residual.result c.from_residual.ensures.1 in rw (result_is, error_is, c.in_err-has_next.ensures.err) tt
+
+pub returns-then-is_to_stop-clause-unfailed : goal.returns-then-is_to_stop-clause-unfailed
+returns-then-is_to_stop-clause-unfailed g c = c.stop_reading.ensures.unfailed
+
+pub returns-in_err-has_next-clause-unfailed : goal.returns-in_err-has_next-clause-unfailed
+returns-in_err-has_next-clause-unfailed g c = IfOk-from_err c.from_residual.result _ c.from_residual.ensures.0
+
+pub returns-then-not-branch-clause-unfailed : goal.returns-then-not-branch-clause-unfailed
+returns-then-not-branch-clause-unfailed g c = rw c.has_next.ensures.counts.1 at (rw c.has_next.ensures.counts.0 at c.read.ensures.unfailed)
+
+pub returns-clause-unfailed : goal.returns-clause-unfailed
+returns-clause-unfailed g c = if_ok _ _ c.offer.result (λ p _. rw c.has_next.ensures.counts.1 at (rw c.has_next.ensures.counts.0 at c.offer.ensures.unfailed)) c.offer.ensures.told

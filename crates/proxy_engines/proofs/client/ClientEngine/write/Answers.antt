@@ -1,8 +1,8 @@
 use Rattle.proxy_engines.specs.declared.error.EngineError.{EngineError}
-use Rattle.proxy_engines.specs.Device.{HasFailed}
+use Rattle.proxy_engines.specs.Device.{Counts, HasFailed}
 use Rattle.proxy_engines.specs.Client.{Client}
 use Rattle.proxy_engines.proofs.AnswerLemmas.{cut_told, cut_ok, cut_err}
-use Rattle.std.proofs.Common.{true, false, refl, inl, inr}
+use Rattle.std.proofs.Common.{true, false, ap, refl, inl, inr}
 use Rattle.proxy_engines.proofs.ClientMoves.{wrote_goes}
 use Rattle.proxy_engines.proofs.HostMoves.{starts_same}
 use Rattle.std.specs.Prelude.{Err}
@@ -73,3 +73,12 @@ returns-in-Paused-clause-ok g c = rw (← c.self.view_is) (refl, inr (refl, c.wr
 
 pub returns-in-End-clause-number : goal.returns-in-End-clause-number
 returns-in-End-clause-number g c = numbered_cut _ (Err EngineError.WriteFailed) c.cut.result tt c.cut.ensures.number
+
+pub returns-in-Moved-clause-unfailed : goal.returns-in-Moved-clause-unfailed
+returns-in-Moved-clause-unfailed g c = rw (← c.self.view_is) (refl, ap (λ (n : Counts). n.failed) (c.write_once.ensures.moved _ c.in-Moved.is).1)
+
+pub returns-in-Paused-clause-unfailed : goal.returns-in-Paused-clause-unfailed
+returns-in-Paused-clause-unfailed g c = rw (← c.self.view_is) (refl, (c.write_once.ensures.paused c.in-Paused.is).failed)
+
+pub returns-in-End-clause-unfailed : goal.returns-in-End-clause-unfailed
+returns-in-End-clause-unfailed g c = cut_ok _ _ _ _ _ EngineError.WriteFailed c.cut.result c.cut.ensures.cuts

@@ -4,6 +4,9 @@ use Rattle.std.proofs.Common.{refl, inl, Some}
 use Rattle.proxy_engines.proofs.HostMoves.{starts_same}
 use Rattle.proxy_engines.proofs.link.Link.send.Goals as goal
 
+pub returns-then-not-is_empty-clause-fault : goal.returns-then-not-is_empty-clause-fault
+returns-then-not-is_empty-clause-fault g c = c.write.ensures.fault
+
 pub returns-then-not-is_empty-clause-goes : goal.returns-then-not-is_empty-clause-goes
 returns-then-not-is_empty-clause-goes g c = c.write.ensures.goes _ _
 
@@ -63,9 +66,6 @@ returns-then-not-is_empty-clause-idle g c = λ still. inl (c.write.ensures.still
 
 pub returns-then-not-is_empty-clause-writer : goal.returns-then-not-is_empty-clause-writer
 returns-then-not-is_empty-clause-writer g c = c.write.ensures.writer
-
-pub returns-then-not-is_empty-clause-fault : goal.returns-then-not-is_empty-clause-fault
-returns-then-not-is_empty-clause-fault g c = c.write.ensures.fault
 
 pub returns-in_err-take-clause-goes : goal.returns-in_err-take-clause-goes
 returns-in_err-take-clause-goes g c = moves-err _ c.from_residual.result c.from_residual.ensures.0 (c.in_err-take.ensures.goes _)
