@@ -39,8 +39,8 @@ write_fault j k P L o b = fault_later j j k ⊥ P ⊥ L refl refl (λ x. absurd 
 
 -- a read, and moves before and after it that make none
 pub read_kept : (i j k l : InboxState) → KeepsReader i j → KeepsReader k l → HasRead j k → HasRead i l
-read_kept i j k l (left, counts) (left', counts') (inl (got, some, took)) = inl (got, some, rw (left', ← left) took)
-read_kept i j k l (left, counts) (left', counts') (inr paused) = inr (rw (counts', ← counts) paused)
+read_kept i j k l (left, counts) (left', counts') (failed, inl (got, some, took)) = (rw (counts', ← counts) failed, inl (got, some, rw (left', ← left) took))
+read_kept i j k l (left, counts) (left', counts') (failed, inr paused) = (rw (counts', ← counts) failed, inr (rw (counts', ← counts) paused))
 
 -- the error of a fault tells of no turn
 pub cause_numbered : (cause : Refusal → Event → List Step → Type 0) (seen : List Step) (on : LineState) (kind : Kind) (error : Option EngineError) (j k : LinkState) (P L : Type 0) → IsCauseOf kind error j k P L → IfErr (answer_of error) (IsNumberedOn cause seen on)

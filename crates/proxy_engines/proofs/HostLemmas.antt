@@ -33,6 +33,11 @@ module _ (U : LineState → LinkState → Type 0) where
   works_told l k last new kind error H I J m moved result goes (inr (kept, same, (n, is))) cause =
       works_left l k last new kind error H I J m moved result goes (ap (λ (z : HostState). z.line) kept) (ap (λ (z : HostState). z.link) kept) (ap (λ (z : HostState). z.fault) kept) same (rw is tt) cause
 
+-- what is said of a link that stays, where none does
+pub no_link : (P : LinkState → LinkState → Type 0) (j k : Option LinkState) → k ≡ None → IfSome j (λ x. IfSome k (P x))
+no_link P None k none = tt
+no_link P (Some x) k none = rw none tt
+
 -- what holds where a fault was recorded and told
 module _ (old new : HostState) (H I : History) (kind : Kind) (m : ℕ) where
   told_ok : (error : Option EngineError) (result : Result Progress EngineError) → TellsFault old new H I kind error m result
@@ -54,6 +59,9 @@ module _ (old new : HostState) (H I : History) (kind : Kind) (m : ℕ) where
   pub told_all : (P : LinkState → Type 0) (error : Option EngineError) (result : Result Progress EngineError) → TellsFault old new H I kind error m result
       → IfOk result (λ p. IfSome new.link P)
   told_all P error result told = if_ok _ _ result (λ p (_, link, _, _). rw link tt) (told_ok error result told)
+
+  pub told_unlinked : (P : LinkState → LinkState → Type 0) (link : Option LinkState) (error : Option EngineError) (result : Result Progress EngineError) → TellsFault old new H I kind error m result → OnOk result (IfSome link (λ j. IfSome new.link (P j)))
+  told_unlinked P link error result told = on_ok _ _ result (λ p (_, none, _, _). no_link P link new.link none) (told_ok error result told)
 
   pub told_recorded : (error : Option EngineError) (result : Result Progress EngineError) → TellsFault old new H I kind error m result → OnOk result (new.fault ≡ None)
   told_recorded error result told = on_ok _ _ result (λ p (_, _, fault, _). fault) (told_ok error result told)

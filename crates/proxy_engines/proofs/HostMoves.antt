@@ -5,7 +5,7 @@ use Rattle.std.specs.Option.{is_some}
 use Rattle.std.specs.Io.KnownBytes.{Consumes, Appends}
 use Rattle.std.proofs.lemmas.Bool.{ne_eqb}
 use Rattle.std.proofs.lemmas.List.{map-append}
-use Rattle.std.proofs.lemmas.List.Elements.{filter-append}
+use Rattle.std.proofs.lemmas.List.Elements.{filter-append, All-append, All-cons, All-nil}
 use Rattle.resp_core.specs.Tree.{Tree}
 use Rattle.resp_core.specs.Value.{tree_of}
 use Rattle.resp_core.specs.Standing.{ReaderState}
@@ -25,7 +25,7 @@ use Rattle.proxy_history.specs.declared.answer.Answer.{Answer}
 use Rattle.proxy_history.proofs.CallerLemmas as history
 use Rattle.proxy_engines.specs.Ends.{InboxState, Holds, HasGivenAll, refusal_requests}
 use Rattle.journal_core.specs.Journal.{step_by}
-use Rattle.proxy_engines.specs.Host.{LineState, LinkState, IsOnLink, CarriesHost, GoesOn, FailsHost, ReadsOn, WritesOn, moments_by, moments_after, waiting_requests, next_link}
+use Rattle.proxy_engines.specs.Host.{LineState, LinkState, IsOnLink, CarriesHost, GoesOn, FailsHost, IsReplyAt, ReadsOn, WritesOn, moments_by, moments_after, waiting_requests, next_link}
 use Rattle.proxy_engines.specs.Moves.{has_moved, AsTold}
 use Rattle.proxy_engines.specs.Faults.{either, told_by_outcome}
 use Rattle.proxy_engines.specs.declared.link.Outcome.{Outcome}
@@ -75,6 +75,7 @@ rests_on l k k' H m reads writes f = record {
   reply_ms = refl;
   epoch = refl;
   moments = refl;
+  replies_at = All-nil (λ (s : Step). IsReplyAt m s.event);
   reads = reads;
   writes = writes;
   carries = λ taken b c. rw (append-nil taken, append-nil b) (record { out_is = c.out_is; link_is = f (replies_from l.host l.epoch H) taken b c.link_is; epoch_is = c.epoch_is; none_sent = c.none_sent; none_came = c.none_came });
@@ -107,6 +108,7 @@ goes_on a b c i j k x y z m f g p q = record {
   reply_ms = q.reply_ms ∙ p.reply_ms;
   epoch = q.epoch ∙ p.epoch;
   moments = q.moments ∙ ap (moments_after m q.steps) p.moments ∙ sym (moments-append m q.steps p.steps a.moments);
+  replies_at = All-append (λ (s : Step). IsReplyAt m s.event) q.steps p.steps q.replies_at p.replies_at;
   reads = reads_then i j k p.got q.got p.reads q.reads;
   writes = writes_then i j k p.gave q.gave p.writes q.writes;
   carries = λ taken r h. rw (← append_assoc taken p.gave q.gave, ← append_assoc r p.got q.got) (q.carries (taken ++ p.gave) (r ++ p.got) (p.carries taken r h));
@@ -173,6 +175,7 @@ module _ (l : LineState) (pass : ℕ) (H : History) (e p m : ℕ) (t : List ℕ)
     reply_ms = refl;
     epoch = refl;
     moments = refl;
+    replies_at = All-cons (λ (s : Step). IsReplyAt m s.event) _ [] tt (All-nil (λ (s : Step). IsReplyAt m s.event));
     reads = reads_none k;
     writes = writes_none k;
     carries = λ taken b c. rw (append-nil taken, append-nil b) (record {
@@ -270,6 +273,7 @@ answered_on l k v pass H a m next = record {
   reply_ms = refl;
   epoch = refl;
   moments = refl;
+  replies_at = All-cons (λ (s : Step). IsReplyAt m s.event) _ [] refl (All-nil (λ (s : Step). IsReplyAt m s.event));
   reads = Consumes-none k.inbox.left;
   writes = Appends-none k.held;
   carries = λ taken b c. rw (append-nil taken, append-nil b) (record {
@@ -310,6 +314,7 @@ wrote_on l k k' gave rest H m moved told inbox next writes split = record {
   reply_ms = refl;
   epoch = refl;
   moments = refl;
+  replies_at = All-nil (λ (s : Step). IsReplyAt m s.event);
   reads = rw inbox (Consumes-none k.inbox.left);
   writes = writes;
   carries = λ taken b c. rw (append-nil b) (record {
@@ -335,6 +340,7 @@ heard_on l k i H m moved told all input same = record {
   reply_ms = refl;
   epoch = refl;
   moments = refl;
+  replies_at = All-nil (λ (s : Step). IsReplyAt m s.event);
   reads = input;
   writes = Appends-none k.held;
   carries = λ taken b c. rw (append-nil taken) (record {

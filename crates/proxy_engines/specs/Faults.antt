@@ -60,9 +60,15 @@ IfFault Outcome.Still P = ⊤
 abbrev pub IsLate : LineState → ℕ → Type 0
 IsLate l m = (first : ℕ) × (rest : List ℕ) × (l.moments ≡ first ∷ rest) × (l.reply_ms ≤ m - first)
 
--- a read was made: it brought bytes, or it paused
+-- a read was made, which didn't fail: it brought bytes, or it paused
 abbrev pub HasRead : InboxState → InboxState → Type 0
-HasRead i i' = ((got : List ℕ) × (got ≢ []) × Consumes i.left i'.left got) ⊎ HasRisen i.counts.paused i'.counts.paused
+HasRead i i' =
+    (i'.counts.failed ≡ i.counts.failed)
+    × (((got : List ℕ) × (got ≢ []) × Consumes i.left i'.left got) ⊎ HasRisen i.counts.paused i'.counts.paused)
+
+-- from one state of a link to the next neither its reader nor its writer has failed
+abbrev pub HasNoFaultOn : LinkState → LinkState → Type 0
+HasNoFaultOn k k' = (k'.inbox.counts.failed ≡ k.inbox.counts.failed) × (k'.counts.failed ≡ k.counts.failed)
 
 -- A reply is late on a link: the oldest part without reply was taken so long ago, though from one state of the link to the next
 -- a read was made, and each value that came was answered.

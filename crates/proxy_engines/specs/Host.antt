@@ -1,12 +1,12 @@
 -- What contracts see of a host's engine, and how it stands to the steps of its caller.
-use Rattle.std.specs.Prelude.{◌≡◌, ◌<◌, ◌+◌, ◌-◌, ◌^◌, min, ℕ, Bool, false, List, [], ◌∷◌, ◌++◌, map, drop, Option, Some, None}
+use Rattle.std.specs.Prelude.{◌≡◌, ◌<◌, ◌+◌, ◌-◌, ◌^◌, min, ⊤, ℕ, Bool, false, All, List, [], ◌∷◌, ◌++◌, map, drop, Option, Some, None}
 use Rattle.std.specs.Io.KnownBytes.{Consumes, Appends}
 use Rattle.resp_core.specs.Tree.{Tree}
 use Rattle.resp_core.specs.Value.{tree_of}
 use Rattle.resp_core.specs.declared.value.Value.{Value}
 use Rattle.resp_core.specs.declared.reader.TheConstants.{HOST_MEMBERS}
 use Rattle.splitter.specs.Request.{Request, read}
-use Rattle.proxy_history.specs.History.{History, times, is_fault, epoch}
+use Rattle.proxy_history.specs.History.{History, Step, times, is_fault, epoch}
 use Rattle.proxy_history.specs.Replies.{replies_from}
 use Rattle.proxy_history.specs.Output.{upstream}
 use Rattle.proxy_history.specs.Own.{host_steps}
@@ -86,8 +86,13 @@ WritesOn None None gave = gave ≡ []
 WritesOn (Some k) (Some k') gave = Appends k.held k'.held gave
 WritesOn k k' gave = ⊥
 
+-- where the event is a reply, it came at this moment
+abbrev pub IsReplyAt : ℕ → Event → Type 0
+IsReplyAt m (Event.Answered h e v t) = t ≡ m
+IsReplyAt m event = ⊤
+
 -- Some moves at one moment, on one link or without one: bytes that were read, bytes that were taken, steps of its host alone
--- that are no faults, whether any of these came, and what is carried.
+-- that are no faults, each reply at that moment, whether any of these came, and what is carried.
 pub record GoesOn (l l' : LineState) (k k' : Option LinkState) (H H' : History) (moment : ℕ) (moved : Bool) : Type 0 where
   pub got : List ℕ
   pub gave : List ℕ
@@ -100,6 +105,7 @@ pub record GoesOn (l l' : LineState) (k k' : Option LinkState) (H H' : History) 
   pub reply_ms : l'.reply_ms ≡ l.reply_ms
   pub epoch : l'.epoch ≡ l.epoch
   pub moments : l'.moments ≡ moments_after moment steps l.moments
+  pub replies_at : All (λ (s : Step). IsReplyAt moment s.event) steps
   pub reads : ReadsOn k k' got
   pub writes : WritesOn k k' gave
   pub carries : (taken b : List ℕ) → CarriesHost l k H taken b → CarriesHost l' k' H' (taken ++ gave) (b ++ got)

@@ -8,7 +8,7 @@ ghost use Rattle.proxy_history.specs.declared.refusal.Refusal.{Refusal};
 ghost use Rattle.proxy_engines.specs.OwnSteps.{own_steps};
 ghost use Rattle.proxy_engines.specs.Turned.{HasHeld};
 ghost use Rattle.proxy_engines.specs.Moves.{AsTold, told_by_turn};
-ghost use Rattle.proxy_engines.specs.Faults.{IsLate, IsNumberedOn, IsPlain};
+ghost use Rattle.proxy_engines.specs.Faults.{HasNoFaultOn, IsLate, IsNumberedOn, IsPlain};
 ghost use Rattle.proxy_engines.specs.Ends.{HasGivenAll};
 ghost use Rattle.proxy_engines.specs.Host.{LinkState, GoesOn, FailsHost, CarriesHost};
 ghost use Rattle.proxy_engines.specs.HostStep.{IsIdleOn, IsUnasked, Records, RestsHost, StepsHost, TellsFault, WorksHost, after_fault, answer_of};
@@ -242,6 +242,8 @@ impl<R: ReadTally + Drop, W: WriteTally + Drop> HostEngine<R, W> {
         ensures all { IfOk result (λ p. IfSome self.new.link
             (λ k. (k.next ≡ None) × HasGivenAll k.inbox)) }
         ensures recorded { OnOk result (self.new.fault ≡ None) }
+        ensures unfailed { OnOk result (IfSome self.old.link
+            (λ j. IfSome self.new.link (HasNoFaultOn j))) }
         ensures in_time { IfOk result (λ _. ¬ IsLate self.new.line moment) }
         ensures idle { IfOk result (λ p. p ≡ Progress.Idle
             → IsIdleOn (HasHeld (T.cause (T.setting turns.old) Refusal.NothingWaiting)
@@ -357,6 +359,8 @@ impl<R: ReadTally + Drop, W: WriteTally + Drop> HostEngine<R, W> {
             (λ _. IfSome self.new.link (λ k. (k.next ≡ None) × HasGivenAll k.inbox))) }
         ensures alone { self.old.link ≡ None → self.new.link ≡ None }
         ensures recorded { OnOk result (self.new.fault ≡ None) }
+        ensures unfailed { OnOk result (IfSome self.old.link
+            (λ j. IfSome self.new.link (HasNoFaultOn j))) }
         ensures in_time { IfOk result (λ _. ¬ IsLate self.new.line moment) }
         ensures idle { IfOk result (λ p. p ≡ Progress.Idle
             → IsIdleOn (HasHeld (T.cause (T.setting turns.old) Refusal.NothingWaiting)
@@ -403,6 +407,8 @@ impl<R: ReadTally + Drop, W: WriteTally + Drop> HostEngine<R, W> {
             → IfSome self.old.link (λ _. IfSome self.new.link
             (λ k. (k.next ≡ None) × HasGivenAll k.inbox))) }
         ensures recorded { OnOk result (self.new.fault ≡ None) }
+        ensures unfailed { OnOk result (IfSome self.old.link
+            (λ j. IfSome self.new.link (HasNoFaultOn j))) }
         ensures in_time { IfOk result (λ _. ¬ IsLate self.new.line moment) }
         ensures idle { IfOk result (λ p. p ≡ Progress.Idle
             → IsIdleOn (HasHeld (T.cause (T.setting turns.old) Refusal.NothingWaiting)

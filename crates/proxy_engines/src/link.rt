@@ -12,7 +12,7 @@ ghost use Rattle.proxy_engines.specs.Turned.{HasHeld};
 ghost use Rattle.proxy_engines.specs.Ends.{HasGivenAll, KeepsReader};
 ghost use Rattle.proxy_engines.specs.Host.{LineState, LinkState, GoesOn};
 ghost use Rattle.proxy_engines.specs.Moves.{AsTold};
-ghost use Rattle.proxy_engines.specs.Faults.{either, is_fault, HasRead, IfFault, IsCauseOf, IsLate, IsLateOn, IsPlain, told_by_moves, told_by_outcome};
+ghost use Rattle.proxy_engines.specs.Faults.{either, is_fault, HasNoFaultOn, HasRead, IfFault, IsCauseOf, IsLate, IsLateOn, IsPlain, told_by_moves, told_by_outcome};
 
 use crate::ask::give;
 use crate::error::EngineError;
@@ -435,6 +435,7 @@ impl<R: ReadTally, W: WriteTally> Link<R, W> {
             × T.cause (T.setting turns.old) Refusal.Unasked
             (Event.Answered line.new.host line.new.epoch v moment) (T.seen turns.new))
             (IsLateOn line.new self.old self.new moment))) }
+        ensures unfailed { IfOk result (λ o. is_fault o ≡ false → HasNoFaultOn self.old self.new) }
         ensures in_time { IfOk result (λ o. is_fault o ≡ false → ¬ IsLate line.new moment) }
         ensures err { OnErr result (self.new.inbox.values.refusal ≡ None) }
         ensures plain { IfErr result

@@ -1,4 +1,6 @@
-use Rattle.proxy_engines.proofs.HostLemmas.{needs_alone}
+use Rattle.proxy_engines.specs.Faults.{HasNoFaultOn}
+use Rattle.proxy_engines.proofs.AnswerLemmas.{any_ok}
+use Rattle.proxy_engines.proofs.HostLemmas.{needs_alone, no_link}
 use Rattle.proxy_engines.proofs.host.HostEngine.go_on.Goals as goal
 
 pub returns-else-is_some-clause-needs_link : goal.returns-else-is_some-clause-needs_link
@@ -42,3 +44,9 @@ returns-then-is_some-clause-number g c = c.go_on_link.ensures.number
 
 pub returns-else-is_some-clause-number : goal.returns-else-is_some-clause-number
 returns-else-is_some-clause-number g c = c.go_on_alone.ensures.number
+
+pub returns-then-is_some-clause-unfailed : goal.returns-then-is_some-clause-unfailed
+returns-then-is_some-clause-unfailed g c = c.go_on_link.ensures.unfailed
+
+pub returns-else-is_some-clause-unfailed : goal.returns-else-is_some-clause-unfailed
+returns-else-is_some-clause-unfailed g c = any_ok _ c.go_on_alone.result (no_link HasNoFaultOn c.args.self.now.link c.go_on_alone.new.self.link c.go_on_alone.ensures.link)

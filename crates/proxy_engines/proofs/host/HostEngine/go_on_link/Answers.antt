@@ -1,10 +1,10 @@
 use Rattle.std.proofs.Common.{Some, true, false, ap, refl, ◌∙◌}
 use Rattle.std.proofs.lemmas.Result.{err_from_is_err_and, IfOk-from_err}
 use Rattle.proxy_history.specs.declared.refusal.Refusal.{Refusal}
-use Rattle.proxy_engines.specs.Faults.{told_by_moves}
+use Rattle.proxy_engines.specs.Faults.{HasNoFaultOn, told_by_moves}
 use Rattle.proxy_engines.specs.HostStep.{HostState}
 use Rattle.proxy_engines.proofs.HostMoves.{some_told, starts_then}
-use Rattle.proxy_engines.proofs.HostLemmas.{works_on, unasked_here, works_told, told_needs, told_all, told_recorded, told_in_time, told_moved}
+use Rattle.proxy_engines.proofs.HostLemmas.{works_on, unasked_here, works_told, told_needs, told_all, told_unlinked, told_recorded, told_in_time, told_moved}
 use Rattle.proxy_engines.proofs.FaultLemmas.{cause_numbered}
 use Rattle.proxy_engines.proofs.NumberLemmas.{numbered_cut}
 use Rattle.proxy_engines.proofs.host.HostEngine.go_on_link.Goals as goal
@@ -143,3 +143,15 @@ pub returns-in-Fault-clause-number : goal.returns-in-Fault-clause-number
 returns-in-Fault-clause-number g c =
     let cause = rw c.in-Fault.is at c.in_ok-attend.ensures.fault in
     numbered_cut _ _ c.tell_fault.result (cause_numbered (g.T.Turns.cause (g.T.Turns.setting c.args.turns.now)) (g.T.Turns.seen c.tell_fault.new.turns) c.tell_fault.new.self.line c.in-Fault.kind c.in-Fault.error _ _ _ _ cause) (rw c.attend.ensures.setting at c.tell_fault.ensures.number)
+
+pub returns-in_err-attend-clause-unfailed : goal.returns-in_err-attend-clause-unfailed
+returns-in_err-attend-clause-unfailed g c = IfOk-from_err c.from_residual.result _ c.from_residual.ensures.0
+
+pub returns-in-Still-clause-unfailed : goal.returns-in-Still-clause-unfailed
+returns-in-Still-clause-unfailed g c = rw (← c.self.view_is, c.in-Some.is) (c.in_ok-attend.ensures.unfailed (rw c.in-Still.is refl))
+
+pub returns-in-Moved-clause-unfailed : goal.returns-in-Moved-clause-unfailed
+returns-in-Moved-clause-unfailed g c = rw (← c.self.view_is, c.in-Some.is) (c.in_ok-attend.ensures.unfailed (rw c.in-Moved.is refl))
+
+pub returns-in-Fault-clause-unfailed : goal.returns-in-Fault-clause-unfailed
+returns-in-Fault-clause-unfailed g c = told_unlinked _ _ _ _ _ _ HasNoFaultOn c.args.self.now.link _ c.tell_fault.result c.tell_fault.ensures.tells

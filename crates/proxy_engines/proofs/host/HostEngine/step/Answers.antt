@@ -5,7 +5,9 @@ use Rattle.std.proofs.Common.{◌∙◌, Ok, sym, ap, inl, ◌≡◌, ◌↔◌}
 use Rattle.std.proofs.lemmas.Result.{IfOk-from_err, err_from_is_err_and}
 use Rattle.proxy_history.specs.declared.refusal.Refusal.{Refusal}
 use Rattle.proxy_engines.specs.HostStep.{HostState, after_fault}
-use Rattle.proxy_engines.proofs.HostLemmas.{steps_after}
+use Rattle.proxy_engines.specs.Faults.{HasNoFaultOn}
+use Rattle.proxy_engines.proofs.AnswerLemmas.{any_ok}
+use Rattle.proxy_engines.proofs.HostLemmas.{no_link, steps_after}
 use Rattle.proxy_engines.proofs.HostMoves.{starts_then}
 use Rattle.proxy_engines.proofs.host.HostEngine.step.Goals as goal
 
@@ -125,3 +127,14 @@ returns-in_err-record_fault-clause-number g c = let (_, result_is, error_is) = e
 
 pub returns-clause-number : goal.returns-clause-number
 returns-clause-number g c = rw c.after_fault.ensures (after_err _ c.go_on-2.result (rw c.record_fault.ensures.setting at c.go_on-2.ensures.number))
+
+pub returns-in_default-clause-unfailed : goal.returns-in_default-clause-unfailed
+returns-in_default-clause-unfailed g c = c.go_on.ensures.unfailed
+
+pub returns-in_err-record_fault-clause-unfailed : goal.returns-in_err-record_fault-clause-unfailed
+returns-in_err-record_fault-clause-unfailed g c = IfOk-from_err c.from_residual.result _ c.from_residual.ensures.0
+
+pub returns-clause-unfailed : goal.returns-clause-unfailed
+returns-clause-unfailed g c =
+    let (_, none, _) = c.in_ok-record_fault.ensures.fails in
+    rw c.after_fault.ensures (after_any _ c.go_on-2.result (any_ok _ c.go_on-2.result (no_link HasNoFaultOn c.args.self.now.link c.go_on-2.new.self.link (c.go_on-2.ensures.alone none))))

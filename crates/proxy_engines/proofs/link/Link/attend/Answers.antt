@@ -202,3 +202,23 @@ returns-clause-all g c = λ _. c.in_ok-received.ensures.all (sym c.is_fault-2.en
 
 pub returns-clause-fault : goal.returns-clause-fault
 returns-clause-fault g c = no_fault c.or.result _ (c.or.ensures.calm (sym c.is_fault.ensures ∙ c.if-is_fault.false) (sym c.is_fault-2.ensures ∙ c.if-is_fault-2.false))
+
+pub returns-in_err-sent-clause-unfailed : goal.returns-in_err-sent-clause-unfailed
+returns-in_err-sent-clause-unfailed g c = IfOk-from_err c.from_residual.result _ c.from_residual.ensures.0
+
+pub returns-then-is_fault-clause-unfailed : goal.returns-then-is_fault-clause-unfailed
+returns-then-is_fault-clause-unfailed g c = λ calm. faulty_calm _ c.in_ok-sent.sent (sym c.is_fault.ensures ∙ c.if-is_fault.true) calm
+
+pub returns-in_err-received-clause-unfailed : goal.returns-in_err-received-clause-unfailed
+returns-in_err-received-clause-unfailed g c = IfOk-from_err c.from_residual-in_err-received.result _ c.from_residual-in_err-received.ensures.0
+
+pub returns-then-is_fault-2-clause-unfailed : goal.returns-then-is_fault-2-clause-unfailed
+returns-then-is_fault-2-clause-unfailed g c = λ calm. faulty_calm _ c.in_ok-received.received (sym c.is_fault-2.ensures ∙ c.if-is_fault-2.true) calm
+
+pub returns-then-is_late-clause-unfailed : goal.returns-then-is_late-clause-unfailed
+returns-then-is_late-clause-unfailed g c = λ calm. absurd cc
+
+pub returns-clause-unfailed : goal.returns-clause-unfailed
+returns-clause-unfailed g c = λ _.
+    let (failed, _) = c.in_ok-received.ensures.reads (sym c.is_fault-2.ensures ∙ c.if-is_fault-2.false) in
+    (rw c.send.ensures.inbox at failed, ap (λ (n : Counts). n.failed) c.receive.ensures.writes ∙ c.in_ok-sent.ensures.writer (sym c.is_fault.ensures ∙ c.if-is_fault.false))

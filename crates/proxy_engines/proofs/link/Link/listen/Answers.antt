@@ -1,4 +1,5 @@
 use Rattle.std.proofs.Common.{ap, true, false, inl, inr}
+use Rattle.proxy_engines.specs.Device.{Counts}
 use Rattle.proxy_engines.specs.Faults.{told_by_outcome}
 use Rattle.proxy_engines.proofs.HostMoves.{heard_on}
 use Rattle.proxy_engines.proofs.MoveLemmas.{as-none}
@@ -20,8 +21,8 @@ pub returns-clause-reads : goal.returns-clause-reads
 returns-clause-reads g c =
     rw (← c.self.view_is)
     (elim c.match-read_once.branch [
-      | in-Moved w ↦ λ _. inl (_, (c.read_once.ensures.moved _ w.in-Moved.is).0, c.read_once.ensures.bytes)
-      | in-Paused w ↦ λ _. inr (c.read_once.ensures.paused w.in-Paused.is).1.paused
+      | in-Moved w ↦ λ _. (ap (λ (n : Counts). n.failed) (c.read_once.ensures.moved _ w.in-Moved.is).1, inl (_, (c.read_once.ensures.moved _ w.in-Moved.is).0, c.read_once.ensures.bytes))
+      | in-Paused w ↦ λ _. ((c.read_once.ensures.paused w.in-Paused.is).1.failed, inr (c.read_once.ensures.paused w.in-Paused.is).1.paused)
       | in-End w ↦ rw w.result-is (λ calm. absurd cc)
       | in-Failed w ↦ rw w.result-is (λ calm. absurd cc)
     ])
