@@ -33,8 +33,8 @@ abbrev pub denied_number : Denied → ℕ
 denied_number Denied.Spent = 1202
 denied_number (Denied.By r) = number_of r
 
--- whether a refusal is an error; none is that the next reply hasn't come, that a command is held back, that no part waits, and
--- that a host has spoken unasked
+-- whether a refusal is an error: each is, but that the next reply hasn't come, that a command is held back, that no part waits,
+-- and that a host has spoken unasked
 abbrev pub is_error : Refusal → Bool
 is_error Refusal.Crowded = false
 is_error Refusal.NothingWaiting = false

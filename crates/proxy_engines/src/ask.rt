@@ -42,8 +42,8 @@ impl Denied {
         }
     }
 
-    /// What an engine tells of it: its error, or this answer where it is none. It is none that the next reply hasn't come, that
-    /// a command is held back, that no part waits, and that a host has spoken unasked.
+    /// What an engine tells of it: its error, or this answer where it is none, since the next reply hasn't come, a command is
+    /// held back, no part waits, or a host has spoken unasked.
     pub(crate) fn told_as<A: Drop>(&self, answer: A) -> Result<A, EngineError>
         ensures { result ≡ told_as self.now answer }
     {
