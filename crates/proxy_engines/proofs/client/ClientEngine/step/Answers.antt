@@ -34,6 +34,9 @@ returns-in-Open-clause-setting g c = c.go_on.ensures.setting
 pub returns-in-Open-clause-seen : goal.returns-in-Open-clause-seen
 returns-in-Open-clause-seen g c = c.go_on.ensures.seen
 
+pub returns-in-Open-clause-unfailed : goal.returns-in-Open-clause-unfailed
+returns-in-Open-clause-unfailed g c = c.go_on.ensures.unfailed
+
 pub returns-in-Open-clause-goes : goal.returns-in-Open-clause-goes
 returns-in-Open-clause-goes g c = c.go_on.ensures.goes
 
@@ -135,6 +138,3 @@ returns-in-Closed-false-clause-unfailed g c = (refl, refl)
 
 pub returns-in-Failed-clause-unfailed : goal.returns-in-Failed-clause-unfailed
 returns-in-Failed-clause-unfailed g c = cut_unfailed _ _ _ _ Progress.Cut c.cut.result c.cut.ensures.cuts
-
-pub returns-in-Open-clause-unfailed : goal.returns-in-Open-clause-unfailed
-returns-in-Open-clause-unfailed g c = c.go_on.ensures.unfailed
