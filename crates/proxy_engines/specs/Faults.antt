@@ -60,7 +60,7 @@ IfFault Outcome.Still P = ⊤
 abbrev pub IsLate : LineState → ℕ → Type 0
 IsLate l m = (first : ℕ) × (rest : List ℕ) × (l.moments ≡ first ∷ rest) × (l.reply_ms ≤ m - first)
 
--- a read was made, which didn't fail: it brought bytes, or it paused
+-- a read was made, which didn't fail: it brought bytes, as far as the reader tells them, or it paused
 abbrev pub HasRead : InboxState → InboxState → Type 0
 HasRead i i' =
     (i'.counts.failed ≡ i.counts.failed)
