@@ -1,37 +1,33 @@
-use Rattle.std.proofs.Common.{◌≡◌, ◌<◌, ◌≤◌, ◌+◌, ◌%◌, ◌++◌, ℕ, List, [], ◌∷◌, refl, inl, inr, arith}
-use Rattle.std.proofs.lemmas.Bool.{cases_lt}
-use Rattle.std.proofs.lemmas.List.Elements.{All-push, Contains-append_left, Contains-append_right}
-use Rattle.serve_parts.specs.Turns.{AreOwn}
+use Rattle.std.proofs.Common.{◌≡◌, ◌==◌, ◌∙◌, ◌+◌, ◌%◌, ◌++◌, ℕ, [], ◌∷◌, if◌then◌else◌, filter, ap, append-nil, sym, inl, inr, arith}
+use Rattle.std.specs.List.{range_with_len}
+use Rattle.std.proofs.lemmas.Bool.{eq-eqb}
+use Rattle.std.proofs.lemmas.Bool.Decides.{eqb_tells}
+use Rattle.std.proofs.lemmas.List.{map-id}
+use Rattle.std.proofs.lemmas.List.FromFn.{filter_of_map_range_with_len_more}
+use Rattle.serve_parts.specs.Turns.{hosts_of}
 
--- no host at all
-pub AreOwn-none : (place workers : ℕ) → AreOwn place workers 0 []
-AreOwn-none place workers = grind (arith)
+-- one host more
+hosts_of-more : (place workers hosts : ℕ) → hosts_of place workers (hosts + 1)
+    ≡ hosts_of place workers hosts ++ (if hosts % workers == place then hosts ∷ [] else [])
+hosts_of-more place workers hosts =
+    let e : 0 + hosts ≡ hosts = omega arith in
+    ap (filter (λ h. h % workers == place)) (sym (map-id (range_with_len 0 (hosts + 1))))
+    ∙ filter_of_map_range_with_len_more (λ h. h % workers == place) (λ h. h) 0 hosts hosts e
+    ∙ ap (λ hs. filter (λ h. h % workers == place) hs ++ (if hosts % workers == place then hosts ∷ [] else []))
+    (map-id (range_with_len 0 hosts))
 
-is_last : (h hosts : ℕ) → h < hosts + 1 → hosts ≤ h → h ≡ hosts
-is_last h hosts below above = grind (arith)
-
-below_next : (h hosts : ℕ) → h < hosts → h < hosts + 1
-below_next h hosts below = grind (arith)
-
--- one host more, that is not the worker's
-pub AreOwn-skip : (place workers hosts : ℕ) (own : List ℕ) → (hosts % workers ≡ place → ⊥) → AreOwn place workers hosts own
-    → AreOwn place workers (hosts + 1) own
-AreOwn-skip place workers hosts own other are = record {
-  only = λ k d within. (below_next _ hosts (are.only k d within).0, (are.only k d within).1);
-  all = λ h below is. elim (cases_lt h hosts) [
-    | inl less ↦ are.all h less is
-    | inr above ↦ absurd (other (rw (← is_last h hosts below above) is))
-  ];
-}
+-- one host more, that isn't the worker's
+pub hosts_of-skip : (place workers hosts : ℕ) → (hosts % workers ≡ place → ⊥)
+    → hosts_of place workers hosts ≡ hosts_of place workers (hosts + 1)
+hosts_of-skip place workers hosts other = elim (eqb_tells (hosts % workers) place) [
+  | inl same ↦ absurd (other same.1)
+  | inr differs ↦ sym (hosts_of-more place workers hosts
+      ∙ ap (λ b. hosts_of place workers hosts ++ (if b then hosts ∷ [] else [])) differs.0
+      ∙ append-nil (hosts_of place workers hosts))
+]
 
 -- one host more, that is the worker's
-pub AreOwn-take : (place workers hosts : ℕ) (own : List ℕ) → hosts % workers ≡ place → AreOwn place workers hosts own
-    → AreOwn place workers (hosts + 1) (own ++ hosts ∷ [])
-AreOwn-take place workers hosts own is_own are = record {
-  only = All-push (λ h. (h < hosts + 1) × (h % workers ≡ place)) own hosts
-      (λ k d within. (below_next _ hosts (are.only k d within).0, (are.only k d within).1)) (grind (arith), is_own);
-  all = λ h below is. elim (cases_lt h hosts) [
-    | inl less ↦ Contains-append_left own (hosts ∷ []) h (are.all h less is)
-    | inr above ↦ rw (is_last h hosts below above) (Contains-append_right own (hosts ∷ []) hosts (0, grind (arith), refl))
-  ];
-}
+pub hosts_of-take : (place workers hosts : ℕ) → hosts % workers ≡ place
+    → hosts_of place workers hosts ++ hosts ∷ [] ≡ hosts_of place workers (hosts + 1)
+hosts_of-take place workers hosts is_own = sym (hosts_of-more place workers hosts
+    ∙ ap (λ b. hosts_of place workers hosts ++ (if b then hosts ∷ [] else [])) (eq-eqb (hosts % workers) place is_own))

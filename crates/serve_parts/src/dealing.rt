@@ -1,6 +1,6 @@
 //! Which worker gets what: new sockets in turn, and hosts by their numbers.
 ghost use Rattle.std.specs.Prelude.{◌≡◌, ◌<◌, ◌+◌, ◌%◌, IfOk};
-ghost use Rattle.serve_parts.specs.Turns.{AreOwn};
+ghost use Rattle.serve_parts.specs.Turns.{hosts_of};
 
 use std::alloc::{AllocError, Global};
 use std::marker::Model;
@@ -48,7 +48,8 @@ impl Rota {
     }
 }
 
-/// The numbers of a worker's hosts, of so many: each one that leaves the worker's place behind, and no other.
+/// The numbers of a worker's hosts, of so many: each one that leaves the worker's place behind, once, and no other, from the
+/// lowest on.
 ///
 /// Refused where there is no memory.
 pub fn own_hosts(
@@ -58,7 +59,7 @@ pub fn own_hosts(
     hosts: usize,
 ) -> Result<Vec<usize>, AllocError>
     requires { 0 < workers }
-    ensures { IfOk result (λ own. AreOwn place workers hosts own.items) }
+    ensures { IfOk result (λ own. own.items ≡ hosts_of place workers hosts) }
 {
     let mut own = Vec::new(alloc);
     for host in 0..hosts {
