@@ -1,6 +1,8 @@
-use Rattle.std.proofs.Common.{◌≡◌, ◌∙◌, ◌++◌, ◌+◌, ℕ, List, [], Option, Some, None, take, drop, take-append-drop, ap, append_assoc, append-nil, sym, arith}
+use Rattle.std.proofs.Common.{◌≡◌, ◌∙◌, ◌++◌, ◌+◌, ℕ, List, [], Option, Some, None, Result, Ok, Err, OnOk, Bool, ◌&&◌, ◌==◌, not, true, false, take, drop, take-append-drop, ap, append_assoc, append-nil, sym, arith, length, refl}
+use Rattle.std.proofs.Math.Bool.{and-false}
+use Rattle.std.proofs.Math.Seq.{take-length}
 use Rattle.std.proofs.lemmas.List.{drop-drop}
-use Rattle.std.specs.Io.KnownBytes.{Appends}
+use Rattle.std.specs.Io.KnownBytes.{Appends, Keeps, WriteAppends}
 use Rattle.serve_parts.specs.Outgoing.{Outgoing, GoesOut}
 
 -- nothing was taken
@@ -14,6 +16,22 @@ Appends-append None b c g h x y = tt
 Appends-append (Some xs) None c g h x y = absurd x
 Appends-append (Some xs) (Some ys) None g h x y = absurd y
 Appends-append (Some xs) (Some ys) (Some zs) g h x y = grind (arith, append_assoc)
+
+-- a write behind one that took nothing
+pub Keeps-write : {E : Type 0} (a b c : Option (List ℕ)) (r : Result ℕ E) (bytes : List ℕ) → Keeps a b → WriteAppends b c r bytes → WriteAppends a c r bytes
+Keeps-write None b c (Ok n) bytes kept wrote = tt
+Keeps-write None b c (Err e) bytes kept wrote = tt
+Keeps-write (Some xs) None c r bytes kept wrote = absurd kept
+Keeps-write (Some xs) (Some ys) None (Ok n) bytes kept wrote = absurd wrote
+Keeps-write (Some xs) (Some ys) None (Err e) bytes kept wrote = absurd wrote
+Keeps-write (Some xs) (Some ys) (Some zs) (Ok n) bytes kept wrote = grind (arith, kept, wrote)
+Keeps-write (Some xs) (Some ys) (Some zs) (Err e) bytes kept wrote = grind (arith, kept, wrote)
+
+-- a further write that took nothing
+pub Keeps-interrupted : {E : Type 0} (a b c : Option (List ℕ)) (r : Result ℕ E) (bytes : List ℕ) (again : Bool) → Keeps a b → WriteAppends b c r bytes
+    → OnOk r (again ≡ false) → again ≡ true → Keeps a c
+Keeps-interrupted a b c (Ok n) bytes again kept wrote ok is_so = absurd (grind (arith, ok, is_so))
+Keeps-interrupted a b c (Err e) bytes again kept wrote ok is_so = Keeps-write a b c (Err e) bytes kept wrote
 
 -- nothing happened
 pub GoesOut-none : (a : Outgoing) → GoesOut a a []
@@ -33,3 +51,13 @@ pub drop-written : (written count : ℕ) (bytes : List ℕ) → take count (drop
 drop-written written count bytes =
     ap (λ t. take count (drop written bytes) ++ t) (sym (drop-drop count written bytes))
     ∙ take-append-drop count (drop written bytes) ∙ sym (append-nil (drop written bytes))
+
+-- where a write failed there is nothing to write
+pub may_write-broken : (is_open : Bool) (n : ℕ) → (is_open && not true && not (n == 0)) ≡ false
+may_write-broken is_open n = rw (and-false is_open) refl
+
+-- what was gathered before goes out, and then these bytes are gathered
+pub GoesOut-gather : (a b c : Outgoing) (bytes : List ℕ) → GoesOut a b [] → c ≡ record b { gathered = b.gathered ++ bytes }
+    → GoesOut a c (take (length bytes) bytes)
+GoesOut-gather a b c bytes out is = rw (is, take-length bytes)
+    (GoesOut-then a b (record b { gathered = b.gathered ++ bytes }) bytes out ([], Appends-none b.held, refl))

@@ -4,6 +4,8 @@
 
 mod dealing;
 mod gatherer;
+mod laws;
 
 pub use dealing::{Rota, own_hosts};
-pub use gatherer::{Gatherer, MOST_GATHERED};
+pub use gatherer::{Gatherer, MAX_GATHERED};
+pub use laws::gathered_is_limited;
