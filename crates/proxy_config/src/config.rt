@@ -1,5 +1,6 @@
 //! The settings.
-ghost use Rattle.std.specs.Prelude.{◌≡◌, ℕ, IfOk, IfErr, map, max};
+ghost use Rattle.std.specs.Prelude.{◌≡◌, ◌⊎◌, ℕ, IfOk, IfErr, codes, map, max};
+ghost use Rattle.serde_json.specs.Errors.{IsMemory};
 ghost use Rattle.serde_json.specs.Find.{get};
 ghost use Rattle.serde_json.specs.View.{view};
 ghost use Rattle.ketama.specs.Ketama.{IsKetamaRing};
@@ -101,8 +102,7 @@ impl Config {
     {
         let file = match Value::from_slice(alloc, bytes) {
             Ok(file) => file,
-            Err(error) if error.is_memory() => return Err(ConfigError::Memory),
-            Err(_) => return Err(ConfigError::Fault("json")),
+            Err(error) => return Err(told_of(&error)),
         };
         let Some(members) = file.as_object() else {
             return Err(ConfigError::Fault("json"));
@@ -170,6 +170,17 @@ impl Config {
             panic_percent,
         })
     }
+}
+
+// What is told of bytes of which no JSON was read.
+fn told_of(error: &serde_json::Error) -> ConfigError
+    ensures { (IsMemory error.now × (result ≡ ConfigError.Memory))
+        ⊎ ((¬ IsMemory error.now) × IsFault result (codes "json")) }
+{
+    if error.is_memory() {
+        return ConfigError::Memory;
+    }
+    ConfigError::Fault("json")
 }
 
 // The number at `max_ms`, which is `base_ms` at least.

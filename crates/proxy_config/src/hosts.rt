@@ -1,5 +1,5 @@
 //! The hosts of the settings file.
-ghost use Rattle.std.specs.Prelude.{◌≡◌, ◌↔◌, Some, List, IsTrue, IfOk, IfErr, codes, Any, AllPairs, ◌≢◌};
+ghost use Rattle.std.specs.Prelude.{◌≡◌, ◌↔◌, ◌≤◌, Some, List, length, IsTrue, IfOk, IfErr, codes, Any, AllPairs, ◌≢◌};
 ghost use Rattle.serde_json.specs.Data.{array};
 ghost use Rattle.serde_json.specs.Find.{get};
 ghost use Rattle.serde_json.specs.View.{view, items_view};
@@ -20,6 +20,9 @@ pub(crate) fn hosts(alloc: Global, file: &Value) -> Result<Vec<Host>, ConfigErro
     ensures fault { IfErr result (λ e. ¬ (e ≡ ConfigError.Memory) → IsFault e (codes "hosts")) }
     ensures none { IfErr result (λ e. ¬ (e ≡ ConfigError.Memory)
         → (hosts : List Host) → ¬ AreHosts (get (codes "hosts") (view file.now)) hosts) }
+    ensures memory { IfErr result (λ e. e ≡ ConfigError.Memory → (entries : List Value)
+        × (get (codes "hosts") (view file.now) ≡ Some (array (items_view entries)))
+        × (1 ≤ length entries) × (length entries ≤ 64)) }
 {
     match file.get("hosts").and_then(Value::as_array) {
         Some(entries) => hosts_in(alloc, entries),
@@ -34,6 +37,8 @@ fn hosts_in(alloc: Global, entries: &[Value]) -> Result<Vec<Host>, ConfigError>
     ensures fault { IfErr result (λ e. ¬ (e ≡ ConfigError.Memory) → IsFault e (codes "hosts")) }
     ensures none { IfErr result (λ e. ¬ (e ≡ ConfigError.Memory)
         → (hosts : List Host) → ¬ AreHosts (Some (array (items_view entries.now))) hosts) }
+    ensures memory { IfErr result (λ e. e ≡ ConfigError.Memory
+        → (1 ≤ length entries.now) × (length entries.now ≤ 64)) }
 {
     if entries.is_empty() || entries.len() > MAX_HOSTS {
         return Err(ConfigError::Fault("hosts"));
@@ -53,6 +58,8 @@ fn host(alloc: Global, entry: &Value) -> Result<Host, ConfigError>
     ensures fault { IfErr result (λ e. ¬ (e ≡ ConfigError.Memory) → IsFault e (codes "hosts")) }
     ensures none { IfErr result (λ e. ¬ (e ≡ ConfigError.Memory)
         → (h : Host) → ¬ ((view entry.now ≡ host_data h) × IsHost h)) }
+    ensures memory { IfErr result (λ e. e ≡ ConfigError.Memory
+        → (h : Host) × (view entry.now ≡ host_data h) × IsHost h) }
 {
     let Some(text) = entry.as_str() else {
         return Err(ConfigError::Fault("hosts"));

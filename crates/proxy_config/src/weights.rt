@@ -1,5 +1,5 @@
 //! The weights of the settings file.
-ghost use Rattle.std.specs.Prelude.{◌≡◌, ◌≤◌, ℕ, List, length, replicate, IfOk, IfErr, All, codes};
+ghost use Rattle.std.specs.Prelude.{◌≡◌, ◌≤◌, ◌⊎◌, None, Some, ℕ, List, length, replicate, IfOk, IfErr, All, codes};
 ghost use Rattle.serde_json.specs.Data.{array};
 ghost use Rattle.serde_json.specs.Find.{get};
 ghost use Rattle.serde_json.specs.View.{view, items_view};
@@ -20,6 +20,10 @@ pub(crate) fn weights(alloc: Global, file: &Value, hosts: &[Host]) -> Result<Vec
     ensures fault { IfErr result (λ e. ¬ (e ≡ ConfigError.Memory) → IsFault e (codes "weights")) }
     ensures none { IfErr result (λ e. ¬ (e ≡ ConfigError.Memory) → (weights : List ℕ)
         → ¬ AreWeightsOr (length hosts.now) (get (codes "weights") (view file.now)) weights) }
+    ensures memory { IfErr result (λ e. e ≡ ConfigError.Memory
+        → (get (codes "weights") (view file.now) ≡ None) ⊎ ((entries : List Value)
+        × (get (codes "weights") (view file.now) ≡ Some (array (items_view entries)))
+        × (length entries ≡ length hosts.now))) }
 {
     let Some(value) = file.get("weights") else {
         return Ok(vec![in alloc; 1; hosts.len()]?);
@@ -37,6 +41,7 @@ fn weights_in(alloc: Global, entries: &[Value], hosts: usize) -> Result<Vec<u32>
     ensures fault { IfErr result (λ e. ¬ (e ≡ ConfigError.Memory) → IsFault e (codes "weights")) }
     ensures none { IfErr result (λ e. ¬ (e ≡ ConfigError.Memory) → (weights : List ℕ)
         → ¬ AreWeightsOr hosts (Some (array (items_view entries.now))) weights) }
+    ensures memory { IfErr result (λ e. e ≡ ConfigError.Memory → length entries.now ≡ hosts) }
 {
     if entries.len() != hosts {
         return Err(ConfigError::Fault("weights"));
