@@ -1,4 +1,5 @@
 pub mod BytesLemmas
+mod StubLemmas
 pub mod MoveLemmas
 pub mod EndLemmas
 pub mod RunLemmas

@@ -3,8 +3,10 @@
 
 mod announced;
 mod ending;
+mod laws;
 mod local;
 mod stubs;
 
 pub use ending::Ending;
+pub use laws::steps_are_limited;
 pub use local::local_run;

@@ -1,12 +1,12 @@
 //! One client, answered from a reader to a writer, with three hosts in memory behind it.
-ghost use Rattle.std.specs.Prelude.{◌≡◌, ◌∷◌, [], IfOk, OnOk, false};
+ghost use Rattle.std.specs.Prelude.{◌≡◌, ◌≢◌, ◌+◌, ◌∷◌, [], IfOk, IfErr, OnOk, false};
 ghost use Rattle.std.specs.Io.Buffered.{writer_contents};
 ghost use Rattle.std.specs.Io.KnownBytes.{Keeps, append_known};
 ghost use Rattle.proxy_core.specs.Recorded.{journal_of, made_with};
 ghost use Rattle.journal_core.specs.Journal.{step_by};
 ghost use Rattle.proxy_history.specs.declared.answer.Answer.{Answer};
 ghost use Rattle.proxy_history.specs.declared.event.Event.{Event};
-ghost use Rattle.proxy_engines.specs.Client.{Carries};
+ghost use Rattle.proxy_engines.specs.Client.{Carries, Client};
 ghost use Rattle.proxy_engines.specs.OwnSteps.{own_steps};
 ghost use Rattle.proxy_engines.specs.declared.client.Stage.{Stage};
 ghost use Rattle.proxy_run.specs.Local.{RunsLocal};
@@ -23,7 +23,7 @@ use std::sync::Wait;
 use ticket_gate::Alone;
 
 // Steps that all engines of a run make together, at most.
-const MAX_STEPS: u32 = 1_073_741_824;
+pub(crate) const MAX_STEPS: u32 = 1_073_741_824;
 
 // Bytes of replies that are gathered before they are written, at most.
 const MAX_GATHERED: usize = 65_536;
@@ -61,9 +61,8 @@ pub fn local_run<Rt: Wait, R: Read + Drop, W: Write + Drop>(
 {
     let mut turns = Alone::new(stub_core(alloc)?, PASS);
     let mut hosts = stub_engines(alloc)?;
-    let mut client = open_client(rt, alloc, &mut turns, reader, writer)?;
-    let ran = run_client(rt, &mut turns, &mut client, hosts.as_mut_slice());
-    let writer = written_out(client.into_writer())?;
+    let client = open_client(rt, alloc, &mut turns, reader, writer)?;
+    let (ran, writer) = run_to_end(rt, &mut turns, client, hosts.as_mut_slice())?;
     ran?;
     Ok(writer)
 }
@@ -94,9 +93,38 @@ fn open_client<Rt: Wait, T: CoreTurns, R: Read + Drop, W: Write + Drop>(
     Ok(ClientEngine::open(rt, alloc, turns, reader, Tallied::new(output))?)
 }
 
+// Runs the client until it ends, and then writes what was gathered, however it ended: how it ended, and the writer.
+fn run_to_end<
+    Rt: Wait,
+    R: ReadTally + Drop,
+    W: Write + Drop,
+    P: ReadTally + Drop,
+    Q: WriteTally + Drop,
+>(
+    rt: &Rt,
+    turns: &mut Alone<Core>,
+    client: ClientEngine<R, Output<W>>,
+    hosts: &mut [HostEngine<P, Q>],
+) -> Result<(Result<(), Ending>, W), Ending>
+    ensures pass { turns.new.pass ≡ turns.old.pass }
+    ensures setting { made_with turns.new.state ≡ made_with turns.old.state }
+    ensures runs { IfOk result (λ r. (last : Client) × Keeps last.outbox.held (W.contents r.1)
+        × OnOk r.0 (GoesBeside client last
+        (own_steps turns.old.pass (journal_of turns.old.state))
+        (own_steps turns.old.pass (journal_of turns.new.state))
+        × (last.stage ≡ Stage.Closed false))) }
+    ensures err { IfErr result (λ e. e ≡ Ending.Socket) }
+{
+    let mut client = client;
+    let ran = run_client(rt, turns, &mut client, hosts);
+    let writer = written_out(client.into_writer())?;
+    Ok((ran, writer))
+}
+
 // The writer, once it has taken all that was gathered for it.
 fn written_out<W: Write + Drop>(output: Output<W>) -> Result<W, Ending>
-    ensures { IfOk result (λ w. Keeps (writer_contents W.contents output.inner) (W.contents w)) }
+    ensures ok { IfOk result (λ w. Keeps (writer_contents W.contents output.inner) (W.contents w)) }
+    ensures err { IfErr result (λ e. e ≡ Ending.Socket) }
 {
     let Ok(mut writer) = output.into_inner().into_inner() else {
         return Err(Ending::Socket);
@@ -183,6 +211,7 @@ fn step_client<Rt: Wait, T: CoreTurns, R: ReadTally + Drop, W: WriteTally + Drop
         (own_steps (T.pass turns.old) (T.seen turns.old))
         (own_steps (T.pass turns.old) (T.seen turns.new))) }
     ensures ended { IfOk result (λ p. p ≡ Progress.Ended → client.new.stage ≡ Stage.Closed false) }
+    ensures cut { IfOk result (λ p. p ≢ Progress.Cut) }
 {
     spend(left)?;
     let progress = client.step(rt, turns)?;
@@ -261,7 +290,10 @@ fn step_host<Rt: Wait, T: CoreTurns, P: ReadTally + Drop, Q: WriteTally + Drop>(
 }
 
 // Takes one of the steps that are left.
-fn spend(left: &mut u32) -> Result<(), Ending> {
+fn spend(left: &mut u32) -> Result<(), Ending>
+    ensures ok { OnOk result (left.new + 1 ≡ left.old) }
+    ensures err { IfErr result (λ e. (left.old ≡ 0) × (e ≡ Ending.Socket)) }
+{
     if *left == 0 {
         return Err(Ending::Socket);
     }

@@ -1,5 +1,5 @@
 //! Three hosts in memory, the core that knows them, and their engines.
-ghost use Rattle.std.specs.Prelude.{◌≡◌, [], IfOk, IfErr};
+ghost use Rattle.std.specs.Prelude.{◌≡◌, [], ◌∷◌, map, IfOk, IfErr};
 ghost use Rattle.ketama.specs.HostName.{IsHostName};
 ghost use Rattle.ketama.specs.Ketama.{IsKetamaRing};
 ghost use Rattle.proxy_run.specs.Stubs.{IsOfStubs, stub_names, stub_weights};
@@ -64,8 +64,9 @@ fn host_name(alloc: Global, bytes: &[u8]) -> Result<HostName, Ending>
     }
 }
 
-/// The hosts' engines, each with a link to a host in memory whose map is empty.
+/// The hosts' engines, in the order of their numbers, each with a link to a host in memory whose map is empty.
 pub(crate) fn stub_engines(alloc: Global) -> Result<Vec<StubEngine>, Ending>
+    ensures hosts { IfOk result (λ es. map (λ e. e.line.host) es.items ≡ 0 ∷ 1 ∷ 2 ∷ []) }
     ensures err { IfErr result (λ e. e ≡ Memory) }
 {
     let mut engines = Vec::with_capacity(alloc, HOSTS)?;
@@ -77,6 +78,7 @@ pub(crate) fn stub_engines(alloc: Global) -> Result<Vec<StubEngine>, Ending>
 
 // The engine of one host, with a link to a host in memory whose map is empty.
 fn stub_engine(alloc: Global, host: usize) -> Result<StubEngine, Ending>
+    ensures host { IfOk result (λ e. e.line.host ≡ host) }
     ensures err { IfErr result (λ e. e ≡ Memory) }
 {
     let (reader, writer) = stub_ends(alloc)?;

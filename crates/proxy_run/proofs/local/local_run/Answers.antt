@@ -11,10 +11,12 @@ returns g c =
     let last = c.turns-3 in
     let opened = rw c.new-turns.ensures at c.in_ok-client.ensures.opened in
     let begins = rw c.new-turns.ensures at c.in_ok-client.ensures.carries in
-    let ran = RunsLocal-alone c.in_ok-stub_core.field-0 c.open_client.new.turns c.run_client-ran.new.turns _ c.in_ok-client.client c.run_client-ran.new.client
+    let (client, kept, ended) = c.in_ok-ran.ensures.runs in
+    let (goes, closed) = rw c.in_ok-ran-2.was at ended in
+    let ran = RunsLocal-alone c.in_ok-stub_core.field-0 c.open_client.new.turns c.run_to_end.new.turns _ c.in_ok-client.client client
     c.in_ok-stub_core.ensures.empty c.in_ok-stub_core.ensures.setting opened (rw c.new-turns.ensures at c.in_ok-client.ensures.pass) (rw c.new-turns.ensures at c.in_ok-client.ensures.setting)
-    begins c.in_ok-client.ensures.reads c.in_ok-ran.ensures.goes c.in_ok-ran.ensures.ended c.in_ok-ran.ensures.pass c.in_ok-ran.ensures.setting
+    begins c.in_ok-client.ensures.reads goes closed c.in_ok-ran.ensures.pass c.in_ok-ran.ensures.setting
     (subst (λ (t : AloneFacts Proxy). IsLegalJournal (made_with t.state) (journal_of t.state)) last.view_is last.invariant.is_legal)
     (subst (λ (t : AloneFacts Proxy). steps_of t.pass (journal_of t.state) ≡ journal_of t.state) last.view_is last.invariant.own) in
     let begun = rw (c.in_ok-client.ensures.ends.0, c.in_ok-client.ensures.ends.1) at ran in
-    record { runs = RunsLocal-written _ _ _ _ begun (rw c.into_writer.ensures at c.in_ok-writer.ensures) }
+    record { runs = RunsLocal-written _ _ _ _ begun kept }

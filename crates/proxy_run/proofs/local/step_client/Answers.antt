@@ -1,3 +1,4 @@
+use Rattle.std.proofs.Common.{rules}
 use Rattle.proxy_run.proofs.MoveLemmas.{GoesBeside-goes, GoesBeside-then, GoesBeside-told}
 use Rattle.proxy_run.proofs.local.step_client.Goals as goal
 
@@ -10,4 +11,5 @@ returns-in_default g c = record {
   setting = c.step.ensures.setting;
   goes = GoesBeside-told _ _ _ _ _ c.step.ensures.goes;
   ended = c.in_ok-progress.ensures.ended;
+  cut = search rules;
 }
