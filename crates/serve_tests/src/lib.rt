@@ -1,5 +1,10 @@
-//! The tests of serving that need marks of their own, with all ends in one process: clients on sockets of the loopback.
+//! The tests of serving that need marks of their own, or that the gate is to run, with all ends in one process: clients and hosts
+//! on sockets of the loopback.
 #![tactic(auto)]
 
+#[cfg(test)]
+mod host_tests;
+#[cfg(test)]
+mod rig;
 #[cfg(test)]
 mod serving_tests;

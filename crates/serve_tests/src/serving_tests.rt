@@ -1,10 +1,10 @@
 //! Generations of few steps, and of as many as a journal holds, with all ends in one process.
+use crate::rig::{PING, PONG, anywhere, say, serve};
 use mio::net::TcpListener;
-use proxy_config::Config;
-use proxy_serve::{Marks, serve_run};
+use proxy_serve::Marks;
 use std::alloc::Global;
 use std::io::{Read, Write};
-use std::net::{Ipv4Addr, Net, SocketAddr, TcpStream};
+use std::net::{Net, SocketAddr, TcpStream};
 use std::rt::Clock;
 use std::sync::Wait;
 use std::test::Fail;
@@ -12,29 +12,6 @@ use std::thread::{Threads, join};
 use std::{io, net};
 
 const SETTINGS: &[u8] = b"{\"hosts\":[\"127.0.0.1:1\"],\"workers\":2}";
-
-const PING: &[u8] = b"*1\r\n$4\r\nPING\r\n";
-
-const PONG: &[u8] = b"+PONG\r\n";
-
-// Serves so many connections, and tells whether it ended well.
-fn serve<
-    R: AllocGlobal
-        + Threads
-        + Wait
-        + Net<Listener = net::TcpListener, Stream = TcpStream>
-        + Clock
-        + Eprint
-        + Sync,
->(rt: &R, listener: TcpListener, connections: usize, marks: Marks, line: &mut Vec<u8>) -> bool {
-    let alloc = rt.alloc();
-    match Config::read(alloc, SETTINGS) {
-        Ok(config) => {
-            serve_run(rt, alloc, listener, config, connections as u64, marks, line).is_ok()
-        }
-        Err(_) => false,
-    }
-}
 
 // Reads so many bytes. False says that the connection ended before.
 fn hears(mut wire: &TcpStream, bytes: usize) -> bool {
@@ -84,7 +61,7 @@ fn ask_each<R: Net<Listener = net::TcpListener, Stream = TcpStream> + AllocGloba
 }
 
 // Serves such clients by these marks, one after the other of each list, and of the two lists side by side: how often each was
-// answered, and the last line.
+// answered, those of the second list last, and the last line.
 fn run<
     R: AllocGlobal
         + Threads
@@ -99,13 +76,13 @@ fn run<
     exchange: (&[u8], usize),
     (times, beside): (&[u32], &[u32]),
 ) -> Result<(Vec<u32>, Vec<u8>), Fail> {
-    let listener = TcpListener::bind(rt, SocketAddr::from((Ipv4Addr::LOCALHOST, 0)))?;
+    let listener = TcpListener::bind(rt, anywhere())?;
     let address = listener.local_addr()?;
     let connections = times.len().saturating_add(beside.len());
     let mut line = Vec::new(rt.alloc());
     let (has_served, (answered, others)) = join(
         rt,
-        || serve(rt, listener, connections, marks, &mut line),
+        || serve(rt, listener, SETTINGS, (connections, marks), &mut line),
         || {
             join(
                 rt,
@@ -114,11 +91,12 @@ fn run<
             )
         },
     );
-    if has_served && others.is_ok() {
-        Ok((answered?, line))
-    } else {
-        Err("it ends with an error".into())
+    if !has_served {
+        return Err("it ends with an error".into());
     }
+    let mut all = answered?;
+    all.extend_from_slice(others?.as_slice())?;
+    Ok((all, line))
 }
 
 // How many commands the last line tells as accepted and handed out, if they are as many and no host was asked.
@@ -173,7 +151,7 @@ fn pipelining_clients_go_on(rt: HostRuntime) -> Result<(), Fail> {
     let asked = pings(rt.alloc(), 10)?;
     let exchange = (asked.as_slice(), 10 * PONG.len());
     let (answered, line) = run(&rt, FEW, exchange, (&[TIMES; 4], &[TIMES; 4]))?;
-    assert!(&rt; sum(answered.as_slice()) == 4 * TIMES);
+    assert!(&rt; sum(answered.as_slice()) == 8 * TIMES);
     assert!(&rt; handed(line.as_slice()) == Some(80 * TIMES));
     Ok(())
 }
@@ -191,5 +169,47 @@ fn full_journal_is_followed_by_another(rt: HostRuntime) -> Result<(), Fail> {
     let (answered, line) = run(&rt, marks, exchange, (&[300, 10], &[]))?;
     assert!(&rt; answered.as_slice() == [300, 10].as_slice());
     assert!(&rt; handed(line.as_slice()) == Some(310_000));
+    Ok(())
+}
+
+// Three clients of twenty commands each, two of them side by side.
+#[test]
+fn three_clients_get_twenty_each(rt: HostRuntime) -> Result<(), Fail> {
+    let (answered, line) = run(&rt, FEW, (PING, PONG.len()), (&[20, 20], &[20]))?;
+    assert!(&rt; answered.as_slice() == [20, 20, 20].as_slice());
+    assert!(&rt; handed(line.as_slice()) == Some(60));
+    Ok(())
+}
+
+// Serves one connection, whose client sends this and closes its sending half: what it got up to the end, and the last line.
+fn close_half<
+    R: AllocGlobal
+        + Threads
+        + Wait
+        + Net<Listener = net::TcpListener, Stream = TcpStream>
+        + Clock
+        + Eprint
+        + Sync,
+>(rt: &R, asked: &[u8]) -> Result<(Vec<u8>, Vec<u8>), Fail> {
+    let listener = TcpListener::bind(rt, anywhere())?;
+    let address = listener.local_addr()?;
+    let mut line = Vec::new(rt.alloc());
+    let (has_served, got) = join(
+        rt,
+        || serve(rt, listener, SETTINGS, (1, Marks::FULL), &mut line),
+        || say(rt, address, asked),
+    );
+    if !has_served {
+        return Err("it ends with an error".into());
+    }
+    Ok((got?, line))
+}
+
+#[test]
+fn one_that_closes_half_is_answered(rt: HostRuntime) -> Result<(), Fail> {
+    let (got, line) = close_half(&rt, PING)?;
+    assert!(&rt; got.as_slice() == PONG);
+    let told = b"accepted 1 handed 1 sent 0 answered 0 lost 0 ejections 0\n";
+    assert!(&rt; line.as_slice() == told.as_slice());
     Ok(())
 }

@@ -1,0 +1,150 @@
+//! Clients before two hosts in memory, each behind a socket.
+use crate::rig::{anywhere, say, serve};
+use mio::net::TcpListener;
+use proxy_serve::Marks;
+use std::alloc::Global;
+use std::io::{Read, Write};
+use std::net::{Net, SocketAddr, TcpStream};
+use std::rt::Clock;
+use std::sync::Wait;
+use std::test::Fail;
+use std::thread::{Threads, join};
+use std::{io, net};
+use stub_server::{Stub, StubLink};
+
+// A host that serves one link, until that ends, and tells whether anything was asked.
+fn host<R: AllocGlobal + Wait>(rt: &R, listener: &net::TcpListener) -> io::Result<bool> {
+    let alloc = rt.alloc();
+    let (stream, _) = listener.accept()?;
+    let mut wire: &TcpStream = &stream;
+    let Ok((mut replies, mut requests)) = StubLink::new(alloc, Stub::new(alloc)).ends(alloc) else {
+        return Err(io::Error::from(io::ErrorKind::OutOfMemory));
+    };
+    let mut piece = [0u8; 4_096];
+    let mut said = Vec::new(alloc);
+    let mut was_asked = false;
+    for _ in rt.forever() {
+        let count = wire.read(&mut piece)?;
+        if count == 0 {
+            break;
+        }
+        was_asked = true;
+        requests.write_all(&piece[..count])?;
+        // (it ends where no reply waits)
+        let _ = replies.read_to_end(&mut said);
+        wire.write_all(&said)?;
+        said.clear();
+    }
+    Ok(was_asked)
+}
+
+// Two hosts, one beside the other: whether both were asked.
+fn host_both<R: AllocGlobal + Threads + Wait + Sync>(
+    rt: &R,
+    one: &net::TcpListener,
+    other: &net::TcpListener,
+) -> io::Result<bool> {
+    let (first, second) = join(rt, || host(rt, one), || host(rt, other));
+    Ok(first? && second?)
+}
+
+// Serves two connections before these hosts, and tells whether it ended well. A host that nobody asked is let go.
+fn serve_before<
+    R: AllocGlobal
+        + Threads
+        + Wait
+        + Net<Listener = net::TcpListener, Stream = TcpStream>
+        + Clock
+        + Eprint
+        + Sync,
+>(
+    rt: &R,
+    listener: TcpListener,
+    [one, other]: [SocketAddr; 2],
+    line: &mut Vec<u8>,
+) -> io::Result<bool> {
+    let mut settings = Vec::new(rt.alloc());
+    settings.write_fmt(format_args!("{{\"hosts\":[\"{one}\",\"{other}\"],\"workers\":2}}"))?;
+    let has_served = serve(rt, listener, &settings, (2, Marks::FULL), line);
+    drop(TcpStream::connect(rt, one)?);
+    drop(TcpStream::connect(rt, other)?);
+    Ok(has_served)
+}
+
+// A SET of 100 keys, each to a value of its own, and a GET of each; and the replies to them.
+fn sets_and_gets(alloc: Global, first: u32) -> io::Result<(Vec<u8>, Vec<u8>)> {
+    let (mut asked, mut wanted) = (Vec::new(alloc), Vec::new(alloc));
+    for key in first..first.saturating_add(100) {
+        let value = key.saturating_add(5_000);
+        asked.write_fmt(format_args!("*3\r\n$3\r\nSET\r\n$4\r\n{key}\r\n$4\r\n{value}\r\n"))?;
+        wanted.write_all(b"+OK\r\n")?;
+    }
+    for key in first..first.saturating_add(100) {
+        let value = key.saturating_add(5_000);
+        asked.write_fmt(format_args!("*2\r\n$3\r\nGET\r\n$4\r\n{key}\r\n"))?;
+        wanted.write_fmt(format_args!("$4\r\n{value}\r\n"))?;
+    }
+    Ok((asked, wanted))
+}
+
+/// What came of two clients before two hosts.
+#[derive(Drop)]
+struct Scene {
+    // Whether both hosts were asked, and the serving ended well.
+    is_well: bool,
+    got: Vec<u8>,
+    others_got: Vec<u8>,
+    line: Vec<u8>,
+}
+
+// Serves two clients at the same time, which send these texts, before two hosts.
+fn play<
+    R: AllocGlobal
+        + Threads
+        + Wait
+        + Net<Listener = net::TcpListener, Stream = TcpStream>
+        + Clock
+        + Eprint
+        + Sync,
+>(rt: &R, asked: &[u8], others_asked: &[u8]) -> Result<Scene, Fail> {
+    let one = net::TcpListener::bind(rt, anywhere())?;
+    let other = net::TcpListener::bind(rt, anywhere())?;
+    let hosts = [one.local_addr()?, other.local_addr()?];
+    let listener = TcpListener::bind(rt, anywhere())?;
+    let address = listener.local_addr()?;
+    let mut line = Vec::new(rt.alloc());
+    let (were_asked, (has_served, (got, others_got))) = join(
+        rt,
+        || host_both(rt, &one, &other),
+        || {
+            join(
+                rt,
+                || serve_before(rt, listener, hosts, &mut line),
+                || join(
+                    rt,
+                    || say(rt, address, asked),
+                    || say(rt, address, others_asked),
+                ),
+            )
+        },
+    );
+    Ok(Scene {
+        is_well: were_asked? && has_served?,
+        got: got?,
+        others_got: others_got?,
+        line,
+    })
+}
+
+#[test]
+fn two_clients_ask_two_hosts(rt: HostRuntime) -> Result<(), Fail> {
+    let (asked, wanted) = sets_and_gets(rt.alloc(), 1_000)?;
+    let (others_asked, others_wanted) = sets_and_gets(rt.alloc(), 2_000)?;
+    let scene = play(&rt, &asked, &others_asked)?;
+    assert!(&rt; scene.is_well);
+    assert!(&rt; scene.got == wanted);
+    assert!(&rt; scene.others_got == others_wanted);
+    let told = b"accepted 400 handed 400 sent 400 answered 400 lost 0 ejections 0\n";
+    assert!(&rt; scene.line.as_slice() == told.as_slice());
+    Ok(())
+}
