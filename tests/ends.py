@@ -17,6 +17,7 @@ import sys
 import tempfile
 import threading
 import time
+import traceback
 from concurrent.futures import ThreadPoolExecutor
 
 TOP = os.path.dirname(os.path.dirname(os.path.abspath(__file__)))
@@ -165,6 +166,10 @@ class Proxy:
 
 class Failure(str):
     """An error reply."""
+
+
+# What the proxy answers for a part that was lost.
+LOST = Failure("upstream failure")
 
 
 class Client:
@@ -345,3 +350,35 @@ def install():
         print(f"the tests need {', '.join(missing)}: install Debian's redis-server and redis-tools", file=sys.stderr)
         print("0 passed, 1 failed")
         sys.exit(1)
+
+
+def run(name, test):
+    """Runs a test, and once more where only time was too short."""
+    try:
+        test()
+    except Late as late:
+        print(f"{name}: late ({late}), once more", flush=True)
+        test()
+
+
+def run_tests(names):
+    """Runs a script's functions `test_..`: all, or those whose names have one of the words of the command line. Prints how each
+    ended, ends all processes and then the script, whose last line is 'N passed, M failed'."""
+    subprocess.run([PROGRAM, "--help"], stdout=subprocess.DEVNULL, check=True)
+    tests = [(name[5:], test) for name, test in names.items() if name.startswith("test_")]
+    tests = [(name, test) for name, test in tests if not sys.argv[1:] or any(word in name for word in sys.argv[1:])]
+    passed, failed = 0, 0
+    try:
+        for name, test in tests:
+            began = time.monotonic()
+            try:
+                run(name, test)
+                passed += 1
+                print(f"{name}: passed in {time.monotonic() - began:.1f} s", flush=True)
+            except Exception:  # pylint: disable=broad-except
+                failed += 1
+                print(f"{name}: failed\n{traceback.format_exc()}", flush=True)
+    finally:
+        end_all()
+    print(f"{passed} passed, {failed} failed")
+    sys.exit(1 if failed else 0)

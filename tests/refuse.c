@@ -1,9 +1,10 @@
-// Stands before the C library's allocation: the call whose number REFUSED_CALL has finds no memory, and all others do. Where
-// that call comes, the file that REFUSED_FILE names is made.
+// Stands before the C library's allocation: the call whose number REFUSED_CALL has finds no memory, and each call for
+// REFUSED_SIZE bytes or more; all others do. For each that finds none the file that REFUSED_FILE names grows by a byte.
 #include <errno.h>
 #include <fcntl.h>
 #include <stdatomic.h>
 #include <stddef.h>
+#include <stdint.h>
 #include <stdlib.h>
 #include <unistd.h>
 
@@ -14,42 +15,51 @@ extern void *__libc_memalign(size_t alignment, size_t size);
 
 static atomic_long calls;
 static long refused_call = -1;
+static size_t refused_size = SIZE_MAX;
 
 __attribute__((constructor)) static void begin(void) {
     const char *number = getenv("REFUSED_CALL");
     if (number) {
         refused_call = atol(number);
     }
+    const char *size = getenv("REFUSED_SIZE");
+    if (size) {
+        refused_size = strtoul(size, NULL, 10);
+    }
     atomic_store(&calls, 0);
 }
 
-static int is_refused(void) {
-    if (refused_call < 0 || atomic_fetch_add(&calls, 1) + 1 != refused_call) {
+static void tell(void) {
+    const char *name = getenv("REFUSED_FILE");
+    int file = name ? open(name, O_CREAT | O_WRONLY | O_APPEND, 0600) : -1;
+    if (file >= 0) {
+        (void)!write(file, "x", 1);
+        close(file);
+    }
+}
+
+static int is_refused(size_t size) {
+    int is_called = refused_call >= 0 && atomic_fetch_add(&calls, 1) + 1 == refused_call;
+    if (!is_called && size < refused_size) {
         return 0;
     }
-    const char *name = getenv("REFUSED_FILE");
-    if (name) {
-        int file = open(name, O_CREAT | O_WRONLY, 0600);
-        if (file >= 0) {
-            close(file);
-        }
-    }
+    tell();
     errno = ENOMEM;
     return 1;
 }
 
-void *malloc(size_t size) { return is_refused() ? NULL : __libc_malloc(size); }
+void *malloc(size_t size) { return is_refused(size) ? NULL : __libc_malloc(size); }
 
-void *calloc(size_t count, size_t size) { return is_refused() ? NULL : __libc_calloc(count, size); }
+void *calloc(size_t count, size_t size) { return is_refused(count * size) ? NULL : __libc_calloc(count, size); }
 
-void *realloc(void *block, size_t size) { return is_refused() ? NULL : __libc_realloc(block, size); }
+void *realloc(void *block, size_t size) { return is_refused(size) ? NULL : __libc_realloc(block, size); }
 
-void *memalign(size_t alignment, size_t size) { return is_refused() ? NULL : __libc_memalign(alignment, size); }
+void *memalign(size_t alignment, size_t size) { return is_refused(size) ? NULL : __libc_memalign(alignment, size); }
 
-void *aligned_alloc(size_t alignment, size_t size) { return is_refused() ? NULL : __libc_memalign(alignment, size); }
+void *aligned_alloc(size_t alignment, size_t size) { return is_refused(size) ? NULL : __libc_memalign(alignment, size); }
 
 int posix_memalign(void **block, size_t alignment, size_t size) {
-    void *found = is_refused() ? NULL : __libc_memalign(alignment, size);
+    void *found = is_refused(size) ? NULL : __libc_memalign(alignment, size);
     if (!found) {
         return ENOMEM;
     }
