@@ -87,17 +87,18 @@ fn sets_and_gets(alloc: Global, first: u32) -> io::Result<(Vec<u8>, Vec<u8>)> {
     Ok((asked, wanted))
 }
 
-/// What came of two clients before two hosts.
-#[derive(Drop)]
-struct Scene {
-    // Whether both hosts were asked, and the serving ended well.
-    is_well: bool,
-    got: Vec<u8>,
-    others_got: Vec<u8>,
-    line: Vec<u8>,
+// A client that makes these commands: whether the replies are just those.
+fn set_and_get<R: Net<Listener = net::TcpListener, Stream = TcpStream> + AllocGlobal>(
+    rt: &R,
+    address: SocketAddr,
+    first: u32,
+) -> io::Result<bool> {
+    let (asked, wanted) = sets_and_gets(rt.alloc(), first)?;
+    Ok(say(rt, address, &asked)? == wanted)
 }
 
-// Serves two clients at the same time, which send these texts, before two hosts.
+// Serves two such clients at the same time before two hosts: whether both hosts were asked, the serving ended well, and each
+// client got its replies; and the last line.
 fn play<
     R: AllocGlobal
         + Threads
@@ -106,45 +107,38 @@ fn play<
         + Clock
         + Eprint
         + Sync,
->(rt: &R, asked: &[u8], others_asked: &[u8]) -> Result<Scene, Fail> {
+>(rt: &R) -> Result<([bool; 4], Vec<u8>), Fail> {
     let one = net::TcpListener::bind(rt, anywhere())?;
     let other = net::TcpListener::bind(rt, anywhere())?;
     let hosts = [one.local_addr()?, other.local_addr()?];
     let listener = TcpListener::bind(rt, anywhere())?;
     let address = listener.local_addr()?;
     let mut line = Vec::new(rt.alloc());
-    let (were_asked, (has_served, (got, others_got))) = join(
+    let (were_asked, (has_served, (first, second))) = join(
         rt,
         || host_both(rt, &one, &other),
         || {
             join(
                 rt,
                 || serve_before(rt, listener, hosts, &mut line),
-                || join(
-                    rt,
-                    || say(rt, address, asked),
-                    || say(rt, address, others_asked),
-                ),
+                || {
+                    join(
+                        rt,
+                        || set_and_get(rt, address, 1_000),
+                        || set_and_get(rt, address, 2_000),
+                    )
+                },
             )
         },
     );
-    Ok(Scene {
-        is_well: were_asked? && has_served?,
-        got: got?,
-        others_got: others_got?,
-        line,
-    })
+    Ok(([were_asked?, has_served?, first?, second?], line))
 }
 
 #[test]
 fn two_clients_ask_two_hosts(rt: HostRuntime) -> Result<(), Fail> {
-    let (asked, wanted) = sets_and_gets(rt.alloc(), 1_000)?;
-    let (others_asked, others_wanted) = sets_and_gets(rt.alloc(), 2_000)?;
-    let scene = play(&rt, &asked, &others_asked)?;
-    assert!(&rt; scene.is_well);
-    assert!(&rt; scene.got == wanted);
-    assert!(&rt; scene.others_got == others_wanted);
+    let (are_well, line) = play(&rt)?;
+    assert!(&rt; are_well.as_slice() == [true; 4].as_slice());
     let told = b"accepted 400 handed 400 sent 400 answered 400 lost 0 ejections 0\n";
-    assert!(&rt; scene.line.as_slice() == told.as_slice());
+    assert!(&rt; line.as_slice() == told.as_slice());
     Ok(())
 }
