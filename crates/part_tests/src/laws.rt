@@ -9,6 +9,7 @@ fn laws_of_texts() {
     resp_core::commands_are_plain();
     resp_core::text_is_read_back();
     resp_core::members_are_limited();
+    resp_core::kept_memory_is_limited();
 }
 
 #[test]

@@ -2,7 +2,9 @@
 ghost use Rattle.std.specs.Prelude.{◌≡◌};
 ghost use Rattle.resp_core.specs.Laws.{NoTextBeginsAnother, TextIsRead, SpellingIsShortest, ReadValuesArePlain, CommandsArePlain, OneReading, EachStreamHolds, OneHolding, RefusalStays, OneRefusedByte, OneNumber, OneRefusal, ValuesStay, TextIsReadBack, TextIsReadNext, ValuesGoOn};
 
+use crate::progress::{MAX_COPY_BLOCK, MAX_IDLE, MAX_KEPT};
 use crate::reader::{CLIENT_MEMBERS, HOST_MEMBERS, Limits};
+use crate::texts::MAX_TEXT_BLOCK;
 
 /// No text begins another, so a stream can be read from its front with no look ahead.
 pub fn no_text_begins_another()
@@ -78,4 +80,14 @@ pub fn values_go_on()
 pub fn members_are_limited()
     ensures client { (CLIENT_MEMBERS ≡ 1024) × (Limits.CLIENT.array ≡ CLIENT_MEMBERS) }
     ensures host { (HOST_MEMBERS ≡ 65536) × (Limits.HOST.array ≡ HOST_MEMBERS) }
+{}
+
+/// What is kept beside what was read and is to be written. A payload that shares its buffer keeps at most eight times its bytes
+/// of it; a reader without a byte pending keeps a buffer of at most 32,768 bytes; short texts stand in blocks of at most 512
+/// bytes where they were read, and of 16,384 where they were written.
+pub fn kept_memory_is_limited()
+    ensures payload { MAX_KEPT ≡ 8 }
+    ensures idle { MAX_IDLE ≡ 32768 }
+    ensures read { MAX_COPY_BLOCK ≡ 512 }
+    ensures written { MAX_TEXT_BLOCK ≡ 16384 }
 {}

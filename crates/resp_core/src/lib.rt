@@ -23,9 +23,10 @@ mod value;
 
 pub use error::RespError;
 pub use laws::{
-    commands_are_plain, each_stream_holds, members_are_limited, no_text_begins_another,
-    one_holding, one_reading, one_refusal, read_values_are_plain, refusal_stays,
-    spelling_is_shortest, text_is_read, text_is_read_back, values_go_on, values_stay,
+    commands_are_plain, each_stream_holds, kept_memory_is_limited, members_are_limited,
+    no_text_begins_another, one_holding, one_reading, one_refusal, read_values_are_plain,
+    refusal_stays, spelling_is_shortest, text_is_read, text_is_read_back, values_go_on,
+    values_stay,
 };
 pub use reader::{CLIENT_MEMBERS, HOST_MEMBERS, Limits, Reader};
 pub use text::{bulk_len, put_bulk, put_text};

@@ -22,15 +22,15 @@ use std::mem;
 const LEAST_SHARED: usize = 4_096;
 
 // Bytes of a block at most into which short ones are copied. An idle connection can keep so many.
-const MAX_BLOCK: usize = 512;
+pub(crate) const MAX_COPY_BLOCK: usize = 512;
 
 // Members of a list at most for which there is room before they come.
 const FEW_MEMBERS: usize = 4;
 
-const MAX_KEPT: usize = 8;
+pub(crate) const MAX_KEPT: usize = 8;
 
 // Bytes of a buffer that is kept while no byte is pending.
-const MOST_IDLE: usize = 32_768;
+pub(crate) const MAX_IDLE: usize = 32_768;
 
 // Why no value was read: memory ran out, or the byte at this place of the value is refused.
 #[derive(Drop)]
@@ -105,7 +105,7 @@ impl Progress {
         Progress {
             pending: BytesMut::new(alloc),
             room: 0,
-            copies: Room::new(alloc, MAX_BLOCK),
+            copies: Room::new(alloc, MAX_COPY_BLOCK),
             opens: Vec::new(alloc),
             done: None,
             next: Next::Head(Head::Type),
@@ -158,7 +158,7 @@ impl Progress {
         ensures good { (most : ℕ) → IsGood most self.old → IsGood most self.new }
         ensures same { shown_progress self.new ≡ shown_progress self.old }
     {
-        if self.room > MOST_IDLE && self.pending.is_empty() {
+        if self.room > MAX_IDLE && self.pending.is_empty() {
             self.pending = BytesMut::new(alloc);
             self.room = 0;
         }

@@ -12,7 +12,7 @@ use std::alloc::{AllocError, Global};
 use std::marker::Model;
 
 // How many bytes a block has at most that texts share.
-const MAX_BLOCK: usize = 16_384;
+pub(crate) const MAX_TEXT_BLOCK: usize = 16_384;
 
 // How many bytes a text has at most that shares one.
 const MAX_SHORT: usize = 1_024;
@@ -43,7 +43,7 @@ impl Texts {
         Texts {
             alloc,
             draft: Vec::new(alloc),
-            room: Room::new(alloc, MAX_BLOCK),
+            room: Room::new(alloc, MAX_TEXT_BLOCK),
         }
     }
 
