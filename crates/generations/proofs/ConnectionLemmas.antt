@@ -33,8 +33,8 @@ module _ {H : Type 0} where
   connected (Opened m t ∷ es) (may, h) n c =
       connected_opened m t n es ((ordered es h).opens m may).2 (connected es h n) c
   connected (Failed m ∷ es) (may, h) n c = connected es h n c
-  connected (Near m ∷ es) (may, h) n c = connected es h n c
-  connected (Full m x ∷ es) (may, h) n c = connected es h n c
+  connected (Near m t ∷ es) (may, h) n c = connected es h n c
+  connected (Full m t x ∷ es) (may, h) n c = connected es h n c
   connected (Drained m ∷ es) (may, h) n c = connected_drained m n es may (connected es h n) c
   connected (Swept m t ∷ es) (may, h) n c = connected es h n c
 
@@ -46,8 +46,8 @@ module _ {H : Type 0} where
   connects (Opened m t ∷ es) (may, h) n (inl e) = or_left (m == n) (has_connections n es) (eq-eqb m n (same m n e))
   connects (Opened m t ∷ es) (may, h) n (inr e) = or_right (m == n) (has_connections n es) (connects es h n (inl e))
   connects (Failed m ∷ es) (may, h) n o = connects es h n o
-  connects (Near m ∷ es) (may, h) n o = connects es h n o
-  connects (Full m x ∷ es) (may, h) n o = connects es h n o
+  connects (Near m t ∷ es) (may, h) n o = connects es h n o
+  connects (Full m t x ∷ es) (may, h) n o = connects es h n o
   connects (Drained m ∷ es) (may, h) n (inl e) =
       let less = (ordered es h).older m n may e in
       and_from (not (m == n)) (has_connections n es) (not_from_false (m == n) (ne_eqb m n (λ is. omega arith))) (connects es h n (inl e))

@@ -54,7 +54,7 @@ module _ {H : Type 0} where
         newer = o.newer;
         by_newest = λ a. absurd cc;
       }
-  ordered (Near n ∷ es) (may, h) =
+  ordered (Near n t ∷ es) (may, h) =
       let o = ordered es h in record {
         below = o.below;
         fresh = o.fresh;
@@ -63,7 +63,7 @@ module _ {H : Type 0} where
         newer = o.newer;
         by_newest = o.by_newest;
       }
-  ordered (Full n x ∷ es) ((is, unasked, room), h) =
+  ordered (Full n t x ∷ es) ((is, unasked, room, had), h) =
       let o = ordered es h in record {
         below = λ k e. let b = o.below k e in omega arith;
         fresh = λ k e a. let b = o.below k e in omega arith;

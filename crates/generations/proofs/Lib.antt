@@ -3,3 +3,4 @@ pub mod ConnectionLemmas
 pub mod StandsLemmas
 pub mod LawLemmas
 pub mod BudgetLemmas
+pub mod PayloadLemmas

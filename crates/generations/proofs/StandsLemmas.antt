@@ -1,10 +1,11 @@
 -- How calls keep what `Generations` knows.
-use Rattle.std.proofs.Common.{◌≡◌, ◌↔◌, ◌<◌, ◌≤◌, ◌+◌, ◌-◌, ◌^◌, ℕ, Bool, true, false, Option, Some, None, unwrap_or, is_some, not, IfSome, IsNone, List, ◌∷◌, inl, inr, refl, sym, ap, arith}
+use Rattle.std.proofs.Common.{◌≡◌, ◌⊎◌, ◌↔◌, ◌<◌, ◌≤◌, ◌+◌, ◌-◌, ◌^◌, ℕ, Bool, true, false, Option, Some, None, unwrap_or, is_some, not, IfSome, IsNone, List, ◌∷◌, inl, inr, refl, sym, ap, arith}
 use Rattle.std.proofs.lemmas.Bool.{eq-eqb, ne_eqb, cases_eq}
-use Rattle.generations.specs.Events.{Event, Opened, Failed, Full, Swept, newest, draining, has_connections, is_asked, is_near, failures, handover, last_number, last_sweep, opening}
-use Rattle.generations.specs.History.{MayHappen, IsHistory}
+use Rattle.std.specs.Prelude.{IsSome}
+use Rattle.generations.specs.Events.{Event, Opened, Failed, Near, Full, Swept, newest, draining, has_connections, is_asked, near_since, failures, handover, last_number, last_sweep, opening}
+use Rattle.generations.specs.History.{MayHappen, IsHistory, HasGivenUp}
 use Rattle.generations.specs.Stands.{Settings, Stands, Tells, open_of, next_of}
-use Rattle.generations.specs.Kept.{IsNumber}
+use Rattle.generations.specs.Kept.{IsNumber, HadTime}
 use Rattle.generations.specs.declared.opened.Open.{Open}
 use Rattle.generations.specs.declared.course.Next.TheVariants.{Unasked, Wanted, Opening}
 use Rattle.generations.specs.declared.course.Generations.{Generations}
@@ -26,6 +27,11 @@ pub none_to : (o : Option Open) (b : Bool) → is_some o ≡ not b → o ≡ Non
 none_to None true e is = refl
 none_to None false e is = absurd cc
 none_to (Some x) b e is = absurd cc
+
+-- what `is_some` says
+pub none_otherwise : (o : Option ℕ) (b : Bool) → b ≡ is_some o → b ≡ false → o ≡ None
+none_otherwise None b e is = refl
+none_otherwise (Some x) b e is = absurd cc
 
 module _ {H : Type 0} where
   -- a call that counts nowhere, and changes nothing
@@ -96,7 +102,7 @@ module _ {H : Type 0} where
         tries_left = m.max_failures;
         newest = Some (record { number = n; swept = swept });
         older = m.newest;
-        is_near = false;
+        near_since = None;
         next = Unasked;
       }) s (Opened n t ∷ es)
   stands_opened m s es n t swept st o is =
@@ -155,11 +161,22 @@ module _ {H : Type 0} where
   pub newest-none : (m : Generations H) (s : Settings) (es : List (Event H)) → Stands m s es → (m.newest ≡ None) ↔ (newest es ≡ None)
   newest-none m s es st = none_is es (newest es) m.newest st.newest_is
 
-  pub stands_full : (m : Generations H) (s : Settings) (es : List (Event H)) (by swept asked : ℕ) (from : H) → Stands m s es
+  -- nothing keeps a further one from being asked for
+  pub had_time : (m : Generations H) (s : Settings) (es : List (Event H)) (now : ℕ) → Stands m s es
+      → HadTime m now ↔ ((draining es ≡ None) ⊎ HasGivenUp es now)
+  had_time m s es now st =
+      let none = none_is es (draining es) m.older st.older_is in
+      let near = st.near_is in (
+        λ x. elim x [ inl e ↦ inl (none.0 e) | inr (since, e, long) ↦ inr (since, cc, long) ],
+        λ x. elim x [ inl e ↦ inl (none.1 e) | inr (since, e, long) ↦ inr (since, cc, long) ],
+      )
+
+  pub stands_full : (m : Generations H) (s : Settings) (es : List (Event H)) (by now swept asked : ℕ) (from : H) → Stands m s es
       → m.next ≡ Unasked → m.newest ≡ Some (record { number = by; swept = swept }) → asked ≡ m.asked + 1 → asked < 2 ^ 64
-      → MayHappen (Full by from) es
-      × Stands (record m { next = Wanted (Some from); asked = asked; handed_sweep = Some swept }) s (Full by from ∷ es)
-  stands_full m s es by swept asked from st next kept is fits =
+      → HadTime m now
+      → MayHappen (Full by now from) es
+      × Stands (record m { next = Wanted (Some from); asked = asked; handed_sweep = Some swept }) s (Full by now from ∷ es)
+  stands_full m s es by now swept asked from st next kept is fits had =
       let unasked = next-unasked (is_asked es) (opening es) (handover es) (let e = st.next_is in cc) in
       let newest_is = (number_is es (newest es) m.newest by st.newest_is).0 (rw kept refl) in
       let asked_is = st.asked_is in
@@ -167,10 +184,11 @@ module _ {H : Type 0} where
       let was = st.newest_is in
       let same_open : Some (record { number = by; swept = swept }) ≡ open_of es (newest es) = cc in
       let none : opening es ≡ None = not_opening es st.may unasked in
+      let may : MayHappen (Full by now from) es = (newest_is, unasked, room, (had_time m s es now st).0 had) in
       let swept_is = sweep_is es by swept (rw newest_is at same_open) in (
-        (newest_is, unasked, room),
+        may,
         record {
-          may = ((newest_is, unasked, room), st.may);
+          may = (may, st.may);
           interval_is = st.interval_is;
           most_is = st.most_is;
           tries_are = st.tries_are;
@@ -182,6 +200,24 @@ module _ {H : Type 0} where
           handed_is = ap Some swept_is;
         },
       )
+
+  -- once it said that it is near its marks
+  pub stands_near : (m : Generations H) (s : Settings) (es : List (Event H)) (by now since : ℕ) → Stands m s es
+      → newest es ≡ Some by → since ≡ unwrap_or m.near_since now
+      → Stands (record m { near_since = Some since }) s (Near by now ∷ es)
+  stands_near m s es by now since st may is =
+      let near = st.near_is in record {
+        may = (may, st.may);
+        interval_is = st.interval_is;
+        most_is = st.most_is;
+        tries_are = st.tries_are;
+        newest_is = st.newest_is;
+        older_is = st.older_is;
+        near_is = ap Some (rw (← near) is);
+        next_is = st.next_is;
+        asked_is = st.asked_is;
+        handed_is = st.handed_is;
+      }
 
   -- which one has a number, as it is kept
   pub number_newest : (m : Generations H) (s : Settings) (es : List (Event H)) (n : ℕ) → Stands m s es
@@ -228,7 +264,7 @@ module _ {H : Type 0} where
   }
 
   -- and where none is
-  pub gives_up : (es : List (Event H)) → IsHistory es → (n : ℕ) → draining es ≡ Some n → is_asked es ≡ false → is_near es ≡ true
+  pub gives_up : (es : List (Event H)) → IsHistory es → (n : ℕ) → draining es ≡ Some n → is_asked es ≡ false → IsSome (near_since es)
       → IsCourse GivesUp es n
   gives_up es h n e unasked near = record {
     serves = (λ x. absurd cc, λ f. absurd (apart es h n f e));
@@ -243,7 +279,7 @@ module _ {H : Type 0} where
     );
   }
 
-  pub drains : (es : List (Event H)) → IsHistory es → (n : ℕ) → draining es ≡ Some n → is_asked es ≡ false → is_near es ≡ false
+  pub drains : (es : List (Event H)) → IsHistory es → (n : ℕ) → draining es ≡ Some n → is_asked es ≡ false → near_since es ≡ None
       → IsCourse Drains es n
   drains es h n e unasked near = record {
     serves = (λ x. absurd cc, λ f. absurd (apart es h n f e));

@@ -1,6 +1,6 @@
 -- What a generation is to do.
-use Rattle.std.specs.Prelude.{◌≡◌, ◌↔◌, ◌⊎◌, ℕ, true, false, Some, List}
-use Rattle.generations.specs.Events.{Event, newest, draining, has_connections, is_asked, is_near}
+use Rattle.std.specs.Prelude.{◌≡◌, ◌↔◌, ◌⊎◌, ℕ, true, false, Some, None, IsSome, List}
+use Rattle.generations.specs.Events.{Event, newest, draining, has_connections, is_asked, near_since}
 use Rattle.generations.specs.declared.course.Course.{Course}
 use Rattle.generations.specs.declared.course.Course.TheVariants.{Serves, Drains, GivesUp, Stops}
 
@@ -17,6 +17,6 @@ module _ {H : Type 0} where
   -- stops where a further one is asked for; one with no connections stops too.
   pub record IsCourse (course : Course) (es : List (Event H)) (n : ℕ) : Type 0 where
     pub serves : (course ≡ Serves) ↔ (newest es ≡ Some n)
-    pub drains : (course ≡ Drains) ↔ (IsLeft es n × (is_near es ≡ false))
-    pub gives_up : (course ≡ GivesUp) ↔ (IsLeft es n × (is_near es ≡ true))
+    pub drains : (course ≡ Drains) ↔ (IsLeft es n × (near_since es ≡ None))
+    pub gives_up : (course ≡ GivesUp) ↔ (IsLeft es n × IsSome (near_since es))
     pub stops : (course ≡ Stops) ↔ (IsInTheWay es n ⊎ (has_connections n es ≡ false))

@@ -1,14 +1,14 @@
 -- What happens to generations, and what that says. The lists are of all that happened, the newest first.
 use Rattle.std.specs.Prelude.{ℕ, Bool, true, false, ◌==◌, ◌&&◌, ◌||◌, ◌+◌, not, if◌then◌else◌, Option, Some, None, unwrap_or, List, [], ◌∷◌}
 
--- what happens: a generation is given to be opened; it opens, at a moment; it could not be opened; it is near its marks; it is
--- full, and hands over; its last connection is gone; it makes a sweep, at a moment
+-- what happens: a generation is given to be opened; it opens, at a moment; it could not be opened; it is near its marks, at a
+-- moment; it is full, at a moment, and hands over; its last connection is gone; it makes a sweep, at a moment
 pub data Event (H : Type 0) : Type 0 where
   Taken : ℕ → Event H
   Opened : ℕ → ℕ → Event H
   Failed : ℕ → Event H
-  Near : ℕ → Event H
-  Full : ℕ → H → Event H
+  Near : ℕ → ℕ → Event H
+  Full : ℕ → ℕ → H → Event H
   Drained : ℕ → Event H
   Swept : ℕ → ℕ → Event H
 
@@ -36,7 +36,7 @@ module _ {H : Type 0} where
   -- a generation is asked for, and has neither opened nor failed since; the first one is from the beginning
   abbrev pub is_asked : List (Event H) → Bool
   is_asked [] = true
-  is_asked (Full n h ∷ es) = true
+  is_asked (Full n t h ∷ es) = true
   is_asked (Opened n t ∷ es) = false
   is_asked (Failed n ∷ es) = false
   is_asked (_ ∷ es) = is_asked es
@@ -44,18 +44,18 @@ module _ {H : Type 0} where
   -- the number of the one that was asked for last: how many were asked for before it
   abbrev pub last_number : List (Event H) → ℕ
   last_number [] = 0
-  last_number (Full n h ∷ es) = last_number es + 1
+  last_number (Full n t h ∷ es) = last_number es + 1
   last_number (_ ∷ es) = last_number es
 
   -- which generation handed over last, and what
   abbrev pub asker : List (Event H) → Option ℕ
   asker [] = None
-  asker (Full n h ∷ es) = Some n
+  asker (Full n t h ∷ es) = Some n
   asker (_ ∷ es) = asker es
 
   abbrev pub handover : List (Event H) → Option H
   handover [] = None
-  handover (Full n h ∷ es) = Some h
+  handover (Full n t h ∷ es) = Some h
   handover (_ ∷ es) = handover es
 
   -- the number of the one being opened: it was given, and has neither opened nor failed since
@@ -66,12 +66,12 @@ module _ {H : Type 0} where
   opening (Failed n ∷ es) = None
   opening (_ ∷ es) = opening es
 
-  -- a generation has said that it is near its marks, and none opened since
-  abbrev pub is_near : List (Event H) → Bool
-  is_near [] = false
-  is_near (Near n ∷ es) = true
-  is_near (Opened n t ∷ es) = false
-  is_near (_ ∷ es) = is_near es
+  -- the moment when a generation first said that it is near its marks, with none opened since
+  abbrev pub near_since : List (Event H) → Option ℕ
+  near_since [] = None
+  near_since (Near n t ∷ es) = Some (unwrap_or (near_since es) t)
+  near_since (Opened n t ∷ es) = None
+  near_since (_ ∷ es) = near_since es
 
   -- how many failed in a row, with none opened between
   abbrev pub failures : List (Event H) → ℕ
@@ -92,5 +92,5 @@ module _ {H : Type 0} where
     -- the last sweep in the line of the one that handed over last, when it did
     pub handed_sweep : List (Event H) → Option ℕ
     handed_sweep [] = None
-    handed_sweep (Full n h ∷ es) = Some (last_sweep n es)
+    handed_sweep (Full n t h ∷ es) = Some (last_sweep n es)
     handed_sweep (_ ∷ es) = handed_sweep es

@@ -1,6 +1,7 @@
 -- What follows of generations, from what may happen.
-use Rattle.std.specs.Prelude.{◌≡◌, ◌⊎◌, ◌↔◌, ◌<◌, ℕ, true, None, Some, IsSome, List, ◌∷◌, ◌++◌}
-use Rattle.generations.specs.Events.{Event, Opened, Near, Full, newest, draining, has_connections, is_asked, is_near, asker, last_number}
+use Rattle.std.specs.Prelude.{◌≡◌, ◌⊎◌, ◌↔◌, ◌<◌, ◌≤◌, ◌+◌, ℕ, true, None, Some, IsSome, List, ◌∷◌, ◌++◌}
+use Rattle.generations.specs.declared.course.TheConstants.{GIVING_UP_MS}
+use Rattle.generations.specs.Events.{Event, Opened, Near, Full, newest, draining, has_connections, is_asked, near_since, asker, last_number}
 use Rattle.generations.specs.History.{IsHistory}
 
 -- At most two generations have connections: the newest one, and the one that opened before it.
@@ -32,21 +33,35 @@ pub record OpensInTurn {H : Type 0} (n : ℕ) (es : List (Event H)) : Type 0 whe
 abbrev pub AllOpenInTurn : Type 0 → Type 0
 AllOpenInTurn H = (es : List (Event H)) (n now : ℕ) → IsHistory (Opened n now ∷ es) → OpensInTurn n es
 
--- An event of the newest one came while the generation n drained.
-pub record CameWhileDraining {H : Type 0} (n : ℕ) (event_of : ℕ → Event H) (es : List (Event H)) : Type 0 where
+-- The newest one said at this moment that it is near its marks, while the generation n drained.
+pub record CameNear {H : Type 0} (n since : ℕ) (es : List (Event H)) : Type 0 where
   pub by : ℕ
   pub later : List (Event H)
   pub earlier : List (Event H)
-  pub are : es ≡ later ++ event_of by ∷ earlier
+  pub are : es ≡ later ++ Near by since ∷ earlier
   pub by_newest : newest earlier ≡ Some by
   pub drained : draining earlier ≡ Some n
 
 -- A generation is given up only where the newest one said that it is near its marks, while the older one had connections.
 abbrev pub GivenUpIfNear : Type 0 → Type 0
-GivenUpIfNear H = (es : List (Event H)) → IsHistory es → (n : ℕ) → draining es ≡ Some n → is_near es ≡ true
-    → CameWhileDraining n Near es
+GivenUpIfNear H = (es : List (Event H)) → IsHistory es → (n since : ℕ) → draining es ≡ Some n → near_since es ≡ Some since
+    → CameNear n since es
 
--- It stops only where the newest one was full, while the older one had connections.
+-- The newest one was full while the generation n drained, and had said that it is near its marks as long before as an older one
+-- has for giving up.
+pub record CameFull {H : Type 0} (n : ℕ) (es : List (Event H)) : Type 0 where
+  pub by : ℕ
+  pub now : ℕ
+  pub handover : H
+  pub later : List (Event H)
+  pub earlier : List (Event H)
+  pub are : es ≡ later ++ Full by now handover ∷ earlier
+  pub by_newest : newest earlier ≡ Some by
+  pub drained : draining earlier ≡ Some n
+  pub since : ℕ
+  pub near : CameNear n since earlier
+  pub gave_up : since + GIVING_UP_MS ≤ now
+
+-- It stops only where the newest one was full, while the older one had connections and had its time for giving up.
 abbrev pub StopsIfFull : Type 0 → Type 0
-StopsIfFull H = (es : List (Event H)) → IsHistory es → (n : ℕ) → draining es ≡ Some n → is_asked es ≡ true
-    → (handover : H) × CameWhileDraining n (λ by. Full by handover) es
+StopsIfFull H = (es : List (Event H)) → IsHistory es → (n : ℕ) → draining es ≡ Some n → is_asked es ≡ true → CameFull n es

@@ -1,7 +1,8 @@
 -- What contracts see of the payload of a journal.
 use Rattle.std.specs.Prelude.{◌≡◌, ◌≤◌, ◌⊎◌, ◌+◌, ◌-◌, ◌*◌, ◌/◌, ℕ, max, nat_lt, ◌==◌, if◌then◌else◌}
+use Rattle.generations.specs.Budget.{capped}
 use Rattle.generations.specs.declared.budget.TheConstants.{MAX_BYTES}
-use Rattle.generations.specs.declared.payload.TheConstants.{MAX_REPLY_BYTES, MAX_READ_BYTES, MAX_ERROR_BYTES, FIRST_STEPS}
+use Rattle.generations.specs.declared.payload.TheConstants.{MAX_REPLY_BYTES, MAX_READ_BYTES, MAX_ERROR_BYTES, FAR_BYTES, FAR_STEPS, FIRST_STEPS}
 
 -- bytes of payload in the journal, bytes of hosts' replies that came, bytes handed out to clients, the steps that have payload,
 -- and the average of the generation before
@@ -42,3 +43,15 @@ HasRoomForCommand p owed unfinished =
 -- out, and the texts of errors fit.
 abbrev pub HasRoomForReply : PayloadState → ℕ → Type 0
 HasRoomForReply p unfinished = kept_bytes p + 2 * (unfinished + MAX_READ_BYTES) + MAX_ERROR_BYTES ≤ MAX_BYTES
+
+-- To a journal no more than FAR_BYTES bytes of payload came since, and of them no more are still to be handed out.
+pub record HasGrown (old new : PayloadState) : Type 0 where
+  pub used : new.used ≤ old.used + FAR_BYTES
+  pub came : new.came - new.handed ≤ old.came - old.handed + FAR_BYTES
+  pub steps : old.steps ≤ new.steps
+
+-- However it grows by so much, and FAR_STEPS steps more be owed, it has room for a command and for replies of which FAR_BYTES
+-- bytes are unfinished.
+abbrev pub IsFarFromFull : PayloadState → ℕ → Type 0
+IsFarFromFull p owed = (new : PayloadState) (owes unfinished : ℕ) → HasGrown p new → owes ≤ capped (owed + FAR_STEPS)
+    → unfinished ≤ FAR_BYTES → HasRoomForCommand new owes unfinished × HasRoomForReply new unfinished

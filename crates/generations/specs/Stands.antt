@@ -1,6 +1,6 @@
 -- What `Generations` knows of what happened.
 use Rattle.std.specs.Prelude.{◌≡◌, ◌⊎◌, ◌+◌, ◌-◌, ◌≤◌, ℕ, Bool, true, false, Option, Some, None, List, ◌∷◌}
-use Rattle.generations.specs.Events.{Event, Taken, newest, draining, has_connections, is_asked, is_near, failures, handover, last_number, last_sweep, handed_sweep, opening}
+use Rattle.generations.specs.Events.{Event, Taken, newest, draining, has_connections, is_asked, near_since, failures, handover, last_number, last_sweep, handed_sweep, opening}
 use Rattle.generations.specs.History.{MayHappen, IsHistory, IsDue}
 use Rattle.generations.specs.declared.course.Due.{Due}
 use Rattle.generations.specs.declared.opened.Open.{Open}
@@ -34,7 +34,7 @@ module _ {H : Type 0} where
     pub tries_are : m.tries_left ≡ s.max_failures - failures es
     pub newest_is : m.newest ≡ open_of es (newest es)
     pub older_is : m.older ≡ open_of es (draining es)
-    pub near_is : m.is_near ≡ is_near es
+    pub near_is : m.near_since ≡ near_since es
     pub next_is : m.next ≡ next_of (is_asked es) (opening es) (handover es)
     pub asked_is : m.asked ≡ last_number es
     pub handed_is : m.handed_sweep ≡ handed_sweep es

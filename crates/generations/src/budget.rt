@@ -45,6 +45,7 @@ impl Loan {
     }
 
     /// How many steps may still be spent: those lent and those set free, less those spent; 0 where more was spent.
+    #[inline(always)]
     pub fn free(&self) -> u64
         ensures { result ≡ free_steps self.now }
     {
@@ -70,6 +71,7 @@ impl Loan {
     /// A step was made: what it costs is spent, and what it sets free is free again.
     ///
     /// What is spent counts on where more is spent than is free, so that what is set free later makes up for it first.
+    #[inline(always)]
     pub fn note(&mut self, kind: StepKind)
         ensures { self.new ≡ loan_after kind self.old }
     {

@@ -7,6 +7,10 @@ ghost use Rattle.generations.specs.History.{MayHappen};
 use crate::opened::Open;
 use std::mem;
 
+/// So long an older generation has for giving up before the newest one is full, in milliseconds: its clients are answered by
+/// name, and their sockets go over.
+pub const GIVING_UP_MS: u64 = 50;
+
 /// What a generation is to do.
 #[derive(Clone, Copy, Debug, PartialEq, Eq)]
 pub enum Course {
@@ -52,8 +56,8 @@ pub struct Generations<H> {
     newest: Option<Open>,
     // The one before, as long as it has connections.
     older: Option<Open>,
-    // Whether the newest one is near its marks.
-    is_near: bool,
+    // Since when the newest one is near its marks.
+    near_since: Option<u64>,
     next: Next<H>,
     // How many were asked for, beside the first one: the number of the further one.
     asked: u64,
@@ -63,6 +67,7 @@ pub struct Generations<H> {
 
 impl<H: Drop> Generations<H> {
     ghost use Rattle.generations.specs.Course.{IsCourse};
+    ghost use Rattle.generations.specs.Kept.{HadTime};
     ghost use Rattle.generations.specs.Stands.{Settings, Stands, Tells, Gives, EndsServing, IsSweepDue};
 
     /// None is open, and the first generation, number 0, is due, from nothing. A sweep is due every `interval_ms` milliseconds,
@@ -77,7 +82,7 @@ impl<H: Drop> Generations<H> {
             tries_left: max_failures,
             newest: None,
             older: None,
-            is_near: false,
+            near_since: None,
             next: Next::Wanted(None),
             asked: 0,
             handed_sweep: None,
@@ -128,7 +133,7 @@ impl<H: Drop> Generations<H> {
                 number,
                 swept: self.handed_sweep.unwrap_or(now),
             });
-            self.is_near = false;
+            self.near_since = None;
             self.next = Next::Unasked;
             self.tries_left = self.max_failures;
         }
@@ -150,23 +155,37 @@ impl<H: Drop> Generations<H> {
         self.tries_left == 0 || self.newest.is_none()
     }
 
-    /// The newest generation is near its marks: an older one that still has connections is given up. Ignored unless `by` is the
-    /// newest one.
-    pub fn near(&mut self, by: u64)
-        ensures { Tells (Near by) self.old self.new }
+    /// The newest generation is near its marks at the moment `now`: an older one that still has connections is given up. Ignored
+    /// unless `by` is the newest one. Told again, the first moment counts.
+    pub fn near(&mut self, by: u64, now: u64)
+        ensures { Tells (Near by now) self.old self.new }
     {
         if Open::has_number(self.newest, by) {
-            self.is_near = true;
+            self.near_since = Some(self.near_since.unwrap_or(now));
         }
     }
 
-    /// The newest generation has reached its marks, or takes in nothing more: another one is wanted, from this handover. An
-    /// older one that still has connections stops, and the new one is due once it has none.
+    // Whether nothing keeps a further one from being asked for at this moment: there is no older one, or it had its time for
+    // giving up.
+    fn has_given_up(&self, now: u64) -> bool
+        ensures { IsTrue result ↔ HadTime self.now now }
+    {
+        if self.older.is_none() {
+            return true;
+        }
+        match self.near_since {
+            None => false,
+            Some(since) => now >= since && now - since >= GIVING_UP_MS,
+        }
+    }
+
+    /// The newest generation has reached its marks at the moment `now`, or takes in nothing more: another one is wanted, from
+    /// this handover. An older one that still has connections stops, and the new one is due once it has none.
     ///
-    /// Ignored, and the handover dropped, unless `by` is the newest one and none is wanted or being opened; and where 2^64
-    /// generations were asked for.
-    pub fn full(&mut self, by: u64, handover: H)
-        ensures { Tells (Full by handover) self.old self.new }
+    /// Ignored, and the handover dropped, unless `by` is the newest one and none is wanted or being opened; while an older one
+    /// has connections and has given up for less than `GIVING_UP_MS` milliseconds; and where 2^64 generations were asked for.
+    pub fn full(&mut self, by: u64, now: u64, handover: H)
+        ensures { Tells (Full by now handover) self.old self.new }
     {
         let Next::Unasked = &self.next else {
             return;
@@ -177,7 +196,7 @@ impl<H: Drop> Generations<H> {
         let Some(asked) = self.asked.checked_add(1) else {
             return;
         };
-        if newest.number == by {
+        if newest.number == by && self.has_given_up(now) {
             self.next = Next::Wanted(Some(handover));
             self.asked = asked;
             self.handed_sweep = Some(newest.swept);
@@ -207,7 +226,7 @@ impl<H: Drop> Generations<H> {
         }
         match &self.next {
             Next::Wanted(_) => Course::Stops,
-            _ if self.is_near => Course::GivesUp,
+            _ if self.near_since.is_some() => Course::GivesUp,
             _ => Course::Drains,
         }
     }

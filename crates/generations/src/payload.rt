@@ -13,6 +13,12 @@ pub const MAX_READ_BYTES: u64 = 16_384;
 /// So many bytes of a journal are kept for the texts of errors, where replies have no room.
 pub const MAX_ERROR_BYTES: u64 = 4_194_304;
 
+/// To a journal that is far from full so many bytes of payload may come before its room is looked at again.
+pub const FAR_BYTES: u64 = 1_048_576;
+
+/// And so many steps may be owed more.
+pub const FAR_STEPS: u64 = 16_384;
+
 /// An average is of the journal itself once it has so many steps.
 const FIRST_STEPS: u64 = 1_024;
 
@@ -50,7 +56,7 @@ impl Model for Payload {
 
 impl Payload {
     ghost use Rattle.generations.specs.Budget.{capped};
-    ghost use Rattle.generations.specs.Payload.{average_of, kept_bytes, next_average_of, HasRoomForCommand, HasRoomForReply};
+    ghost use Rattle.generations.specs.Payload.{average_of, kept_bytes, next_average_of, HasRoomForCommand, HasRoomForReply, IsFarFromFull};
 
     /// Nothing was told yet. `average` is how many bytes a step the generation before had when it ended, 0 for the first one.
     pub fn new(average: u64) -> Payload
@@ -132,6 +138,19 @@ impl Payload {
             .saturating_add(grown)
             .saturating_add(MAX_ERROR_BYTES)
             <= MAX_BYTES
+    }
+
+    /// Whether the journal is so far from full, where so many steps are owed, that its room needn't be looked at for each command
+    /// and reply: once `FAR_BYTES` bytes more have come, and `FAR_STEPS` steps more are owed, it still has room for one of which
+    /// `FAR_BYTES` bytes are unfinished.
+    pub fn is_far_from_full(&self, owed: u64) -> bool
+        ensures { IsTrue result → IsFarFromFull self.now owed }
+    {
+        let grown = Payload {
+            used: self.used.saturating_add(2 * FAR_BYTES),
+            ..*self
+        };
+        self.steps >= FIRST_STEPS && grown.takes_in(owed.saturating_add(FAR_STEPS), FAR_BYTES)
     }
 
     // The bytes of payload there, and those of replies that are still to be handed out.

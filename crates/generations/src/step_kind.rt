@@ -36,6 +36,7 @@ impl StepKind {
 
     /// How many steps of the journal the step costs: itself and those that it owes, and none where it was owed itself. The
     /// greatest `u64` where it is more than that.
+    #[inline(always)]
     pub fn cost(self) -> u64
         ensures { result ≡ capped (cost_of self) }
     {
@@ -49,6 +50,7 @@ impl StepKind {
     }
 
     /// How many steps of the journal the step sets free: those that it stands in place of, beside itself.
+    #[inline(always)]
     pub fn freed(self) -> u64
         ensures { result ≡ freed_of self }
     {
