@@ -8,7 +8,7 @@ use command_line::{Asked, Refused};
 use mio::net::TcpListener;
 use proxy_config::{Config, ConfigError, check_line};
 use proxy_run::{Ending, local_run};
-use proxy_serve::{Marks, serve_run};
+use proxy_serve::{Marks, Stop, serve};
 use std::net::Net;
 use std::process::ExitCode;
 use std::rt::Runtime;
@@ -70,10 +70,16 @@ fn run_serve<
             return BAD_SETTINGS;
         }
     };
-    let Ok(listener) = TcpListener::bind(rt, config.listen) else {
-        return ended(rt, Ending::Socket);
+    let listener = match TcpListener::bind(rt, config.listen) {
+        Ok(listener) => listener,
+        Err(error) => {
+            return stopped(
+                rt,
+                Stop::socket_at("cannot listen on", config.listen, error),
+            );
+        }
     };
-    match serve_run(
+    match serve(
         rt,
         rt.alloc(),
         listener,
@@ -83,7 +89,7 @@ fn run_serve<
         &mut io::writer(rt),
     ) {
         Ok(()) => 0,
-        Err(ending) => ended(rt, ending),
+        Err(stop) => stopped(rt, stop),
     }
 }
 
@@ -102,6 +108,12 @@ fn settings_of<R: Runtime + AllocGlobal>(rt: &R, config: &str) -> Result<Config,
 fn ended<R: Eprint>(rt: &R, ending: Ending) -> u8 {
     let _ = eprintln!(rt; "{ending}");
     ending.status()
+}
+
+// Tells why the serving ended and what failed, and gives the status.
+fn stopped<R: Eprint>(rt: &R, stop: Stop) -> u8 {
+    let _ = eprintln!(rt; "{stop}");
+    stop.ending.status()
 }
 
 fn run<

@@ -12,19 +12,27 @@ use Rattle.proxy_serve.specs.contracts.board.Board as Board
 use Rattle.proxy_serve.specs.contracts.client.Carried as Carried
 use Rattle.proxy_serve.specs.contracts.house.Door as Door
 use Rattle.proxy_serve.specs.contracts.house.House as House
+use Rattle.proxy_serve.specs.contracts.house.Inherited as Inherited
 use Rattle.proxy_serve.specs.contracts.generation.Plan as Plan
 use Rattle.proxy_serve.specs.contracts.hall.Desk as Desk
 use Rattle.proxy_serve.specs.contracts.hall.Hall as Hall
 use Rattle.proxy_serve.specs.contracts.ledger.Ledger as Ledger
+use Rattle.proxy_serve.specs.contracts.stop.Stop as Stop
 
 pub handover_send : IsSend Handover.the_row
 handover_send = search (crosses, sendable) depth 40 fits 20000
 
-due_send : IsSend (Due.the_row Handover.the_row)
-due_send = search (handover_send, crosses, sendable) depth 30 fits 20000
+inherited_send : IsSend Inherited.the_row
+inherited_send = search (handover_send, crosses, sendable) depth 30 fits 20000
 
-generations_send : IsSend (Generations.the_row Handover.the_row)
-generations_send = search (handover_send, crosses, sendable) depth 40 fits 20000
+due_send : IsSend (Due.the_row Inherited.the_row)
+due_send = search (inherited_send, crosses, sendable) depth 30 fits 20000
+
+generations_send : IsSend (Generations.the_row Inherited.the_row)
+generations_send = search (inherited_send, crosses, sendable) depth 40 fits 20000
+
+stop_send : IsSend Stop.the_row
+stop_send = search (crosses, sendable) depth 40 fits 20000
 
 board_sync : IsSync Board.the_row
 board_sync = search (crosses, sendable) depth 30 fits 20000
@@ -42,7 +50,7 @@ door_sync : IsSync Door.the_row
 door_sync = search (carried_send, crosses, sendable) depth 40 fits 20000
 
 pub house_sync : IsSync House.the_row
-house_sync = search (generations_send, board_sync, counts_send, door_sync, crosses, sendable) depth 40 fits 20000
+house_sync = search (generations_send, board_sync, counts_send, door_sync, stop_send, crosses, sendable) depth 40 fits 20000
 
 desk_sync : IsSync Desk.the_row
 desk_sync = search (crosses, sendable) depth 40 fits 20000

@@ -63,11 +63,6 @@ impl Board {
         }
     }
 
-    /// Whether one that drains still has connections.
-    pub(crate) fn has_older(&self) -> bool {
-        self.older.load(Ordering::SeqCst) != NONE
-    }
-
     /// Whether the generation is open or was.
     pub(crate) fn has_opened(&self, number: u64) -> bool {
         let newest = self.newest.load(Ordering::SeqCst);

@@ -9,6 +9,7 @@ use mio::{Registry, Token};
 use proxy_core::CoreTurns;
 use proxy_engines::{ClientEngine, EngineError, Progress, Rest, Tallied};
 use proxy_run::Ending;
+use serve_parts::Refusals;
 use std::alloc::Global;
 use std::cell::RefCell;
 use std::rc::Rc;
@@ -89,6 +90,8 @@ pub(crate) struct Client {
     replies: u64,
     // The last pass ended before all was done.
     has_more: bool,
+    // Refusals of memory to its next step.
+    refusals: Refusals,
     // Nothing more is taken in.
     is_drained: bool,
     // How many bytes had come when a command was last accepted, and how many came since.
@@ -157,6 +160,7 @@ impl Client {
             unanswered: 0,
             replies: 0,
             has_more: true,
+            refusals: Refusals::new(),
             is_drained: false,
             begun: 0,
             unfinished: 0,
@@ -201,6 +205,7 @@ impl Client {
                 unanswered: 0,
                 replies: 0,
                 has_more: true,
+                refusals: Refusals::new(),
                 is_drained: false,
                 begun,
                 unfinished,
@@ -376,7 +381,11 @@ impl Client {
                     self.close_up(hall);
                 }
             }
-            match self.engine.step(rt, turns) {
+            let stepped = self.engine.step(rt, turns);
+            if stepped.is_ok() {
+                self.refusals.succeeded();
+            }
+            match stepped {
                 Ok(Progress::Moved) => {}
                 Ok(Progress::Idle | Progress::NeedsLink) => return Ok(()),
                 Ok(Progress::Cut | Progress::Ended) => {
@@ -413,9 +422,20 @@ impl Client {
         match hitch {
             Hitch::Full if !self.is_drained => self.close_up(hall),
             Hitch::Full | Hitch::Alone => self.stage = Stage::Leaving,
-            Hitch::Memory | Hitch::Ends(_) => return Err(hitch),
+            Hitch::Memory => return Err(self.refuse()),
+            Hitch::Ends(_) => return Err(hitch),
         }
         Ok(())
+    }
+
+    /// Memory was refused to it: it's tried again, unless that was so too often in a row.
+    pub(crate) fn refuse(&mut self) -> Hitch {
+        self.has_more = true;
+        if self.refusals.refused() {
+            Hitch::Ends(Ending::Memory)
+        } else {
+            Hitch::Memory
+        }
     }
 
     // Counts what is unanswered, and tells others of parts.

@@ -4,7 +4,8 @@ ghost use Rattle.ticket_gate.specs.Gate.{IsSpareOf};
 ghost use Rattle.proxy_config.specs.RingParts.{AreRingParts};
 
 use crate::hall::{Desk, Hall};
-use crate::house::House;
+use crate::house::{House, Inherited};
+use crate::stop::Stop;
 use crate::sweeping::Sweeps;
 use crate::worker::{WAKER, Worker};
 use generations::{Due, Marks};
@@ -125,7 +126,7 @@ fn roles<'a, R: Wait>(
     spare: Spare<Core>,
     polls: Vec<Poll>,
     wakers: Vec<Waker>,
-) -> Result<(Vec<Role<'a>>, Spare<Core>), Ending>
+) -> Result<(Vec<Role<'a>>, Spare<Core>), Stop>
     requires { IsSpareOf gate.now spare }
     ensures { IfOk result (λ made. IsSpareOf gate.now made.1) }
 {
@@ -145,10 +146,10 @@ fn roles<'a, R: Wait>(
     Ok((roles, rest))
 }
 
-fn waker_of(poll: &Poll) -> Result<Waker, Ending> {
+fn waker_of(poll: &Poll) -> Result<Waker, Stop> {
     match Waker::new(poll.registry(), WAKER) {
         Ok(waker) => Ok(waker),
-        Err(_) => Err(Ending::Socket),
+        Err(error) => Err(Stop::socket("cannot make a worker's waker", error)),
     }
 }
 
@@ -160,20 +161,16 @@ struct Furniture {
     wakers: Vec<Waker>,
 }
 
-fn furnish<R: Net>(
-    rt: &R,
-    alloc: Global,
-    workers: usize,
-    hosts: usize,
-) -> Result<Furniture, Ending> {
+fn furnish<R: Net>(rt: &R, alloc: Global, workers: usize, hosts: usize) -> Result<Furniture, Stop> {
     let mut all = Furniture {
         polls: Vec::new(alloc),
         desks: Vec::new(alloc),
         wakers: Vec::new(alloc),
     };
     for place in 0..workers {
-        let Ok(poll) = Poll::new(rt) else {
-            return Err(Ending::Socket);
+        let poll = match Poll::new(rt) {
+            Ok(poll) => poll,
+            Err(error) => return Err(Stop::socket("cannot make a worker's poll", error)),
         };
         all.desks.push(Desk::new(waker_of(&poll)?, place < hosts))?;
         all.wakers.push(waker_of(&poll)?)?;
@@ -188,7 +185,7 @@ pub(crate) struct Plan<'a> {
     pub(crate) house: &'a House,
     pub(crate) config: &'a Config,
     pub(crate) marks: Marks,
-    pub(crate) due: Due<Handover>,
+    pub(crate) due: Due<Inherited>,
 }
 
 /// Opens the generation, and serves in it until its threads have ended. What it did is added to the house's counts.
@@ -198,17 +195,17 @@ pub(crate) fn keep<R: Ground>(rt: &R, alloc: Global, plan: Plan<'_>)
     requires { AreRingParts plan.config.now.hosts.items plan.config.now.weights.items }
 {
     let (house, number) = (plan.house, plan.due.number);
-    if let Err(ending) = serve_in(rt, alloc, plan) {
+    if let Err(stop) = serve_in(rt, alloc, plan) {
         if house.has_opened(number) {
-            house.end(ending);
+            house.end(rt, stop);
         } else {
-            house.fail(rt, number, ending);
+            house.fail(rt, number, stop);
         }
     }
 }
 
 // Ends with `Memory` or `Socket` where it could not be opened, and then it was never the newest.
-fn serve_in<R: Ground>(rt: &R, alloc: Global, plan: Plan<'_>) -> Result<(), Ending>
+fn serve_in<R: Ground>(rt: &R, alloc: Global, plan: Plan<'_>) -> Result<(), Stop>
     requires { AreRingParts plan.config.now.hosts.items plan.config.now.weights.items }
 {
     let Plan {
@@ -218,14 +215,18 @@ fn serve_in<R: Ground>(rt: &R, alloc: Global, plan: Plan<'_>) -> Result<(), Endi
         due,
     } = plan;
     let Due { number, from } = due;
+    let (from, average) = match from {
+        None => (None, 0),
+        Some(Inherited { handover, average }) => (Some(handover), average),
+    };
     let Furniture {
         polls,
         desks,
         wakers,
     } = furnish(rt, alloc, house.workers(), config.hosts.len())?;
-    let hall = Hall::new(house, number, desks);
+    let hall = Hall::new(house, number, average, desks);
     let Ok((gate, spare)) = Gate::new(alloc, core(alloc, config, from)?) else {
-        return Err(Ending::Memory);
+        return Err(Stop::from(Ending::Memory));
     };
     let post = Post {
         alloc,
@@ -235,10 +236,10 @@ fn serve_in<R: Ground>(rt: &R, alloc: Global, plan: Plan<'_>) -> Result<(), Endi
     };
     let (roles, spare) = roles(rt, post, &gate, spare, polls, wakers)?;
     let Ok(pass) = gate.enrol(rt, spare) else {
-        return Err(Ending::Spent);
+        return Err(Stop::from(Ending::Spent));
     };
     if run_all(rt, alloc, roles).is_err() || !hall.has_begun() {
-        return Err(Ending::Memory);
+        return Err(Stop::from(Ending::Memory));
     }
     if let Some(core) = gate.close(pass) {
         house.add(rt, &counts(&core));

@@ -126,8 +126,8 @@ impl Desk {
 }
 
 impl<'a> Hall<'a> {
-    /// A generation to which nothing has happened.
-    pub(crate) fn new(house: &'a House, number: u64, desks: Vec<Desk>) -> Hall<'a> {
+    /// A generation to which nothing has happened. The one before had so many bytes of payload a step.
+    pub(crate) fn new(house: &'a House, number: u64, average: u64, desks: Vec<Desk>) -> Hall<'a> {
         Hall {
             house,
             number,
@@ -135,7 +135,7 @@ impl<'a> Hall<'a> {
             come: AtomicU64::new(0),
             start: AtomicU8::new(GATHERS),
             open: AtomicU64::new(0),
-            ledger: Mutex::new(Ledger::new(house.average())),
+            ledger: Mutex::new(Ledger::new(average)),
             is_closing: AtomicBool::new(false),
             parts: AtomicU64::new(0),
             replies: AtomicU64::new(0),
@@ -315,9 +315,9 @@ impl<'a> Hall<'a> {
 
     /// A connection's unfinished command has so many bytes now, and had so many before.
     pub(crate) fn note_unfinished(&self, now: u64, before: u64) {
-        if now >= before {
+        if now > before {
             self.unfinished.fetch_add(now - before, Ordering::SeqCst);
-        } else {
+        } else if now < before {
             self.unfinished.fetch_sub(before - now, Ordering::SeqCst);
         }
     }

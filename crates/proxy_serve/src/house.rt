@@ -2,27 +2,31 @@
 
 use crate::board::Board;
 use crate::client::Carried;
+use crate::stop::Stop;
 use generations::{Course, Due, Generations};
 use mio::Waker;
 use mio::net::TcpStream;
 use proxy_core::Handover;
-use proxy_run::Ending;
 use proxy_stats::Counts;
 use std::alloc::{AllocFailed, Global};
 use std::collections::VecDeque;
-use std::sync::atomic::{AtomicU8, AtomicU64, Ordering};
+use std::sync::atomic::{AtomicBool, AtomicU64, Ordering};
 use std::sync::{Mutex, MutexGuard, Wait};
 
 /// So many sockets of clients are open at a time, over all generations.
 pub(crate) const MAX_SOCKETS: u64 = 4_096;
 
-/// After so many tries in a row that found no memory the serving ends, and after so many generations in a row that could not
-/// be opened.
-pub(crate) const MAX_TRIES: u32 = 1_000;
+// After so many generations in a row that could not be opened the serving ends.
+const MAX_FAILURES: u32 = 1_000;
 
-const RUNS: u8 = 0;
-
-const DONE: u8 = 1;
+/// What a generation goes on from.
+#[derive(Drop)]
+pub(crate) struct Inherited {
+    /// The state of outlier detection.
+    pub(crate) handover: Handover,
+    /// How many bytes of payload a step had.
+    pub(crate) average: u64,
+}
 
 /// Where the new sockets of a worker's place wait, and those that go over to the newest generation, and how the worker that
 /// has that place now is woken.
@@ -39,18 +43,17 @@ pub(crate) struct House {
     doors: Vec<Door>,
     // Wakes the thread that listens and opens generations.
     waker: Waker,
-    // RUNS, DONE, or the status of the ending that came first.
-    flag: AtomicU8,
+    // Whether the serving goes on, and where it doesn't, why, if not because it is done.
+    is_running: AtomicBool,
+    stop: Mutex<Option<Stop>>,
     closed: AtomicU64,
     // After so many closed connections the serving is done; 0 is never.
     most: u64,
     // Sockets of clients that are open.
     sockets: AtomicU64,
     // Which generation does what, and what of it stands on the board for who looks without waiting.
-    generations: Mutex<Generations<Handover>>,
+    generations: Mutex<Generations<Inherited>>,
     board: Board,
-    // Bytes a step of the generation that asked for another one last.
-    average: AtomicU64,
     counts: Mutex<Option<Counts>>,
 }
 
@@ -74,13 +77,13 @@ impl House {
         Ok(House {
             doors,
             waker,
-            flag: AtomicU8::new(RUNS),
+            is_running: AtomicBool::new(true),
+            stop: Mutex::new(None),
             closed: AtomicU64::new(0),
             most,
             sockets: AtomicU64::new(0),
-            generations: Mutex::new(Generations::new(u64::from(interval_ms), MAX_TRIES)),
+            generations: Mutex::new(Generations::new(u64::from(interval_ms), MAX_FAILURES)),
             board: Board::new(),
-            average: AtomicU64::new(0),
             counts: Mutex::new(None),
         })
     }
@@ -166,30 +169,27 @@ impl House {
 
     /// Whether the serving goes on.
     pub(crate) fn runs(&self) -> bool {
-        self.flag.load(Ordering::SeqCst) == RUNS
+        self.is_running.load(Ordering::SeqCst)
     }
 
-    fn set(&self, code: u8) {
-        let _ = self
-            .flag
-            .compare_exchange(RUNS, code, Ordering::SeqCst, Ordering::SeqCst);
+    // The serving goes on no more. False says that it didn't before.
+    fn halt(&self) -> bool {
+        let did_run = self.is_running.swap(false, Ordering::SeqCst);
         let _ = self.waker.wake();
+        did_run
     }
 
     /// Ends the serving. The first reason stays.
-    pub(crate) fn end(&self, ending: Ending) {
-        self.set(ending.status());
+    pub(crate) fn end<R: Wait>(&self, rt: &R, stop: Stop) {
+        let mut first = self.stop.lock(rt);
+        if self.halt() {
+            *first = Some(stop);
+        }
     }
 
     /// Why the serving ended, if not because it is done.
-    pub(crate) fn ending(&self) -> Option<Ending> {
-        match self.flag.load(Ordering::SeqCst) {
-            4 => Some(Ending::JournalFull),
-            5 => Some(Ending::Socket),
-            6 => Some(Ending::Memory),
-            7 => Some(Ending::Spent),
-            _ => None,
-        }
+    pub(crate) fn stop<R: Wait>(&self, rt: &R) -> Option<Stop> {
+        *self.stop.lock(rt)
     }
 
     /// Counts a socket that is closed. With the last that is waited for the serving is done.
@@ -197,7 +197,7 @@ impl House {
         self.let_go();
         let before = self.closed.fetch_add(1, Ordering::SeqCst);
         if self.most != 0 && before >= self.most - 1 {
-            self.set(DONE);
+            self.halt();
         }
     }
 
@@ -210,25 +210,20 @@ impl House {
         }
     }
 
-    /// Whether a generation drains that still has connections.
-    pub(crate) fn has_older(&self) -> bool {
-        self.board.has_older()
-    }
-
     /// Whether the generation was the newest at some time.
     pub(crate) fn has_opened(&self, number: u64) -> bool {
         self.board.has_opened(number)
     }
 
     // What was decided is put on the board, and a generation that is due wakes the thread that opens it.
-    fn publish(&self, generations: MutexGuard<'_, Generations<Handover>>) {
+    fn publish(&self, generations: MutexGuard<'_, Generations<Inherited>>) {
         self.board.show(&generations);
         drop(generations);
         let _ = self.waker.wake();
     }
 
     /// The generation that is to be opened now, told once.
-    pub(crate) fn take_due<R: Wait>(&self, rt: &R) -> Option<Due<Handover>> {
+    pub(crate) fn take_due<R: Wait>(&self, rt: &R) -> Option<Due<Inherited>> {
         self.generations.lock(rt).take_due()
     }
 
@@ -244,24 +239,25 @@ impl House {
     }
 
     /// The generation could not be opened. After too many in a row the serving ends so.
-    pub(crate) fn fail<R: Wait>(&self, rt: &R, number: u64, ending: Ending) {
+    pub(crate) fn fail<R: Wait>(&self, rt: &R, number: u64, stop: Stop) {
         let is_last = self.generations.lock(rt).failed(number);
         if is_last {
-            self.end(ending);
+            self.end(rt, stop);
         }
     }
 
-    /// The newest generation is at three quarters of its marks.
-    pub(crate) fn near<R: Wait>(&self, rt: &R, number: u64) {
+    /// The newest generation is at three quarters of its marks at this moment.
+    pub(crate) fn near<R: Wait>(&self, rt: &R, number: u64, now: u64) {
         let mut generations = self.generations.lock(rt);
-        generations.near(number);
-        self.publish(generations);
+        generations.near(number, now);
+        self.board.show(&generations);
     }
 
-    /// The newest generation has reached its marks, or takes nothing more in: another one is wanted, which goes on from there.
-    pub(crate) fn ask_next<R: Wait>(&self, rt: &R, number: u64, from: Handover) {
+    /// The newest generation has reached its marks at this moment, or takes nothing more in: another one is wanted, which goes
+    /// on from there, once an older one had its time.
+    pub(crate) fn full<R: Wait>(&self, rt: &R, number: u64, now: u64, from: Inherited) {
         let mut generations = self.generations.lock(rt);
-        generations.full(number, from);
+        generations.full(number, now, from);
         self.publish(generations);
     }
 
@@ -280,16 +276,6 @@ impl House {
     /// The generation made a sweep at this moment.
     pub(crate) fn swept<R: Wait>(&self, rt: &R, number: u64, now: u64) {
         self.generations.lock(rt).swept(number, now);
-    }
-
-    /// Bytes a step of the generation that asked for another one last.
-    pub(crate) fn average(&self) -> u64 {
-        self.average.load(Ordering::SeqCst)
-    }
-
-    /// The newest generation has so many bytes a step, and asks for another one.
-    pub(crate) fn note_average(&self, average: u64) {
-        self.average.store(average, Ordering::SeqCst);
     }
 
     /// Adds what a generation did.

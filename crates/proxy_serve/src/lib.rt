@@ -17,10 +17,12 @@ mod house;
 mod ledger;
 mod port;
 mod serving;
+mod stop;
 mod sweeping;
 mod upstream;
 mod watched;
 mod worker;
 
 pub use generations::Marks;
-pub use serving::serve_run;
+pub use serving::{serve, serve_run};
+pub use stop::{Failure, Stop};

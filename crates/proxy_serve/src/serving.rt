@@ -3,6 +3,7 @@ ghost use Rattle.proxy_config.specs.RingParts.{AreRingParts};
 
 use crate::generation::{Ground, Plan, keep};
 use crate::house::House;
+use crate::stop::Stop;
 use generations::Marks;
 use mio::net::TcpListener;
 use mio::{Events, Interest, Poll, Token, Waker};
@@ -12,7 +13,7 @@ use proxy_stats::Counts;
 use serve_parts::Rota;
 use std::alloc::Global;
 use std::io::{ErrorKind, Write};
-use std::net::Net;
+use std::net::{Net, SocketAddr};
 use std::rt::Clock;
 use std::sync::Wait;
 use std::thread::{JoinHandle, Threads};
@@ -38,24 +39,32 @@ const NO_ROOM: [i32; 4] = [12, 23, 24, 105];
 struct Porter<'a> {
     poll: Poll,
     listener: TcpListener,
+    // The listener's.
+    address: SocketAddr,
     house: &'a House,
     // To which worker the next socket goes.
     rota: Rota,
 }
 
 impl<'a> Porter<'a> {
-    fn wait(&mut self, events: &mut Events) -> Result<(), Ending> {
+    fn wait(&mut self, events: &mut Events) -> Result<(), Stop> {
         match self
             .poll
             .poll(events, Some(Duration::from_millis(PAUSE_MS)))
         {
             Ok(()) => Ok(()),
-            Err(_) => Err(Ending::Socket),
+            Err(error) => Err(Stop::socket("cannot poll", error)),
         }
     }
 
+    // Waits for what is to be done, and deals new sockets.
+    fn attend<R: Wait>(&mut self, rt: &R, events: &mut Events) -> Result<(), Stop> {
+        self.wait(events)?;
+        self.deal(rt)
+    }
+
     // Deals the sockets of new connections to the workers in turn. One for which there is no room is closed.
-    fn deal<R: Wait>(&mut self, rt: &R) -> Result<(), Ending> {
+    fn deal<R: Wait>(&mut self, rt: &R) -> Result<(), Stop> {
         for _ in 0..MOST_TAKEN {
             match self.listener.accept() {
                 Ok((stream, _)) => {
@@ -71,7 +80,7 @@ impl<'a> Porter<'a> {
                     if error.kind() != ErrorKind::ConnectionAborted
                         && error.kind() != ErrorKind::Interrupted
                     {
-                        return Err(Ending::Socket);
+                        return Err(Stop::socket_at("cannot accept on", self.address, error));
                     }
                 }
             }
@@ -88,16 +97,20 @@ fn has_no_room(error: &io::Error) -> bool {
 }
 
 // What wakes the thread that listens, and its poll.
-fn open<R: Net>(rt: &R, listener: &mut TcpListener) -> Result<(Poll, Waker), Ending> {
-    let Ok(poll) = Poll::new(rt) else {
-        return Err(Ending::Socket);
+fn open<R: Net>(rt: &R, listener: &mut TcpListener) -> Result<(Poll, Waker), Stop> {
+    let poll = match Poll::new(rt) {
+        Ok(poll) => poll,
+        Err(error) => return Err(Stop::socket("cannot make a poll", error)),
     };
     let registered = poll
         .registry()
         .register(listener, LISTENER, Interest::READABLE);
-    match (registered, Waker::new(poll.registry(), WAKER)) {
-        (Ok(()), Ok(waker)) => Ok((poll, waker)),
-        _ => Err(Ending::Socket),
+    if let Err(error) = registered {
+        return Err(Stop::socket("cannot poll the listener", error));
+    }
+    match Waker::new(poll.registry(), WAKER) {
+        Ok(waker) => Ok((poll, waker)),
+        Err(error) => Err(Stop::socket("cannot make a waker", error)),
     }
 }
 
@@ -106,10 +119,10 @@ fn open<R: Net>(rt: &R, listener: &mut TcpListener) -> Result<(Poll, Waker), End
 ///
 /// Once a journal is as long as the marks say another one is opened. At most two are kept at a time.
 ///
-/// Ends with `Socket` (5) where the listener, a poll or the writer fails, `Memory` (6) for want of memory: where a thread
-/// found none 1,000 times in a row, or at the start; `Spent` (7) where a gate has no ticket left. All threads have ended
-/// then.
-pub fn serve_run<
+/// Stops with `Socket` (5) where the listener, a poll or the writer fails, and says what failed; `Memory` (6) for want of
+/// memory: where it was refused 1,000 times in a row to one thing, or at the start; `Spent` (7) where a gate has no ticket left.
+/// All threads have ended then.
+pub fn serve<
     R: Threads
         + Wait
         + Net<Listener = std::net::TcpListener, Stream = std::net::TcpStream>
@@ -125,7 +138,7 @@ pub fn serve_run<
     connections: u64,
     marks: Marks,
     output: &mut W,
-) -> Result<(), Ending>
+) -> Result<(), Stop>
     requires { AreRingParts config.hosts.items config.weights.items }
 {
     let (poll, waker) = open(rt, &mut listener)?;
@@ -136,18 +149,46 @@ pub fn serve_run<
         waker,
         connections,
     )?;
-    tell_start(rt, &listener, &config);
+    let address = listener.local_addr().unwrap_or(config.listen);
+    tell_start(rt, address, &config);
     let porter = Porter {
         poll,
         listener,
+        address,
         house: &house,
         rota: Rota::new(house.workers()),
     };
     serve_on(rt, alloc, porter, &house, &config, marks)?;
-    if let Some(ending) = house.ending() {
-        return Err(ending);
+    if let Some(stop) = house.stop(rt) {
+        return Err(stop);
     }
     write_counts(house.counts(rt), output)
+}
+
+/// As `serve`, for who needs to know how it ended alone.
+pub fn serve_run<
+    R: Threads
+        + Wait
+        + Net<Listener = std::net::TcpListener, Stream = std::net::TcpStream>
+        + Clock
+        + Eprint
+        + Sync,
+    W: Write,
+>(
+    rt: &R,
+    alloc: Global,
+    listener: TcpListener,
+    config: Config,
+    connections: u64,
+    marks: Marks,
+    output: &mut W,
+) -> Result<(), Ending>
+    requires { AreRingParts config.hosts.items config.weights.items }
+{
+    match serve(rt, alloc, listener, config, connections, marks, output) {
+        Ok(()) => Ok(()),
+        Err(stop) => Err(stop.ending),
+    }
 }
 
 // Keeps one generation after the other until the serving ends.
@@ -158,7 +199,7 @@ fn serve_on<R: Ground>(
     house: &House,
     config: &Config,
     marks: Marks,
-) -> Result<(), Ending>
+) -> Result<(), Stop>
     requires { AreRingParts config.now.hosts.items config.now.weights.items }
 {
     let mut events = Events::with_capacity(alloc, 4)?;
@@ -190,11 +231,11 @@ fn serve_on<R: Ground>(
                     );
                     match begun {
                         Ok(handle) => threads.add(number, handle),
-                        Err(_) => house.fail(rt, number, Ending::Memory),
+                        Err(_) => house.fail(rt, number, Stop::from(Ending::Memory)),
                     }
                 }
-                if porter.wait(&mut events).is_err() || porter.deal(rt).is_err() {
-                    house.end(Ending::Socket);
+                if let Err(stop) = porter.attend(rt, &mut events) {
+                    house.end(rt, stop);
                 }
             }
             threads.join_all(rt);
@@ -252,14 +293,13 @@ impl Generated {
     }
 }
 
-fn tell_start<R: Eprint>(rt: &R, listener: &TcpListener, config: &Config) {
-    let address = listener.local_addr().unwrap_or(config.listen);
+fn tell_start<R: Eprint>(rt: &R, address: SocketAddr, config: &Config) {
     let hosts = config.hosts.len();
     let workers = config.workers;
     let _ = eprintln!(rt; "redproxy: listening on {address}, {hosts} hosts, {workers} workers");
 }
 
-fn write_counts<W: Write>(counts: Option<Counts>, output: &mut W) -> Result<(), Ending> {
+fn write_counts<W: Write>(counts: Option<Counts>, output: &mut W) -> Result<(), Stop> {
     let (accepted, handed, sent, answered, lost, ejections) = match counts {
         None => (0, 0, 0, 0, 0, 0),
         Some(all) => (
@@ -276,6 +316,6 @@ fn write_counts<W: Write>(counts: Option<Counts>, output: &mut W) -> Result<(), 
     ));
     match written {
         Ok(()) => Ok(()),
-        Err(_) => Err(Ending::Socket),
+        Err(error) => Err(Stop::socket("cannot write the counts", error)),
     }
 }

@@ -2,7 +2,8 @@
 
 use crate::generation::Post;
 use crate::hall::Hall;
-use crate::house::MAX_TRIES;
+use crate::house::Inherited;
+use crate::stop::Stop;
 use crate::watched::Watched;
 use crate::worker::now;
 use generations::{Course, Marks};
@@ -10,6 +11,7 @@ use mio::Waker;
 use proxy_config::Config;
 use proxy_core::{Core, Handover};
 use proxy_run::Ending;
+use serve_parts::Refusals;
 use std::alloc::AllocError;
 use std::rt::Clock;
 use std::sync::Wait;
@@ -21,9 +23,6 @@ use ticket_gate::Seated;
 // Between two looks, in milliseconds.
 const PAUSE_MS: u64 = 5;
 
-// So long an older generation that gives up has for answering by name, in milliseconds, before its last sockets are closed.
-const GIVING_UP_MS: u64 = 50;
-
 /// What sweeps, tells which hosts are put aside and come back, and asks for another generation in time.
 #[derive(Drop)]
 pub(crate) struct Sweeps<'a> {
@@ -33,12 +32,10 @@ pub(crate) struct Sweeps<'a> {
     marks: Marks,
     // Wake the workers for new sockets, once the generation is open.
     wakers: Vec<Waker>,
-    // Sweeps in a row that found no memory.
-    tries: u32,
+    // Sweeps that found no memory.
+    refusals: Refusals,
     // Whether each host was put aside when they were last looked at.
     are_out: Vec<bool>,
-    // Since when the journal is near its marks.
-    near_since: Option<u64>,
 }
 
 impl<'a> Sweeps<'a> {
@@ -60,9 +57,8 @@ impl<'a> Sweeps<'a> {
             config,
             marks,
             wakers,
-            tries: 0,
+            refusals: Refusals::new(),
             are_out: vec![in alloc; false; config.hosts.len()]?,
-            near_since: None,
         })
     }
 
@@ -73,8 +69,8 @@ impl<'a> Sweeps<'a> {
             return;
         }
         self.open(rt);
-        if let Err(ending) = self.sweep_on(rt) {
-            self.hall.house().end(ending);
+        if let Err(stop) = self.sweep_on(rt) {
+            self.hall.house().end(rt, stop);
         }
     }
 
@@ -86,7 +82,7 @@ impl<'a> Sweeps<'a> {
             .open(rt, self.hall.number(), now(rt), wakers);
     }
 
-    fn sweep_on<R: Wait + Clock + Eprint>(&mut self, rt: &R) -> Result<(), Ending> {
+    fn sweep_on<R: Wait + Clock + Eprint>(&mut self, rt: &R) -> Result<(), Stop> {
         let (house, number) = (self.hall.house(), self.hall.number());
         self.note_first(rt)?;
         for _ in rt.forever() {
@@ -114,7 +110,7 @@ impl<'a> Sweeps<'a> {
     }
 
     // One sweep, where the journal has a step for it that nobody owes. False says that it has to be made again.
-    fn sweep<R: Wait>(&mut self, rt: &R, moment: u64) -> Result<bool, Ending> {
+    fn sweep<R: Wait>(&mut self, rt: &R, moment: u64) -> Result<bool, Stop> {
         if !self.hall.lend_steps(rt, &mut self.turns, 1) {
             return Ok(false);
         }
@@ -122,29 +118,28 @@ impl<'a> Sweeps<'a> {
         self.hall.settle(rt, &mut self.turns, 0);
         match swept {
             Ok(_) | Err(SweepRefusal::JournalFull) => {
-                self.tries = 0;
+                self.refusals.succeeded();
                 Ok(true)
             }
             Err(SweepRefusal::NoMemory) => {
-                self.tries = self.tries.saturating_add(1);
-                if self.tries >= MAX_TRIES {
-                    return Err(Ending::Memory);
+                if self.refusals.refused() {
+                    return Err(Stop::from(Ending::Memory));
                 }
                 Ok(false)
             }
-            Err(SweepRefusal::Spent) => Err(Ending::Spent),
+            Err(SweepRefusal::Spent) => Err(Stop::from(Ending::Spent)),
         }
     }
 
-    fn sight<R: Wait>(&mut self, rt: &R) -> Result<Handover, Ending> {
+    fn sight<R: Wait>(&mut self, rt: &R) -> Result<Handover, Stop> {
         match self.turns.inner().sight(rt) {
             Ok(sight) => Ok(sight),
-            Err(_) => Err(Ending::Spent),
+            Err(_) => Err(Stop::from(Ending::Spent)),
         }
     }
 
     // Hosts that were put aside by an earlier generation aren't told of again.
-    fn note_first<R: Wait>(&mut self, rt: &R) -> Result<(), Ending> {
+    fn note_first<R: Wait>(&mut self, rt: &R) -> Result<(), Stop> {
         let sight = self.sight(rt)?;
         let hosts = sight.rules().hosts;
         for (host, was_out) in self.are_out.iter_mut().enumerate() {
@@ -154,7 +149,7 @@ impl<'a> Sweeps<'a> {
     }
 
     // Tells of the hosts, and of how full the journal is. Steps that are owed count as steps.
-    fn look<R: Wait + Eprint>(&mut self, rt: &R, moment: u64) -> Result<(), Ending> {
+    fn look<R: Wait + Eprint>(&mut self, rt: &R, moment: u64) -> Result<(), Stop> {
         let sight = self.sight(rt)?;
         for host in 0..self.are_out.len() {
             self.tell(rt, &sight, host);
@@ -166,11 +161,11 @@ impl<'a> Sweeps<'a> {
         if !is_full && !self.marks.are_near(steps, bytes) {
             return Ok(());
         }
-        let since = *self.near_since.get_or_insert(moment);
-        house.near(rt, number);
-        if is_full && (!house.has_older() || moment.saturating_sub(since) >= GIVING_UP_MS) {
-            house.note_average(self.hall.average(rt));
-            house.ask_next(rt, number, sight);
+        house.near(rt, number, moment);
+        if is_full {
+            let average = self.hall.average(rt);
+            let handover = sight;
+            house.full(rt, number, moment, Inherited { handover, average });
         }
         Ok(())
     }

@@ -10,6 +10,8 @@ use mio::net::TcpStream;
 use mio::{Interest, Registry, Token};
 use proxy_core::CoreTurns;
 use proxy_engines::{HostEngine, Progress, Tallied};
+use proxy_run::Ending;
+use serve_parts::Refusals;
 use std::alloc::Global;
 use std::cell::RefCell;
 use std::mem;
@@ -74,6 +76,8 @@ pub(crate) struct Upstream {
     parts: u64,
     looked: u64,
     has_more: bool,
+    // Refusals of memory to its next step, or to its link.
+    refusals: Refusals,
     // How many bytes had come on the link when a reply was last taken.
     begun: u64,
     // How many bytes of a large reply that is coming were told.
@@ -100,6 +104,7 @@ impl Upstream {
             parts: 0,
             looked: 0,
             has_more: true,
+            refusals: Refusals::new(),
             begun: 0,
             coming: 0,
             told: None,
@@ -172,7 +177,11 @@ impl Upstream {
             hall.tell_replies();
         }
         self.has_more = self.has_more || stepped.is_err();
-        Ok(stepped? && self.is_to_be_told(call.now))
+        match stepped {
+            Ok(is_refused) => Ok(is_refused && self.is_to_be_told(call.now)),
+            Err(Hitch::Memory) if self.refusals.refused() => Err(Hitch::Ends(Ending::Memory)),
+            Err(hitch) => Err(hitch),
+        }
     }
 
     // Whether it is time to tell again that the host can't be reached.
@@ -214,7 +223,7 @@ impl Upstream {
         let mut is_refused = false;
         for _ in 0..MOST_STEPS {
             match self.step(rt, turns, hall, call)? {
-                Progress::Moved => {}
+                Progress::Moved => self.refusals.succeeded(),
                 Progress::NeedsLink if call.gives_up || turns.free_steps() == 0 => {
                     self.give_up(rt, turns, call.now)?;
                 }
@@ -227,6 +236,7 @@ impl Upstream {
                     Dialled::Stands => self.attach()?,
                 },
                 Progress::Idle | Progress::Cut | Progress::Ended => {
+                    self.refusals.succeeded();
                     self.forget_dial();
                     return Ok(is_refused);
                 }
@@ -250,12 +260,12 @@ impl Upstream {
         if self.is_to_be_given_up(rt, turns, hall, call.gives_up) {
             self.give_up(rt, turns, call.now)?;
         }
-        let before = turns.notes();
+        let (matched, faults) = (turns.notes().matched, turns.notes().faults);
         let stepped = self.engine.step(rt, turns, call.now);
-        if turns.notes().matched != before.matched {
+        if turns.notes().matched != matched {
             self.note_reply();
         }
-        if turns.notes().faults != before.faults {
+        if turns.notes().faults != faults {
             self.forget_dial();
         }
         self.let_go();

@@ -1,7 +1,7 @@
 //! Turns that are looked at as they go by.
 
 use crate::ledger::Ledger;
-use generations::{Loan, Payload, StepKind};
+use generations::{FAR_BYTES, FAR_STEPS, Loan, Payload, StepKind};
 use proxy_core::{Answer, CoreTurns, Event, Refusal};
 use std::mem;
 use std::sync::Wait;
@@ -38,6 +38,7 @@ impl Notes {
         has_replies: false,
     };
 
+    #[inline(always)]
     fn note(&mut self, kind: StepKind) {
         match kind {
             StepKind::Accepted { parts } => {
@@ -76,77 +77,25 @@ impl Bytes {
         steps: 0,
     };
 
-    // What an event brings.
-    fn of_event(event: &Event) -> Bytes {
-        match event {
-            Event::Arrived { request, .. } => Bytes {
-                kept: request.text_len(),
-                ..Bytes::NONE
-            },
-            Event::Answered { value, .. } => {
-                let length = value.text_len();
-                Bytes {
-                    kept: length,
-                    came: length,
-                    handed: 0,
-                    steps: STEPS_A_REPLY,
-                }
-            }
-            _ => Bytes::NONE,
-        }
-    }
-
-    // Together with others.
-    fn plus(self, more: Bytes) -> Bytes {
-        Bytes {
-            kept: self.kept.saturating_add(more.kept),
-            came: self.came.saturating_add(more.came),
-            handed: self.handed.saturating_add(more.handed),
-            steps: self.steps.saturating_add(more.steps),
-        }
+    // So many more are kept.
+    #[inline(always)]
+    fn keep(&mut self, count: u64) {
+        self.kept = self.kept.saturating_add(count);
     }
 
     // Tells of them.
     fn tell(self, payload: &mut Payload) {
         payload.note(self.kept, self.came, self.handed, self.steps);
     }
-
-    // What the answer to such an event adds.
-    fn with_answer(self, answer: &Answer) -> Bytes {
-        match answer {
-            Answer::Sent { text, .. } => Bytes {
-                kept: text.len() as u64,
-                ..self
-            },
-            Answer::Bytes { text } => Bytes {
-                kept: text.len() as u64,
-                handed: text.len() as u64,
-                ..self
-            },
-            _ => self,
-        }
-    }
 }
 
-// What kind of step stands behind an answer. A part that got its value at once is neither sent nor answered.
-fn kind_of(answer: &Answer) -> StepKind {
-    match answer {
-        Answer::Opened { .. } => StepKind::Opened,
-        Answer::Accepted {
-            parts,
-            no_host,
-            busy,
-            ..
-        } => StepKind::Accepted {
-            parts: parts.saturating_sub(*no_host).saturating_sub(*busy),
-        },
-        Answer::Finishing => StepKind::Finished,
-        Answer::Sent { .. } => StepKind::Sent,
-        Answer::Matched { .. } => StepKind::Matched,
-        Answer::Lost { parts, .. } => StepKind::Lost { parts: *parts },
-        Answer::Swept { .. } => StepKind::Swept,
-        Answer::Bytes { .. } => StepKind::Handed,
-        Answer::Closed => StepKind::Closed,
+// How many bytes of payload an event brings.
+#[inline(always)]
+fn bytes_of(event: &Event) -> u64 {
+    match event {
+        Event::Arrived { request, .. } => request.text_len(),
+        Event::Answered { value, .. } => value.text_len(),
+        _ => 0,
     }
 }
 
@@ -159,9 +108,12 @@ struct Account {
     steps: u64,
     cost: u64,
     bytes: Bytes,
-    // What all workers had told by then, and how many steps with payload were owed.
+    // What all workers had told by then, and how many steps with payload were owed; by that, the average of payload a step, and
+    // whether the journal was far from full.
     payload: Payload,
     owed: u64,
+    average: u64,
+    is_far: bool,
 }
 
 impl Account {
@@ -174,16 +126,56 @@ impl Account {
             bytes: Bytes::NONE,
             payload: Payload::new(0),
             owed: 0,
+            average: 0,
+            is_far: false,
         }
     }
 
-    fn note(&mut self, bytes: Bytes, answer: &Answer) {
-        let kind = kind_of(answer);
+    // A step of this kind was made.
+    #[inline(always)]
+    fn step(&mut self, kind: StepKind) {
         self.notes.note(kind);
         self.loan.note(kind);
         self.steps = self.steps.saturating_add(1);
         self.cost = self.cost.saturating_add(kind.cost());
-        self.bytes = self.bytes.plus(bytes.with_answer(answer));
+    }
+
+    // A step was made whose event brought so many bytes of payload. A part that got its value at once is neither sent nor answered.
+    #[inline(always)]
+    fn note(&mut self, brought: u64, answer: &Answer) {
+        match answer {
+            Answer::Accepted {
+                parts,
+                no_host,
+                busy,
+                ..
+            } => {
+                let parts = parts.saturating_sub(*no_host).saturating_sub(*busy);
+                self.step(StepKind::Accepted { parts });
+                self.bytes.keep(brought);
+            }
+            Answer::Sent { text, .. } => {
+                self.step(StepKind::Sent);
+                self.bytes.keep(text.len() as u64);
+            }
+            Answer::Matched { .. } => {
+                self.step(StepKind::Matched);
+                self.bytes.keep(brought);
+                self.bytes.came = self.bytes.came.saturating_add(brought);
+                self.bytes.steps = self.bytes.steps.saturating_add(STEPS_A_REPLY);
+            }
+            Answer::Bytes { text } => {
+                self.step(StepKind::Handed);
+                let length = text.len() as u64;
+                self.bytes.keep(length);
+                self.bytes.handed = self.bytes.handed.saturating_add(length);
+            }
+            Answer::Opened { .. } => self.step(StepKind::Opened),
+            Answer::Finishing => self.step(StepKind::Finished),
+            Answer::Lost { parts, .. } => self.step(StepKind::Lost { parts: *parts }),
+            Answer::Swept { .. } => self.step(StepKind::Swept),
+            Answer::Closed => self.step(StepKind::Closed),
+        }
     }
 
     // Tells of payload, and takes note of what all workers have told of it.
@@ -191,11 +183,12 @@ impl Account {
         let bytes = mem::replace(&mut self.bytes, Bytes::NONE);
         bytes.tell(&mut ledger.payload);
         self.payload = ledger.payload;
+        self.average = self.payload.average();
+        self.is_far = self.payload.is_far_from_full(self.owed());
     }
 
     // Tells what was done, and takes note of what all workers have told.
     fn settle(&mut self, ledger: &mut Ledger, open: u64) {
-        self.tell(ledger);
         ledger.budget.settle(&mut self.loan);
         let steps = mem::replace(&mut self.steps, 0);
         self.cost = 0;
@@ -203,6 +196,16 @@ impl Account {
         // (what a connection owes for its end has no payload)
         let ends = open.saturating_mul(StepKind::Opened.cost());
         self.owed = ledger.owed().saturating_sub(ends);
+        self.tell(ledger);
+    }
+
+    // Whether room needn't be reckoned: the journal was far from full, and little has come since.
+    #[inline(always)]
+    fn is_far_from_full(&self, unfinished: u64) -> bool {
+        self.is_far
+            && self.bytes.kept <= FAR_BYTES
+            && self.cost <= FAR_STEPS
+            && unfinished <= FAR_BYTES
     }
 
     // What is known of the payload now.
@@ -240,17 +243,19 @@ impl<T: CoreTurns> Watched<T> {
         &mut self.turns
     }
 
-    /// What happened since it was last asked, which goes on being noted.
-    pub(crate) fn notes(&self) -> Notes {
-        self.account.notes
+    /// What happened since it was last taken.
+    #[inline(always)]
+    pub(crate) fn notes(&self) -> &Notes {
+        &self.account.notes
     }
 
-    /// What happened since it was last asked.
+    /// What happened since it was last taken, and takes it.
     pub(crate) fn take_notes(&mut self) -> Notes {
         mem::replace(&mut self.account.notes, Notes::NONE)
     }
 
     /// How many steps more may be made or owed of those that were lent.
+    #[inline(always)]
     pub(crate) fn free_steps(&self) -> u64 {
         self.account.loan.free()
     }
@@ -277,7 +282,7 @@ impl<T: CoreTurns> Watched<T> {
 
     /// How many bytes of payload a step has on the average, as far as all workers have told.
     pub(crate) fn average(&self) -> u64 {
-        self.account.payload.average()
+        self.account.average
     }
 
     /// How many bytes of payload were kept since it was last told.
@@ -286,14 +291,19 @@ impl<T: CoreTurns> Watched<T> {
     }
 
     /// Whether the journal has room for the payload of a further command, of a client that has so many bytes unfinished.
+    #[inline(always)]
     pub(crate) fn has_room_for_command(&self, unfinished: u64) -> bool {
-        let owed = self.account.owed();
-        self.account.known().takes_in(owed, unfinished)
+        self.account.is_far_from_full(unfinished)
+            || self
+                .account
+                .known()
+                .takes_in(self.account.owed(), unfinished)
     }
 
     /// Whether the journal has room for a host's reply of which so many bytes have come.
+    #[inline(always)]
     pub(crate) fn has_room_for_reply(&self, unfinished: u64) -> bool {
-        self.account.known().takes_reply(unfinished)
+        self.account.is_far_from_full(unfinished) || self.account.known().takes_reply(unfinished)
     }
 }
 
@@ -328,10 +338,10 @@ impl<T: CoreTurns> Turns for Watched<T> {
         rt: &R,
         event: Event,
     ) -> Result<Answer, TurnRefusal<Refusal, Event>> {
-        let bytes = Bytes::of_event(&event);
+        let brought = bytes_of(&event);
         let result = self.turns.turn(rt, event);
         if let Ok(answer) = &result {
-            self.account.note(bytes, answer);
+            self.account.note(brought, answer);
         }
         result
     }

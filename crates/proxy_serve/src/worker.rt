@@ -3,7 +3,8 @@
 use crate::client::{Attended, Carried, Client, Hitch, Pass, hitch_of};
 use crate::generation::Post;
 use crate::hall::Hall;
-use crate::house::{MAX_SOCKETS, MAX_TRIES};
+use crate::house::MAX_SOCKETS;
+use crate::stop::Stop;
 use crate::upstream::{Call, Upstream};
 use crate::watched::Watched;
 use generations::{Course, StepKind};
@@ -12,7 +13,7 @@ use mio::{Events, Interest, Poll, Token};
 use proxy_config::Config;
 use proxy_core::Core;
 use proxy_run::Ending;
-use serve_parts::own_hosts;
+use serve_parts::{Refusals, own_hosts};
 use slab::Slab;
 use std::alloc::{AllocError, Global};
 use std::net::Net;
@@ -85,7 +86,7 @@ impl<'a> Worker<'a> {
         }
         match floor.serve(rt, events) {
             Ok(()) => floor.leave(rt),
-            Err(ending) => hall.house().end(ending),
+            Err(stop) => hall.house().end(rt, stop),
         }
     }
 
@@ -110,7 +111,10 @@ impl<'a> Worker<'a> {
             clients: Slab::new(alloc),
             hosts: hosts_of(alloc, place, hall.house().workers(), post.config)?,
             room: Vec::new(alloc),
-            tries: 0,
+            opening: Refusals::new(),
+            lacks_memory: false,
+            is_called: true,
+            welcomed: 0,
             next: 0,
             is_held: false,
             is_draining: false,
@@ -163,8 +167,13 @@ struct Floor<'a> {
     hosts: Vec<Upstream>,
     // Lent to one socket after the other to gather what is written.
     room: Vec<u8>,
-    // Tries in a row that found no memory.
-    tries: u32,
+    // Refusals of memory to what stands first at the door.
+    opening: Refusals,
+    // Whether something found no memory in this pass.
+    lacks_memory: bool,
+    // Something may stand at the door, and when it was last looked.
+    is_called: bool,
+    welcomed: u64,
     // The client with which the next pass begins.
     next: usize,
     // No further parts may come until other workers have looked for theirs.
@@ -181,7 +190,7 @@ impl<'a> Floor<'a> {
         &mut self,
         rt: &R,
         mut events: Events,
-    ) -> Result<(), Ending> {
+    ) -> Result<(), Stop> {
         let mut pause = 0;
         self.settle(rt);
         for _ in rt.forever() {
@@ -194,12 +203,9 @@ impl<'a> Floor<'a> {
                 }
                 Course::Stops => return self.finish(rt),
             }
-            if self
-                .poll
-                .poll(&mut events, Some(Duration::from_millis(pause)))
-                .is_err()
-            {
-                return Err(Ending::Socket);
+            let pause_at_most = Some(Duration::from_millis(pause));
+            if let Err(error) = self.poll.poll(&mut events, pause_at_most) {
+                return Err(Stop::socket("cannot poll", error));
             }
             if let Some(desk) = self.hall.desk(self.place) {
                 desk.rise();
@@ -214,7 +220,7 @@ impl<'a> Floor<'a> {
     }
 
     // What can still be answered is answered, and sockets that can go over do, before the others are closed.
-    fn finish<R: Wait + Net + Clock + Eprint>(&mut self, rt: &R) -> Result<(), Ending> {
+    fn finish<R: Wait + Net + Clock + Eprint>(&mut self, rt: &R) -> Result<(), Stop> {
         self.drain();
         self.gives_up = true;
         for _ in 0..LAST_PASSES {
@@ -280,7 +286,7 @@ impl<'a> Floor<'a> {
 
     // How long the poll may wait, in milliseconds.
     fn pause(&self, moves: bool, before: (u64, u64)) -> u64 {
-        if self.tries > 0 {
+        if self.lacks_memory {
             return NO_MEMORY_MS;
         }
         if moves && !self.is_held {
@@ -303,6 +309,7 @@ impl<'a> Floor<'a> {
         for event in events {
             let token = event.token();
             if token == WAKER {
+                self.is_called = true;
                 continue;
             }
             if token.0 >= HOSTS {
@@ -316,9 +323,13 @@ impl<'a> Floor<'a> {
     }
 
     // One pass: new sockets, replies, clients, and the parts that these asked for. Whether more is to be done at once.
-    fn pass<R: Wait + Net + Clock + Eprint>(&mut self, rt: &R) -> Result<bool, Ending> {
+    fn pass<R: Wait + Net + Clock + Eprint>(&mut self, rt: &R) -> Result<bool, Stop> {
         let now = now(rt);
-        self.welcome(rt)?;
+        self.lacks_memory = false;
+        if self.is_called || now.saturating_sub(self.welcomed) >= PAUSE_MS {
+            self.welcomed = now;
+            self.welcome(rt)?;
+        }
         let before = (self.hall.parts(), self.hall.replies());
         let hosts = self.attend_hosts(rt, now)?;
         let clients = self.attend_clients(rt, now)?;
@@ -331,26 +342,38 @@ impl<'a> Floor<'a> {
         Ok(hosts || clients || after)
     }
 
-    // Counts tries in a row that found no memory.
-    fn try_again(&mut self) -> Result<(), Ending> {
-        self.tries = self.tries.saturating_add(1);
-        if self.tries >= MAX_TRIES {
-            Err(Ending::Memory)
+    // Counts a refusal of memory to what stands first at the door.
+    fn try_again(&mut self) -> Result<(), Stop> {
+        self.lacks_memory = true;
+        self.is_called = true;
+        if self.opening.refused() {
+            Err(Stop::from(Ending::Memory))
         } else {
             Ok(())
         }
     }
 
-    // What a hitch means.
-    fn bear(&mut self, hitch: Hitch) -> Result<(), Ending> {
+    // What a hitch means. For want of memory the step is made again, until it was refused too often in a row.
+    fn bear(&mut self, hitch: Hitch) -> Result<(), Stop> {
         match hitch {
             Hitch::Full => {
                 self.hall.close_up();
                 Ok(())
             }
-            Hitch::Ends(ending) => Err(ending),
-            Hitch::Memory => self.try_again(),
+            Hitch::Ends(ending) => Err(Stop::from(ending)),
+            Hitch::Memory => {
+                self.lacks_memory = true;
+                Ok(())
+            }
             Hitch::Alone => Ok(()),
+        }
+    }
+
+    // What a hitch means to a connection that is being opened.
+    fn bear_at_door(&mut self, hitch: Hitch) -> Result<(), Stop> {
+        match hitch {
+            Hitch::Memory => self.try_again(),
+            Hitch::Full | Hitch::Ends(_) | Hitch::Alone => self.bear(hitch),
         }
     }
 
@@ -369,7 +392,8 @@ impl<'a> Floor<'a> {
 
     // Takes the sockets that stand at the worker's door, those that go over first. Each is counted before it is looked whether
     // the generation still serves: so none comes to one that has drained.
-    fn welcome<R: Wait>(&mut self, rt: &R) -> Result<(), Ending> {
+    fn welcome<R: Wait>(&mut self, rt: &R) -> Result<(), Stop> {
+        self.is_called = false;
         for _ in 0..EVENTS {
             self.hall.count_opened();
             let welcomed = if self.may_open(rt) {
@@ -382,14 +406,15 @@ impl<'a> Floor<'a> {
                 Welcomed::LetGo => self.hall.count_gone(),
                 Welcomed::None => {
                     self.hall.count_gone();
-                    break;
+                    return Ok(());
                 }
             }
         }
+        self.is_called = true;
         Ok(())
     }
 
-    fn welcome_one<R: Wait>(&mut self, rt: &R) -> Result<Welcomed, Ending> {
+    fn welcome_one<R: Wait>(&mut self, rt: &R) -> Result<Welcomed, Stop> {
         let house = self.hall.house();
         if self.clients.reserve(1).is_err() {
             self.try_again()?;
@@ -406,6 +431,7 @@ impl<'a> Floor<'a> {
 
     // The client has a connection from here on.
     fn keep(&mut self, client: Client) -> Welcomed {
+        self.opening.succeeded();
         match self.clients.insert(client) {
             Ok(_) => Welcomed::Opened,
             Err(_) => {
@@ -417,7 +443,7 @@ impl<'a> Floor<'a> {
 
     // A socket that comes from another generation. Where there is no memory, or the journal takes no further step, it waits at
     // the door once more. Where its connection can't be opened otherwise it gets what is gathered for it and is closed.
-    fn go_on<R: Wait>(&mut self, rt: &R, carried: Carried) -> Result<Welcomed, Ending> {
+    fn go_on<R: Wait>(&mut self, rt: &R, carried: Carried) -> Result<Welcomed, Stop> {
         let house = self.hall.house();
         let token = Token(self.clients.vacant_key());
         let gone_on = Client::go_on(
@@ -435,7 +461,7 @@ impl<'a> Floor<'a> {
             }
             Err((error, carried)) => {
                 let hitch = hitch_of(error);
-                self.bear(hitch)?;
+                self.bear_at_door(hitch)?;
                 match (hitch, carried) {
                     (Hitch::Memory | Hitch::Full | Hitch::Ends(_), Some(carried)) => {
                         house.carry_back(rt, self.place, carried);
@@ -451,7 +477,7 @@ impl<'a> Floor<'a> {
     }
 
     // A new socket. One whose connection can't be opened is let go.
-    fn open<R: Wait>(&mut self, rt: &R, mut stream: TcpStream) -> Result<Welcomed, Ending> {
+    fn open<R: Wait>(&mut self, rt: &R, mut stream: TcpStream) -> Result<Welcomed, Stop> {
         let _ = stream.set_nodelay(true);
         let token = Token(self.clients.vacant_key());
         let interests = Interest::READABLE | Interest::WRITABLE;
@@ -468,13 +494,13 @@ impl<'a> Floor<'a> {
             Ok(client) => Ok(self.keep(client)),
             Err(error) => {
                 self.hall.house().let_go();
-                self.bear(hitch_of(error))?;
+                self.bear_at_door(hitch_of(error))?;
                 Ok(Welcomed::LetGo)
             }
         }
     }
 
-    fn attend_hosts<R: Wait + Net + Eprint>(&mut self, rt: &R, now: u64) -> Result<bool, Ending> {
+    fn attend_hosts<R: Wait + Net + Eprint>(&mut self, rt: &R, now: u64) -> Result<bool, Stop> {
         let parts = self.hall.parts();
         let mut moves = false;
         for place in 0..self.hosts.len() {
@@ -497,7 +523,7 @@ impl<'a> Floor<'a> {
             );
             moves = moves || host.may_go(self.hall, now);
             match attended {
-                Ok(false) => self.tries = 0,
+                Ok(false) => {}
                 Ok(true) => {
                     let address = host.address();
                     let _ = eprintln!(rt; "redproxy: host {address} can't be reached");
@@ -527,7 +553,7 @@ impl<'a> Floor<'a> {
     }
 
     // Each client in turn, beginning where the last pass stopped. Between two of them the parts that have come are taken.
-    fn attend_clients<R: Wait + Net + Eprint>(&mut self, rt: &R, now: u64) -> Result<bool, Ending> {
+    fn attend_clients<R: Wait + Net + Eprint>(&mut self, rt: &R, now: u64) -> Result<bool, Stop> {
         let mut moves = false;
         self.is_held = false;
         let count = self.clients.capacity();
@@ -549,10 +575,13 @@ impl<'a> Floor<'a> {
     }
 
     // The worker of this place in the newest generation gets the socket. Where there is no memory for that it stays for now.
-    fn go_over<R: Wait>(&mut self, rt: &R, key: usize) -> Result<bool, Ending> {
+    fn go_over<R: Wait>(&mut self, rt: &R, key: usize) -> Result<bool, Stop> {
         let house = self.hall.house();
         if !house.has_room_to_carry(rt, self.place) {
-            self.try_again()?;
+            if let Some(client) = self.clients.get_mut(key) {
+                let hitch = client.refuse();
+                self.bear(hitch)?;
+            }
             return Ok(true);
         }
         if let Some(client) = self.clients.try_remove(key) {
@@ -565,7 +594,7 @@ impl<'a> Floor<'a> {
         Ok(false)
     }
 
-    fn attend_client<R: Wait>(&mut self, rt: &R, key: usize, now: u64) -> Result<bool, Ending> {
+    fn attend_client<R: Wait>(&mut self, rt: &R, key: usize, now: u64) -> Result<bool, Stop> {
         let Some(client) = self.clients.get_mut(key) else {
             return Ok(false);
         };
@@ -589,10 +618,7 @@ impl<'a> Floor<'a> {
             self.awaiting = self.awaiting.saturating_add(1);
         }
         match attended {
-            Ok(Attended::Rests) => {
-                self.tries = 0;
-                Ok(false)
-            }
+            Ok(Attended::Rests) => Ok(false),
             Ok(Attended::Goes) => Ok(true),
             Ok(Attended::Gone) => {
                 let _ = self.clients.try_remove(key);

@@ -1,0 +1,95 @@
+//! Why a serving ends before it is done.
+
+use proxy_run::Ending;
+use std::alloc::{AllocError, AllocFailed};
+use std::fmt::{self, Display, Formatter};
+use std::io::Error;
+use std::net::SocketAddr;
+
+/// What failed where the serving ended by `Ending::Socket`.
+#[derive(Clone, Copy, Drop)]
+pub struct Failure {
+    /// What could not be done, as `cannot listen on`.
+    pub what: &'static str,
+    /// At which address; `None` where it has none.
+    pub address: Option<SocketAddr>,
+    /// The error of the system.
+    pub error: Error,
+}
+
+/// Why a serving ended before it was done. Its text is what is told on standard error: that of its ending, and behind it what
+/// failed, as in `socket: cannot listen on 127.0.0.1:6379: Address already in use (os error 98)`.
+#[derive(Clone, Copy, Drop)]
+pub struct Stop {
+    /// How the program ends.
+    pub ending: Ending,
+    /// What failed; `None` where the ending says all.
+    pub failure: Option<Failure>,
+}
+
+impl Stop {
+    /// A socket, a poll or a stream failed so.
+    pub fn socket(what: &'static str, error: Error) -> Stop {
+        Stop {
+            ending: Ending::Socket,
+            failure: Some(Failure {
+                what,
+                address: None,
+                error,
+            }),
+        }
+    }
+
+    /// A socket with this address failed so.
+    pub fn socket_at(what: &'static str, address: SocketAddr, error: Error) -> Stop {
+        Stop {
+            ending: Ending::Socket,
+            failure: Some(Failure {
+                what,
+                address: Some(address),
+                error,
+            }),
+        }
+    }
+}
+
+impl Display for Stop {
+    fn fmt<W: fmt::Write>(&self, f: &mut Formatter<W>) -> fmt::Result {
+        let ending = self.ending;
+        let Some(
+            Failure {
+                what,
+                address,
+                error,
+            },
+        ) = self.failure
+        else {
+            return write!(f, "{ending}");
+        };
+        match address {
+            None => write!(f, "{ending}: {what}: {error}"),
+            Some(address) => write!(f, "{ending}: {what} {address}: {error}"),
+        }
+    }
+}
+
+impl From<Ending> for Stop {
+    fn from(ending: Ending) -> Stop {
+        Stop {
+            ending,
+            failure: None,
+        }
+    }
+}
+
+impl From<AllocError> for Stop {
+    fn from(_error: AllocError) -> Stop {
+        Stop::from(Ending::Memory)
+    }
+}
+
+impl<T: Drop> From<AllocFailed<T>> for Stop {
+    fn from(_error: AllocFailed<T>) -> Stop {
+        Stop::from(Ending::Memory)
+    }
+}
