@@ -125,6 +125,14 @@ impl House {
         self.wake(rt, door);
     }
 
+    /// Whether a socket waits at a worker's door.
+    pub(crate) fn has_waiting<R: Wait>(&self, rt: &R, place: usize) -> bool {
+        match self.doors.get(place) {
+            Some(door) => { !door.carried.lock(rt).is_empty() || !door.sockets.lock(rt).is_empty() }
+            None => false,
+        }
+    }
+
     /// Takes the socket that waits longest at a worker's door.
     pub(crate) fn take<R: Wait>(&self, rt: &R, place: usize) -> Option<TcpStream> {
         self.doors.get(place)?.sockets.lock(rt).pop_front()

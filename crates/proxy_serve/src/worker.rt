@@ -416,6 +416,9 @@ impl<'a> Floor<'a> {
 
     fn welcome_one<R: Wait>(&mut self, rt: &R) -> Result<Welcomed, Stop> {
         let house = self.hall.house();
+        if !house.has_waiting(rt, self.place) {
+            return Ok(Welcomed::None);
+        }
         if self.clients.reserve(1).is_err() {
             self.try_again()?;
             return Ok(Welcomed::None);
