@@ -1,9 +1,9 @@
 -- How the room of a journal shrinks.
-use Rattle.std.proofs.Common.{◌≡◌, ◌≤◌, ◌<◌, ◌+◌, ◌-◌, ◌*◌, ◌/◌, ◌⊎◌, ℕ, max, inl, inr, refl, arith}
+use Rattle.std.proofs.Common.{◌≡◌, ◌≤◌, ◌<◌, ◌+◌, ◌*◌, ◌/◌, ℕ, inl, inr, refl, arith}
 use Rattle.std.proofs.Math.Nat.{div-mul-le_self, le-div_iff_mul-le, mul-le-mul_left, mul-le-mul_right}
 use Rattle.std.proofs.lemmas.Bool.{ne_eqb, le-ltb}
 use Rattle.generations.specs.Budget.{capped}
-use Rattle.generations.specs.Payload.{PayloadState, HasGrown, IsFarFromFull, HasRoomForCommand, HasRoomForReply, average_of, owed_bytes}
+use Rattle.generations.specs.Payload.{PayloadState, IsFarFromFull, HasRoomForCommand, average_of, owed_bytes}
 use Rattle.generations.specs.declared.payload.TheConstants.{FAR_BYTES, FAR_STEPS, FIRST_STEPS}
 
 -- fewer bytes over more steps
