@@ -201,7 +201,8 @@ impl<W: Write> Gatherer<W> {
     fn note_refused(&mut self, kind: ErrorKind)
         ensures held { self.new.held ≡ self.old.held }
         ensures gathered { self.new.gathered ≡ self.old.gathered }
-        ensures paused { kind ≡ ErrorKind.WouldBlock → self.new ≡ record self.old { is_open = false } }
+        ensures paused { kind ≡ ErrorKind.WouldBlock
+            → self.new ≡ record self.old { is_open = false } }
         ensures failed { kind ≢ ErrorKind.WouldBlock
             → self.new ≡ record self.old { is_broken = true } }
     {
@@ -249,7 +250,8 @@ impl<W: Write> Gatherer<W> {
             (λ e. error_kind e ≡ ErrorKind.WouldBlock → self.new.is_open ≡ false) }
         ensures failed { IfErr result
             (λ e. error_kind e ≢ ErrorKind.WouldBlock → self.new.is_broken ≡ true) }
-        ensures nothing { IfOk result (λ n. n ≡ 0 → (bytes.now ≡ []) ⊎ (self.new.is_broken ≡ true)) }
+        ensures nothing { IfOk result (λ n. n ≡ 0
+            → (bytes.now ≡ []) ⊎ (self.new.is_broken ≡ true)) }
         ensures gathered { self.new.gathered ≡ [] }
     {
         match write_once(&mut self.writer, bytes) {
@@ -305,7 +307,8 @@ impl<W: Write> Gatherer<W> {
             (λ e. error_kind e ≡ ErrorKind.WouldBlock → self.new.is_open ≡ false) }
         ensures failed { IfErr result
             (λ e. error_kind e ≢ ErrorKind.WouldBlock → self.new.is_broken ≡ true) }
-        ensures nothing { IfOk result (λ n. n ≡ 0 → (bytes.now ≡ []) ⊎ (self.new.is_broken ≡ true)) }
+        ensures nothing { IfOk result (λ n. n ≡ 0
+            → (bytes.now ≡ []) ⊎ (self.new.is_broken ≡ true)) }
         ensures limit { length self.new.gathered
             ≤ max (length self.old.gathered) (2 * MAX_GATHERED) }
         ensures broken { self.old.is_broken ≡ true → IsErr result × (self.new ≡ self.old) }
@@ -336,7 +339,8 @@ impl<W: Write> Gatherer<W> {
             (λ e. error_kind e ≡ ErrorKind.WouldBlock → self.new.is_open ≡ false) }
         ensures failed { IfErr result
             (λ e. error_kind e ≢ ErrorKind.WouldBlock → self.new.is_broken ≡ true) }
-        ensures nothing { IfOk result (λ n. n ≡ 0 → (bytes.now ≡ []) ⊎ (self.new.is_broken ≡ true)) }
+        ensures nothing { IfOk result (λ n. n ≡ 0
+            → (bytes.now ≡ []) ⊎ (self.new.is_broken ≡ true)) }
         ensures limit { length self.new.gathered ≤ length self.old.gathered }
     {
         self.write_gathered();
