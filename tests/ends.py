@@ -113,14 +113,15 @@ class Redis:
 class Proxy:
     """`redproxy serve` before some servers. The connection that asks whether it listens is counted by it too."""
 
-    def __init__(self, servers, connections=0, program=PROGRAM, environment=None, **settings):
+    def __init__(self, servers, connections=0, program=PROGRAM, environment=None, before=(), after=(), **settings):
         self.port = free_port()
         self.room = tempfile.mkdtemp(prefix="redproxy-")
         self.names = [f"127.0.0.1:{server.port}" for server in servers]
         self.file = os.path.join(self.room, "settings.json")
         with open(self.file, "w", encoding="utf-8") as out:
             json.dump({"listen": f"127.0.0.1:{self.port}", "hosts": self.names, **settings}, out)
-        words = [program, "serve", "--config", self.file]
+        # (words `before` start the program, and words `after` are told to it)
+        words = [*before, program, "serve", "--config", self.file, *after]
         if connections:
             words += ["--connections", str(connections)]
         self.errors = open(os.path.join(self.room, "errors"), "w+", encoding="utf-8")

@@ -5,6 +5,16 @@ use clap::error::ErrorKind;
 use clap::{Arg, ArgAction, Command, Error, value_parser};
 use std::alloc::{AllocError, Global};
 use std::io;
+use std::net::SocketAddr;
+
+/// The program's version.
+pub const VERSION: &str = "0.3.0";
+
+/// The kit that proved and built it.
+pub const KIT: &str = "rattle-kit-13f logic dac8208d650f15bf";
+
+// What `--version` prints behind the program's name.
+const VERSION_AND_KIT: &str = "0.3.0 (rattle-kit-13f logic dac8208d650f15bf)";
 
 /// What the program is to do.
 #[derive(Drop)]
@@ -22,6 +32,8 @@ pub enum Asked {
         config: String,
         /// After how many closed connections to end; 0 is never.
         connections: u64,
+        /// At which address to tell by HTTP how the serving stands; `None`: nowhere.
+        metrics: Option<SocketAddr>,
     },
 }
 
@@ -30,6 +42,8 @@ pub enum Asked {
 pub enum Refused {
     /// There was no memory to read them.
     Memory,
+    /// What `--metrics` names is no address with a port.
+    NoAddress,
     /// What is to be told instead.
     Told(Told),
 }
@@ -87,6 +101,26 @@ fn connections<'a>(alloc: Global) -> Arg<'a> {
         .action(ArgAction::Set)
 }
 
+fn metrics<'a>(alloc: Global) -> Arg<'a> {
+    Arg::new(alloc, "metrics")
+        .long("metrics")
+        .value_name("ADDRESS")
+        .help(
+            "Tell by HTTP at this address how the serving stands, as 127.0.0.1:9121, and take orders to end",
+        )
+        .action(ArgAction::Set)
+}
+
+fn address(word: Option<&str>) -> Result<Option<SocketAddr>, Refused> {
+    let Some(word) = word else {
+        return Ok(None);
+    };
+    match word.parse::<SocketAddr>() {
+        Ok(address) => Ok(Some(address)),
+        Err(_) => Err(Refused::NoAddress),
+    }
+}
+
 fn check<'a>(alloc: Global) -> Result<Command<'a>, AllocError> {
     Command::new(alloc, "check")
         .about("Reads a settings file, and tells its hosts and digests, or its first fault")
@@ -97,12 +131,14 @@ fn serve<'a>(alloc: Global) -> Result<Command<'a>, AllocError> {
     Command::new(alloc, "serve")
         .about("Serves clients on the address that the settings name")
         .arg(config(alloc))?
-        .arg(connections(alloc))
+        .arg(connections(alloc))?
+        .arg(metrics(alloc))
 }
 
 fn local<'a>(alloc: Global) -> Result<Command<'a>, AllocError> {
     Command::new(alloc, "redproxy")
         .about("A proxy that clients speak to as to one Redis server")
+        .version(VERSION_AND_KIT)
         .subcommand_required(true)
         .subcommand(Command::new(alloc, "local").about(
             "Serves one client on standard input and output",
@@ -126,9 +162,11 @@ pub fn read(alloc: Global, words: &[String]) -> Result<Asked, Refused> {
         Some(("serve", matches)) => {
             let config = String::from_str(alloc, matches.get_str("config").unwrap_or(""))?;
             let connections = matches.get_one::<u32>("connections").unwrap_or(0);
+            let metrics = address(matches.get_str("metrics"))?;
             Ok(Asked::Serve {
                 config,
                 connections: u64::from(connections),
+                metrics,
             })
         }
         _ => Ok(Asked::Local),

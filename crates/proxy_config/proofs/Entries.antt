@@ -1,6 +1,7 @@
 -- Things beside the entries of an array that give them: X is what an entry gives, `written` how it is
 -- written, and `Good` which are taken.
 use Rattle.std.proofs.Common.{◌≡◌, ℕ, zero, suc, ◌<◌, List, [], ◌∷◌, ◌++◌, length, take, get_or, All, refl, sym, ap, subst, arith}
+use Rattle.std.specs.Prelude.{IfErr, Result, Ok, Err}
 use Rattle.std.specs.List.{AllZip}
 use Rattle.std.proofs.lemmas.List.Elements.{All-cons}
 use Rattle.serde_json.specs.Data.{Data}
@@ -75,3 +76,8 @@ names_same [] (g ∷ gs) k d n = absurd (cc)
 names_same (h ∷ hs) [] k d n = absurd (cc)
 names_same (h ∷ hs) (g ∷ gs) zero d n = cc
 names_same (h ∷ hs) (g ∷ gs) (suc k) d n = let rest : items_of host_data hs ≡ items_of host_data gs = cc in names_same hs gs k d rest
+
+-- what holds of every error
+pub all_err : {X E : Type 0} (P : E → Type 0) (r : Result X E) → ((e : E) → P e) → IfErr r P
+all_err P (Ok x) f = tt
+all_err P (Err e) f = f e

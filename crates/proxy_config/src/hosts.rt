@@ -5,7 +5,7 @@ ghost use Rattle.serde_json.specs.Find.{get};
 ghost use Rattle.serde_json.specs.View.{view, items_view};
 ghost use Rattle.proxy_config.specs.declared.config.Host.{Host};
 ghost use Rattle.proxy_config.specs.Table.{AreHosts, host_data, IsHost};
-ghost use Rattle.proxy_config.specs.Told.{IsFault};
+ghost use Rattle.proxy_config.specs.Told.{FirstAre, IsFault};
 
 use crate::config::Host;
 use crate::error::ConfigError;
@@ -22,7 +22,7 @@ pub(crate) fn hosts(alloc: Global, file: &Value) -> Result<Vec<Host>, ConfigErro
         → (hosts : List Host) → ¬ AreHosts (get (codes "hosts") (view file.now)) hosts) }
     ensures memory { IfErr result (λ e. e ≡ ConfigError.Memory → (entries : List Value)
         × (get (codes "hosts") (view file.now) ≡ Some (array (items_view entries)))
-        × (1 ≤ length entries) × (length entries ≤ 64)) }
+        × (length entries ≤ 64) × FirstAre host_data IsHost entries) }
 {
     match file.get("hosts").and_then(Value::as_array) {
         Some(entries) => hosts_in(alloc, entries),
@@ -38,12 +38,12 @@ fn hosts_in(alloc: Global, entries: &[Value]) -> Result<Vec<Host>, ConfigError>
     ensures none { IfErr result (λ e. ¬ (e ≡ ConfigError.Memory)
         → (hosts : List Host) → ¬ AreHosts (Some (array (items_view entries.now))) hosts) }
     ensures memory { IfErr result (λ e. e ≡ ConfigError.Memory
-        → (1 ≤ length entries.now) × (length entries.now ≤ 64)) }
+        → (length entries.now ≤ 64) × FirstAre host_data IsHost entries.now) }
 {
     if entries.is_empty() || entries.len() > MAX_HOSTS {
         return Err(ConfigError::Fault("hosts"));
     }
-    let mut hosts = Vec::with_capacity(alloc, entries.len())?;
+    let mut hosts = Vec::new(alloc);
     for entry in entries {
         hosts.push(host(alloc, entry)?)?;
     }

@@ -4,7 +4,7 @@ ghost use Rattle.serde_json.specs.Data.{array};
 ghost use Rattle.serde_json.specs.Find.{get};
 ghost use Rattle.serde_json.specs.View.{view, items_view};
 ghost use Rattle.proxy_config.specs.Table.{AreWeightsOr, IsWeight, items_of, weight_data};
-ghost use Rattle.proxy_config.specs.Told.{IsFault};
+ghost use Rattle.proxy_config.specs.Told.{FirstAre, IsFault};
 
 use crate::config::Host;
 use crate::error::ConfigError;
@@ -23,7 +23,7 @@ pub(crate) fn weights(alloc: Global, file: &Value, hosts: &[Host]) -> Result<Vec
     ensures memory { IfErr result (λ e. e ≡ ConfigError.Memory
         → (get (codes "weights") (view file.now) ≡ None) ⊎ ((entries : List Value)
         × (get (codes "weights") (view file.now) ≡ Some (array (items_view entries)))
-        × (length entries ≡ length hosts.now))) }
+        × (length entries ≡ length hosts.now) × FirstAre weight_data IsWeight entries)) }
 {
     let Some(value) = file.get("weights") else {
         return Ok(vec![in alloc; 1; hosts.len()]?);
@@ -41,12 +41,13 @@ fn weights_in(alloc: Global, entries: &[Value], hosts: usize) -> Result<Vec<u32>
     ensures fault { IfErr result (λ e. ¬ (e ≡ ConfigError.Memory) → IsFault e (codes "weights")) }
     ensures none { IfErr result (λ e. ¬ (e ≡ ConfigError.Memory) → (weights : List ℕ)
         → ¬ AreWeightsOr hosts (Some (array (items_view entries.now))) weights) }
-    ensures memory { IfErr result (λ e. e ≡ ConfigError.Memory → length entries.now ≡ hosts) }
+    ensures memory { IfErr result (λ e. e ≡ ConfigError.Memory
+        → (length entries.now ≡ hosts) × FirstAre weight_data IsWeight entries.now) }
 {
     if entries.len() != hosts {
         return Err(ConfigError::Fault("weights"));
     }
-    let mut weights = Vec::with_capacity(alloc, entries.len())?;
+    let mut weights = Vec::new(alloc);
     for entry in entries {
         weights.push(weight(entry)?)?;
     }

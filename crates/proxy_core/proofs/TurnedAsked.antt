@@ -1,5 +1,5 @@
 -- What the turns of a machine ask for holds where its history determines what it keeps.
-use Rattle.std.proofs.Common.{◌≡◌, ℕ, suc, ◌+◌, ◌≤◌, ◌<◌, true, false, nat_lt, nat_le, ◌==◌, List, [], ◌∷◌, length, Option, Some, None, refl, sym, ap, ◌∙◌, subst, inl, inr, arith}
+use Rattle.std.proofs.Common.{◌≡◌, ℕ, suc, ◌+◌, ◌-◌, ◌≤◌, ◌<◌, true, false, nat_lt, nat_le, ◌==◌, List, [], ◌∷◌, length, Option, Some, None, refl, sym, ap, ◌∙◌, subst, inl, inr, arith}
 use Rattle.std.specs.Prelude.{IfSome, IsTrue}
 use Rattle.std.proofs.lemmas.Bool.{cases_Bool, ltb-true, leb-true, leb-false, lt-leb, and_parts, eq-eqb, eqb-true}
 use Rattle.list_words.proofs.CallerLemmas.{slice_get-past_range}
@@ -8,10 +8,10 @@ use Rattle.resp_core.specs.Value.{tree_of}
 use Rattle.resp_core.specs.declared.value.Value.TheVariants.{NullBulk}
 use Rattle.upstream_pipe.specs.declared.part.Owner.{Owner}
 use Rattle.proxy_history.specs.Setting.{Setting, hosts, max_steps, max_payload}
-use Rattle.proxy_history.specs.History.{History, epoch, handed_count, is_open, is_any_closing}
+use Rattle.proxy_history.specs.History.{History, times, openings, epoch, handed_count, is_open, is_any_closing}
 use Rattle.proxy_history.specs.Part.{Past}
 use Rattle.proxy_history.specs.Past.{past}
-use Rattle.proxy_history.specs.Waiting.{flying_count}
+use Rattle.proxy_history.specs.Waiting.{waiting_parts, flying_count}
 use Rattle.proxy_history.specs.Value.{upstream_failure}
 use Rattle.proxy_history.specs.Outcome.{outcome}
 use Rattle.proxy_history.specs.Payload.{payload, payload_of}
@@ -26,10 +26,10 @@ use Rattle.proxy_core.specs.Machine.{setting_in, memory_in, history_in, IsKept}
 use Rattle.proxy_core.specs.Memory.{Memory}
 use Rattle.proxy_core.specs.declared.connection.Connection.{Connection}
 use Rattle.proxy_core.specs.declared.machine.Machine.{Machine}
-use Rattle.proxy_core.proofs.ConnectionFacts.{connection_at-open, connection_at-not_open, front_reply-queue_of}
+use Rattle.proxy_core.proofs.ConnectionFacts.{length-connections_of, connection_at-open, connection_at-not_open, front_reply-queue_of}
 use Rattle.proxy_core.proofs.ConnectionsAnswered.{answered-awaited}
 use Rattle.proxy_core.proofs.ConnectionsFailed.{failed-awaited}
-use Rattle.proxy_core.proofs.PipelineFacts.{length-pipelines_of, pipeline_at-pipelines_of, length-pipeline_flying, sent_to-at_most, epoch-at_most}
+use Rattle.proxy_core.proofs.PipelineFacts.{length-pipelines_of, pipeline_at-pipelines_of, length-pipeline_waiting, length-pipeline_flying, sent_to-at_most, epoch-at_most}
 use Rattle.proxy_core.proofs.TurnedEvents.{kept_connections, kept_closed, kept_pipelines, at_host}
 
 -- COUNTS
@@ -145,6 +145,25 @@ asked_reply m c kept =
 -- its epoch is that of the history
 pub epoch_is : (m : Machine) (h : ℕ) → IsKept m → h < hosts (setting_in m) → (pipeline_at h m.pipelines.states).epoch ≡ epoch h (history_in m)
 epoch_is m h kept l = ap (λ (q : PipelineState). q.epoch) (at_host m h kept l)
+
+-- its parts that wait and fly are those of the history
+pub waiting_is : (m : Machine) (h : ℕ) → IsKept m → h < hosts (setting_in m)
+    → length (pipeline_at h m.pipelines.states).waiting ≡ length (waiting_parts h (past (setting_in m) (history_in m)))
+waiting_is m h kept l =
+    ap (λ (q : PipelineState). length q.waiting) (at_host m h kept l) ∙ length-pipeline_waiting (past (setting_in m) (history_in m)) h
+
+pub flying_is : (m : Machine) (h : ℕ) → IsKept m → h < hosts (setting_in m)
+    → length (pipeline_at h m.pipelines.states).flying ≡ flying_count h (past (setting_in m) (history_in m))
+flying_is m h kept l =
+    ap (λ (q : PipelineState). length q.flying) (at_host m h kept l) ∙ length-pipeline_flying (past (setting_in m) (history_in m)) h
+
+-- as many connections are open as the history has open
+pub open_is : (m : Machine) → IsKept m
+    → length m.connections.numbered - m.connections.closed ≡ openings (history_in m) - times is_any_closing (history_in m)
+open_is m kept =
+    let opened : length m.connections.numbered ≡ openings (history_in m) =
+    ap length (kept_connections m kept) ∙ length-connections_of (past (setting_in m) (history_in m)) in
+    omega (arith, opened, kept_closed m kept)
 
 -- what outlier detection knows is what the history determines
 pub asked_detection : (m : Machine) → IsKept m → m.ejector.state ≡ detector_state (record { setting = setting_in m; steps = m.journal.steps })

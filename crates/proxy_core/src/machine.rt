@@ -1,11 +1,13 @@
 //! The core, and its state: each event is a turn.
-ghost use Rattle.std.specs.Prelude.{◌≡◌, ◌≤◌, ◌<◌, ◌⊎◌, Some, [], length, IfOk, IfErr, IsErrOf, IsOk, OnOk, OnErr, MatchOption};
+ghost use Rattle.std.specs.Prelude.{◌≡◌, ◌-◌, ◌≤◌, ◌<◌, ◌⊎◌, Some, [], length, IfOk, IfErr, IsErrOf, IsOk, OnOk, OnErr, MatchOption};
 ghost use Rattle.ejector.specs.Settings.{IsInRange, first_difference, first_fault};
 ghost use Rattle.ejector.specs.Opening.{IsOpening};
 ghost use Rattle.ejector.specs.State.{is_out};
 ghost use Rattle.ejector.specs.Usable.{is_panic};
 ghost use Rattle.proxy_history.specs.Setting.{hosts};
-ghost use Rattle.proxy_history.specs.History.{epoch};
+ghost use Rattle.proxy_history.specs.History.{epoch, openings, times, is_any_closing};
+ghost use Rattle.proxy_history.specs.Past.{past};
+ghost use Rattle.proxy_history.specs.Waiting.{waiting_parts, flying_count};
 ghost use Rattle.proxy_history.specs.Legal.{IsLegal, IsCause};
 ghost use Rattle.proxy_history.specs.Payload.{payload};
 ghost use Rattle.proxy_history.specs.Proxy.{history_in, rules_of, setting_from, setting_of, IsStep};
@@ -237,6 +239,31 @@ impl Core {
         ensures { result ≡ epoch host (history_in self.now) }
     {
         self.machine.pipelines.epoch(host)
+    }
+
+    /// How many parts wait to be sent to a host.
+    pub fn waiting(&self, host: usize) -> usize
+        requires { host < hosts self.now.setting }
+        ensures { result ≡ length (waiting_parts host
+            (past self.now.setting (history_in self.now))) }
+    {
+        self.machine.pipelines.waiting(host)
+    }
+
+    /// How many parts were sent to a host in its epoch and have no reply, those of closed connections too.
+    pub fn flying(&self, host: usize) -> usize
+        requires { host < hosts self.now.setting }
+        ensures { result ≡ flying_count host (past self.now.setting (history_in self.now)) }
+    {
+        self.machine.pipelines.flying(host)
+    }
+
+    /// How many connections are open: those that were opened, less those that were closed.
+    pub fn open_connections(&self) -> usize
+        ensures { result ≡ openings (history_in self.now)
+            - times is_any_closing (history_in self.now) }
+    {
+        self.machine.connections.open_count()
     }
 
     /// Whether the host is put aside.

@@ -21,8 +21,8 @@ use Rattle.proxy_history.proofs.CallerLemmas as history
 use Rattle.proxy_engines.specs.Ends.{OutboxState, Sends, InboxState, Holds, HoldsBehind, HasGivenAll}
 use Rattle.journal_core.specs.Journal.{step_by}
 use Rattle.proxy_engines.specs.Client.{Client, Carries, Goes, IsAtStage, IsDone, IsHalted, IsLive, IsOver, IsToldAt, IsUntaken, NoneFinishes, asked_requests, waiting_requests}
-use Rattle.proxy_engines.specs.Moves.{has_moved, AsTold, told_by_step}
-use Rattle.proxy_engines.proofs.MoveLemmas.{has_moved-append}
+use Rattle.proxy_engines.specs.Moves.{has_moved, AsTold, IsEndOf, last_text, text_handed, told_by_step}
+use Rattle.proxy_engines.proofs.MoveLemmas.{end_then, has_moved-append, whole_end}
 use Rattle.proxy_engines.proofs.InboxLemmas.{behind_all, behind_kept, behind_more, behind_read}
 use Rattle.proxy_engines.specs.declared.client.Progress.{Progress}
 use Rattle.proxy_engines.specs.declared.client.Stage.{Stage}
@@ -63,9 +63,9 @@ untaken : (old new : Client) → new.accepted ≡ old.accepted → new.next ≡ 
 untaken old new accepted next = λ _ _. record { accepted = accepted; next = next }
 
 -- no bytes, and one step of the connection
-turn_goes : (old new : Client) (H : History) (s : Step) → is_connection_step old.conn s.event s.answer ≡ true → TakesFit old new → new.conn ≡ old.conn → new.is_drained ≡ old.is_drained → new.inbox.left ≡ old.inbox.left → new.inbox.counts ≡ old.inbox.counts → new.outbox.held ≡ old.outbox.held
+turn_goes : (old new : Client) (H : History) (s : Step) → is_connection_step old.conn s.event s.answer ≡ true → IsEndOf new.outbox.pending (last_text text_handed old.outbox.pending (s ∷ [])) → TakesFit old new → new.conn ≡ old.conn → new.is_drained ≡ old.is_drained → new.inbox.left ≡ old.inbox.left → new.inbox.counts ≡ old.inbox.counts → new.outbox.held ≡ old.outbox.held
     → ((taken b : List ℕ) → Carries old H taken b → Carries new (s ∷ H) taken b) → Goes old new H (s ∷ H) true
-turn_goes old new H s mine takes conn drained left counts held f = record {
+turn_goes old new H s mine one takes conn drained left counts held f = record {
   got = [];
   gave = [];
   steps = s ∷ [];
@@ -78,18 +78,19 @@ turn_goes old new H s mine takes conn drained left counts held f = record {
   adds = refl;
   moved_is = refl;
   alone = rw mine refl;
+  one_text = one;
   carries = λ taken b k. rw (append-nil taken, append-nil b) (f taken b k);
 }
 
 -- no bytes, and no step
-still_goes : (old new : Client) (H : History) → TakesFit old new → new.conn ≡ old.conn → new.is_drained ≡ old.is_drained → new.inbox.left ≡ old.inbox.left → new.inbox.counts ≡ old.inbox.counts → new.outbox.held ≡ old.outbox.held
+still_goes : (old new : Client) (H : History) → TakesFit old new → new.conn ≡ old.conn → new.is_drained ≡ old.is_drained → new.inbox.left ≡ old.inbox.left → new.inbox.counts ≡ old.inbox.counts → new.outbox ≡ old.outbox
     → ((taken b : List ℕ) → Carries old H taken b → Carries new H taken b) → Goes old new H H false
-still_goes old new H takes conn drained left counts held f = record {
+still_goes old new H takes conn drained left counts outbox f = record {
   got = [];
   gave = [];
   steps = [];
   reads = rw left (Consumes-none old.inbox.left);
-  writes = rw held (Appends-none old.outbox.held);
+  writes = rw outbox (Appends-none old.outbox.held);
   conn = conn;
   drained = drained;
   unread = λ _. record { none = refl; left = left; counts = counts };
@@ -97,6 +98,7 @@ still_goes old new H takes conn drained left counts held f = record {
   adds = refl;
   moved_is = refl;
   alone = refl;
+  one_text = rw outbox (whole_end old.outbox.pending);
   carries = λ taken b k. rw (append-nil taken, append-nil b) (f taken b k);
 }
 
@@ -129,6 +131,7 @@ goes_then a b c x y z m n p q = record {
       ∙ ap (λ w. has_moved p.got p.gave p.steps || w) q.moved_is
       ∙ sym (has_moved-append p.got q.got p.gave q.gave p.steps q.steps);
   alone = filter-append (λ (s : Step). is_connection_step a.conn s.event s.answer) q.steps p.steps ∙ rw (p.alone) (ap (λ w. w ++ p.steps) (rw p.conn at q.alone));
+  one_text = end_then text_handed a.outbox.pending b.outbox.pending c.outbox.pending p.steps q.steps p.one_text q.one_text;
   carries = λ taken r k. rw (← append_assoc taken p.gave q.gave, ← append_assoc r p.got q.got) (q.carries (taken ++ p.gave) (r ++ p.got) (p.carries taken r k));
 }
 
@@ -190,7 +193,7 @@ module _ (e : Client) (pass : ℕ) (H : History) (t : List ℕ) where
       }
 
   pub handed_goes : length (step_by pass (Event.Handed e.conn) (Answer.Bytes t) ∷ H) ≤ max_steps → e.outbox.pending ≡ [] → IsLive e.stage → Goes e after_hand H (step_by pass (Event.Handed e.conn) (Answer.Bytes t) ∷ H) true
-  handed_goes few empty live = turn_goes e after_hand H (step_by pass (Event.Handed e.conn) (Answer.Bytes t)) (rw (eq-eqb e.conn e.conn refl) refl) (untaken e after_hand refl refl) refl refl refl refl refl (handed_carries few empty live)
+  handed_goes few empty live = turn_goes e after_hand H (step_by pass (Event.Handed e.conn) (Answer.Bytes t)) (rw (eq-eqb e.conn e.conn refl) refl) (whole_end t) (untaken e after_hand refl refl) refl refl refl refl refl (handed_carries few empty live)
 
 -- STEPS THAT HAND OUT NOTHING AND ACCEPT NOTHING
 
@@ -201,13 +204,14 @@ pub record IsQuiet (c : ℕ) (s : Step) (H : History) : Type 0 where
   pub same_requests : requests c (s ∷ H) ≡ requests c H
   pub same_accepted : accepted_count c (s ∷ H) ≡ accepted_count c H
   pub same_handed : handed_count c (s ∷ H) ≡ handed_count c H
+  pub no_text : text_handed s.event s.answer ≡ None
 
 quiet_goes : (e : Client) (stage : Stage) (s : Step) (H : History) → stage ≢ Stage.Open → IsQuiet e.conn s H
     → ((b : List ℕ) (given : List Request) → IsAtStage e.stage (IsDone e H) (asked_requests e.conn H) e.is_halted e.inbox e.next b given
     → IsAtStage stage (IsDone (record e { stage = stage }) (s ∷ H)) (asked_requests e.conn H) e.is_halted e.inbox e.next b given)
     → (IsToldAt e.stage (is_finishing e.conn H) (is_closed e.conn H) → IsToldAt stage (is_finishing e.conn (s ∷ H)) (is_closed e.conn (s ∷ H)))
     → Goes e (record e { stage = stage }) H (s ∷ H) true
-quiet_goes e stage s H past q f told = turn_goes e (record e { stage = stage }) H s q.mine (untaken e (record e { stage = stage }) refl refl) refl refl refl refl refl (λ taken b k. record {
+quiet_goes e stage s H past q f told = turn_goes e (record e { stage = stage }) H s q.mine (rw q.no_text (whole_end e.outbox.pending)) (untaken e (record e { stage = stage }) refl refl) refl refl refl refl refl (λ taken b k. record {
   given = k.given;
   out_is = k.out_is ∙ sym q.same_transcript;
   holds = k.holds;
@@ -227,6 +231,7 @@ quiet_finished c pass a H = record {
   same_requests = append-nil (requests c H);
   same_accepted = refl;
   same_handed = refl;
+  no_text = refl;
 }
 
 quiet_closed : (c pass : ℕ) (a : Answer) (H : History) → IsQuiet c (step_by pass (Event.Closed c) a) H
@@ -236,6 +241,7 @@ quiet_closed c pass a H = record {
   same_requests = append-nil (requests c H);
   same_accepted = refl;
   same_handed = refl;
+  no_text = refl;
 }
 
 pub finished_goes : (e : Client) (pass : ℕ) (a : Answer) (H : History) → e.stage ≡ Stage.AtEnd
@@ -286,6 +292,7 @@ wrote_goes e o gave H moved live sends told = record {
   adds = refl;
   moved_is = told;
   alone = refl;
+  one_text = (gave, sends.pending);
   carries = λ taken b k. rw (append-nil b) (record {
     given = k.given;
     out_is = append_assoc taken gave o.pending ∙ ap (λ z. taken ++ z) (sym sends.pending) ∙ k.out_is;
@@ -314,7 +321,7 @@ module _ (e : Client) (r : Request') (pass : ℕ) (H : History) (a : Answer) (op
   arrived_as stage f told =
       let mine : (e.conn == e.conn) ≡ true = eq-eqb e.conn e.conn refl in
       let new : Client = record e { next = None; accepted = min (e.accepted + 1) (2 ^ 64 - 1); stage = stage } in
-      turn_goes e new H (step_by pass (Event.Arrived e.conn r) a) (rw mine refl) (λ d fit. absurd (fit (last d))) refl refl refl refl refl (λ taken b k. record {
+      turn_goes e new H (step_by pass (Event.Arrived e.conn r) a) (rw mine refl) (whole_end e.outbox.pending) (λ d fit. absurd (fit (last d))) refl refl refl refl refl (λ taken b k. record {
         given = k.given;
         out_is = k.out_is ∙ sym (append-nil (transcript e.conn H));
         holds = k.holds;
@@ -400,6 +407,7 @@ read_goes e i H moved told open_is reads whole empty input same = record {
   adds = refl;
   moved_is = told;
   alone = refl;
+  one_text = whole_end e.outbox.pending;
   carries = λ taken b k. rw (append-nil taken) (record {
     given = k.given;
     out_is = k.out_is;

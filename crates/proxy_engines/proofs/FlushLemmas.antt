@@ -8,6 +8,7 @@ use Rattle.proxy_engines.specs.Ends.{InboxState, OutboxState}
 use Rattle.proxy_engines.specs.Client.{Client, Goes, IsAtStage, IsDone, asked_requests}
 use Rattle.proxy_engines.specs.declared.client.Stage.{Stage}
 use Rattle.proxy_engines.proofs.ClientMoves.{Consumes-none}
+use Rattle.proxy_engines.proofs.MoveLemmas.{whole_end}
 
 Appends-kept : (a b : Option (List ℕ)) → Keeps a b → Appends a b []
 Appends-kept None b k = tt
@@ -42,6 +43,7 @@ module _ (e : Client) (o : OutboxState) (H : History) (same : o.pending ≡ e.ou
     adds = refl;
     moved_is = refl;
     alone = refl;
+    one_text = rw same (whole_end e.outbox.pending);
     carries = λ taken b k. rw (append-nil taken, append-nil b) (record {
       given = k.given;
       out_is = rw same k.out_is;

@@ -26,10 +26,10 @@ use Rattle.proxy_history.proofs.CallerLemmas as history
 use Rattle.proxy_engines.specs.Ends.{InboxState, Holds, HasGivenAll, refusal_requests}
 use Rattle.journal_core.specs.Journal.{step_by}
 use Rattle.proxy_engines.specs.Host.{LineState, LinkState, IsOnLink, CarriesHost, GoesOn, FailsHost, IsReplyAt, ReadsOn, WritesOn, moments_by, moments_after, waiting_requests, next_link}
-use Rattle.proxy_engines.specs.Moves.{has_moved, AsTold}
+use Rattle.proxy_engines.specs.Moves.{has_moved, AsTold, IsEndOf, text_sent}
 use Rattle.proxy_engines.specs.Faults.{either, told_by_outcome}
 use Rattle.proxy_engines.specs.declared.link.Outcome.{Outcome}
-use Rattle.proxy_engines.proofs.MoveLemmas.{has_moved-append, or-false, or-true}
+use Rattle.proxy_engines.proofs.MoveLemmas.{empty_end, end_then, has_moved-append, or-false, or-true, whole_end}
 use Rattle.proxy_engines.proofs.ClientMoves.{Consumes-none, Appends-none, Consumes-append, Appends-append, read_holds}
 
 -- BYTES
@@ -78,6 +78,7 @@ rests_on l k k' H m reads writes f = record {
   replies_at = All-nil (λ (s : Step). IsReplyAt m s.event);
   reads = reads;
   writes = writes;
+  one_text = whole_end l.pending;
   carries = λ taken b c. rw (append-nil taken, append-nil b) (record { out_is = c.out_is; link_is = f (replies_from l.host l.epoch H) taken b c.link_is; epoch_is = c.epoch_is; none_sent = c.none_sent; none_came = c.none_came });
 }
 
@@ -111,6 +112,7 @@ goes_on a b c i j k x y z m f g p q = record {
   replies_at = All-append (λ (s : Step). IsReplyAt m s.event) q.steps p.steps q.replies_at p.replies_at;
   reads = reads_then i j k p.got q.got p.reads q.reads;
   writes = writes_then i j k p.gave q.gave p.writes q.writes;
+  one_text = end_then text_sent a.pending b.pending c.pending p.steps q.steps p.one_text q.one_text;
   carries = λ taken r h. rw (← append_assoc taken p.gave q.gave, ← append_assoc r p.got q.got) (q.carries (taken ++ p.gave) (r ++ p.got) (p.carries taken r h));
 }
 
@@ -160,10 +162,10 @@ told_either a b c i j k x y z m (Outcome.Fault kind error) q f g = told_both a b
 -- A PART IS TAKEN
 
 module _ (l : LineState) (pass : ℕ) (H : History) (e p m : ℕ) (t : List ℕ) (nothing : l.pending ≡ []) (not_astray : l.is_astray ≡ false) where
-  taken_goes : (pending : List ℕ) (astray : Bool) (k : Option LinkState) → pending ≡ sent_text l.host l.epoch (Event.Taken l.host) (Answer.Sent e p t)
+  taken_goes : (pending : List ℕ) (astray : Bool) (k : Option LinkState) → IsEndOf pending t → pending ≡ sent_text l.host l.epoch (Event.Taken l.host) (Answer.Sent e p t)
       → (astray ≡ false → (d : ℕ) → l.epoch < d → sent_text l.host d (Event.Taken l.host) (Answer.Sent e p t) ≡ [])
       → GoesOn l (record l { pending = pending; moments = l.moments ++ m ∷ []; is_astray = astray }) k k H (step_by pass (Event.Taken l.host) (Answer.Sent e p t) ∷ H) m true
-  taken_goes pending astray k is later = record {
+  taken_goes pending astray k one is later = record {
     got = [];
     gave = [];
     steps = step_by pass (Event.Taken l.host) (Answer.Sent e p t) ∷ [];
@@ -178,6 +180,7 @@ module _ (l : LineState) (pass : ℕ) (H : History) (e p m : ℕ) (t : List ℕ)
     replies_at = All-cons (λ (s : Step). IsReplyAt m s.event) _ [] tt (All-nil (λ (s : Step). IsReplyAt m s.event));
     reads = reads_none k;
     writes = writes_none k;
+    one_text = one;
     carries = λ taken b c. rw (append-nil taken, append-nil b) (record {
       out_is = ap (λ z. taken ++ z) is ∙ ap (λ z. z ++ sent_text l.host l.epoch (Event.Taken l.host) (Answer.Sent e p t)) (sym (append-nil taken) ∙ rw nothing at c.out_is);
       link_is = rw (append-nil (replies_from l.host l.epoch H)) c.link_is;
@@ -189,11 +192,11 @@ module _ (l : LineState) (pass : ℕ) (H : History) (e p m : ℕ) (t : List ℕ)
 
   pub taken_on : (k : Option LinkState) → e ≡ l.epoch
       → GoesOn l (record l { pending = t; moments = l.moments ++ m ∷ [] }) k k H (step_by pass (Event.Taken l.host) (Answer.Sent e p t) ∷ H) m true
-  taken_on k same = taken_goes t l.is_astray k (rw (eq-eqb l.host l.host refl, eq-eqb e l.epoch same) refl) (λ s d below. rw (eq-eqb l.host l.host refl, ne_eqb e d (λ q. omega (arith, q, same, below))) refl)
+  taken_on k same = taken_goes t l.is_astray k (whole_end t) (rw (eq-eqb l.host l.host refl, eq-eqb e l.epoch same) refl) (λ s d below. rw (eq-eqb l.host l.host refl, ne_eqb e d (λ q. omega (arith, q, same, below))) refl)
 
   pub taken_astray : (k : Option LinkState) → e ≢ l.epoch
       → GoesOn l (record l { moments = l.moments ++ m ∷ []; is_astray = true }) k k H (step_by pass (Event.Taken l.host) (Answer.Sent e p t) ∷ H) m true
-  taken_astray k other = taken_goes l.pending true k (rw (eq-eqb l.host l.host refl, ne_eqb e l.epoch other, nothing) refl) (λ s. absurd cc)
+  taken_astray k other = taken_goes l.pending true k (empty_end l.pending t nothing) (rw (eq-eqb l.host l.host refl, ne_eqb e l.epoch other, nothing) refl) (λ s. absurd cc)
 
 -- A FAULT IS RECORDED
 
@@ -276,6 +279,7 @@ answered_on l k v pass H a m next = record {
   replies_at = All-cons (λ (s : Step). IsReplyAt m s.event) _ [] refl (All-nil (λ (s : Step). IsReplyAt m s.event));
   reads = Consumes-none k.inbox.left;
   writes = Appends-none k.held;
+  one_text = whole_end l.pending;
   carries = λ taken b c. rw (append-nil taken, append-nil b) (record {
     out_is = c.out_is ∙ sym (append-nil (upstream l.host l.epoch H));
     link_is = record {
@@ -317,6 +321,7 @@ wrote_on l k k' gave rest H m moved told inbox next writes split = record {
   replies_at = All-nil (λ (s : Step). IsReplyAt m s.event);
   reads = rw inbox (Consumes-none k.inbox.left);
   writes = writes;
+  one_text = (gave, split);
   carries = λ taken b c. rw (append-nil b) (record {
     out_is = append_assoc taken gave rest ∙ ap (λ z. taken ++ z) (sym split) ∙ c.out_is;
     link_is = record { given = c.link_is.given; holds = rw inbox c.link_is.holds; most_is = rw inbox c.link_is.most_is; given_are = rw (inbox, next) c.link_is.given_are };
@@ -343,6 +348,7 @@ heard_on l k i H m moved told all input same = record {
   replies_at = All-nil (λ (s : Step). IsReplyAt m s.event);
   reads = input;
   writes = Appends-none k.held;
+  one_text = whole_end l.pending;
   carries = λ taken b c. rw (append-nil taken) (record {
     out_is = c.out_is;
     link_is = record {

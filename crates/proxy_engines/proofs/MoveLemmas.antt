@@ -1,8 +1,10 @@
 -- Whether anything moved, over several moves.
-use Rattle.std.proofs.Common.{◌≡◌, ◌≢◌, ◌<◌, ℕ, Bool, true, false, List, [], ◌∷◌, ◌++◌, Option, None, arith, length, refl}
-use Rattle.std.specs.Prelude.{◌||◌, ◌≤◌, zero, suc, take, Result, Ok, Err, IfOk, IsErr, OnErr}
+use Rattle.std.proofs.Common.{◌≡◌, ◌≢◌, ◌<◌, ◌∙◌, ℕ, Bool, true, false, List, [], ◌∷◌, ◌++◌, Option, Some, None, ap, append_assoc, append-nil, arith, length, refl, sym}
+use Rattle.std.specs.Prelude.{◌||◌, ◌≤◌, zero, suc, take, unwrap_or, Result, Ok, Err, IfOk, IsErr, OnErr}
 use Rattle.proxy_history.specs.History.{History}
-use Rattle.proxy_engines.specs.Moves.{has_moved, AsTold, told_by_step, told_by_turn}
+use Rattle.proxy_history.specs.declared.answer.Answer.{Answer}
+use Rattle.proxy_history.specs.declared.event.Event.{Event}
+use Rattle.proxy_engines.specs.Moves.{has_moved, AsTold, IsEndOf, last_text, told_by_step, told_by_turn}
 use Rattle.proxy_engines.specs.Faults.{is_fault, told_by_moves, told_by_outcome}
 use Rattle.proxy_engines.specs.declared.client.Progress.{Progress}
 use Rattle.proxy_engines.specs.declared.link.Outcome.{Outcome}
@@ -77,3 +79,26 @@ pub as_fault : (Goes : Bool → Type 0) (o : Outcome) → o ≢ Outcome.Still �
 as_fault Goes Outcome.Still s m g = absurd (s refl)
 as_fault Goes Outcome.Moved s m g = absurd (m refl)
 as_fault Goes (Outcome.Fault kind error) s m g = g
+
+-- PENDING TEXTS
+
+-- all of a text is an end of it
+pub whole_end : (text : List ℕ) → IsEndOf text text
+whole_end text = ([], refl)
+
+-- nothing is an end of any text
+pub empty_end : (bytes text : List ℕ) → bytes ≡ [] → IsEndOf bytes text
+empty_end bytes text none = (text, rw none (sym (append-nil text)))
+
+-- an end of an end
+pub end_end : (a b text : List ℕ) → IsEndOf a b → IsEndOf b text → IsEndOf a text
+end_end a b text (gone, p) (before, q) = (before ++ gone, q ∙ ap (λ z. before ++ z) p ∙ sym (append_assoc before gone a))
+
+end_either : (o : Option (List ℕ)) (a b c : List ℕ) → (IsEndOf c a → IsEndOf c b) → IsEndOf c (unwrap_or o a) → IsEndOf c (unwrap_or o b)
+end_either None a b c f e = f e
+end_either (Some text) a b c f e = e
+
+-- what is pending after some steps and then others
+pub end_then : (text_of : Event → Answer → Option (List ℕ)) (a b c : List ℕ) (earlier later : History) → IsEndOf b (last_text text_of a earlier) → IsEndOf c (last_text text_of b later) → IsEndOf c (last_text text_of a (later ++ earlier))
+end_then text_of a b c earlier [] p q = end_end c b (last_text text_of a earlier) q p
+end_then text_of a b c earlier (s ∷ later) p q = end_either (text_of s.event s.answer) (last_text text_of b later) (last_text text_of a (later ++ earlier)) c (end_then text_of a b c earlier later p) q

@@ -12,8 +12,8 @@ use Rattle.proxy_history.specs.declared.event.Event.{Event}
 use Rattle.proxy_history.specs.declared.refusal.Refusal.{Refusal}
 use Rattle.proxy_history.specs.Output.{transcript}
 use Rattle.proxy_history.specs.Own.{connection_steps}
-use Rattle.proxy_engines.specs.Moves.{has_moved}
-use Rattle.proxy_engines.specs.Device.{HasPaused}
+use Rattle.proxy_engines.specs.Moves.{has_moved, IsEndOf, last_text, text_handed}
+use Rattle.devices.specs.Device.{HasPaused}
 use Rattle.proxy_engines.specs.Ends.{OutboxState, InboxState, HoldsBehind, HasGivenAll, AreRequests}
 use Rattle.proxy_engines.specs.Turned.{HasHeld}
 use Rattle.proxy_engines.specs.declared.client.Progress.{Progress}
@@ -174,7 +174,8 @@ pub record IsUntaken (old new : Client) : Type 0 where
   pub next : new.next ≡ old.next
 
 -- Some moves of an engine: bytes that were read, bytes that were taken, steps of its connection alone, whether any of these
--- came, and what it carries. Where it drains nothing was read, and nothing taken in but the refusal of a byte.
+-- came, and what it carries. Where it drains nothing was read, and nothing taken in but the refusal of a byte. Of one text at
+-- most bytes are pending: of the last that was handed out, or of the one of which bytes were pending before.
 pub record Goes (old new : Client) (H H' : History) (moved : Bool) : Type 0 where
   pub got : List ℕ
   pub gave : List ℕ
@@ -188,6 +189,7 @@ pub record Goes (old new : Client) (H H' : History) (moved : Bool) : Type 0 wher
   pub adds : H' ≡ steps ++ H
   pub moved_is : moved ≡ has_moved got gave steps
   pub alone : connection_steps old.conn steps ≡ steps
+  pub one_text : IsEndOf new.outbox.pending (last_text text_handed old.outbox.pending steps)
   pub carries : (taken b : List ℕ) → Carries old H taken b → Carries new H' (taken ++ gave) (b ++ got)
 
 -- The connection was closed for a fault, and the answer is as was said; or the turn was refused, and it is to be closed.

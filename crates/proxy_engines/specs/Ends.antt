@@ -10,7 +10,7 @@ use Rattle.resp_core.specs.declared.reader.TheConstants.{CLIENT_MEMBERS}
 use Rattle.splitter.specs.Request.{Request, read, broken}
 use Rattle.splitter.specs.declared.request.Request.{Request as Request'}
 use Rattle.splitter.specs.Requests.{end_of}
-use Rattle.proxy_engines.specs.Device.{Counts}
+use Rattle.devices.specs.Device.{Counts}
 
 -- a writer's contents, where they are known, its counts, and what is to be written next
 pub record OutboxState : Type 0 where

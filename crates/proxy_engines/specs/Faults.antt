@@ -5,7 +5,7 @@ use Rattle.proxy_history.specs.History.{Step}
 use Rattle.proxy_history.specs.declared.event.Event.{Event}
 use Rattle.proxy_history.specs.declared.event.Kind.{Kind}
 use Rattle.proxy_history.specs.declared.refusal.Refusal.{Refusal}
-use Rattle.proxy_engines.specs.Device.{HasRisen}
+use Rattle.devices.specs.Device.{HasRisen}
 use Rattle.proxy_engines.specs.Ends.{InboxState, HasGivenAll}
 use Rattle.proxy_engines.specs.Host.{LineState, LinkState}
 use Rattle.proxy_engines.specs.Turned.{IsNumbered}

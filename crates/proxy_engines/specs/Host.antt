@@ -13,8 +13,8 @@ use Rattle.proxy_history.specs.Own.{host_steps}
 use Rattle.proxy_history.specs.declared.event.Event.{Event}
 use Rattle.proxy_history.specs.declared.event.Kind.{Kind}
 use Rattle.proxy_history.specs.declared.answer.Answer.{Answer}
-use Rattle.proxy_engines.specs.Device.{Counts}
-use Rattle.proxy_engines.specs.Moves.{has_moved}
+use Rattle.devices.specs.Device.{Counts}
+use Rattle.proxy_engines.specs.Moves.{has_moved, IsEndOf, last_text, text_sent}
 use Rattle.proxy_engines.specs.Ends.{InboxState, Holds, refusal_requests}
 use Rattle.journal_core.specs.Journal.{step_by}
 
@@ -92,7 +92,8 @@ IsReplyAt m (Event.Answered h e v t) = t ≡ m
 IsReplyAt m event = ⊤
 
 -- Some moves at one moment, on one link or without one: bytes that were read, bytes that were taken, steps of its host alone
--- that are no faults, each reply at that moment, whether any of these came, and what is carried.
+-- that are no faults, each reply at that moment, whether any of these came, and what is carried. Of one text at most bytes are
+-- pending: of the last that was sent, or of the one of which bytes were pending before.
 pub record GoesOn (l l' : LineState) (k k' : Option LinkState) (H H' : History) (moment : ℕ) (moved : Bool) : Type 0 where
   pub got : List ℕ
   pub gave : List ℕ
@@ -108,6 +109,7 @@ pub record GoesOn (l l' : LineState) (k k' : Option LinkState) (H H' : History) 
   pub replies_at : All (λ (s : Step). IsReplyAt moment s.event) steps
   pub reads : ReadsOn k k' got
   pub writes : WritesOn k k' gave
+  pub one_text : IsEndOf l'.pending (last_text text_sent l.pending steps)
   pub carries : (taken b : List ℕ) → CarriesHost l k H taken b → CarriesHost l' k' H' (taken ++ gave) (b ++ got)
 
 -- the engine after a fault: what was pending is dropped

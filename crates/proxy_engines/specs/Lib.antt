@@ -1,7 +1,4 @@
 pub mod EngineError
-pub mod Device
-pub mod Tallied
-pub mod Faulty
 pub mod Ends
 pub mod OwnSteps
 pub mod Turned

@@ -1,6 +1,8 @@
 -- Whether an engine got on, and how its answer tells it.
-use Rattle.std.specs.Prelude.{Bool, true, false, ℕ, List, [], Option, Some, None, Result, Ok, Err}
+use Rattle.std.specs.Prelude.{◌≡◌, Bool, true, false, ℕ, List, [], ◌∷◌, ◌++◌, Option, Some, None, unwrap_or, Result, Ok, Err}
 use Rattle.proxy_history.specs.History.{History}
+use Rattle.proxy_history.specs.declared.answer.Answer.{Answer}
+use Rattle.proxy_history.specs.declared.event.Event.{Event}
 use Rattle.proxy_engines.specs.declared.client.Progress.{Progress}
 use Rattle.proxy_engines.specs.declared.error.EngineError.{EngineError}
 
@@ -24,3 +26,22 @@ told_by_step result = None
 abbrev pub told_by_turn : Result Bool EngineError → Option Bool
 told_by_turn (Ok is_answered) = Some is_answered
 told_by_turn (Err e) = None
+
+-- the text that a step hands out to a connection
+abbrev pub text_handed : Event → Answer → Option (List ℕ)
+text_handed (Event.Handed conn) (Answer.Bytes text) = Some text
+text_handed event answer = None
+
+-- the text that a step sends to a host
+abbrev pub text_sent : Event → Answer → Option (List ℕ)
+text_sent (Event.Taken host) (Answer.Sent epoch place text) = Some text
+text_sent event answer = None
+
+-- the last text of these steps, the newest first, or the one before them
+abbrev pub last_text : (Event → Answer → Option (List ℕ)) → List ℕ → History → List ℕ
+last_text text_of before [] = before
+last_text text_of before (s ∷ earlier) = unwrap_or (text_of s.event s.answer) (last_text text_of before earlier)
+
+-- these bytes are an end of the text: others of it, in front of them, are gone
+abbrev pub IsEndOf : List ℕ → List ℕ → Type 0
+IsEndOf bytes text = (gone : List ℕ) × (text ≡ gone ++ bytes)

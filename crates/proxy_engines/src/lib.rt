@@ -15,26 +15,23 @@
 mod ask;
 mod client;
 mod error;
-mod faulty;
 mod host;
 mod inbox;
 mod laws;
 mod line;
 mod link;
 mod outbox;
-mod tally;
 mod threads;
 mod work;
 
 pub use client::{ClientEngine, Progress, Stage};
+pub use devices::{Faulty, ReadTally, Tallied, Tally, Told, WriteTally};
 pub use error::EngineError;
-pub use faulty::Faulty;
 pub use host::HostEngine;
 pub use inbox::{READ_SIZE, Rest};
 pub use laws::{
     accepted_are_first, ended_is_whole, engines_leave_others, others_leave_engines,
     reads_are_limited, sockets_go_on,
 };
-pub use tally::{ReadTally, Tallied, Tally, Told, WriteTally};
 pub use threads::run_all;
 pub use work::{ClientWork, Work};

@@ -5,15 +5,15 @@ ghost use Rattle.ticket_gate.specs.Journal.{StartsWith};
 ghost use Rattle.proxy_history.specs.declared.event.Event.{Event};
 ghost use Rattle.proxy_history.specs.declared.refusal.Refusal.{Refusal};
 ghost use Rattle.proxy_engines.specs.OwnSteps.{own_steps};
-ghost use Rattle.proxy_engines.specs.Device.{HasFailed, HasPaused, is_moved};
+ghost use Rattle.devices.specs.Device.{HasFailed, HasPaused, is_moved};
 ghost use Rattle.proxy_engines.specs.Moves.{AsTold, has_moved, told_by_turn};
 ghost use Rattle.proxy_engines.specs.Faults.{IsLate, IsNumberedOn, IsPlain};
 ghost use Rattle.proxy_engines.specs.Host.{LinkState, GoesOn, FailsHost};
 
 use crate::ask::tell;
 use crate::error::EngineError;
-use crate::tally::{Told, WriteTally};
 use bytes::Bytes;
+use devices::{Told, WriteTally};
 use proxy_core::{Answer, CoreTurns, Event, Kind};
 use std::alloc::Global;
 use std::collections::VecDeque;

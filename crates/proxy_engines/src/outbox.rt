@@ -1,11 +1,11 @@
 //! What is to be written.
 ghost use Rattle.std.specs.Prelude.{◌≡◌, ◌≢◌, ◌==◌, ◌<◌, ◌⊎◌, ℕ, List, length, []};
 ghost use Rattle.std.specs.Io.KnownBytes.{Keeps};
-ghost use Rattle.proxy_engines.specs.Device.{HasFailed, HasPaused, is_moved};
+ghost use Rattle.devices.specs.Device.{HasFailed, HasPaused, is_moved};
 ghost use Rattle.proxy_engines.specs.Moves.{has_moved};
 
-use crate::tally::{Told, WriteTally};
 use bytes::Bytes;
+use devices::{Told, WriteTally};
 use std::io;
 use std::io::Write;
 use std::marker::Model;

@@ -4,13 +4,16 @@
 ghost use Rattle.std.specs.Prelude.{IfOk};
 ghost use Rattle.proxy_config.specs.RingParts.{AreRingParts};
 
-use command_line::{Asked, Refused};
+use command_line::{Asked, KIT, Refused, VERSION};
 use mio::net::TcpListener;
 use proxy_config::{Config, ConfigError, check_line};
 use proxy_run::{Ending, local_run};
-use proxy_serve::{Marks, Stop, serve};
-use std::net::Net;
+use proxy_serve::{Admin, Level, Log, Marks, Options, Stop, serve};
+use std::fs::{File, Files};
+use std::hash::RandomState;
+use std::net::{Net, SocketAddr};
 use std::process::ExitCode;
+use std::random::RandomSource;
 use std::rt::Runtime;
 use std::sync::Wait;
 use std::thread::Threads;
@@ -60,13 +63,17 @@ fn run_serve<
         + Threads
         + Wait
         + Net<Listener = std::net::TcpListener, Stream = std::net::TcpStream>
+        + RandomSource
+        + Files<File = File>
         + Sync,
->(rt: &R, config: &str, connections: u64) -> u8 {
+>(rt: &R, config: &str, connections: u64, metrics: Option<SocketAddr>) -> u8 {
+    let log = log(rt);
     let config = match settings_of(rt, config) {
         Ok(config) => config,
-        Err(ConfigError::Memory) => return ended(rt, Ending::Memory),
+        Err(ConfigError::Memory) => return stopped(rt, log, Stop::from(Ending::Memory)),
         Err(fault) => {
-            let _ = eprintln!(rt; "{fault}");
+            let tag = log.tag(Level::Error);
+            let _ = eprintln!(rt; "{tag}{fault}");
             return BAD_SETTINGS;
         }
     };
@@ -75,22 +82,61 @@ fn run_serve<
         Err(error) => {
             return stopped(
                 rt,
+                log,
                 Stop::socket_at("cannot listen on", config.listen, error),
             );
         }
+    };
+    let admin = match admin(rt, metrics) {
+        Ok(admin) => admin,
+        Err(stop) => return stopped(rt, log, stop),
+    };
+    let options = Options {
+        admin,
+        status: File::open(rt, "/proc/self/status").ok(),
+        connections,
+        marks: Marks::FULL,
+        log,
     };
     match serve(
         rt,
         rt.alloc(),
         listener,
         config,
-        connections,
-        Marks::FULL,
+        options,
         &mut io::writer(rt),
     ) {
         Ok(()) => 0,
-        Err(stop) => stopped(rt, stop),
+        Err(stop) => stopped(rt, log, stop),
     }
+}
+
+// Where an operator asks, if that is wanted.
+fn admin<R: Runtime + RandomSource + Net>(
+    rt: &R,
+    metrics: Option<SocketAddr>,
+) -> Result<Option<Admin>, Stop> {
+    let Some(address) = metrics else {
+        return Ok(None);
+    };
+    let listener = match TcpListener::bind(rt, address) {
+        Ok(listener) => listener,
+        Err(error) => return Err(Stop::socket_at("cannot listen on", address, error)),
+    };
+    match RandomState::new(rt) {
+        Ok(keys) => Ok(Some(Admin {
+            listener,
+            keys,
+            version: VERSION,
+            kit: KIT,
+        })),
+        Err(error) => Err(Stop::socket("cannot get random numbers", error)),
+    }
+}
+
+// Under systemd lines begin with their level.
+fn log<R: Runtime + AllocGlobal>(rt: &R) -> Log {
+    Log::new(env::var(rt, "JOURNAL_STREAM").is_ok())
 }
 
 fn settings_of<R: Runtime + AllocGlobal>(rt: &R, config: &str) -> Result<Config, ConfigError>
@@ -111,8 +157,9 @@ fn ended<R: Eprint>(rt: &R, ending: Ending) -> u8 {
 }
 
 // Tells why the serving ended and what failed, and gives the status.
-fn stopped<R: Eprint>(rt: &R, stop: Stop) -> u8 {
-    let _ = eprintln!(rt; "{stop}");
+fn stopped<R: Eprint>(rt: &R, log: Log, stop: Stop) -> u8 {
+    let tag = log.tag(Level::Error);
+    let _ = eprintln!(rt; "{tag}{stop}");
     stop.ending.status()
 }
 
@@ -122,6 +169,8 @@ fn run<
         + Threads
         + Wait
         + Net<Listener = std::net::TcpListener, Stream = std::net::TcpStream>
+        + RandomSource
+        + Files<File = File>
         + Sync,
 >(rt: &R) -> u8 {
     let words = match env::args(rt) {
@@ -144,9 +193,16 @@ fn run<
             Asked::Serve {
                 config,
                 connections,
+                metrics,
             },
-        ) => run_serve(rt, config.as_str(), connections),
+        ) => run_serve(rt, config.as_str(), connections, metrics),
         Err(Refused::Memory) => ended(rt, Ending::Memory),
+        Err(Refused::NoAddress) => {
+            let _ = eprintln!(rt;
+                "error: what --metrics names is no address with a port, as 127.0.0.1:9121"
+            );
+            BAD_COMMAND_LINE
+        }
         Err(Refused::Told(told)) => match told.print(rt) {
             Ok(()) if told.is_help() => 0,
             Ok(()) => BAD_COMMAND_LINE,

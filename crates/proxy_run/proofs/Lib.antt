@@ -3,3 +3,4 @@ mod StubLemmas
 pub mod MoveLemmas
 pub mod EndLemmas
 pub mod RunLemmas
+mod HostLemmas

@@ -1,5 +1,5 @@
 -- What a run of one client leaves.
-use Rattle.std.proofs.Common.{◌≡◌, ◌≢◌, ◌==◌, ℕ, false, List, [], ◌∷◌, ◌++◌, Option, Some, None, Result, Ok, Err, OnOk, ap, length, refl, sym, subst, ◌∙◌}
+use Rattle.std.proofs.Common.{◌≡◌, ◌≢◌, ◌==◌, ℕ, false, List, [], ◌∷◌, ◌++◌, Option, Some, None, ap, length, refl, sym, subst, ◌∙◌}
 use Rattle.std.specs.Io.KnownBytes.{Appends, Keeps, append_known}
 use Rattle.std.proofs.lemmas.Bool.{ne_eqb}
 use Rattle.std.proofs.lemmas.List.{length-map}
@@ -121,8 +121,3 @@ RunsLocal-written (Some bytes) a b c r k = record {
   alone = r.alone;
   written = Appends-gathered a b c (transcript 0 r.history) r.written k;
 }
-
--- two facts of one Ok
-pub OnOk-both : {X E : Type 0} (A B : Type 0) (r : Result X E) → OnOk r A → OnOk r B → OnOk r (A × B)
-OnOk-both A B (Ok x) a b = (a, b)
-OnOk-both A B (Err e) a b = tt

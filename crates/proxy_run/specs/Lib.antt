@@ -1,3 +1,4 @@
+pub mod Announced
 pub mod Ending
 pub mod Stubs
 pub mod Moves

@@ -1,8 +1,10 @@
 //! One client, answered from a reader to a writer, with three hosts in memory behind it.
-ghost use Rattle.std.specs.Prelude.{◌≡◌, ◌≢◌, ◌+◌, ◌∷◌, [], IfOk, IfErr, OnOk, false};
+ghost use Rattle.std.specs.Prelude.{◌≡◌, ◌≢◌, ◌⊎◌, ◌+◌, ◌∷◌, [], IfOk, IfErr, OnOk, false, true};
 ghost use Rattle.std.specs.Io.Buffered.{writer_contents};
 ghost use Rattle.std.specs.Io.KnownBytes.{Keeps, append_known};
-ghost use Rattle.proxy_core.specs.Recorded.{journal_of, made_with};
+ghost use Rattle.proxy_core.specs.Recorded.{IsCauseIn, journal_of, made_with};
+ghost use Rattle.ticket_gate.specs.Journal.{StartsWith};
+ghost use Rattle.std.specs.List.{AllZip};
 ghost use Rattle.journal_core.specs.Journal.{step_by};
 ghost use Rattle.proxy_history.specs.declared.answer.Answer.{Answer};
 ghost use Rattle.proxy_history.specs.declared.event.Event.{Event};
@@ -10,7 +12,7 @@ ghost use Rattle.proxy_engines.specs.Client.{Carries, Client};
 ghost use Rattle.proxy_engines.specs.OwnSteps.{own_steps};
 ghost use Rattle.proxy_engines.specs.declared.client.Stage.{Stage};
 ghost use Rattle.proxy_run.specs.Local.{RunsLocal};
-ghost use Rattle.proxy_run.specs.Moves.{GoesBeside, IsBeside};
+ghost use Rattle.proxy_run.specs.Moves.{GoesBeside, HaveRested, IsBeside, RestsIdle};
 
 use crate::announced::Announced;
 use crate::ending::Ending;
@@ -38,7 +40,7 @@ const MOMENT: u64 = 0;
 type Output<W> = Tallied<BufWriter<W>>;
 
 /// The client's engine.
-type Client<R, W> = ClientEngine<Tallied<Announced<R>>, Output<W>>;
+type Client<R, W> = ClientEngine<Announced<Tallied<R>>, Output<W>>;
 
 /// Answers the one client whose bytes the reader gives, and gives back the writer, which the replies were written to.
 ///
@@ -89,7 +91,7 @@ fn open_client<Rt: Wait, T: CoreTurns, R: Read + Drop, W: Write + Drop>(
     let Ok(output) = BufWriter::with_capacity(alloc, MAX_GATHERED, writer) else {
         return Err(Ending::Memory);
     };
-    let reader = Tallied::new(Announced::new(reader));
+    let reader = Announced::new(Tallied::new(reader));
     Ok(ClientEngine::open(rt, alloc, turns, reader, Tallied::new(output))?)
 }
 
@@ -109,10 +111,10 @@ fn run_to_end<
     ensures pass { turns.new.pass ≡ turns.old.pass }
     ensures setting { made_with turns.new.state ≡ made_with turns.old.state }
     ensures runs { IfOk result (λ r. (last : Client) × Keeps last.outbox.held (W.contents r.1)
-        × OnOk r.0 (GoesBeside client last
+        × GoesBeside client last
         (own_steps turns.old.pass (journal_of turns.old.state))
         (own_steps turns.old.pass (journal_of turns.new.state))
-        × (last.stage ≡ Stage.Closed false))) }
+        × OnOk r.0 (last.stage ≡ Stage.Closed false)) }
     ensures err { IfErr result (λ e. e ≡ Ending.Socket) }
 {
     let mut client = client;
@@ -150,16 +152,15 @@ fn run_client<
 ) -> Result<(), Ending>
     ensures pass { turns.new.pass ≡ turns.old.pass }
     ensures setting { made_with turns.new.state ≡ made_with turns.old.state }
-    ensures goes { OnOk result (GoesBeside client.old client.new
+    ensures goes { GoesBeside client.old client.new
         (own_steps turns.old.pass (journal_of turns.old.state))
-        (own_steps turns.old.pass (journal_of turns.new.state))) }
+        (own_steps turns.old.pass (journal_of turns.new.state)) }
     ensures ended { OnOk result (client.new.stage ≡ Stage.Closed false) }
 {
     let mut left = MAX_STEPS;
     for _ in 0..MAX_STEPS {
-        match step_client(rt, turns, client, &mut left)? {
-            Progress::Ended => return Ok(()),
-            progress => settle_after(progress, rt, turns, hosts, &mut left)?,
+        if let Progress::Ended = step_all(rt, turns, client, hosts, &mut left)? {
+            return Ok(());
         }
     }
     Err(Ending::Socket)
@@ -179,22 +180,39 @@ fn asks_hosts(core: &Core) -> bool {
     }
 }
 
-// Steps the hosts until all are idle. After a move of the client that asks them nothing they are.
-fn settle_after<Rt: Wait, P: ReadTally + Drop, Q: WriteTally + Drop>(
-    progress: Progress,
+// One step of the client, and then, unless it ended or moved without asking hosts for anything, steps of the hosts until all
+// are idle.
+fn step_all<
+    Rt: Wait,
+    R: ReadTally + Drop,
+    W: WriteTally + Drop,
+    P: ReadTally + Drop,
+    Q: WriteTally + Drop,
+>(
     rt: &Rt,
     turns: &mut Alone<Core>,
+    client: &mut ClientEngine<R, W>,
     hosts: &mut [HostEngine<P, Q>],
     left: &mut u32,
-) -> Result<(), Ending>
+) -> Result<Progress, Ending>
     ensures pass { turns.new.pass ≡ turns.old.pass }
     ensures setting { made_with turns.new.state ≡ made_with turns.old.state }
-    ensures beside { OnOk result (IsBeside (own_steps turns.old.pass (journal_of turns.old.state))
-        (own_steps turns.old.pass (journal_of turns.new.state))) }
+    ensures goes { GoesBeside client.old client.new
+        (own_steps turns.old.pass (journal_of turns.old.state))
+        (own_steps turns.old.pass (journal_of turns.new.state)) }
+    ensures ended { IfOk result (λ p. p ≡ Progress.Ended → client.new.stage ≡ Stage.Closed false) }
+    ensures rested { IfOk result (λ p. (p ≡ Progress.Ended) ⊎ ((p ≡ Progress.Moved)
+        ⊎ HaveRested (IsCauseIn (made_with turns.old.state)) (journal_of turns.old.state)
+        (journal_of turns.new.state) hosts.new)) }
 {
+    let progress = step_client(rt, turns, client, left)?;
     match progress {
-        Progress::Moved if !asks_hosts(turns.state()) => Ok(()),
-        _ => settle(rt, turns, hosts, left),
+        Progress::Ended => Ok(progress),
+        Progress::Moved if !asks_hosts(turns.state()) => Ok(progress),
+        _ => {
+            settle(rt, turns, hosts, left)?;
+            Ok(progress)
+        }
     }
 }
 
@@ -207,9 +225,10 @@ fn step_client<Rt: Wait, T: CoreTurns, R: ReadTally + Drop, W: WriteTally + Drop
 ) -> Result<Progress, Ending>
     ensures pass { T.pass turns.new ≡ T.pass turns.old }
     ensures setting { T.setting turns.new ≡ T.setting turns.old }
-    ensures goes { OnOk result (GoesBeside client.old client.new
+    ensures seen { StartsWith (T.seen turns.new) (T.seen turns.old) }
+    ensures goes { GoesBeside client.old client.new
         (own_steps (T.pass turns.old) (T.seen turns.old))
-        (own_steps (T.pass turns.old) (T.seen turns.new))) }
+        (own_steps (T.pass turns.old) (T.seen turns.new)) }
     ensures ended { IfOk result (λ p. p ≡ Progress.Ended → client.new.stage ≡ Stage.Closed false) }
     ensures cut { IfOk result (λ p. p ≢ Progress.Cut) }
 {
@@ -234,9 +253,11 @@ fn settle<Rt: Wait, T: CoreTurns, P: ReadTally + Drop, Q: WriteTally + Drop>(
 ) -> Result<(), Ending>
     ensures pass { T.pass turns.new ≡ T.pass turns.old }
     ensures setting { T.setting turns.new ≡ T.setting turns.old }
-    ensures beside { OnOk result (IsBeside
-        (own_steps (T.pass turns.old) (T.seen turns.old))
-        (own_steps (T.pass turns.old) (T.seen turns.new))) }
+    ensures seen { StartsWith (T.seen turns.new) (T.seen turns.old) }
+    ensures beside { IsBeside (own_steps (T.pass turns.old) (T.seen turns.old))
+        (own_steps (T.pass turns.old) (T.seen turns.new)) }
+    ensures rested { OnOk result (HaveRested (T.cause (T.setting turns.old))
+        (T.seen turns.old) (T.seen turns.new) hosts.new) }
 {
     for _ in 0..MAX_STEPS {
         if step_hosts(rt, turns, hosts, left)? {
@@ -255,9 +276,11 @@ fn step_hosts<Rt: Wait, T: CoreTurns, P: ReadTally + Drop, Q: WriteTally + Drop>
 ) -> Result<bool, Ending>
     ensures pass { T.pass turns.new ≡ T.pass turns.old }
     ensures setting { T.setting turns.new ≡ T.setting turns.old }
-    ensures beside { OnOk result (IsBeside
-        (own_steps (T.pass turns.old) (T.seen turns.old))
-        (own_steps (T.pass turns.old) (T.seen turns.new))) }
+    ensures seen { StartsWith (T.seen turns.new) (T.seen turns.old) }
+    ensures beside { IsBeside (own_steps (T.pass turns.old) (T.seen turns.old))
+        (own_steps (T.pass turns.old) (T.seen turns.new)) }
+    ensures idle { IfOk result (λ b. b ≡ true → AllZip (RestsIdle (T.cause (T.setting turns.old))
+        (T.seen turns.old) (T.seen turns.new)) hosts.old hosts.new) }
 {
     let mut are_idle = true;
     for host in hosts.iter_mut() {
@@ -277,9 +300,11 @@ fn step_host<Rt: Wait, T: CoreTurns, P: ReadTally + Drop, Q: WriteTally + Drop>(
 ) -> Result<bool, Ending>
     ensures pass { T.pass turns.new ≡ T.pass turns.old }
     ensures setting { T.setting turns.new ≡ T.setting turns.old }
-    ensures beside { OnOk result (IsBeside
-        (own_steps (T.pass turns.old) (T.seen turns.old))
-        (own_steps (T.pass turns.old) (T.seen turns.new))) }
+    ensures seen { StartsWith (T.seen turns.new) (T.seen turns.old) }
+    ensures beside { IsBeside (own_steps (T.pass turns.old) (T.seen turns.old))
+        (own_steps (T.pass turns.old) (T.seen turns.new)) }
+    ensures idle { IfOk result (λ b. b ≡ true → RestsIdle (T.cause (T.setting turns.old))
+        (T.seen turns.old) (T.seen turns.new) host.old host.new) }
 {
     spend(left)?;
     match host.step(rt, turns, MOMENT)? {

@@ -4,10 +4,13 @@ use denote.Param.Send.{IsSend, IsSync, sendable}
 use Rattle.std.proofs.Crossing.{crosses}
 use Rattle.proxy_config.specs.contracts.config.Config as Config
 use Rattle.proxy_core.specs.contracts.handover.Handover as Handover
-use Rattle.proxy_stats.specs.contracts.tally.Counts as Counts
 use Rattle.proxy_engines.proofs.CallerLemmas.{rest_send}
+use Rattle.proxy_stats.proofs.CallerLemmas.{counts_send}
+use Rattle.admin_pages.proofs.CallerLemmas.{histogram_send, look_send}
 use Rattle.generations.specs.contracts.course.Due as Due
 use Rattle.generations.specs.contracts.course.Generations as Generations
+use Rattle.proxy_serve.specs.contracts.admin.AdminServer as AdminServer
+use Rattle.proxy_serve.specs.contracts.admin.AdminWork as AdminWork
 use Rattle.proxy_serve.specs.contracts.board.Board as Board
 use Rattle.proxy_serve.specs.contracts.client.Carried as Carried
 use Rattle.proxy_serve.specs.contracts.house.Door as Door
@@ -17,7 +20,10 @@ use Rattle.proxy_serve.specs.contracts.generation.Plan as Plan
 use Rattle.proxy_serve.specs.contracts.hall.Desk as Desk
 use Rattle.proxy_serve.specs.contracts.hall.Hall as Hall
 use Rattle.proxy_serve.specs.contracts.ledger.Ledger as Ledger
+use Rattle.proxy_serve.specs.contracts.stats.Living as Living
+use Rattle.proxy_serve.specs.contracts.stats.Stats as Stats
 use Rattle.proxy_serve.specs.contracts.stop.Stop as Stop
+use Rattle.serve_parts.specs.contracts.sockets.Sockets as Sockets
 
 pub handover_send : IsSend Handover.the_row
 handover_send = search (crosses, sendable) depth 40 fits 20000
@@ -40,8 +46,14 @@ board_sync = search (crosses, sendable) depth 30 fits 20000
 ledger_send : IsSend Ledger.the_row
 ledger_send = search (crosses, sendable) depth 30 fits 20000
 
-counts_send : IsSend Counts.the_row
-counts_send = search (crosses, sendable) depth 30 fits 20000
+living_send : IsSend Living.the_row
+living_send = search (counts_send, look_send, crosses, sendable) depth 40 fits 20000
+
+stats_send : IsSend Stats.the_row
+stats_send = search (counts_send, living_send, histogram_send, crosses, sendable) depth 40 fits 20000
+
+sockets_send : IsSend Sockets.the_row
+sockets_send = search (crosses, sendable) depth 30 fits 20000
 
 carried_send : IsSend Carried.the_row
 carried_send = search (rest_send, crosses, sendable) depth 40 fits 20000
@@ -50,7 +62,7 @@ door_sync : IsSync Door.the_row
 door_sync = search (carried_send, crosses, sendable) depth 40 fits 20000
 
 pub house_sync : IsSync House.the_row
-house_sync = search (generations_send, board_sync, counts_send, door_sync, stop_send, crosses, sendable) depth 40 fits 20000
+house_sync = search (generations_send, board_sync, stats_send, sockets_send, door_sync, stop_send, crosses, sendable) depth 40 fits 20000
 
 desk_sync : IsSync Desk.the_row
 desk_sync = search (crosses, sendable) depth 40 fits 20000
@@ -58,8 +70,14 @@ desk_sync = search (crosses, sendable) depth 40 fits 20000
 pub hall_sync : (κ : NamedLft) → IsSync (Hall.the_row κ)
 hall_sync κ = search (house_sync, desk_sync, ledger_send, crosses, sendable) depth 40 fits 20000
 
+pub admin_send : IsSend AdminServer.the_row
+admin_send = search (crosses, sendable) depth 60 fits 20000
+
 pub config_sync : IsSync Config.the_row
 config_sync = search (crosses, sendable) depth 40 fits 20000
+
+pub admin_work_send : (κ : NamedLft) → IsSend (AdminWork.the_row κ)
+admin_work_send κ = search (admin_send, house_sync, config_sync, crosses, sendable) depth 40 fits 20000
 
 pub plan_send : (κ : NamedLft) → IsSend (Plan.the_row κ)
 plan_send κ = search (house_sync, config_sync, due_send, crosses, sendable) depth 40 fits 20000

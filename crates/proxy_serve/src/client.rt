@@ -2,7 +2,8 @@
 
 use crate::hall::{Hall, LARGE, LARGE_STEP};
 use crate::port::{Port, PortReader, PortWriter, ends};
-use crate::watched::Watched;
+use crate::watched::{Notes, Watched};
+use histogram::{Histogram, Unanswered};
 use mio::event::Event as Readiness;
 use mio::net::TcpStream;
 use mio::{Registry, Token};
@@ -84,8 +85,9 @@ pub(crate) struct Client {
     engine: Engine,
     port: Rc<RefCell<Port>>,
     stage: Stage,
-    // Commands that are accepted and not yet handed out.
+    // Commands that are accepted and not yet handed out: how many, and since when.
     unanswered: u64,
+    waits: Unanswered,
     // How many replies had come to all clients when this one was last asked for its own.
     replies: u64,
     // The last pass ended before all was done.
@@ -158,6 +160,7 @@ impl Client {
             port,
             stage: Stage::Served,
             unanswered: 0,
+            waits: Unanswered::new(alloc),
             replies: 0,
             has_more: true,
             refusals: Refusals::new(),
@@ -203,6 +206,7 @@ impl Client {
                 port,
                 stage: Stage::Served,
                 unanswered: 0,
+                waits: Unanswered::new(alloc),
                 replies: 0,
                 has_more: true,
                 refusals: Refusals::new(),
@@ -250,6 +254,14 @@ impl Client {
     pub(crate) fn drain(&mut self) {
         self.engine.drain();
         self.is_drained = true;
+        self.has_more = true;
+    }
+
+    /// Its input ends behind what has come by now: that is answered, and then the connection is closed.
+    pub(crate) fn end_input(&mut self) {
+        if let Ok(mut port) = self.port.try_borrow_mut() {
+            port.end_input();
+        }
         self.has_more = true;
     }
 
@@ -307,6 +319,7 @@ impl Client {
         turns: &mut Watched<T>,
         hall: &Hall<'_>,
         room: &mut Vec<u8>,
+        durations: &mut Histogram,
         pass: Pass,
     ) -> Result<Attended, Hitch> {
         self.has_more = false;
@@ -315,7 +328,10 @@ impl Client {
                 self.replies = hall.replies();
                 self.lend(room);
                 let stepped = self.step_on(rt, turns, hall, pass.reserve);
-                self.count(turns, hall);
+                let notes = turns.take_notes();
+                self.waits.accepted(pass.now, notes.accepted);
+                self.waits.answered(pass.now, notes.handed, durations);
+                self.count(notes, hall);
                 self.write_out(room);
                 self.has_more = self.has_more || stepped.is_err();
                 stepped?;
@@ -326,7 +342,7 @@ impl Client {
         if matches!(self.stage, Stage::Leaving) && self.may_go_over(hall) {
             return Ok(Attended::GoesOver);
         }
-        Ok(self.leave(hall, pass.now))
+        Ok(self.leave(rt, hall, pass.now))
     }
 
     // The journal has no room for a further command: none is taken in any more, from any client.
@@ -439,8 +455,7 @@ impl Client {
     }
 
     // Counts what is unanswered, and tells others of parts.
-    fn count<T: CoreTurns>(&mut self, turns: &mut Watched<T>, hall: &Hall<'_>) {
-        let notes = turns.take_notes();
+    fn count(&mut self, notes: Notes, hall: &Hall<'_>) {
         self.unanswered = self
             .unanswered
             .saturating_add(notes.accepted)
@@ -471,7 +486,7 @@ impl Client {
     }
 
     // What is still to be done of a connection that was closed.
-    fn leave(&mut self, hall: &Hall<'_>, now: u64) -> Attended {
+    fn leave<R: Wait>(&mut self, rt: &R, hall: &Hall<'_>, now: u64) -> Attended {
         let Ok(mut port) = self.port.try_borrow_mut() else {
             return Attended::Rests;
         };
@@ -480,7 +495,7 @@ impl Client {
                 return Attended::Rests;
             }
             port.shut();
-            hall.house().count_closed();
+            hall.house().count_closed(rt);
             hall.note_unfinished(0, self.unfinished);
             self.unfinished = 0;
             self.stage = Stage::Lingering {

@@ -14,14 +14,14 @@ use proxy_config::Config;
 use proxy_core::{Core, Handover, Settings};
 use proxy_engines::{EngineError, Work, run_all};
 use proxy_run::Ending;
-use proxy_stats::counts;
+use proxy_stats::{Counted, CountedSeat};
 use std::alloc::Global;
 use std::mem;
 use std::net::Net;
 use std::rt::Clock;
 use std::sync::Wait;
 use std::thread::Threads;
-use ticket_gate::{Gate, Seated, Spare};
+use ticket_gate::{Gate, Spare};
 
 /// What serving stands on: threads that wait, sockets, the clock, and standard error.
 pub(crate) trait Ground: Threads
@@ -88,7 +88,7 @@ fn settings(config: &Config) -> Settings {
 }
 
 // A core that goes on from there, or to which nothing has happened.
-fn core(alloc: Global, config: &Config, from: Option<Handover>) -> Result<Core, Ending>
+fn core(alloc: Global, config: &Config, from: Option<Handover>) -> Result<Counted, Ending>
     requires { AreRingParts config.now.hosts.items config.now.weights.items }
     ensures { IfOk result (λ core. core.steps ≡ []) }
 {
@@ -99,7 +99,10 @@ fn core(alloc: Global, config: &Config, from: Option<Handover>) -> Result<Core, 
         None => Core::new(alloc, ring, settings(config)),
         Some(from) => Core::new_from(alloc, ring, settings(config), from),
     };
-    match made {
+    let Ok(core) = made else {
+        return Err(Ending::Memory);
+    };
+    match Counted::new(alloc, core) {
         Ok(core) => Ok(core),
         Err(_) => Err(Ending::Memory),
     }
@@ -107,13 +110,13 @@ fn core(alloc: Global, config: &Config, from: Option<Handover>) -> Result<Core, 
 
 fn seat<'a, R: Wait>(
     rt: &R,
-    gate: &'a Gate<Core>,
-    spare: Spare<Core>,
-) -> Result<Seated<'a, Core>, Ending>
+    gate: &'a Gate<Counted>,
+    spare: Spare<Counted>,
+) -> Result<CountedSeat<'a>, Ending>
     requires { IsSpareOf gate.now spare }
 {
     match gate.enrol(rt, spare) {
-        Ok(pass) => Ok(Seated::new(gate, pass)),
+        Ok(pass) => Ok(CountedSeat::new(gate, pass)),
         Err(_) => Err(Ending::Spent),
     }
 }
@@ -122,11 +125,11 @@ fn seat<'a, R: Wait>(
 fn roles<'a, R: Wait>(
     rt: &R,
     post: Post<'a>,
-    gate: &'a Gate<Core>,
-    spare: Spare<Core>,
+    gate: &'a Gate<Counted>,
+    spare: Spare<Counted>,
     polls: Vec<Poll>,
     wakers: Vec<Waker>,
-) -> Result<(Vec<Role<'a>>, Spare<Core>), Stop>
+) -> Result<(Vec<Role<'a>>, Spare<Counted>), Stop>
     requires { IsSpareOf gate.now spare }
     ensures { IfOk result (λ made. IsSpareOf gate.now made.1) }
 {
@@ -242,7 +245,8 @@ fn serve_in<R: Ground>(rt: &R, alloc: Global, plan: Plan<'_>) -> Result<(), Stop
         return Err(Stop::from(Ending::Memory));
     }
     if let Some(core) = gate.close(pass) {
-        house.add(rt, &counts(&core));
+        let steps = core.core().journal().len() as u64;
+        house.gone(rt, number, core.counts(), steps);
     }
     Ok(())
 }

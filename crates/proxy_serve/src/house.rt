@@ -2,19 +2,22 @@
 
 use crate::board::Board;
 use crate::client::Carried;
+use crate::log::{Level, Log};
+use crate::stats::Stats;
 use crate::stop::Stop;
+use admin_pages::Snapshot;
 use generations::{Course, Due, Generations};
+use histogram::Histogram;
 use mio::Waker;
 use mio::net::TcpStream;
+use proxy_config::Config;
 use proxy_core::Handover;
-use proxy_stats::Counts;
+use proxy_stats::{Counts, Sight};
+use serve_parts::Sockets;
 use std::alloc::{AllocFailed, Global};
 use std::collections::VecDeque;
-use std::sync::atomic::{AtomicBool, AtomicU64, Ordering};
+use std::sync::atomic::{AtomicBool, Ordering};
 use std::sync::{Mutex, MutexGuard, Wait};
-
-/// So many sockets of clients are open at a time, over all generations.
-pub(crate) const MAX_SOCKETS: u64 = 4_096;
 
 // After so many generations in a row that could not be opened the serving ends.
 const MAX_FAILURES: u32 = 1_000;
@@ -46,28 +49,28 @@ pub(crate) struct House {
     // Whether the serving goes on, and where it doesn't, why, if not because it is done.
     is_running: AtomicBool,
     stop: Mutex<Option<Stop>>,
-    closed: AtomicU64,
-    // After so many closed connections the serving is done; 0 is never.
-    most: u64,
-    // Sockets of clients that are open.
-    sockets: AtomicU64,
+    log: Log,
+    // Which sockets are taken, and when the serving is done; and whether it drains, for who looks without waiting.
+    sockets: Mutex<Sockets>,
+    is_draining: AtomicBool,
     // Which generation does what, and what of it stands on the board for who looks without waiting.
     generations: Mutex<Generations<Inherited>>,
     board: Board,
-    counts: Mutex<Option<Counts>>,
+    stats: Mutex<Stats>,
 }
 
 impl House {
     /// A house with a door for each worker. The first generation is due.
     pub(crate) fn new(
         alloc: Global,
-        workers: u32,
-        interval_ms: u32,
+        config: &Config,
         waker: Waker,
-        most: u64,
+        connections: u64,
+        log: Log,
     ) -> Result<House, AllocFailed<Door>> {
         let mut doors = Vec::new(alloc);
-        for _ in 0..workers {
+        let interval_ms = u64::from(config.interval_ms);
+        for _ in 0..config.workers {
             doors.push(Door {
                 sockets: Mutex::new(VecDeque::new(alloc)),
                 carried: Mutex::new(VecDeque::new(alloc)),
@@ -79,18 +82,23 @@ impl House {
             waker,
             is_running: AtomicBool::new(true),
             stop: Mutex::new(None),
-            closed: AtomicU64::new(0),
-            most,
-            sockets: AtomicU64::new(0),
-            generations: Mutex::new(Generations::new(u64::from(interval_ms), MAX_FAILURES)),
+            log,
+            sockets: Mutex::new(Sockets::new(connections)),
+            is_draining: AtomicBool::new(false),
+            generations: Mutex::new(Generations::new(interval_ms, MAX_FAILURES)),
             board: Board::new(),
-            counts: Mutex::new(None),
+            stats: Mutex::new(Stats::new()),
         })
     }
 
     /// How many workers each generation has.
     pub(crate) fn workers(&self) -> usize {
         self.doors.len()
+    }
+
+    /// How lines on standard error begin.
+    pub(crate) fn log(&self) -> Log {
+        self.log
     }
 
     // Wakes the worker that has this door now.
@@ -100,27 +108,75 @@ impl House {
         }
     }
 
-    /// Counts a socket that was accepted. False says that as many as may be are open: it is to be closed.
-    pub(crate) fn has_room_for_socket(&self) -> bool {
-        if self.sockets.load(Ordering::SeqCst) >= MAX_SOCKETS {
-            return false;
-        }
-        self.sockets.fetch_add(1, Ordering::SeqCst);
-        true
+    /// Counts a socket that was accepted. False says that none more is taken: it is to be closed.
+    pub(crate) fn accept<R: Wait>(&self, rt: &R) -> bool {
+        self.sockets.lock(rt).accept()
     }
 
-    /// Counts a socket that is let go without having had a connection.
-    pub(crate) fn let_go(&self) {
-        self.sockets.fetch_sub(1, Ordering::SeqCst);
+    // The serving ends where that was the last thing it waited for.
+    fn end_if_done(&self, sockets: MutexGuard<'_, Sockets>) {
+        let are_done = sockets.are_done();
+        drop(sockets);
+        if are_done {
+            self.halt();
+        }
+    }
+
+    /// Counts a socket that is let go. With the last one a serving that drains is done.
+    pub(crate) fn let_go<R: Wait>(&self, rt: &R) {
+        let mut sockets = self.sockets.lock(rt);
+        sockets.let_go();
+        self.end_if_done(sockets);
+    }
+
+    /// Counts a connection that is closed. With the last that is waited for the serving is done.
+    pub(crate) fn count_closed<R: Wait>(&self, rt: &R) {
+        let mut sockets = self.sockets.lock(rt);
+        sockets.close();
+        self.end_if_done(sockets);
+    }
+
+    /// Counts a connection that is closed and its socket that is let go.
+    pub(crate) fn close<R: Wait>(&self, rt: &R) {
+        self.count_closed(rt);
+        self.let_go(rt);
+    }
+
+    /// From here on no socket is taken, and the inputs of all connections end behind what has come. With the last socket the
+    /// serving is done. Ignored where that was said before.
+    pub(crate) fn drain<R: Wait + Eprint>(&self, rt: &R) {
+        if self.is_draining.swap(true, Ordering::SeqCst) {
+            return;
+        }
+        let mut sockets = self.sockets.lock(rt);
+        sockets.drain();
+        let count = sockets.count();
+        self.end_if_done(sockets);
+        let tag = self.log.tag(Level::Notice);
+        let _ = eprintln!(rt; "{tag}redproxy: draining, {count} sockets of clients are open");
+        for door in self.doors.iter() {
+            self.wake(rt, door);
+        }
+        let _ = self.waker.wake();
+    }
+
+    /// Whether no socket is taken any more, and inputs end behind what has come.
+    pub(crate) fn is_draining(&self) -> bool {
+        self.is_draining.load(Ordering::SeqCst)
+    }
+
+    /// Ends the serving at once.
+    pub(crate) fn quit(&self) {
+        self.halt();
     }
 
     /// Puts a socket down at a worker's door, and wakes the worker. Where there is no memory the socket is closed.
     pub(crate) fn put<R: Wait>(&self, rt: &R, place: usize, stream: TcpStream) {
         let Some(door) = self.doors.get(place) else {
-            return self.let_go();
+            return self.let_go(rt);
         };
         if door.sockets.lock(rt).push_back(stream).is_err() {
-            self.let_go();
+            self.let_go(rt);
         }
         self.wake(rt, door);
     }
@@ -152,10 +208,10 @@ impl House {
     /// no memory the socket is closed, and is counted as closed.
     pub(crate) fn carry<R: Wait>(&self, rt: &R, place: usize, carried: Carried) {
         let Some(door) = self.doors.get(place) else {
-            return self.count_closed();
+            return self.close(rt);
         };
         if door.carried.lock(rt).push_back(carried).is_err() {
-            self.count_closed();
+            self.close(rt);
         }
         self.wake(rt, door);
     }
@@ -163,10 +219,10 @@ impl House {
     /// Puts a socket that could not go on yet back in front of the others, as `carry` does.
     pub(crate) fn carry_back<R: Wait>(&self, rt: &R, place: usize, carried: Carried) {
         let Some(door) = self.doors.get(place) else {
-            return self.count_closed();
+            return self.close(rt);
         };
         if door.carried.lock(rt).push_front(carried).is_err() {
-            self.count_closed();
+            self.close(rt);
         }
     }
 
@@ -200,15 +256,6 @@ impl House {
         *self.stop.lock(rt)
     }
 
-    /// Counts a socket that is closed. With the last that is waited for the serving is done.
-    pub(crate) fn count_closed(&self) {
-        self.let_go();
-        let before = self.closed.fetch_add(1, Ordering::SeqCst);
-        if self.most != 0 && before >= self.most - 1 {
-            self.halt();
-        }
-    }
-
     /// What the generation is to do.
     pub(crate) fn course(&self, number: u64) -> Course {
         if self.runs() {
@@ -240,6 +287,7 @@ impl House {
         let mut generations = self.generations.lock(rt);
         generations.opened(number, now);
         self.publish(generations);
+        self.stats.lock(rt).opened();
         for (door, waker) in self.doors.iter().zip(wakers) {
             *door.waker.lock(rt) = Some(waker);
             self.wake(rt, door);
@@ -286,18 +334,48 @@ impl House {
         self.generations.lock(rt).swept(number, now);
     }
 
-    /// Adds what a generation did.
-    pub(crate) fn add<R: Wait>(&self, rt: &R, counts: &Counts) {
-        let mut all = self.counts.lock(rt);
-        let sum = match &*all {
-            Some(before) => before.plus(counts),
-            None => *counts,
-        };
-        *all = Some(sum);
+    /// A generation that lives looks so.
+    pub(crate) fn looked<R: Wait>(&self, rt: &R, number: u64, sight: &Sight) {
+        self.stats.lock(rt).looked(number, sight);
     }
 
-    /// What all generations did that are closed.
-    pub(crate) fn counts<R: Wait>(&self, rt: &R) -> Option<Counts> {
-        *self.counts.lock(rt)
+    /// A generation is gone, and did that in so many steps.
+    pub(crate) fn gone<R: Wait>(&self, rt: &R, number: u64, counts: &Counts, steps: u64) {
+        self.stats.lock(rt).gone(number, counts, steps);
+    }
+
+    /// Adds commands that took so long.
+    pub(crate) fn add_durations<R: Wait>(&self, rt: &R, durations: &Histogram) {
+        self.stats.lock(rt).add_durations(durations);
+    }
+
+    /// What all generations did, those that live by the last look at them.
+    pub(crate) fn counts<R: Wait>(&self, rt: &R) -> Counts {
+        self.stats.lock(rt).counts()
+    }
+
+    // The newest generation that is open, and the one before it while that has connections.
+    fn open_generations<R: Wait>(&self, rt: &R) -> (Option<u64>, Option<u64>) {
+        let generations = self.generations.lock(rt);
+        (generations.newest(), generations.older())
+    }
+
+    /// What is told of the serving now.
+    pub(crate) fn snapshot<R: Wait>(&self, rt: &R) -> Snapshot {
+        let closed = self.sockets.lock(rt).closed();
+        let (newest, older) = self.open_generations(rt);
+        let is_ending = self.is_draining() || !self.runs();
+        let stats = self.stats.lock(rt);
+        Snapshot {
+            counts: stats.counts(),
+            generations: stats.generations(),
+            past_steps: stats.steps_beside(newest, older),
+            serving: stats.look(newest),
+            draining: stats.look(older),
+            closed,
+            durations: *stats.durations(),
+            is_ready: newest.is_some() && !is_ending,
+            is_ending,
+        }
     }
 }

@@ -9,20 +9,25 @@
 //! moments to them.
 #![tactic(auto)]
 
+mod admin;
 mod board;
 mod client;
 mod generation;
 mod hall;
 mod house;
 mod ledger;
+mod log;
 mod port;
 mod serving;
+mod stats;
 mod stop;
 mod sweeping;
 mod upstream;
 mod watched;
 mod worker;
 
+pub use admin::Admin;
 pub use generations::Marks;
-pub use serving::{serve, serve_run};
+pub use log::{Level, Log};
+pub use serving::{Options, serve, serve_run};
 pub use stop::{Failure, Stop};

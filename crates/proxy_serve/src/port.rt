@@ -1,4 +1,5 @@
 //! A socket that is asked only where it may have something, and is written in large pieces.
+ghost use Rattle.std.specs.Prelude.{List, ℕ};
 ghost use Rattle.std.specs.Io.{ReadsAtMost, WritesAtMost};
 
 use mio::event::Event;
@@ -17,6 +18,9 @@ use std::rc::Rc;
 // So many reads of a closed connection's socket are made at most.
 const MOST_THROWN: u32 = 64;
 
+// So many bytes are still read of an input that is to end behind what has come.
+const MAX_LAST: u64 = 1_048_576;
+
 /// A socket with what is known of it, and the bytes that it is still to be given.
 #[derive(Drop)]
 pub(crate) struct Port {
@@ -30,6 +34,8 @@ pub(crate) struct Port {
     has_room: bool,
     // So many bytes were read.
     taken: u64,
+    // So many bytes are still read before the input ends, if it is to end behind what has come.
+    left: Option<u64>,
 }
 
 fn paused() -> io::Error {
@@ -46,6 +52,7 @@ impl Port {
             is_short: false,
             has_room: false,
             taken: 0,
+            left: None,
         }
     }
 
@@ -87,6 +94,14 @@ impl Port {
     pub(crate) fn break_off(&mut self) {
         self.output.break_off();
         self.is_readable = true;
+    }
+
+    /// The input ends behind what has come by now, and at the latest behind `MAX_LAST` bytes.
+    pub(crate) fn end_input(&mut self) {
+        if self.left.is_none() {
+            self.left = Some(MAX_LAST);
+            self.is_readable = true;
+        }
     }
 
     /// How many bytes were read.
@@ -142,10 +157,35 @@ impl Port {
         if self.output.is_broken() {
             return Err(io::Error::from(ErrorKind::BrokenPipe));
         }
-        if !self.is_readable {
-            return Err(paused());
+        if self.left == Some(0) {
+            return Ok(0);
         }
-        self.read_socket(buffer)
+        let read = if self.is_readable {
+            self.read_socket(buffer)
+        } else {
+            Err(paused())
+        };
+        self.end_where_it_pauses(read)
+    }
+
+    // Where the input is to end behind what has come, a pause is its end.
+    fn end_where_it_pauses(&mut self, read: io::Result<usize>) -> io::Result<usize>
+        ensures { (bytes : List ℕ) → ReadsAtMost read bytes → ReadsAtMost result bytes }
+    {
+        let Some(left) = self.left else {
+            return read;
+        };
+        match read {
+            Ok(count) => {
+                self.left = Some(left.saturating_sub(count as u64));
+                Ok(count)
+            }
+            Err(error) if error.kind() == ErrorKind::WouldBlock => {
+                self.left = Some(0);
+                Ok(0)
+            }
+            Err(error) => Err(error),
+        }
     }
 
     // One read. A short one has taken all that there was, as the poll tells of what comes later.

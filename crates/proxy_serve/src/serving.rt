@@ -1,18 +1,23 @@
 //! Serving, from its listener to its last line.
+ghost use Rattle.std.specs.Prelude.{◌≤◌, length};
 ghost use Rattle.proxy_config.specs.RingParts.{AreRingParts};
 
+use crate::admin::{Admin, AdminServer, AdminWork};
 use crate::generation::{Ground, Plan, keep};
 use crate::house::House;
+use crate::log::{Level, Log};
 use crate::stop::Stop;
+use crate::worker::now;
 use generations::Marks;
 use mio::net::TcpListener;
 use mio::{Events, Interest, Poll, Token, Waker};
 use proxy_config::Config;
 use proxy_run::Ending;
 use proxy_stats::Counts;
-use serve_parts::Rota;
+use serve_parts::{Asked, Rota, asked_by_signals, is_term_blocked};
 use std::alloc::Global;
-use std::io::{ErrorKind, Write};
+use std::fs::File;
+use std::io::{ErrorKind, Read, Seek, SeekFrom, Write};
 use std::net::{Net, SocketAddr};
 use std::rt::Clock;
 use std::sync::Wait;
@@ -27,6 +32,12 @@ const WAKER: Token = Token(1);
 // So many sockets are taken at once at most.
 const MOST_TAKEN: u32 = 1_024;
 
+// So often it is looked whether a signal waits, in milliseconds.
+const SIGNAL_MS: u64 = 100;
+
+// What is read of the process's status at most, in bytes.
+const MAX_STATUS: usize = 4_096;
+
 // The thread that listens looks after so many milliseconds at the latest what is to be done.
 const PAUSE_MS: u64 = 10;
 
@@ -38,12 +49,14 @@ const NO_ROOM: [i32; 4] = [12, 23, 24, 105];
 #[derive(Drop)]
 struct Porter<'a> {
     poll: Poll,
-    listener: TcpListener,
+    // None once no client is taken any more.
+    listener: Option<TcpListener>,
     // The listener's.
     address: SocketAddr,
     house: &'a House,
     // To which worker the next socket goes.
     rota: Rota,
+    signals: Signals,
 }
 
 impl<'a> Porter<'a> {
@@ -57,18 +70,35 @@ impl<'a> Porter<'a> {
         }
     }
 
-    // Waits for what is to be done, and deals new sockets.
-    fn attend<R: Wait>(&mut self, rt: &R, events: &mut Events) -> Result<(), Stop> {
+    // Waits for what is to be done, deals new sockets, and heeds what the process is asked.
+    fn attend<R: Wait + Clock + Eprint>(
+        &mut self,
+        rt: &R,
+        events: &mut Events,
+    ) -> Result<(), Stop> {
         self.wait(events)?;
-        self.deal(rt)
+        self.deal(rt)?;
+        match self.signals.asked(now(rt)) {
+            Asked::Nothing => {}
+            Asked::Drain => self.house.drain(rt),
+            Asked::Quit => self.house.quit(),
+        }
+        if self.house.is_draining() {
+            // (the system refuses clients from here on)
+            self.listener = None;
+        }
+        Ok(())
     }
 
     // Deals the sockets of new connections to the workers in turn. One for which there is no room is closed.
     fn deal<R: Wait>(&mut self, rt: &R) -> Result<(), Stop> {
+        let Some(listener) = &self.listener else {
+            return Ok(());
+        };
         for _ in 0..MOST_TAKEN {
-            match self.listener.accept() {
+            match listener.accept() {
                 Ok((stream, _)) => {
-                    if self.house.has_room_for_socket() {
+                    if self.house.accept(rt) {
                         self.house.put(rt, self.rota.take(), stream);
                     }
                 }
@@ -96,6 +126,51 @@ fn has_no_room(error: &io::Error) -> bool {
     }
 }
 
+// What asks the process to end, as the system tells it.
+#[derive(Drop)]
+struct Signals {
+    // The process's status, read anew each time; without it nothing is asked.
+    status: Option<File>,
+    // When it was last looked, in milliseconds.
+    looked: u64,
+}
+
+impl Signals {
+    // What is asked now. It is looked each `SIGNAL_MS` milliseconds, and in between nothing is asked.
+    fn asked(&mut self, now: u64) -> Asked {
+        if now.saturating_sub(self.looked) < SIGNAL_MS {
+            return Asked::Nothing;
+        }
+        self.looked = now;
+        let mut text = [0u8; MAX_STATUS];
+        let count = self.read(&mut text);
+        asked_by_signals(&text[..count])
+    }
+
+    // Whether SIGTERM ends the serving in order, since it was blocked when the program was started.
+    fn is_term_orderly(&mut self) -> bool {
+        let mut text = [0u8; MAX_STATUS];
+        let count = self.read(&mut text);
+        is_term_blocked(&text[..count])
+    }
+
+    // How many bytes the system tells.
+    fn read(&mut self, text: &mut [u8]) -> usize
+        ensures { result ≤ length text.old }
+    {
+        let Some(status) = &mut self.status else {
+            return 0;
+        };
+        if status.seek(SeekFrom::Start(0)).is_err() {
+            return 0;
+        }
+        match status.read(text) {
+            Ok(count) => count.min(text.len()),
+            Err(_) => 0,
+        }
+    }
+}
+
 // What wakes the thread that listens, and its poll.
 fn open<R: Net>(rt: &R, listener: &mut TcpListener) -> Result<(Poll, Waker), Stop> {
     let poll = match Poll::new(rt) {
@@ -114,8 +189,27 @@ fn open<R: Net>(rt: &R, listener: &mut TcpListener) -> Result<(Poll, Waker), Sto
     }
 }
 
-/// Serves clients on the listener by the settings, until so many connections have closed; 0 is never. Then it writes
+/// What `serve` is told beside its settings.
+#[derive(Drop)]
+pub struct Options {
+    /// Where an operator asks how it stands, and orders its end; `None`: nowhere.
+    pub admin: Option<Admin>,
+    /// Where the system tells of signals that wait: `/proc/self/status`; `None`: they aren't heeded.
+    pub status: Option<File>,
+    /// After how many closed connections it ends; 0 is never.
+    pub connections: u64,
+    /// How long a journal becomes before another one is opened.
+    pub marks: Marks,
+    /// How its lines on standard error begin.
+    pub log: Log,
+}
+
+/// Serves clients on the listener by the settings. It ends once it has drained, at once where it is told so, or after so many
+/// closed connections as the options say. Then it writes
 /// `accepted <a> handed <o> sent <s> answered <r> lost <l> ejections <e>` and a newline, of all that happened.
+///
+/// It drains where SIGTERM or SIGINT waits for the process, as `status` tells: no further client is taken, what has come from the
+/// others is answered, and each connection is closed behind that. Where both wait it ends at once.
 ///
 /// Once a journal is as long as the marks say another one is opened. At most two are kept at a time.
 ///
@@ -135,37 +229,43 @@ pub fn serve<
     alloc: Global,
     mut listener: TcpListener,
     config: Config,
-    connections: u64,
-    marks: Marks,
+    options: Options,
     output: &mut W,
 ) -> Result<(), Stop>
     requires { AreRingParts config.hosts.items config.weights.items }
 {
-    let (poll, waker) = open(rt, &mut listener)?;
-    let house = House::new(
-        alloc,
-        config.workers,
-        config.interval_ms,
-        waker,
+    let Options {
+        admin,
+        status,
         connections,
-    )?;
+        marks,
+        log,
+    } = options;
+    let (poll, waker) = open(rt, &mut listener)?;
+    let house = House::new(alloc, &config, waker, connections, log)?;
+    let admin = match admin {
+        None => None,
+        Some(admin) => Some(AdminServer::new(rt, alloc, admin)?),
+    };
     let address = listener.local_addr().unwrap_or(config.listen);
-    tell_start(rt, address, &config);
+    let mut signals = Signals { status, looked: 0 };
+    tell_start(rt, log, address, &config, signals.is_term_orderly());
     let porter = Porter {
         poll,
-        listener,
+        listener: Some(listener),
         address,
         house: &house,
         rota: Rota::new(house.workers()),
+        signals,
     };
-    serve_on(rt, alloc, porter, &house, &config, marks)?;
+    serve_on(rt, alloc, porter, admin, &house, &config, marks)?;
     if let Some(stop) = house.stop(rt) {
         return Err(stop);
     }
-    write_counts(house.counts(rt), output)
+    write_counts(&house.counts(rt), output)
 }
 
-/// As `serve`, for who needs to know how it ended alone.
+/// As `serve`, for who needs to know how it ended alone: without an operator's address, and whatever signals wait.
 pub fn serve_run<
     R: Threads
         + Wait
@@ -185,7 +285,14 @@ pub fn serve_run<
 ) -> Result<(), Ending>
     requires { AreRingParts config.hosts.items config.weights.items }
 {
-    match serve(rt, alloc, listener, config, connections, marks, output) {
+    let options = Options {
+        admin: None,
+        status: None,
+        connections,
+        marks,
+        log: Log::new(false),
+    };
+    match serve(rt, alloc, listener, config, options, output) {
         Ok(()) => Ok(()),
         Err(stop) => Err(stop.ending),
     }
@@ -196,6 +303,7 @@ fn serve_on<R: Ground>(
     rt: &R,
     alloc: Global,
     mut porter: Porter<'_>,
+    admin: Option<AdminServer>,
     house: &House,
     config: &Config,
     marks: Marks,
@@ -210,6 +318,16 @@ fn serve_on<R: Ground>(
             requires { AreRingParts config.now.hosts.items config.now.weights.items }
         {
             let mut threads = Generated::new();
+            if let Some(server) = admin {
+                let work = AdminWork {
+                    server,
+                    house,
+                    config,
+                };
+                if scope.spawn(move || work.run(rt)).is_err() {
+                    house.end(rt, Stop::from(Ending::Memory));
+                }
+            }
             for _ in rt.forever() {
                 if !house.runs() {
                     break;
@@ -293,24 +411,31 @@ impl Generated {
     }
 }
 
-fn tell_start<R: Eprint>(rt: &R, address: SocketAddr, config: &Config) {
+// How SIGTERM ends it depends on how it was started.
+fn tell_start<R: Eprint>(
+    rt: &R,
+    log: Log,
+    address: SocketAddr,
+    config: &Config,
+    is_term_orderly: bool,
+) {
+    let tag = log.tag(Level::Info);
     let hosts = config.hosts.len();
     let workers = config.workers;
-    let _ = eprintln!(rt; "redproxy: listening on {address}, {hosts} hosts, {workers} workers");
+    let ends = if is_term_orderly {
+        "drains"
+    } else {
+        "ends it at once"
+    };
+    let _ = eprintln!(rt;
+        "{tag}redproxy: listening on {address}, {hosts} hosts, {workers} workers; SIGTERM {ends}"
+    );
 }
 
-fn write_counts<W: Write>(counts: Option<Counts>, output: &mut W) -> Result<(), Stop> {
-    let (accepted, handed, sent, answered, lost, ejections) = match counts {
-        None => (0, 0, 0, 0, 0, 0),
-        Some(all) => (
-            all.accepted,
-            all.handed,
-            all.sent,
-            all.answered,
-            all.lost,
-            all.ejections,
-        ),
-    };
+fn write_counts<W: Write>(counts: &Counts, output: &mut W) -> Result<(), Stop> {
+    let (accepted, handed) = (counts.accepted, counts.handed);
+    let (sent, answered) = (counts.sent, counts.answered);
+    let (lost, ejections) = (counts.lost, counts.ejections);
     let written = output.write_fmt(format_args!(
         "accepted {accepted} handed {handed} sent {sent} answered {answered} lost {lost} ejections {ejections}\n"
     ));

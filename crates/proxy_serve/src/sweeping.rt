@@ -3,14 +3,16 @@
 use crate::generation::Post;
 use crate::hall::Hall;
 use crate::house::Inherited;
+use crate::log::Level;
 use crate::stop::Stop;
 use crate::watched::Watched;
 use crate::worker::now;
 use generations::{Course, Marks};
 use mio::Waker;
 use proxy_config::Config;
-use proxy_core::{Core, Handover};
+use proxy_core::Handover;
 use proxy_run::Ending;
+use proxy_stats::{CountedSeat, Sight};
 use serve_parts::Refusals;
 use std::alloc::AllocError;
 use std::rt::Clock;
@@ -18,7 +20,6 @@ use std::sync::Wait;
 use std::time::Duration;
 use std::{mem, thread};
 use sweeper::{SweepRefusal, sweep_once};
-use ticket_gate::Seated;
 
 // Between two looks, in milliseconds.
 const PAUSE_MS: u64 = 5;
@@ -26,7 +27,7 @@ const PAUSE_MS: u64 = 5;
 /// What sweeps, tells which hosts are put aside and come back, and asks for another generation in time.
 #[derive(Drop)]
 pub(crate) struct Sweeps<'a> {
-    turns: Watched<Seated<'a, Core>>,
+    turns: Watched<CountedSeat<'a>>,
     hall: &'a Hall<'a>,
     config: &'a Config,
     marks: Marks,
@@ -42,7 +43,7 @@ impl<'a> Sweeps<'a> {
     /// The first look is only noted. Refused where there is no memory.
     pub(crate) fn new(
         post: Post<'a>,
-        seat: Seated<'a, Core>,
+        seat: CountedSeat<'a>,
         wakers: Vec<Waker>,
     ) -> Result<Sweeps<'a>, AllocError> {
         let Post {
@@ -101,9 +102,7 @@ impl<'a> Sweeps<'a> {
             {
                 house.swept(rt, number, moment);
             }
-            if course == Course::Serves {
-                self.look(rt, moment)?;
-            }
+            self.look(rt, course, moment)?;
             thread::sleep(rt, Duration::from_millis(PAUSE_MS));
         }
         unreachable!()
@@ -131,32 +130,41 @@ impl<'a> Sweeps<'a> {
         }
     }
 
-    fn sight<R: Wait>(&mut self, rt: &R) -> Result<Handover, Stop> {
+    // How the core stands, which is told to who asks, too.
+    fn sight<R: Wait>(&mut self, rt: &R) -> Result<Sight, Stop> {
         match self.turns.inner().sight(rt) {
-            Ok(sight) => Ok(sight),
+            Ok(sight) => {
+                let house = self.hall.house();
+                house.looked(rt, self.hall.number(), &sight);
+                Ok(sight)
+            }
             Err(_) => Err(Stop::from(Ending::Spent)),
         }
     }
 
     // Hosts that were put aside by an earlier generation aren't told of again.
     fn note_first<R: Wait>(&mut self, rt: &R) -> Result<(), Stop> {
-        let sight = self.sight(rt)?;
-        let hosts = sight.rules().hosts;
+        let Sight { handover, .. } = self.sight(rt)?;
+        let hosts = handover.rules().hosts;
         for (host, was_out) in self.are_out.iter_mut().enumerate() {
-            *was_out = host < hosts && sight.is_out(host);
+            *was_out = host < hosts && handover.is_out(host);
         }
         Ok(())
     }
 
-    // Tells of the hosts, and of how full the journal is. Steps that are owed count as steps.
-    fn look<R: Wait + Eprint>(&mut self, rt: &R, moment: u64) -> Result<(), Stop> {
-        let sight = self.sight(rt)?;
+    // Looks how the core stands. Of a generation that serves it tells of the hosts, and of how full the journal is. Steps that
+    // are owed count as steps.
+    fn look<R: Wait + Eprint>(&mut self, rt: &R, course: Course, moment: u64) -> Result<(), Stop> {
+        let Sight { handover, .. } = self.sight(rt)?;
+        if course != Course::Serves {
+            return Ok(());
+        }
         for host in 0..self.are_out.len() {
-            self.tell(rt, &sight, host);
+            self.tell(rt, &handover, host);
         }
         let (house, number) = (self.hall.house(), self.hall.number());
-        let steps = sight.steps().max(self.hall.spent(rt));
-        let bytes = sight.bytes();
+        let steps = handover.steps().max(self.hall.spent(rt));
+        let bytes = handover.bytes();
         let is_full = self.marks.are_reached(steps, bytes) || self.hall.is_closing();
         if !is_full && !self.marks.are_near(steps, bytes) {
             return Ok(());
@@ -164,7 +172,6 @@ impl<'a> Sweeps<'a> {
         house.near(rt, number, moment);
         if is_full {
             let average = self.hall.average(rt);
-            let handover = sight;
             house.full(rt, number, moment, Inherited { handover, average });
         }
         Ok(())
@@ -180,11 +187,14 @@ impl<'a> Sweeps<'a> {
         }
         let is_out = sight.is_out(host);
         let address = entry.address;
+        let log = self.hall.house().log();
         if is_out && !*was_out {
-            let _ = eprintln!(rt; "redproxy: host {address} is put aside");
+            let tag = log.tag(Level::Warning);
+            let _ = eprintln!(rt; "{tag}redproxy: host {address} is put aside");
         }
         if !is_out && *was_out {
-            let _ = eprintln!(rt; "redproxy: host {address} is back");
+            let tag = log.tag(Level::Notice);
+            let _ = eprintln!(rt; "{tag}redproxy: host {address} is back");
         }
         *was_out = is_out;
     }

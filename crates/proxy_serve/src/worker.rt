@@ -3,25 +3,25 @@
 use crate::client::{Attended, Carried, Client, Hitch, Pass, hitch_of};
 use crate::generation::Post;
 use crate::hall::Hall;
-use crate::house::MAX_SOCKETS;
+use crate::log::Level;
 use crate::stop::Stop;
 use crate::upstream::{Call, Upstream};
 use crate::watched::Watched;
 use generations::{Course, StepKind};
+use histogram::Histogram;
 use mio::net::TcpStream;
 use mio::{Events, Interest, Poll, Token};
 use proxy_config::Config;
-use proxy_core::Core;
 use proxy_run::Ending;
-use serve_parts::{Refusals, own_hosts};
+use proxy_stats::CountedSeat;
+use serve_parts::{MAX_SOCKETS, Refusals, own_hosts};
 use slab::Slab;
 use std::alloc::{AllocError, Global};
+use std::mem;
 use std::net::Net;
 use std::rt::Clock;
 use std::sync::Wait;
-use std::thread;
 use std::time::Duration;
-use ticket_gate::Seated;
 
 // Tokens from here on are hosts; the greatest is the waker's.
 const HOSTS: usize = 1 << 32;
@@ -55,7 +55,7 @@ pub(crate) struct Worker<'a> {
     post: Post<'a>,
     place: usize,
     poll: Poll,
-    seat: Seated<'a, Core>,
+    seat: CountedSeat<'a>,
 }
 
 impl<'a> Worker<'a> {
@@ -63,7 +63,7 @@ impl<'a> Worker<'a> {
         post: Post<'a>,
         place: usize,
         poll: Poll,
-        seat: Seated<'a, Core>,
+        seat: CountedSeat<'a>,
     ) -> Worker<'a> {
         Worker {
             post,
@@ -118,8 +118,11 @@ impl<'a> Worker<'a> {
             next: 0,
             is_held: false,
             is_draining: false,
+            ends_inputs: false,
             gives_up: false,
             awaiting: 0,
+            durations: Histogram::new(),
+            told: 0,
         })
     }
 }
@@ -162,7 +165,7 @@ struct Floor<'a> {
     place: usize,
     poll: Poll,
     hall: &'a Hall<'a>,
-    turns: Watched<Seated<'a, Core>>,
+    turns: Watched<CountedSeat<'a>>,
     clients: Slab<Client>,
     hosts: Vec<Upstream>,
     // Lent to one socket after the other to gather what is written.
@@ -179,10 +182,15 @@ struct Floor<'a> {
     // No further parts may come until other workers have looked for theirs.
     is_held: bool,
     is_draining: bool,
+    // The serving drains: inputs end behind what has come.
+    ends_inputs: bool,
     // What waits for hosts is given up.
     gives_up: bool,
     // How many clients wait for replies.
     awaiting: usize,
+    // How long commands took that were answered since that was last told, and when that was.
+    durations: Histogram,
+    told: u64,
 }
 
 impl<'a> Floor<'a> {
@@ -211,6 +219,7 @@ impl<'a> Floor<'a> {
                 desk.rise();
             }
             self.note(&events);
+            self.end_inputs();
             let before = (self.hall.parts(), self.hall.replies());
             let moves = self.pass(rt)?;
             pause = self.pause(moves, before);
@@ -242,6 +251,19 @@ impl<'a> Floor<'a> {
         self.hosts.len() as u64
     }
 
+    // Ends the inputs of all clients once the serving drains.
+    fn end_inputs(&mut self) {
+        if self.ends_inputs || !self.hall.house().is_draining() {
+            return;
+        }
+        self.ends_inputs = true;
+        for key in 0..self.clients.capacity() {
+            if let Some(client) = self.clients.get_mut(key) {
+                client.end_input();
+            }
+        }
+    }
+
     // Takes nothing more in from any client.
     fn drain(&mut self) {
         if self.is_draining || self.clients.is_empty() {
@@ -256,16 +278,28 @@ impl<'a> Floor<'a> {
     }
 
     // The connections that are cut short get what is gathered for them, and are counted as closed.
-    fn leave<R: Wait>(&mut self, rt: &R) {
+    fn leave<R: Wait + Eprint>(&mut self, rt: &R) {
+        let house = self.hall.house();
+        let mut cut = 0u32;
         for key in 0..self.clients.capacity() {
             if let Some(client) = self.clients.get_mut(key) {
                 if client.is_uncounted() {
-                    self.hall.house().count_closed();
+                    cut = cut.saturating_add(1);
+                    house.count_closed(rt);
                 }
                 client.part(&mut self.room);
+                house.let_go(rt);
                 self.hall.count_gone();
             }
         }
+        if cut > 0 && house.runs() {
+            let tag = house.log().tag(Level::Warning);
+            let number = self.hall.number();
+            let _ = eprintln!(rt;
+                "{tag}redproxy: generation {number} is cut short, {cut} connections are closed"
+            );
+        }
+        self.tell_durations(rt);
         self.part_with_carried(rt);
     }
 
@@ -280,7 +314,7 @@ impl<'a> Floor<'a> {
                 return;
             };
             carried.part(&mut self.room);
-            house.count_closed();
+            house.close(rt);
         }
     }
 
@@ -334,12 +368,24 @@ impl<'a> Floor<'a> {
         let hosts = self.attend_hosts(rt, now)?;
         let clients = self.attend_clients(rt, now)?;
         let after = self.attend_hosts(rt, now)?;
+        if now.saturating_sub(self.told) >= PAUSE_MS {
+            self.told = now;
+            self.tell_durations(rt);
+        }
         let has_parts = before.0 != self.hall.parts();
         let has_replies = before.1 != self.hall.replies();
         if has_parts || has_replies {
             self.hall.wake_for(self.place, has_parts, has_replies);
         }
         Ok(hosts || clients || after)
+    }
+
+    // Tells how long commands took.
+    fn tell_durations<R: Wait>(&mut self, rt: &R) {
+        let durations = mem::replace(&mut self.durations, Histogram::new());
+        if durations.total > 0 {
+            self.hall.house().add_durations(rt, &durations);
+        }
     }
 
     // Counts a refusal of memory to what stands first at the door.
@@ -433,12 +479,15 @@ impl<'a> Floor<'a> {
     }
 
     // The client has a connection from here on.
-    fn keep(&mut self, client: Client) -> Welcomed {
+    fn keep<R: Wait>(&mut self, rt: &R, mut client: Client) -> Welcomed {
         self.opening.succeeded();
+        if self.ends_inputs {
+            client.end_input();
+        }
         match self.clients.insert(client) {
             Ok(_) => Welcomed::Opened,
             Err(_) => {
-                self.hall.house().count_closed();
+                self.hall.house().close(rt);
                 Welcomed::LetGo
             }
         }
@@ -460,7 +509,7 @@ impl<'a> Floor<'a> {
         match gone_on {
             Ok(client) => {
                 client.note_carried(self.hall);
-                Ok(self.keep(client))
+                Ok(self.keep(rt, client))
             }
             Err((error, carried)) => {
                 let hitch = hitch_of(error);
@@ -473,7 +522,7 @@ impl<'a> Floor<'a> {
                     (Hitch::Alone, Some(carried)) => carried.part(&mut self.room),
                     (_, None) => {}
                 }
-                house.count_closed();
+                house.close(rt);
                 Ok(Welcomed::LetGo)
             }
         }
@@ -490,13 +539,13 @@ impl<'a> Floor<'a> {
             .register(&mut stream, token, interests)
             .is_err()
         {
-            self.hall.house().let_go();
+            self.hall.house().let_go(rt);
             return Ok(Welcomed::LetGo);
         }
         match Client::open(rt, self.alloc, &mut self.turns, stream) {
-            Ok(client) => Ok(self.keep(client)),
+            Ok(client) => Ok(self.keep(rt, client)),
             Err(error) => {
-                self.hall.house().let_go();
+                self.hall.house().let_go(rt);
                 self.bear_at_door(hitch_of(error))?;
                 Ok(Welcomed::LetGo)
             }
@@ -529,7 +578,8 @@ impl<'a> Floor<'a> {
                 Ok(false) => {}
                 Ok(true) => {
                     let address = host.address();
-                    let _ = eprintln!(rt; "redproxy: host {address} can't be reached");
+                    let tag = self.hall.house().log().tag(Level::Warning);
+                    let _ = eprintln!(rt; "{tag}redproxy: host {address} can't be reached");
                 }
                 Err(hitch) => self.bear(hitch)?,
             }
@@ -590,7 +640,7 @@ impl<'a> Floor<'a> {
         if let Some(client) = self.clients.try_remove(key) {
             match client.carry(self.poll.registry(), self.hall) {
                 Some(carried) => house.carry(rt, self.place, carried),
-                None => house.count_closed(),
+                None => house.close(rt),
             }
         }
         self.hall.count_gone();
@@ -611,6 +661,7 @@ impl<'a> Floor<'a> {
             &mut self.turns,
             self.hall,
             &mut self.room,
+            &mut self.durations,
             Pass { now, reserve },
         );
         let awaits = client.awaits_reply() && !matches!(attended, Ok(Attended::Gone));
@@ -626,6 +677,7 @@ impl<'a> Floor<'a> {
             Ok(Attended::Gone) => {
                 let _ = self.clients.try_remove(key);
                 self.hall.count_gone();
+                self.hall.house().let_go(rt);
                 Ok(false)
             }
             Ok(Attended::GoesOver) => self.go_over(rt, key),

@@ -21,16 +21,9 @@ use Rattle.proxy_stats.proofs.Small.{IsSmall}
 capped_grown : (total x more y : ℕ) → x ≡ capped_sum total → y ≡ grown_sum x more → y ≡ capped_sum (total + more)
 capped_grown total x more y is new = grind (arith, nat_tests)
 
-capped_added : (total x more y : ℕ) → x ≡ capped_sum total → y ≡ capped_sum (x + more) → y ≡ capped_sum (total + more)
-capped_added total x more y is new = grind (arith, nat_tests)
-
 one_more : (f : Step → ℕ) (steps : List Step) (i : ℕ) (step : Step) (x y : ℕ) → i < length steps → get_or steps i step ≡ step → x ≡ capped_sum (sum_by f (take i steps)) → y ≡ grown_sum x (f step) → y ≡ capped_sum (sum_by f (take (i + 1) steps))
 one_more f steps i step x y within at is new =
     capped_grown (sum_by f (take i steps)) x (f step) y is new ∙ ap capped_sum (sym (sum_by_more f steps i step within ∙ ap (λ s. sum_by f (take i steps) + f s) at))
-
-one_added : (f : Step → ℕ) (steps : List Step) (i : ℕ) (step : Step) (x y : ℕ) → i < length steps → get_or steps i step ≡ step → x ≡ capped_sum (sum_by f (take i steps)) → y ≡ capped_sum (x + f step) → y ≡ capped_sum (sum_by f (take (i + 1) steps))
-one_added f steps i step x y within at is new =
-    capped_added (sum_by f (take i steps)) x (f step) y is new ∙ ap capped_sum (sym (sum_by_more f steps i step within ∙ ap (λ s. sum_by f (take i steps) + f s) at))
 
 host_more : (steps : List Step) (i : ℕ) (step : Step) (h : ℕ) (c d : HostCounts) → i < length steps → get_or steps i step ≡ step → AreHostCountsBy capped_sum (take i steps) h c → AreHostsGrown c h step d → AreHostCountsBy capped_sum (take (i + 1) steps) h d
 host_more steps i step h c d within at is new = record {
@@ -42,15 +35,15 @@ host_more steps i step h c d within at is new = record {
 
 pub counts_more : (steps : List Step) (i : ℕ) (step : Step) (c d : Counts) → i < length steps → get_or steps i step ≡ step → AreCapped (take i steps) c → AreGrown c step d → AreCapped (take (i + 1) steps) d
 counts_more steps i step c d within at is new = record {
-  accepted = one_added arrivals steps i step c.accepted d.accepted within at is.accepted new.accepted;
-  handed = one_added handings steps i step c.handed d.handed within at is.handed new.handed;
-  sent = one_added takings steps i step c.sent d.sent within at is.sent new.sent;
-  answered = one_added replies steps i step c.answered d.answered within at is.answered new.answered;
-  lost = one_added lost_parts steps i step c.lost d.lost within at is.lost new.lost;
-  ejections = one_added ejected_hosts steps i step c.ejections d.ejections within at is.ejections new.ejections;
-  kept = one_added kept_hosts steps i step c.kept d.kept within at is.kept new.kept;
-  no_host = one_added hostless_parts steps i step c.no_host d.no_host within at is.no_host new.no_host;
-  busy = one_added busy_parts steps i step c.busy d.busy within at is.busy new.busy;
+  accepted = one_more arrivals steps i step c.accepted d.accepted within at is.accepted new.accepted;
+  handed = one_more handings steps i step c.handed d.handed within at is.handed new.handed;
+  sent = one_more takings steps i step c.sent d.sent within at is.sent new.sent;
+  answered = one_more replies steps i step c.answered d.answered within at is.answered new.answered;
+  lost = one_more lost_parts steps i step c.lost d.lost within at is.lost new.lost;
+  ejections = one_more ejected_hosts steps i step c.ejections d.ejections within at is.ejections new.ejections;
+  kept = one_more kept_hosts steps i step c.kept d.kept within at is.kept new.kept;
+  no_host = one_more hostless_parts steps i step c.no_host d.no_host within at is.no_host new.no_host;
+  busy = one_more busy_parts steps i step c.busy d.busy within at is.busy new.busy;
   local = λ place few. one_more (own_answers place) steps i step (get_or c.local place 0) (get_or d.local place 0) within at (is.local place few) (new.local place few);
   hosts = λ h e few. host_more steps i step h (get_or c.hosts h e) (get_or d.hosts h e) within at (is.hosts h e few) (new.hosts h e few);
 }

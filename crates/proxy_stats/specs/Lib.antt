@@ -1,2 +1,4 @@
 pub mod Amounts
+pub mod Counted
+pub mod Load
 pub mod Sums

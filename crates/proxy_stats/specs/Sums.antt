@@ -1,9 +1,12 @@
 -- Counts as sums over the steps of a journal.
 use Rattle.std.specs.Prelude.{◌≡◌, ℕ, ◌+◌, ◌-◌, ◌^◌, ◌<◌, ◌==◌, min, if◌then◌else◌, List, sum_by, slice_index, slice_index_or}
+use Rattle.ejector.specs.declared.answer.Trip.{Trip}
 use Rattle.proxy_history.specs.History.{Step}
+use Rattle.proxy_history.specs.declared.event.Event.{Event}
+use Rattle.proxy_history.specs.declared.answer.Answer.{Answer}
 use Rattle.proxy_stats.specs.declared.tally.Counts.{Counts}
 use Rattle.proxy_stats.specs.declared.tally.HostCounts.{HostCounts}
-use Rattle.proxy_stats.specs.Amounts.{arrivals, handings, takings, replies, failures, lost_parts, ejected_hosts, kept_hosts, hostless_parts, busy_parts, own_answers, of_host}
+use Rattle.proxy_stats.specs.Amounts.{arrivals, handings, takings, replies, failures, lost_parts, ejected_hosts, kept_hosts, hostless_parts, busy_parts, own_answers, of_host, arrivals_in, handings_in, takings_in, replies_in, lost_in, ejected_by, kept_by, ejected_in, kept_in, hostless_in, busy_in}
 
 -- the counts of host h, each the sum over the steps, as `told` tells it
 pub record AreHostCountsBy (told : ℕ → ℕ) (steps : List Step) (h : ℕ) (c : HostCounts) : Type 0 where
@@ -74,14 +77,40 @@ pub record AreHostsGrown (old : HostCounts) (h : ℕ) (step : Step) (new : HostC
 
 -- the counts with one step more
 pub record AreGrown (old : Counts) (step : Step) (new : Counts) : Type 0 where
-  pub accepted : new.accepted ≡ capped_sum (old.accepted + arrivals step)
-  pub handed : new.handed ≡ capped_sum (old.handed + handings step)
-  pub sent : new.sent ≡ capped_sum (old.sent + takings step)
-  pub answered : new.answered ≡ capped_sum (old.answered + replies step)
-  pub lost : new.lost ≡ capped_sum (old.lost + lost_parts step)
-  pub ejections : new.ejections ≡ capped_sum (old.ejections + ejected_hosts step)
-  pub kept : new.kept ≡ capped_sum (old.kept + kept_hosts step)
-  pub no_host : new.no_host ≡ capped_sum (old.no_host + hostless_parts step)
-  pub busy : new.busy ≡ capped_sum (old.busy + busy_parts step)
+  pub accepted : new.accepted ≡ grown_sum old.accepted (arrivals step)
+  pub handed : new.handed ≡ grown_sum old.handed (handings step)
+  pub sent : new.sent ≡ grown_sum old.sent (takings step)
+  pub answered : new.answered ≡ grown_sum old.answered (replies step)
+  pub lost : new.lost ≡ grown_sum old.lost (lost_parts step)
+  pub ejections : new.ejections ≡ grown_sum old.ejections (ejected_hosts step)
+  pub kept : new.kept ≡ grown_sum old.kept (kept_hosts step)
+  pub no_host : new.no_host ≡ grown_sum old.no_host (hostless_parts step)
+  pub busy : new.busy ≡ grown_sum old.busy (busy_parts step)
   pub local : (place : ℕ) → place < 7 → slice_index new.local place ≡ grown_sum (slice_index old.local place) (own_answers place step)
   pub hosts : (h : ℕ) (d : HostCounts) → h < 64 → AreHostsGrown (slice_index_or old.hosts h d) h step (slice_index_or new.hosts h d)
+
+-- what is counted by an event
+abbrev pub with_event : Counts → Event → Counts
+with_event c e = record c {
+  accepted = grown_sum c.accepted (arrivals_in e);
+  handed = grown_sum c.handed (handings_in e);
+  sent = grown_sum c.sent (takings_in e);
+  answered = grown_sum c.answered (replies_in e);
+}
+
+-- whether a host was put aside, or tripped and stayed
+abbrev pub with_trip : Counts → Trip → Counts
+with_trip c trip = record c {
+  ejections = grown_sum c.ejections (ejected_by trip);
+  kept = grown_sum c.kept (kept_by trip);
+}
+
+-- what is counted by an answer, but for answers of the proxy's own
+abbrev pub with_answer : Counts → Answer → Counts
+with_answer c a = record c {
+  lost = grown_sum c.lost (lost_in a);
+  ejections = grown_sum c.ejections (ejected_in a);
+  kept = grown_sum c.kept (kept_in a);
+  no_host = grown_sum c.no_host (hostless_in a);
+  busy = grown_sum c.busy (busy_in a);
+}

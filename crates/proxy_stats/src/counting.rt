@@ -1,10 +1,9 @@
 //! Counts over a journal.
-ghost use Rattle.std.specs.Prelude.{◌<◌, ◌^◌, All};
+ghost use Rattle.std.specs.Prelude.{◌≡◌, ◌<◌, ◌^◌, All, length};
 ghost use Rattle.proxy_stats.specs.Amounts.{ejected_hosts, kept_hosts};
 ghost use Rattle.proxy_stats.specs.Sums.{AreCounts, AreCapped};
 
-use crate::tally::{Counts, HostCounts, LOCAL_KINDS};
-use ketama::MAX_HOSTS;
+use crate::tally::Counts;
 use proxy_core::{Answer, Core, Event, Journal};
 
 /// What happened so far, by the journal of a core: each number is a sum over its steps. It goes over
@@ -15,12 +14,14 @@ pub fn counts(core: &Core) -> Counts
     counts_of(core.journal())
 }
 
-fn counts_of(journal: &Journal<Event, Answer>) -> Counts
+pub(crate) fn counts_of(journal: &Journal<Event, Answer>) -> Counts
     ensures counts { AreCapped journal.now.steps result }
     ensures few { All (λ s. (ejected_hosts s < 2 ^ 32)
         × (kept_hosts s < 2 ^ 32)) journal.now.steps }
+    ensures kinds { length result.local ≡ 7 }
+    ensures hosts { length result.hosts ≡ 64 }
 {
-    let mut counts = NONE;
+    let mut counts = Counts::NONE;
     for i in 0..journal.len() {
         if let Some(step) = journal.get(i) {
             counts.add(step);
@@ -28,18 +29,3 @@ fn counts_of(journal: &Journal<Event, Answer>) -> Counts
     }
     counts
 }
-
-// Nothing happened.
-const NONE: Counts = Counts {
-    accepted: 0,
-    handed: 0,
-    sent: 0,
-    answered: 0,
-    lost: 0,
-    ejections: 0,
-    kept: 0,
-    no_host: 0,
-    busy: 0,
-    local: [0; LOCAL_KINDS],
-    hosts: [HostCounts::NONE; MAX_HOSTS],
-};

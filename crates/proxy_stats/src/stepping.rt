@@ -1,7 +1,7 @@
 //! What one step adds to the counts.
-ghost use Rattle.std.specs.Prelude.{◌≡◌, ◌<◌, ◌^◌, ℕ, if◌then◌else◌, slice_index, slice_index_or};
-ghost use Rattle.proxy_stats.specs.Amounts.{arrivals, handings, takings, replies, failures, lost_parts, ejected_hosts, kept_hosts, hostless_parts, busy_parts, own_answers, of_host, local_place};
-ghost use Rattle.proxy_stats.specs.Sums.{grown_sum, AreGrown, AreHostsGrown};
+ghost use Rattle.std.specs.Prelude.{◌≡◌, ◌<◌, ◌^◌, ℕ, if◌then◌else◌, length, slice_index, slice_index_or};
+ghost use Rattle.proxy_stats.specs.Amounts.{takings, replies, failures, lost_parts, ejected_in, kept_in, ejected_hosts, kept_hosts, own_answers, of_host, local_place};
+ghost use Rattle.proxy_stats.specs.Sums.{grown_sum, AreGrown, AreHostsGrown, with_answer, with_event, with_trip};
 ghost use Rattle.proxy_stats.specs.declared.tally.HostCounts.{HostCounts};
 
 use crate::tally::{Counts, HostCounts, LOCAL_KINDS};
@@ -14,31 +14,64 @@ impl Counts {
         ensures grown { AreGrown self.old step.now self.new }
         ensures ejected { ejected_hosts step.now < 2 ^ 32 }
         ensures kept { kept_hosts step.now < 2 ^ 32 }
+        ensures kinds { length self.new.local ≡ length self.old.local }
+        ensures hosts { length self.new.hosts ≡ length self.old.hosts }
     {
-        self.accepted = self.accepted.saturating_add(u64::from(is_arrival(step)));
-        self.handed = self.handed.saturating_add(u64::from(is_handing(step)));
-        self.sent = self.sent.saturating_add(u64::from(is_taking(step)));
-        self.answered = self.answered.saturating_add(u64::from(is_reply(step)));
-        self.lost = self.lost.saturating_add(lost(step));
-        self.ejections = self.ejections.saturating_add(u64::from(ejected(step)));
-        self.kept = self.kept.saturating_add(u64::from(kept(step)));
-        self.no_host = self.no_host.saturating_add(hostless(step));
-        self.busy = self.busy.saturating_add(busy(step));
+        self.add_event(&step.event);
+        self.add_answer(&step.answer);
         add_local(&mut self.local, step);
         add_to_host(&mut self.hosts, step);
     }
-}
 
-fn is_arrival(step: &Step<Event, Answer>) -> bool
-    ensures { arrivals step.now ≡ if result then 1 else 0 }
-{
-    matches!(step.event, Event::Arrived { .. })
-}
+    // What is counted by the event.
+    #[inline(always)]
+    fn add_event(&mut self, event: &Event)
+        ensures { self.new ≡ with_event self.old event.now }
+    {
+        match event {
+            Event::Arrived { .. } => self.accepted = self.accepted.saturating_add(1),
+            Event::Handed { .. } => self.handed = self.handed.saturating_add(1),
+            Event::Taken { .. } => self.sent = self.sent.saturating_add(1),
+            Event::Answered { .. } => self.answered = self.answered.saturating_add(1),
+            _ => {}
+        }
+    }
 
-fn is_handing(step: &Step<Event, Answer>) -> bool
-    ensures { handings step.now ≡ if result then 1 else 0 }
-{
-    matches!(step.event, Event::Handed { .. })
+    // What is counted by the answer, but for answers of the proxy's own.
+    #[inline(always)]
+    fn add_answer(&mut self, answer: &Answer)
+        ensures added { self.new ≡ with_answer self.old answer.now }
+        ensures ejected { ejected_in answer.now < 2 ^ 32 }
+        ensures kept { kept_in answer.now < 2 ^ 32 }
+    {
+        match answer {
+            Answer::Accepted { no_host, busy, .. } => {
+                self.no_host = self.no_host.saturating_add(*no_host);
+                self.busy = self.busy.saturating_add(*busy);
+            }
+            Answer::Matched { trip } => self.add_trip(*trip),
+            Answer::Lost { parts, trip } => {
+                self.lost = self.lost.saturating_add(*parts);
+                self.add_trip(*trip);
+            }
+            Answer::Swept { ejected, kept, .. } => {
+                self.ejections = self.ejections.saturating_add(u64::from(*ejected));
+                self.kept = self.kept.saturating_add(u64::from(*kept));
+            }
+            _ => {}
+        }
+    }
+
+    #[inline(always)]
+    fn add_trip(&mut self, trip: Trip)
+        ensures { self.new ≡ with_trip self.old trip }
+    {
+        match trip {
+            Trip::Ejected => self.ejections = self.ejections.saturating_add(1),
+            Trip::Kept => self.kept = self.kept.saturating_add(1),
+            Trip::None => {}
+        }
+    }
 }
 
 fn is_taking(step: &Step<Event, Answer>) -> bool
@@ -64,44 +97,6 @@ fn lost(step: &Step<Event, Answer>) -> u64
 {
     match &step.answer {
         Answer::Lost { parts, .. } => *parts,
-        _ => 0,
-    }
-}
-
-fn ejected(step: &Step<Event, Answer>) -> u32
-    ensures { result ≡ ejected_hosts step.now }
-{
-    match &step.answer {
-        Answer::Matched { trip } | Answer::Lost { trip, .. } => u32::from(*trip == Trip::Ejected),
-        Answer::Swept { ejected, .. } => *ejected,
-        _ => 0,
-    }
-}
-
-fn kept(step: &Step<Event, Answer>) -> u32
-    ensures { result ≡ kept_hosts step.now }
-{
-    match &step.answer {
-        Answer::Matched { trip } | Answer::Lost { trip, .. } => u32::from(*trip == Trip::Kept),
-        Answer::Swept { kept, .. } => *kept,
-        _ => 0,
-    }
-}
-
-fn hostless(step: &Step<Event, Answer>) -> u64
-    ensures { result ≡ hostless_parts step.now }
-{
-    match &step.answer {
-        Answer::Accepted { no_host, .. } => *no_host,
-        _ => 0,
-    }
-}
-
-fn busy(step: &Step<Event, Answer>) -> u64
-    ensures { result ≡ busy_parts step.now }
-{
-    match &step.answer {
-        Answer::Accepted { busy, .. } => *busy,
         _ => 0,
     }
 }
@@ -137,7 +132,8 @@ fn place_of(answer: Local) -> usize
 
 // The host of a step, if it has one, counts it.
 fn add_to_host(hosts: &mut [HostCounts; MAX_HOSTS], step: &Step<Event, Answer>)
-    ensures { (h : ℕ) (d : HostCounts) → h < 64
+    ensures same { length hosts.new ≡ length hosts.old }
+    ensures grown { (h : ℕ) (d : HostCounts) → h < 64
         → AreHostsGrown (slice_index_or hosts.old h d) h step.now (slice_index_or hosts.new h d) }
 {
     let host = match &step.event {

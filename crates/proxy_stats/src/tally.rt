@@ -84,6 +84,21 @@ impl HostCounts {
 }
 
 impl Counts {
+    /// Nothing happened.
+    pub const NONE: Counts = Counts {
+        accepted: 0,
+        handed: 0,
+        sent: 0,
+        answered: 0,
+        lost: 0,
+        ejections: 0,
+        kept: 0,
+        no_host: 0,
+        busy: 0,
+        local: [0; LOCAL_KINDS],
+        hosts: [HostCounts::NONE; MAX_HOSTS],
+    };
+
     /// These counts and the others together: each number is the sum of both, or the greatest `u64`
     /// where the sum is more.
     pub fn plus(&self, other: &Counts) -> Counts

@@ -258,7 +258,7 @@ impl<W: Write> Gatherer<W> {
             Ok(count) => {
                 self.is_open = count == bytes.len();
                 if count == 0 && !bytes.is_empty() {
-                    self.is_broken = true;
+                    self.break_off();
                 }
                 Ok(count)
             }

@@ -1,4 +1,4 @@
-use Rattle.std.proofs.Common.{◌≡◌, List, AllPairs, ◌≢◌, Some, length, get_or, sym, ◌∙◌, add-one, arith, rules}
+use Rattle.std.proofs.Common.{◌≡◌, ◌≤◌, ◌++◌, ◌∷◌, [], List, AllPairs, ◌≢◌, Some, length, get_or, sym, ◌∙◌, add-one, arith, rules}
 use Rattle.std.proofs.lemmas.Bool.Decides.{nat_tests}
 use Rattle.std.proofs.lemmas.List.{take_all}
 use Rattle.serde_json.specs.Data.{array}
@@ -7,7 +7,8 @@ use Rattle.std.specs.List.{AllZip}
 use Rattle.serde_json.specs.View.{items_view}
 use Rattle.proxy_config.specs.declared.config.Host.{Host}
 use Rattle.proxy_config.specs.Table.{AreHosts, IsHost, items_of, host_data}
-use Rattle.proxy_config.proofs.Entries.{Gives, gives_more, gives_written, gives_length, gives_good, written_length, none_written, names_same}
+use Rattle.proxy_config.specs.Told.{FirstAre}
+use Rattle.proxy_config.proofs.Entries.{Gives, all_err, gives_more, gives_written, gives_length, gives_good, written_length, none_written, names_same}
 use Rattle.proxy_config.proofs.hosts.hosts_in.Goals as goal
 use Rattle.proxy_config.proofs.hosts.hosts_in.Goals.{then-is_empty-via-then-is_empty, then-is_empty-via-else-is_empty+then-entries-gt-MAX_HOSTS}
 
@@ -30,6 +31,23 @@ returns-in_err-host-clause-none c =
     let n : items_view c.args.entries.now ≡ items_of host_data hosts = cc in
     none_written host_data IsHost c.args.entries.now hosts c.loop-entry.entry-index c.entry-item.result n are.each c.loop-entry-test.true c.entry-item.is (c.in_err-host.ensures.none other) in
     search (rules, none)
+
+pub returns-in_err-host-clause-memory : goal.returns-in_err-host-clause-memory
+returns-in_err-host-clause-memory c =
+    let few : length c.args.entries.now ≤ 64 = grind (arith, nat_tests) in
+    let first : c.in_err-host.field-0.0 ≡ Memory → (length c.args.entries.now ≤ 64) × FirstAre host_data IsHost c.args.entries.now = λ memory.
+    let (h, written, good) = c.in_err-host.ensures.memory memory in
+    let here : Gives host_data IsHost (get_or c.args.entries.now c.loop-entry.entry-index c.entry-item.result) h = rw (← c.entry-item.is) (written, good) in
+    let given = gives_more host_data IsHost c.args.entries.now c.loop-entry.hosts.items c.loop-entry.entry-index c.entry-item.result h c.loop-entry.invariant c.loop-entry-test.true here in
+    (few, (c.loop-entry.entry-index, c.loop-entry.hosts.items ++ h ∷ [], c.loop-entry-test.true, rw add-one given)) in
+    search (rules, first)
+
+pub returns-in_err-push-clause-memory : goal.returns-in_err-push-clause-memory
+returns-in_err-push-clause-memory c =
+    let few : length c.args.entries.now ≤ 64 = grind (arith, nat_tests) in
+    let here : Gives host_data IsHost (get_or c.args.entries.now c.loop-entry.entry-index c.entry-item.result) c.in_ok-host.field-0 = rw (← c.entry-item.is) (c.in_ok-host.ensures.ok) in
+    let given = gives_more host_data IsHost c.args.entries.now c.loop-entry.hosts.items c.loop-entry.entry-index c.entry-item.result c.in_ok-host.field-0 c.loop-entry.invariant c.loop-entry-test.true here in
+    all_err _ c.from_residual-in_err-push.result (λ e memory. (few, (c.loop-entry.entry-index, c.loop-entry.hosts.items ++ c.in_ok-host.field-0 ∷ [], c.loop-entry-test.true, rw add-one given)))
 
 pub loop-entry-preserved : goal.loop-entry-preserved
 loop-entry-preserved c =

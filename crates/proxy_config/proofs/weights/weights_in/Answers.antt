@@ -1,10 +1,10 @@
-use Rattle.std.proofs.Common.{◌≡◌, ℕ, List, Some, length, get_or, sym, ◌∙◌, add-one, arith, rules}
+use Rattle.std.proofs.Common.{◌≡◌, ◌++◌, ◌∷◌, [], ℕ, List, Some, length, get_or, sym, ◌∙◌, add-one, arith, rules}
 use Rattle.std.specs.List.{AllZip}
 use Rattle.std.proofs.lemmas.List.{take_all}
 use Rattle.serde_json.specs.Data.{array}
 use Rattle.serde_json.specs.View.{items_view}
 use Rattle.proxy_config.specs.Table.{AreWeightsOr, IsWeight, items_of, weight_data}
-use Rattle.proxy_config.proofs.Entries.{Gives, gives_more, gives_written, gives_length, gives_good, written_length, none_written}
+use Rattle.proxy_config.proofs.Entries.{Gives, all_err, gives_more, gives_written, gives_length, gives_good, written_length, none_written}
 use Rattle.proxy_config.proofs.weights.weights_in.Goals as goal
 
 pub returns-then-entries-hosts-clause-none : goal.returns-then-entries-hosts-clause-none
@@ -36,3 +36,10 @@ returns-clause-ok c =
     let same : length es ≡ c.args.hosts = omega (arith, c.if-entries-hosts.false) in
     let written = gives_written weight_data IsWeight es ws all in
     (cc, record { each = sym (gives_length weight_data IsWeight es ws all) ∙ same; in_range = gives_good weight_data IsWeight es ws all })
+
+pub returns-in_err-push-clause-memory : goal.returns-in_err-push-clause-memory
+returns-in_err-push-clause-memory c =
+    let many : length c.args.entries.now ≡ c.args.hosts = omega (arith, c.if-entries-hosts.false) in
+    let here : Gives weight_data IsWeight (get_or c.args.entries.now c.loop-entry.entry-index c.entry-item.result) c.in_ok-weight.field-0 = rw (← c.entry-item.is) (c.in_ok-weight.ensures.ok) in
+    let given = gives_more weight_data IsWeight c.args.entries.now c.loop-entry.weights.items c.loop-entry.entry-index c.entry-item.result c.in_ok-weight.field-0 c.loop-entry.invariant c.loop-entry-test.true here in
+    all_err _ c.from_residual-in_err-push.result (λ e memory. (many, (c.loop-entry.entry-index, c.loop-entry.weights.items ++ c.in_ok-weight.field-0 ∷ [], c.loop-entry-test.true, rw add-one given)))

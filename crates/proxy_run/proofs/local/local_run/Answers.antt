@@ -11,8 +11,8 @@ returns g c =
     let last = c.turns-3 in
     let opened = rw c.new-turns.ensures at c.in_ok-client.ensures.opened in
     let begins = rw c.new-turns.ensures at c.in_ok-client.ensures.carries in
-    let (client, kept, ended) = c.in_ok-ran.ensures.runs in
-    let (goes, closed) = rw c.in_ok-ran-2.was at ended in
+    let (client, kept, goes, ended) = c.in_ok-ran.ensures.runs in
+    let closed = rw c.in_ok-ran-2.was at ended in
     let ran = RunsLocal-alone c.in_ok-stub_core.field-0 c.open_client.new.turns c.run_to_end.new.turns _ c.in_ok-client.client client
     c.in_ok-stub_core.ensures.empty c.in_ok-stub_core.ensures.setting opened (rw c.new-turns.ensures at c.in_ok-client.ensures.pass) (rw c.new-turns.ensures at c.in_ok-client.ensures.setting)
     begins c.in_ok-client.ensures.reads goes closed c.in_ok-ran.ensures.pass c.in_ok-ran.ensures.setting

@@ -1,9 +1,9 @@
-use Rattle.proxy_run.proofs.RunLemmas.{OnOk-both}
 use Rattle.proxy_run.proofs.local.run_to_end.Goals as goal
 
 pub returns-clause-runs : goal.returns-clause-runs
 returns-clause-runs g c = (
   c.run_client-ran.new.client,
   rw c.into_writer.ensures at c.in_ok-writer.ensures.ok,
-  OnOk-both _ _ c.run_client-ran.result c.run_client-ran.ensures.goes c.run_client-ran.ensures.ended,
+  c.run_client-ran.ensures.goes,
+  c.run_client-ran.ensures.ended,
 )

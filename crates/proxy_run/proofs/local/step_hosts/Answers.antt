@@ -1,13 +1,41 @@
-use Rattle.std.proofs.Common.{refl, ◌∙◌}
+use Rattle.std.proofs.Common.{get_or, refl, ◌∙◌}
 use Rattle.proxy_run.proofs.MoveLemmas.{IsBeside-none, IsBeside-then}
+use Rattle.proxy_run.proofs.HostLemmas.{first_all, first_around, first_more, rests_around, starts_same, starts_then}
+use Rattle.proxy_run.specs.Moves.{RestsIdle}
 use Rattle.proxy_run.proofs.local.step_hosts.Goals as goal
+use Rattle.proxy_run.proofs.local.step_hosts.Goals.{then-not-branch, else-not-branch}
 
 pub loop-host-init : goal.loop-host-init
-loop-host-init g c = record { pass = refl; setting = refl; beside = IsBeside-none _ }
+loop-host-init g c = record { pass = refl; setting = refl; seen = starts_same _; beside = IsBeside-none _; idle = λ _. refl }
 
 pub loop-host-preserved : goal.loop-host-preserved
-loop-host-preserved g c = record {
-  pass = c.step_host.ensures.pass ∙ c.loop-host.invariant.pass;
-  setting = c.step_host.ensures.setting ∙ c.loop-host.invariant.setting;
-  beside = IsBeside-then _ _ _ c.loop-host.invariant.beside (rw c.loop-host.invariant.pass at c.in_ok-step_host.ensures.beside);
-}
+loop-host-preserved g c =
+    let inv = c.loop-host.invariant in
+    let cause = g.T.Turns.cause (g.T.Turns.setting c.args.turns.now) in
+    let first = g.T.Turns.seen c.args.turns.now in
+    let before = g.T.Turns.seen c.loop-host.turns in
+    let after = g.T.Turns.seen c.step_host.new.turns in
+    record {
+      pass = c.step_host.ensures.pass ∙ inv.pass;
+      setting = c.step_host.ensures.setting ∙ inv.setting;
+      seen = starts_then _ _ _ inv.seen c.step_host.ensures.seen;
+      beside = IsBeside-then _ _ _ inv.beside (rw inv.pass at c.step_host.ensures.beside);
+      idle = elim c.if-not-branch.branch [
+        | then-not-branch w ↦ rw w.are_idle-is (λ e. absurd cc)
+        | else-not-branch w ↦ rw w.are_idle-is (λ e.
+            let rests = rests_around cause first before after after (get_or c.loop-host.hosts c.loop-host.host-index c.host-item.result) c.step_host.new.host inv.seen (starts_same after) (rw inv.setting at (c.in_ok-step_host.ensures.idle w.if-not-branch.false)) in
+            first_more (RestsIdle cause first after) c.loop-host.host-index c.args.hosts.now c.loop-host.hosts c.host-item.result c.step_host.new.host
+            (first_around cause first before after c.loop-host.host-index c.args.hosts.now c.loop-host.hosts c.step_host.ensures.seen (inv.idle e)) c.loop-host-test.true rests)
+      ];
+    }
+
+pub returns-in_err-step_host-clause-seen : goal.returns-in_err-step_host-clause-seen
+returns-in_err-step_host-clause-seen g c = starts_then _ _ _ c.loop-host.invariant.seen c.step_host.ensures.seen
+
+pub returns-in_err-step_host-clause-beside : goal.returns-in_err-step_host-clause-beside
+returns-in_err-step_host-clause-beside g c =
+    IsBeside-then _ _ _ c.loop-host.invariant.beside (rw c.loop-host.invariant.pass at c.step_host.ensures.beside)
+
+pub returns-clause-idle : goal.returns-clause-idle
+returns-clause-idle g c = λ e.
+    first_all (RestsIdle (g.T.Turns.cause (g.T.Turns.setting c.args.turns.now)) (g.T.Turns.seen c.args.turns.now) (g.T.Turns.seen c.loop-host.turns)) c.loop-host.host-index c.args.hosts.now c.loop-host.hosts (c.loop-host.invariant.idle e) c.loop-host-test.false

@@ -1,4 +1,4 @@
-use Rattle.std.proofs.Common.{◌≡◌, ◌<◌, ◌^◌, slice_get, Some, sym, inl, inr, arith}
+use Rattle.std.proofs.Common.{◌≡◌, ◌<◌, ◌^◌, slice_get, Some, sym, ◌∙◌, inl, inr, arith}
 use Rattle.std.proofs.lemmas.Option.{slice_get_within, slice_get_cases, get_or_from_slice_get}
 use Rattle.proxy_stats.specs.Amounts.{ejected_hosts, kept_hosts}
 use Rattle.proxy_stats.proofs.Growing.{counts_more, all_more}
@@ -9,6 +9,7 @@ pub loop-i-preserved : goal.loop-i-preserved
 loop-i-preserved c =
     let steps = c.args.journal.now.steps in
     let i = c.loop-i.i in
+    let (_, few, kinds, hosts) = c.loop-i.invariant in
     elim c.match-get.branch [
       | in-Some w ↦
           let step = w.in-Some.step.now in
@@ -17,7 +18,9 @@ loop-i-preserved c =
           let here = get_or_from_slice_get steps i step step at in
           rw w.counts-is (
             counts_more steps i step _ _ within here c.loop-i.invariant.0 w.add.ensures.grown,
-            all_more (λ s. (ejected_hosts s < 2 ^ 32) × (kept_hosts s < 2 ^ 32)) steps i step within here c.loop-i.invariant.1 (w.add.ensures.ejected, w.add.ensures.kept),
+            all_more (λ s. (ejected_hosts s < 2 ^ 32) × (kept_hosts s < 2 ^ 32)) steps i step within here few (w.add.ensures.ejected, w.add.ensures.kept),
+            w.add.ensures.kinds ∙ kinds,
+            w.add.ensures.hosts ∙ hosts,
           )
       | in_default w ↦ elim ((slice_get_cases steps i).1) [
         | inl (_, _, is_some, _) ↦ absurd (let e = w.in_default.ensures in let f = is_some in cc)

@@ -12,6 +12,7 @@ use Rattle.proxy_history.specs.declared.event.Kind.{Kind}
 use Rattle.proxy_engines.proofs.HostMoves.{some_told, starts_then}
 use Rattle.proxy_engines.proofs.HostLemmas.{empty_is, works_told, works_on, told_needs_alone, told_recorded, told_in_time, told_moved, told_link}
 use Rattle.proxy_engines.proofs.NumberLemmas.{numbered_cut}
+use Rattle.proxy_engines.proofs.FaultLemmas.{not_late}
 use Rattle.proxy_engines.proofs.host.HostEngine.go_on_alone.Goals as goal
 use Rattle.proxy_engines.proofs.host.HostEngine.go_on_alone.Goals.{then-taken, else-taken}
 
@@ -133,4 +134,12 @@ returns-clause-number g c =
     elim c.if-taken.branch [
       | then-taken w ↦ rw w.result-is tt
       | else-taken w ↦ rw w.result-is tt
+    ]
+
+pub returns-clause-in_time : goal.returns-clause-in_time
+returns-clause-in_time g c =
+    let calm : ¬ IsLate c.take_one.new.self.line c.args.moment = rw (← c.self.view_is) (not_late c.self.inside.line c.args.moment c.is_late.result c.if-is_late.false c.is_late.ensures) in
+    elim c.if-taken.branch [
+      | then-taken w ↦ rw w.result-is calm
+      | else-taken w ↦ rw w.result-is calm
     ]

@@ -1,4 +1,4 @@
-use Rattle.proxy_engines.specs.Device.{Counts}
+use Rattle.devices.specs.Device.{Counts}
 use Rattle.proxy_engines.proofs.FaultLemmas.{faulty_calm, default_faulty, fault_later, no_fault}
 use Rattle.std.proofs.lemmas.Result.{IfOk-from_err, err_from_is_err_and}
 use Rattle.std.proofs.Common.{◌∙◌, refl, sym, append-nil, [], ap}

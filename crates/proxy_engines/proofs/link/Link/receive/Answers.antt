@@ -1,4 +1,4 @@
-use Rattle.proxy_engines.specs.Device.{Counts}
+use Rattle.devices.specs.Device.{Counts}
 use Rattle.std.proofs.lemmas.Result.{IfOk-from_err, err_from_is_err_and}
 use Rattle.std.proofs.Common.{◌∙◌, Some, sym, ap}
 use Rattle.proxy_engines.proofs.HostMoves.{told_both, told_either, starts_then}

@@ -1,0 +1,3 @@
+mod Texts
+mod Answering
+pub mod CallerLemmas

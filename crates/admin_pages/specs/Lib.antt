@@ -1,0 +1,7 @@
+pub mod Answers
+pub mod Lines
+pub mod Numbers
+pub mod Pages
+pub mod Replies
+pub mod Routes
+pub mod Table

@@ -1,0 +1,41 @@
+-- Lines of Prometheus's text format.
+use Rattle.std.specs.Prelude.{ℕ, ◌/◌, ◌%◌, ◌==◌, ◌||◌, if◌then◌else◌, List, [], ◌∷◌, ◌++◌, codes, decimal, flat_map}
+use Rattle.std.specs.List.{concat}
+
+-- a byte within a label's value: a backslash stands before a quote and a backslash
+abbrev pub escaped_byte : ℕ → List ℕ
+escaped_byte b = if (b == 92) || (b == 34) then 92 ∷ b ∷ [] else b ∷ []
+
+-- a label's value
+abbrev pub escaped : List ℕ → List ℕ
+escaped value = flat_map escaped_byte value
+
+-- milliseconds as seconds, with three decimals
+abbrev pub seconds_text : ℕ → List ℕ
+seconds_text ms = concat (decimal (ms / 1000) ∷ codes "." ∷ decimal (ms / 100 % 10) ∷ decimal (ms / 10 % 10) ∷ decimal (ms % 10) ∷ [])
+
+-- a number with no label
+abbrev pub plain_text : List ℕ → List ℕ → ℕ → List ℕ
+plain_text name suffix number = concat (name ∷ suffix ∷ codes " " ∷ decimal number ∷ codes "\n" ∷ [])
+
+-- a number with one label
+abbrev pub labelled_text : List ℕ → List ℕ → List ℕ → List ℕ → ℕ → List ℕ
+labelled_text name suffix key value number =
+    concat (name ∷ suffix ∷ codes "{" ∷ key ∷ codes "=\"" ∷ value ∷ codes "\"} " ∷ decimal number ∷ codes "\n" ∷ [])
+
+-- a number of a host
+abbrev pub host_text : List ℕ → List ℕ → ℕ → List ℕ
+host_text name host number =
+    concat (name ∷ codes "{host=\"" ∷ escaped host ∷ codes "\"} " ∷ decimal number ∷ codes "\n" ∷ [])
+
+-- the version and the kit
+abbrev pub build_text : List ℕ → List ℕ → List ℕ → List ℕ
+build_text name version kit =
+    concat (name ∷ codes "{version=\"" ∷ escaped version ∷ codes "\",kit=\"" ∷ escaped kit ∷ codes "\"} 1\n" ∷ [])
+
+-- how many values were at most so many milliseconds
+abbrev pub bound_text : List ℕ → ℕ → ℕ → List ℕ
+bound_text name ms number =
+    concat (name ∷ codes "_bucket{le=\"" ∷ [])
+    ++ seconds_text ms
+    ++ concat (codes "\"} " ∷ decimal number ∷ codes "\n" ∷ [])

@@ -1,0 +1,101 @@
+//! What is replied to a request, by its method and its path.
+ghost use Rattle.std.specs.Prelude.{◌≡◌};
+ghost use Rattle.admin_pages.specs.Routes.{order_at, page_at, reply_to, reply_to_order};
+
+/// What somebody asked the proxy to do.
+#[derive(Clone, Copy, Debug, PartialEq, Eq)]
+pub enum Order {
+    /// Take no new connection, answer what was asked, and end.
+    Drain,
+
+    /// End at once.
+    Quit,
+}
+
+/// What there is to be read.
+#[derive(Clone, Copy, Debug, PartialEq, Eq)]
+pub(crate) enum Page {
+    Metrics,
+    Hosts,
+    Ready,
+    Live,
+}
+
+/// What is replied.
+#[derive(Clone, Copy, Debug, PartialEq, Eq)]
+pub(crate) enum Reply {
+    /// The page.
+    Page(Page),
+
+    /// The order was taken.
+    Taken(Order),
+
+    /// An order that a page of a browser sent.
+    Forbidden,
+
+    /// A page is read by GET and HEAD alone.
+    OnlyRead,
+
+    /// An order is sent by POST alone.
+    OnlySent,
+
+    /// Nothing has this path.
+    NotFound,
+}
+
+/// What is replied to a request of this method and path, which a page of a browser sent where it has an
+/// origin.
+pub(crate) fn reply_to(method: &str, path: &str, has_origin: bool) -> Reply
+    ensures { result ≡ reply_to method.now path.now has_origin }
+{
+    if let Some(order) = order_at(path) {
+        return reply_to_order(method, has_origin, order);
+    }
+    match page_at(path) {
+        Some(page) if method == "GET" || method == "HEAD" => Reply::Page(page),
+        Some(_) => Reply::OnlyRead,
+        None => Reply::NotFound,
+    }
+}
+
+fn reply_to_order(method: &str, has_origin: bool, order: Order) -> Reply
+    ensures { result ≡ reply_to_order method.now has_origin order }
+{
+    if method != "POST" {
+        return Reply::OnlySent;
+    }
+    if has_origin {
+        return Reply::Forbidden;
+    }
+    Reply::Taken(order)
+}
+
+fn order_at(path: &str) -> Option<Order>
+    ensures { result ≡ order_at path.now }
+{
+    if path == "/drain" {
+        return Some(Order::Drain);
+    }
+    if path == "/quit" {
+        return Some(Order::Quit);
+    }
+    None
+}
+
+fn page_at(path: &str) -> Option<Page>
+    ensures { result ≡ page_at path.now }
+{
+    if path == "/metrics" {
+        return Some(Page::Metrics);
+    }
+    if path == "/hosts" {
+        return Some(Page::Hosts);
+    }
+    if path == "/ready" {
+        return Some(Page::Ready);
+    }
+    if path == "/live" {
+        return Some(Page::Live);
+    }
+    None
+}

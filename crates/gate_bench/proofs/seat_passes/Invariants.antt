@@ -1,5 +1,0 @@
-use Rattle.ticket_gate.specs.Gate.{IsSpareOf}
-use Rattle.gate_bench.proofs.seat_passes.Given as goal
-
-abbrev pub invariant-loop : goal.invariant-loop
-invariant-loop g l = IsSpareOf l.gate l.spare

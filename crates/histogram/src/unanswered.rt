@@ -1,0 +1,83 @@
+//! When the commands of a connection were accepted that are unanswered.
+
+use crate::histogram::Histogram;
+use std::alloc::Global;
+use std::collections::VecDeque;
+
+// So many commands were accepted at one moment.
+#[derive(Clone, Copy, Drop)]
+struct Run {
+    since: u64,
+    count: u64,
+}
+
+const NONE: Run = Run { since: 0, count: 0 };
+
+/// The moments, in milliseconds of one clock, at which the unanswered commands of one connection were accepted. Answers leave
+/// in the order of commands.
+#[derive(Drop)]
+pub struct Unanswered {
+    // Those that were accepted first, and those after them in their order; none of these is empty.
+    first: Run,
+    later: VecDeque<Run>,
+}
+
+impl Unanswered {
+    /// None is unanswered.
+    pub fn new(alloc: Global) -> Unanswered {
+        Unanswered {
+            first: NONE,
+            later: VecDeque::new(alloc),
+        }
+    }
+
+    /// So many commands were accepted at this moment. Where there is no memory for a further moment they are told as accepted
+    /// with those before them.
+    pub fn accepted(&mut self, now: u64, count: u64) {
+        if count == 0 {
+            return;
+        }
+        if self.first.count == 0 {
+            self.first = Run { since: now, count };
+            return;
+        }
+        let is_new = self.last_since() != now;
+        if !is_new || self.later.push_back(Run { since: now, count }).is_err() {
+            self.join_last(count);
+        }
+    }
+
+    // When the last of them were accepted.
+    fn last_since(&self) -> u64 {
+        match self.later.back() {
+            Some(last) => last.since,
+            None => self.first.since,
+        }
+    }
+
+    // So many more were accepted with the last of them.
+    fn join_last(&mut self, count: u64) {
+        if let Some(last) = self.later.back_mut() {
+            last.count = last.count.saturating_add(count);
+            return;
+        }
+        self.first.count = self.first.count.saturating_add(count);
+    }
+
+    /// So many were answered at this moment: how long each took is recorded.
+    pub fn answered(&mut self, now: u64, count: u64, durations: &mut Histogram) {
+        let mut left = count;
+        for _ in 0..count {
+            let some = left.min(self.first.count);
+            if some == 0 {
+                return;
+            }
+            durations.record_times(now.saturating_sub(self.first.since), some);
+            left -= some;
+            self.first.count -= some;
+            if self.first.count == 0 {
+                self.first = self.later.pop_front().unwrap_or(NONE);
+            }
+        }
+    }
+}

@@ -1,0 +1,24 @@
+-- What a crate above cites: a core that counts, and what it tells, may go to another thread.
+use denote.Param.Send.{IsSend, sendable}
+use Rattle.std.proofs.Crossing.{crosses}
+use Rattle.proxy_core.proofs.CallerLemmas.{core_send}
+use Rattle.proxy_core.specs.contracts.handover.Handover as Handover
+use Rattle.proxy_stats.specs.contracts.tally.Counts as Counts
+use Rattle.proxy_stats.specs.contracts.load.Load as Load
+use Rattle.proxy_stats.specs.contracts.counted.Counted as Counted
+use Rattle.proxy_stats.specs.contracts.counted.Sight as Sight
+
+pub counts_send : IsSend Counts.the_row
+counts_send = search (crosses, sendable) depth 30 fits 20000
+
+pub load_send : IsSend Load.the_row
+load_send = search (crosses, sendable) depth 30 fits 20000
+
+handover_send : IsSend Handover.the_row
+handover_send = search (crosses, sendable) depth 40 fits 20000
+
+pub sight_send : IsSend Sight.the_row
+sight_send = search (handover_send, counts_send, load_send, crosses, sendable) depth 40 fits 20000
+
+pub counted_send : IsSend Counted.the_row
+counted_send = search (core_send, counts_send, crosses, sendable) depth 40 fits 20000

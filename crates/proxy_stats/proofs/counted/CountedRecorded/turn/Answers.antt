@@ -1,0 +1,22 @@
+use Rattle.std.proofs.Common.{◌≡◌, ◌++◌, ◌∷◌, [], List, sym, ◌∙◌, subst}
+use Rattle.std.specs.Prelude.{Result, IfOk}
+use Rattle.journal_core.specs.Journal.{step_by}
+use Rattle.proxy_history.specs.History.{Step}
+use Rattle.proxy_history.specs.declared.answer.Answer.{Answer}
+use Rattle.proxy_history.specs.declared.event.Event.{Event}
+use Rattle.proxy_history.specs.declared.refusal.Refusal.{Refusal}
+use Rattle.proxy_stats.specs.Counted.{AreKept}
+use Rattle.proxy_stats.specs.declared.tally.Counts.{Counts}
+use Rattle.proxy_stats.proofs.Kept.{kept_last}
+use Rattle.proxy_stats.proofs.counted.CountedRecorded.turn.Goals as goal
+
+pub invariant_of-self : goal.invariant_of-self
+invariant_of-self c =
+    let old : List Step = c.self.inside.core.steps in
+    let steps : List Step = c.turn-result.new.self.steps in
+    let step : Step = step_by c.args.pass c.args.event c.in-Ok.field-0 in
+    let more : steps ≡ old ++ step ∷ [] =
+    subst (λ (r : Result Answer (Refusal × Event)). IfOk r (λ a. steps ≡ old ++ step_by c.args.pass c.args.event a ∷ [])) c.in-Ok.is c.turn-result.ensures.answered in
+    let counted = c.count_last.ensures old step (c.journal.ensures.steps ∙ more) in
+    let kept : AreKept old c.deref_mut.result.now = subst (λ (n : Counts). AreKept old n) (sym c.deref_mut.ensures.value) c.self.invariant in
+    subst (λ (l : List Step). AreKept l c.count_last.new.counts) (sym more) (kept_last old step _ _ kept counted)

@@ -1,0 +1,145 @@
+//! A core that counts what it does.
+ghost use Rattle.std.specs.Prelude.{◌≡◌, ◌∷◌, [], ◌++◌, List, IfOk};
+ghost use Rattle.proxy_history.specs.History.{Step as StepOf};
+ghost use Rattle.proxy_stats.specs.Counted.{HasCounted, counts_of};
+ghost use Rattle.proxy_stats.specs.Sums.{AreCounts};
+
+use crate::counting::counts_of;
+use crate::load::{Load, load_of};
+use crate::tally::Counts;
+use ejector::EjectState;
+use ketama::Ring;
+use proxy_core::{Answer, Core, Event, Handover, Journal, Refusal};
+use std::alloc::{AllocError, Global};
+use std::boxed::Box;
+use std::marker::Model;
+use ticket_gate::Recorded;
+
+/// A core, with counts of what it did. Contracts see the core.
+#[derive(Drop)]
+pub struct Counted {
+    core: Core,
+    // On the heap, since a gate moves its state in and out at each turn.
+    counts: Box<Counts>,
+}
+
+/// What a look at a core that counts tells. All of it is of one moment.
+#[derive(Drop)]
+pub struct Sight {
+    /// What another core would need to go on from here.
+    pub handover: Handover,
+
+    /// What happened so far.
+    pub counts: Counts,
+
+    /// How the core stands.
+    pub load: Load,
+}
+
+impl Model for Counted {
+    ghost use Rattle.proxy_history.specs.Proxy.{Proxy};
+
+    ghost Value = { Proxy };
+
+    ghost use Rattle.std.specs.Coded.{codes};
+    ghost use Rattle.resp_core.specs.Code.{tree_code};
+    ghost use Rattle.proxy_stats.specs.Counted.{AreKept};
+
+    ghost coded = { Prim.hlevel (codes, tree_code) };
+
+    ghost view = { λ c. c.core };
+
+    ghost invariant = { λ c. AreKept c.core.steps c.counts.value };
+}
+
+impl Counted {
+    /// The core, which counts from here on. What it did already is counted.
+    ///
+    /// Refused where there is no memory for the counts; the core is dropped then.
+    pub fn new(alloc: Global, core: Core) -> Result<Counted, AllocError>
+        ensures { IfOk result (λ c. c ≡ core) }
+    {
+        let counts = counts_of(core.journal());
+        match Box::new(alloc, counts) {
+            Ok(counts) => Ok(Counted { core, counts }),
+            Err(refused) => {
+                drop(refused);
+                Err(AllocError)
+            }
+        }
+    }
+
+    /// What happened so far: each number is the sum over the steps of the core's journal. It takes no
+    /// memory, and the same time for each length of the journal.
+    pub fn counts(&self) -> &Counts
+        ensures sums { AreCounts self.now.steps result.now }
+        ensures value { result.now ≡ counts_of self.now.steps }
+    {
+        let _journal = self.core.journal();
+        &self.counts
+    }
+
+    /// The core.
+    pub fn core(&self) -> &Core
+        ensures { result.now ≡ self.now }
+    {
+        &self.core
+    }
+}
+
+impl Recorded for Counted {
+    ghost use Rattle.proxy_core.specs.Recorded.{journal_of, made_with, IsLegalJournal, IsCauseIn, legal_at_first, legal_before};
+    ghost use Rattle.proxy_stats.specs.Counted.{sight_of};
+
+    type Event = Event;
+
+    type Answer = Answer;
+
+    type Refusal = Refusal;
+
+    type Setting = (Ring, EjectState);
+
+    type Sight = Sight;
+
+    ghost journal = { journal_of };
+
+    ghost setting = { made_with };
+
+    ghost legal = { IsLegalJournal };
+
+    ghost cause = { IsCauseIn };
+
+    ghost sight_of = { sight_of };
+
+    fn sight(&self) -> Sight {
+        Sight {
+            handover: Recorded::sight(&self.core),
+            counts: *self.counts(),
+            load: load_of(&self.core),
+        }
+    }
+
+    #[inline(always)]
+    fn turn(&mut self, pass: u64, event: Event) -> Result<Answer, (Refusal, Event)> {
+        let result = Recorded::turn(&mut self.core, pass, event);
+        if let Ok(_) = &result {
+            count_last(self.core.journal(), &mut self.counts);
+        }
+        result
+    }
+
+    ghost legal_at_first = { legal_at_first };
+
+    ghost legal_before = { legal_before };
+}
+
+// Adds what the newest step counts.
+fn count_last(journal: &Journal<Event, Answer>, counts: &mut Counts)
+    ensures { (steps : List StepOf) (step : StepOf) → journal.now.steps ≡ steps ++ step ∷ []
+        → HasCounted counts.old step counts.new }
+{
+    let last = journal.len().saturating_sub(1);
+    if let Some(step) = journal.get(last) {
+        counts.add(step);
+    }
+}

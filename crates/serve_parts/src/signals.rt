@@ -1,0 +1,72 @@
+//! Signals that wait for the process, as `/proc/self/status` tells them.
+//!
+//! A process that was started with a signal blocked, as by `env --block-signal=TERM`, isn't ended by it: the signal waits. The
+//! system tells those that wait in the line `ShdPnd`, and those that are blocked in the line `SigBlk`, each as a hexadecimal
+//! number in which signal n is bit n - 1.
+
+const INT: u64 = 1 << 1;
+
+const TERM: u64 = 1 << 14;
+
+const WAITING: &[u8] = b"\nShdPnd:\t";
+
+const BLOCKED: &[u8] = b"\nSigBlk:\t";
+
+/// What was asked of the process by SIGTERM and SIGINT.
+#[derive(Clone, Copy, Debug, PartialEq, Eq)]
+pub enum Asked {
+    /// Neither waits.
+    Nothing,
+    /// One of them waits: the process is to end in order.
+    Drain,
+    /// Both wait: the process is to end at once.
+    Quit,
+}
+
+/// What SIGTERM and SIGINT ask of the process whose status this is. Where the status doesn't tell, nothing is asked.
+pub fn asked_by_signals(status: &[u8]) -> Asked {
+    let waiting = number_behind(status, WAITING) & (INT | TERM);
+    if waiting == INT | TERM {
+        Asked::Quit
+    } else if waiting == 0 {
+        Asked::Nothing
+    } else {
+        Asked::Drain
+    }
+}
+
+/// Whether SIGTERM would wait for the process whose status this is, and not end it.
+pub fn is_term_blocked(status: &[u8]) -> bool {
+    number_behind(status, BLOCKED) & TERM != 0
+}
+
+fn number_behind(status: &[u8], name: &[u8]) -> u64 {
+    match behind(status, name) {
+        Some(digits) => number(digits),
+        None => 0,
+    }
+}
+
+// What stands behind the first place where the text is.
+fn behind<'a>(status: &'a [u8], text: &[u8]) -> Option<&'a [u8]> {
+    for start in 0..status.len() {
+        if let Some(rest) = status[start..].strip_prefix(text) {
+            return Some(rest);
+        }
+    }
+    None
+}
+
+// The hexadecimal number at the front, of at most 16 digits.
+fn number(digits: &[u8]) -> u64 {
+    let mut sum = 0u64;
+    for digit in digits.iter().take(16) {
+        let value = match *digit {
+            b'0'..=b'9' => *digit - b'0',
+            b'a'..=b'f' => *digit - b'a' + 10,
+            _ => return sum,
+        };
+        sum = (sum << 4) | u64::from(value);
+    }
+    sum
+}

@@ -1,0 +1,117 @@
+//! The sockets of clients: which are taken, and when the serving is done.
+ghost use Rattle.std.specs.Prelude.{◌≡◌, ◌↔◌, IsTrue};
+ghost use Rattle.std.specs.Bool.{OnTrue, OnFalse};
+
+use std::marker::Model;
+
+/// So many sockets of clients are open at a time, over all generations.
+pub const MAX_SOCKETS: u64 = 4_096;
+
+/// The sockets of clients of one run of `redproxy serve`, counted over all its generations.
+///
+/// A socket is open from `accept` to `let_go`. Its connection is closed before that, once; a socket that goes over from one
+/// generation to the next stays open, and its connection isn't closed.
+#[derive(Debug, Drop)]
+pub struct Sockets {
+    most: u64,
+    count: u64,
+    closed: u64,
+    is_draining: bool,
+}
+
+impl Model for Sockets {
+    ghost use Rattle.std.specs.Prelude.{◌≤◌};
+    ghost use Rattle.serve_parts.specs.declared.sockets.TheConstants.{MAX_SOCKETS};
+    ghost use Rattle.serve_parts.specs.Sockets.{SocketCounts};
+
+    ghost Value = { SocketCounts };
+
+    ghost view = { λ s. record {
+      most = s.most;
+      count = s.count;
+      closed = s.closed;
+      is_draining = s.is_draining;
+    } };
+
+    ghost invariant = { λ s. s.count ≤ MAX_SOCKETS };
+}
+
+impl Sockets {
+    ghost use Rattle.serve_parts.specs.Sockets.{
+      no_sockets,
+      one_more_open,
+      one_less_open,
+      one_more_closed,
+      draining,
+      MayOpen,
+      AreDone,
+    };
+
+    /// None is open and none was closed. After `most` closed connections the serving is done; 0 is never.
+    pub fn new(most: u64) -> Sockets
+        ensures { result ≡ no_sockets most }
+    {
+        Sockets {
+            most,
+            count: 0,
+            closed: 0,
+            is_draining: false,
+        }
+    }
+
+    /// A new socket came. `true`: it is taken, and open from here on. `false`: nothing changes, and it is to be closed, since
+    /// `MAX_SOCKETS` are open, or none is taken any more.
+    pub fn accept(&mut self) -> bool
+        ensures taken { IsTrue result ↔ MayOpen self.old }
+        ensures counted { OnTrue result (self.new ≡ one_more_open self.old) }
+        ensures same { OnFalse result (self.new ≡ self.old) }
+    {
+        let may_open = !self.is_draining && self.count < MAX_SOCKETS;
+        if may_open {
+            self.count += 1;
+        }
+        may_open
+    }
+
+    /// A socket was let go. Ignored where none is open.
+    pub fn let_go(&mut self)
+        ensures { self.new ≡ one_less_open self.old }
+    {
+        self.count = self.count.saturating_sub(1);
+    }
+
+    /// The connection of a socket was closed. At 2^64 - 1 the count stays.
+    pub fn close(&mut self)
+        ensures { self.new ≡ one_more_closed self.old }
+    {
+        self.closed = self.closed.saturating_add(1);
+    }
+
+    /// From here on no new socket is taken, and the serving is done once none is open.
+    pub fn drain(&mut self)
+        ensures { self.new ≡ draining self.old }
+    {
+        self.is_draining = true;
+    }
+
+    /// Whether the serving is done: as many connections have closed as are waited for, or it drains and no socket is open.
+    pub fn are_done(&self) -> bool
+        ensures { IsTrue result ↔ AreDone self.now }
+    {
+        (self.most != 0 && self.closed >= self.most) || (self.is_draining && self.count == 0)
+    }
+
+    /// How many sockets are open.
+    pub fn count(&self) -> u64
+        ensures { result ≡ self.now.count }
+    {
+        self.count
+    }
+
+    /// How many connections have closed.
+    pub fn closed(&self) -> u64
+        ensures { result ≡ self.now.closed }
+    {
+        self.closed
+    }
+}
