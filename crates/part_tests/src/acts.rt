@@ -1,6 +1,6 @@
 //! Scenes: lists of acts that one rig plays.
 
-use crate::devices::{Feed, Taken, Text};
+use crate::fake_devices::{Feed, Taken, Text};
 use crate::journal::{
     Deed, Loss, begins_sent, count, handed_before_last_arrival, last_loss, last_trip, sent_in,
     sent_len,

@@ -1,7 +1,7 @@
 //! Clients whose readers and writers fail, whose writers take nothing, and who never read.
 
 use crate::acts::{Act, Fault, play};
-use crate::devices::{Feed, Text};
+use crate::fake_devices::{Feed, Text};
 use crate::journal::Deed;
 use crate::rig::{Ends, Link, Told};
 use crate::texts::{Exchange, GET, NOTHING, OTHER_KEYS, PINGS, SET_AND_MGET};

@@ -1,7 +1,7 @@
 //! Hosts that answer in part, too much, wrongly, late or never, over links that fail at any byte.
 
 use crate::acts::{Act, Fault, play};
-use crate::devices::{Feed, Text};
+use crate::fake_devices::{Feed, Text};
 use crate::journal::Deed;
 use crate::rig::{Ends, Link, Peer, REPLY_MS, Told};
 use crate::texts::{FAILURE, GET, NOTHING, SET};

@@ -11,7 +11,7 @@ mod client_lies;
 #[cfg(test)]
 mod core_at_gate;
 #[cfg(test)]
-mod devices;
+mod fake_devices;
 #[cfg(test)]
 mod gate;
 #[cfg(test)]

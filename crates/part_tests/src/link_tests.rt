@@ -1,6 +1,6 @@
 //! The ends of a link to a stub: requests in pieces and many at a time, its scripts, and replies that nobody reads.
 
-use crate::devices::{Taken, Text};
+use crate::fake_devices::{Taken, Text};
 use crate::rig::stub;
 use crate::texts::GET;
 use proxy_engines::EngineError;

@@ -1,7 +1,7 @@
 //! Turns that are refused for want of a ticket, and made again.
 
 use crate::acts::{Act, Fault, record};
-use crate::devices::{Feed, Text};
+use crate::fake_devices::{Feed, Text};
 use crate::journal::go_alike;
 use crate::rig::{Ends, Link};
 use crate::texts::{BOTH_ANSWERS, EXCHANGES, Exchange, SET_AND_MGET};

@@ -1,7 +1,7 @@
 //! Clients and hosts over one core, stepped in turn until nothing moves.
 ghost use Rattle.std.specs.Prelude.{◌≡◌, [], IfOk, None};
 
-use crate::devices::{Feed, Reader, Source, Taken, Writer};
+use crate::fake_devices::{Feed, Reader, Source, Taken, Writer};
 use crate::journal::{Deed, last_deed};
 use crate::stage::{Stage, Visitor};
 use crate::turns::{Ration, Rationed};

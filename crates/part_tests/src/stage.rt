@@ -1,6 +1,6 @@
 //! What stands around the engines: what clients and a host say, and what each is told.
 
-use crate::devices::{Feed, Taken};
+use crate::fake_devices::{Feed, Taken};
 use std::alloc::Global;
 use std::cell::Cell;
 
