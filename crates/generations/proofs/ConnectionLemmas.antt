@@ -1,7 +1,7 @@
 -- Which generations have connections.
 use Rattle.std.proofs.Common.{◌≡◌, ◌⊎◌, ◌==◌, ◌||◌, ◌&&◌, not, ℕ, true, false, Some, None, List, [], ◌∷◌, inl, inr, ap, arith}
 use Rattle.std.proofs.lemmas.Bool.{eq-eqb, eqb-true, ne_eqb, or_cases, or_left, or_right, and_parts, and_from, not-true, not_from_false, false_from_ne_true}
-use Rattle.generations.specs.Events.{Event, Taken, Opened, Failed, Near, Full, Drained, Swept, newest, draining, has_connections}
+use Rattle.generations.specs.Events.{Event, Taken, Opened, Failed, Near, Full, Progressed, Drained, Swept, newest, draining, has_connections}
 use Rattle.generations.specs.History.{IsHistory}
 use Rattle.generations.proofs.HistoryLemmas.{ordered, same}
 
@@ -35,6 +35,7 @@ module _ {H : Type 0} where
   connected (Failed m ∷ es) (may, h) n c = connected es h n c
   connected (Near m t ∷ es) (may, h) n c = connected es h n c
   connected (Full m t x ∷ es) (may, h) n c = connected es h n c
+  connected (Progressed m t ∷ es) (may, h) n c = connected es h n c
   connected (Drained m ∷ es) (may, h) n c = connected_drained m n es may (connected es h n) c
   connected (Swept m t ∷ es) (may, h) n c = connected es h n c
 
@@ -48,6 +49,7 @@ module _ {H : Type 0} where
   connects (Failed m ∷ es) (may, h) n o = connects es h n o
   connects (Near m t ∷ es) (may, h) n o = connects es h n o
   connects (Full m t x ∷ es) (may, h) n o = connects es h n o
+  connects (Progressed m t ∷ es) (may, h) n o = connects es h n o
   connects (Drained m ∷ es) (may, h) n (inl e) =
       let less = (ordered es h).older m n may e in
       and_from (not (m == n)) (has_connections n es) (not_from_false (m == n) (ne_eqb m n (λ is. omega arith))) (connects es h n (inl e))

@@ -1,6 +1,6 @@
 -- What holds of each history.
 use Rattle.std.proofs.Common.{◌≡◌, ◌≢◌, ◌<◌, ◌≤◌, ℕ, true, Some, None, List, [], ◌∷◌, refl, sym, arith}
-use Rattle.generations.specs.Events.{Event, Taken, Opened, Failed, Near, Full, Drained, Swept, newest, draining, is_asked, last_number, asker, opening}
+use Rattle.generations.specs.Events.{Event, Taken, Opened, Failed, Near, Full, Progressed, Drained, Swept, newest, draining, is_asked, last_number, asker, opening}
 use Rattle.generations.specs.History.{IsHistory}
 
 -- one number
@@ -54,7 +54,7 @@ module _ {H : Type 0} where
         newer = o.newer;
         by_newest = λ a. absurd cc;
       }
-  ordered (Near n t ∷ es) (may, h) =
+  ordered (Near n t ∷ es) ((may, still), h) =
       let o = ordered es h in record {
         below = o.below;
         fresh = o.fresh;
@@ -71,6 +71,15 @@ module _ {H : Type 0} where
         older = o.older;
         newer = o.newer;
         by_newest = λ a. sym is;
+      }
+  ordered (Progressed n t ∷ es) (may, h) =
+      let o = ordered es h in record {
+        below = o.below;
+        fresh = o.fresh;
+        opens = o.opens;
+        older = o.older;
+        newer = o.newer;
+        by_newest = o.by_newest;
       }
   ordered (Drained n ∷ es) (may, h) =
       let o = ordered es h in record {

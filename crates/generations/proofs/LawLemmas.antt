@@ -1,8 +1,8 @@
 -- What follows from each history.
 use Rattle.std.proofs.Common.{◌≡◌, ◌⊎◌, ◌↔◌, ◌++◌, ℕ, true, Option, Some, None, unwrap_or, List, [], ◌∷◌, inl, inr, refl, ap}
 use Rattle.std.specs.Prelude.{IsSome}
-use Rattle.generations.specs.Events.{Event, Taken, Opened, Failed, Near, Full, Drained, Swept, newest, draining, has_connections, is_asked, near_since}
-use Rattle.generations.specs.History.{IsHistory}
+use Rattle.generations.specs.Events.{Event, Taken, Opened, Failed, Near, Full, Progressed, Drained, Swept, newest, draining, has_connections, is_asked, near_since}
+use Rattle.generations.specs.History.{IsHistory, IsStill}
 use Rattle.generations.specs.Laws.{OpensInTurn, CameNear, CameFull}
 use Rattle.generations.proofs.HistoryLemmas.{ordered, same}
 use Rattle.generations.proofs.ConnectionLemmas.{connected, connects}
@@ -27,16 +27,25 @@ module _ {H : Type 0} where
     are = ap (λ l. e ∷ l) came.are;
     by_newest = came.by_newest;
     drained = came.drained;
+    is_still = came.is_still;
   }
 
   -- at the event that says so
   near_at : (m t n since : ℕ) (es : List (Event H)) (before : Option ℕ) → near_since es ≡ before
       → (near_since es ≡ Some since → CameNear n since es) → newest es ≡ Some m → draining es ≡ Some n
-      → Some (unwrap_or before t) ≡ Some since → CameNear n since (Near m t ∷ es)
-  near_at m t n since es None is earlier may d e =
-      let at : t ≡ since = same t since e in
-      record { by = m; later = []; earlier = es; are = ap (λ x. Near m x ∷ es) at; by_newest = may; drained = d }
-  near_at m t n since es (Some first) is earlier may d e = near_later (Near m t) n since es (earlier cc)
+      → (draining es ≡ None) ⊎ IsStill es t → Some (unwrap_or before t) ≡ Some since → CameNear n since (Near m t ∷ es)
+  near_at m t n since es None is earlier may d (inl none) e = absurd cc
+  near_at m t n since es None is earlier may d (inr still) e =
+      let at : t ≡ since = same t since e in record {
+        by = m;
+        later = [];
+        earlier = es;
+        are = ap (λ x. Near m x ∷ es) at;
+        by_newest = may;
+        drained = d;
+        is_still = rw at at still;
+      }
+  near_at m t n since es (Some first) is earlier may d still e = near_later (Near m t) n since es (earlier cc)
 
   pub given_up_if_near : (es : List (Event H)) → IsHistory es → (n since : ℕ) → draining es ≡ Some n → near_since es ≡ Some since
       → CameNear n since es
@@ -44,10 +53,12 @@ module _ {H : Type 0} where
   given_up_if_near (Taken m ∷ es) (may, h) n since d near = near_later (Taken m) n since es (given_up_if_near es h n since d near)
   given_up_if_near (Opened m t ∷ es) (may, h) n since d near = absurd cc
   given_up_if_near (Failed m ∷ es) (may, h) n since d near = near_later (Failed m) n since es (given_up_if_near es h n since d near)
-  given_up_if_near (Near m t ∷ es) (may, h) n since d near =
-      near_at m t n since es (near_since es) refl (λ e. given_up_if_near es h n since d e) may d near
+  given_up_if_near (Near m t ∷ es) ((may, still), h) n since d near =
+      near_at m t n since es (near_since es) refl (λ e. given_up_if_near es h n since d e) may d still near
   given_up_if_near (Full m t x ∷ es) (may, h) n since d near =
       near_later (Full m t x) n since es (given_up_if_near es h n since d near)
+  given_up_if_near (Progressed m t ∷ es) (may, h) n since d near =
+      near_later (Progressed m t) n since es (given_up_if_near es h n since d near)
   given_up_if_near (Drained m ∷ es) (may, h) n since d near = absurd cc
   given_up_if_near (Swept m t ∷ es) (may, h) n since d near =
       near_later (Swept m t) n since es (given_up_if_near es h n since d near)
@@ -89,6 +100,7 @@ module _ {H : Type 0} where
       gave_up = long;
     }
   ]
+  stops_if_full (Progressed m t ∷ es) (may, h) n d asked = full_later (Progressed m t) n es (stops_if_full es h n d asked)
   stops_if_full (Drained m ∷ es) (may, h) n d asked = absurd cc
   stops_if_full (Swept m t ∷ es) (may, h) n d asked = full_later (Swept m t) n es (stops_if_full es h n d asked)
 
@@ -99,5 +111,6 @@ module _ {H : Type 0} where
   one_is_open (Failed m ∷ later) earlier n now = one_is_open later earlier n now
   one_is_open (Near m t ∷ later) earlier n now = one_is_open later earlier n now
   one_is_open (Full m t x ∷ later) earlier n now = one_is_open later earlier n now
+  one_is_open (Progressed m t ∷ later) earlier n now = one_is_open later earlier n now
   one_is_open (Drained m ∷ later) earlier n now = one_is_open later earlier n now
   one_is_open (Swept m t ∷ later) earlier n now = one_is_open later earlier n now

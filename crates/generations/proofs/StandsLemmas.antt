@@ -2,18 +2,18 @@
 use Rattle.std.proofs.Common.{◌≡◌, ◌⊎◌, ◌↔◌, ◌<◌, ◌≤◌, ◌+◌, ◌-◌, ◌^◌, ℕ, Bool, true, false, Option, Some, None, unwrap_or, is_some, not, IfSome, IsNone, List, ◌∷◌, inl, inr, refl, sym, ap, arith}
 use Rattle.std.proofs.lemmas.Bool.{eq-eqb, ne_eqb, cases_eq}
 use Rattle.std.specs.Prelude.{IsSome}
-use Rattle.generations.specs.Events.{Event, Opened, Failed, Near, Full, Swept, newest, draining, has_connections, is_asked, near_since, failures, handover, last_number, last_sweep, opening}
-use Rattle.generations.specs.History.{MayHappen, IsHistory, HasGivenUp}
+use Rattle.generations.specs.Events.{Event, Opened, Failed, Near, Full, Progressed, Swept, newest, draining, has_connections, is_asked, near_since, failures, handover, last_number, last_sweep, opening}
+use Rattle.generations.specs.History.{MayHappen, IsHistory, HasGivenUp, IsStill}
 use Rattle.generations.specs.Stands.{Settings, Stands, Tells, open_of, next_of}
-use Rattle.generations.specs.Kept.{IsNumber, HadTime}
+use Rattle.generations.specs.Kept.{IsNumber, HadTime, MayBeLeft}
 use Rattle.generations.specs.declared.opened.Open.{Open}
-use Rattle.generations.specs.declared.course.Next.TheVariants.{Unasked, Wanted, Opening}
-use Rattle.generations.specs.declared.course.Generations.{Generations}
+use Rattle.generations.specs.declared.lifecycle.Next.TheVariants.{Unasked, Wanted, Opening}
+use Rattle.generations.specs.declared.lifecycle.Generations.{Generations}
 use Rattle.generations.proofs.HistoryLemmas.{IsOrdered, ordered, same}
 use Rattle.generations.proofs.ConnectionLemmas.{connected, connects, apart, not_gone, gone}
 use Rattle.std.specs.Option.{SomeIff}
-use Rattle.generations.specs.Course.{IsCourse}
-use Rattle.generations.specs.declared.course.Course.TheVariants.{Serves, Drains, GivesUp, Stops}
+use Rattle.generations.specs.Phase.{IsPhase}
+use Rattle.generations.specs.declared.lifecycle.Phase.TheVariants.{Serving, Draining, GivingUp, Stopped}
 
 same_kept : (a b : Open) → Some a ≡ Some b → a ≡ b
 same_kept a b e = cc
@@ -103,6 +103,8 @@ module _ {H : Type 0} where
         newest = Some (record { number = n; swept = swept });
         older = m.newest;
         near_since = None;
+        still_since = Some t;
+        drains_since = Some t;
         next = Unasked;
       }) s (Opened n t ∷ es)
   stands_opened m s es n t swept st o is =
@@ -117,6 +119,8 @@ module _ {H : Type 0} where
         older_is = let was = st.newest_is in
             let stays = open_of-opened n t es (newest es) (λ k e is_k. let less = order.fresh k e opens.1 in omega (arith, opens.0)) in cc;
         near_is = refl;
+        still_is = refl;
+        drains_is = refl;
         next_is = refl;
         asked_is = st.asked_is;
         handed_is = st.handed_is;
@@ -141,6 +145,8 @@ module _ {H : Type 0} where
     newest_is = st.newest_is;
     older_is = st.older_is;
     near_is = st.near_is;
+    still_is = st.still_is;
+    drains_is = st.drains_is;
     next_is = refl;
     asked_is = st.asked_is;
     handed_is = st.handed_is;
@@ -195,15 +201,54 @@ module _ {H : Type 0} where
           newest_is = st.newest_is;
           older_is = st.older_is;
           near_is = st.near_is;
+          still_is = st.still_is;
+          drains_is = st.drains_is;
           next_is = rw none refl;
           asked_is = omega arith;
           handed_is = ap Some swept_is;
         },
       )
 
+  -- nothing keeps an older one from being given up
+  pub may_be_left : (m : Generations H) (s : Settings) (es : List (Event H)) (now : ℕ) → Stands m s es
+      → MayBeLeft m now ↔ ((draining es ≡ None) ⊎ IsStill es now)
+  may_be_left m s es now st =
+      let none = none_is es (draining es) m.older st.older_is in
+      let still = st.still_is in
+      let drains = st.drains_is in (
+        λ x. elim x [
+          | inl e ↦ inl (none.0 e)
+          | inr (inl (since, e, long)) ↦ inr (inl (since, cc, long))
+          | inr (inr (since, e, long)) ↦ inr (inr (since, cc, long))
+        ],
+        λ x. elim x [
+          | inl e ↦ inl (none.1 e)
+          | inr (inl (since, e, long)) ↦ inr (inl (since, cc, long))
+          | inr (inr (since, e, long)) ↦ inr (inr (since, cc, long))
+        ],
+      )
+
+  -- once a host answered it
+  pub stands_progressed : (m : Generations H) (s : Settings) (es : List (Event H)) (n now : ℕ) → Stands m s es
+      → draining es ≡ Some n → Stands (record m { still_since = Some now }) s (Progressed n now ∷ es)
+  stands_progressed m s es n now st may = record {
+    may = (may, st.may);
+    interval_is = st.interval_is;
+    most_is = st.most_is;
+    tries_are = st.tries_are;
+    newest_is = st.newest_is;
+    older_is = st.older_is;
+    near_is = st.near_is;
+    still_is = refl;
+    drains_is = st.drains_is;
+    next_is = st.next_is;
+    asked_is = st.asked_is;
+    handed_is = st.handed_is;
+  }
+
   -- once it said that it is near its marks
   pub stands_near : (m : Generations H) (s : Settings) (es : List (Event H)) (by now since : ℕ) → Stands m s es
-      → newest es ≡ Some by → since ≡ unwrap_or m.near_since now
+      → MayHappen (Near by now) es → since ≡ unwrap_or m.near_since now
       → Stands (record m { near_since = Some since }) s (Near by now ∷ es)
   stands_near m s es by now since st may is =
       let near = st.near_is in record {
@@ -214,6 +259,8 @@ module _ {H : Type 0} where
         newest_is = st.newest_is;
         older_is = st.older_is;
         near_is = ap Some (rw (← near) is);
+        still_is = st.still_is;
+        drains_is = st.drains_is;
         next_is = st.next_is;
         asked_is = st.asked_is;
         handed_is = st.handed_is;
@@ -229,7 +276,7 @@ module _ {H : Type 0} where
   number_older m s es n st = number_is es (draining es) m.older n st.older_is
 
   -- what the newest one is to do
-  pub serves : (es : List (Event H)) → IsHistory es → (n : ℕ) → newest es ≡ Some n → IsCourse Serves es n
+  pub serves : (es : List (Event H)) → IsHistory es → (n : ℕ) → newest es ≡ Some n → IsPhase Serving es n
   serves es h n e = record {
     serves = (λ x. e, λ x. refl);
     drains = (λ x. absurd cc, λ x. absurd (apart es h n e x.0.0));
@@ -245,7 +292,7 @@ module _ {H : Type 0} where
 
   -- what one is to do that is neither
   pub is_gone : (es : List (Event H)) → IsHistory es → (n : ℕ) → (newest es ≡ Some n → ⊥) → (draining es ≡ Some n → ⊥)
-      → IsCourse Stops es n
+      → IsPhase Stopped es n
   is_gone es h n not_newest not_draining = record {
     serves = (λ x. absurd cc, λ e. absurd (not_newest e));
     drains = (λ x. absurd cc, λ x. absurd (not_draining x.0.0));
@@ -255,7 +302,7 @@ module _ {H : Type 0} where
 
   -- what the draining one is to do where a further one is asked for
   pub is_in_the_way : (es : List (Event H)) → IsHistory es → (n : ℕ) → draining es ≡ Some n → is_asked es ≡ true
-      → IsCourse Stops es n
+      → IsPhase Stopped es n
   is_in_the_way es h n e asked = record {
     serves = (λ x. absurd cc, λ f. absurd (apart es h n f e));
     drains = (λ x. absurd cc, λ x. absurd (let other = x.0.1 in cc));
@@ -265,7 +312,7 @@ module _ {H : Type 0} where
 
   -- and where none is
   pub gives_up : (es : List (Event H)) → IsHistory es → (n : ℕ) → draining es ≡ Some n → is_asked es ≡ false → IsSome (near_since es)
-      → IsCourse GivesUp es n
+      → IsPhase GivingUp es n
   gives_up es h n e unasked near = record {
     serves = (λ x. absurd cc, λ f. absurd (apart es h n f e));
     drains = (λ x. absurd cc, λ x. absurd (let other = x.1 in cc));
@@ -280,7 +327,7 @@ module _ {H : Type 0} where
   }
 
   pub drains : (es : List (Event H)) → IsHistory es → (n : ℕ) → draining es ≡ Some n → is_asked es ≡ false → near_since es ≡ None
-      → IsCourse Drains es n
+      → IsPhase Draining es n
   drains es h n e unasked near = record {
     serves = (λ x. absurd cc, λ f. absurd (apart es h n f e));
     drains = (λ x. ((e, unasked), near), λ x. refl);
@@ -373,6 +420,8 @@ module _ {H : Type 0} where
     newest_is = open_of-swept n t es (newest es) m.newest newer st.newest_is a b;
     older_is = open_of-swept n t es (draining es) m.older elder st.older_is c d;
     near_is = st.near_is;
+    still_is = st.still_is;
+    drains_is = st.drains_is;
     next_is = st.next_is;
     asked_is = st.asked_is;
     handed_is = st.handed_is;

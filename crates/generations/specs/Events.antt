@@ -2,13 +2,15 @@
 use Rattle.std.specs.Prelude.{ℕ, Bool, true, false, ◌==◌, ◌&&◌, ◌||◌, ◌+◌, not, if◌then◌else◌, Option, Some, None, unwrap_or, List, [], ◌∷◌}
 
 -- what happens: a generation is given to be opened; it opens, at a moment; it could not be opened; it is near its marks, at a
--- moment; it is full, at a moment, and hands over; its last connection is gone; it makes a sweep, at a moment
+-- moment; it is full, at a moment, and hands over; a host answers commands of it, at a moment; its last connection is gone; it
+-- makes a sweep, at a moment
 pub data Event (H : Type 0) : Type 0 where
   Taken : ℕ → Event H
   Opened : ℕ → ℕ → Event H
   Failed : ℕ → Event H
   Near : ℕ → ℕ → Event H
   Full : ℕ → ℕ → H → Event H
+  Progressed : ℕ → ℕ → Event H
   Drained : ℕ → Event H
   Swept : ℕ → ℕ → Event H
 
@@ -72,6 +74,19 @@ module _ {H : Type 0} where
   near_since (Near n t ∷ es) = Some (unwrap_or (near_since es) t)
   near_since (Opened n t ∷ es) = None
   near_since (_ ∷ es) = near_since es
+
+  -- the moment when a host last answered commands of the one that drains; before the first answer, that when it began to drain
+  abbrev pub still_since : List (Event H) → Option ℕ
+  still_since [] = None
+  still_since (Progressed n t ∷ es) = Some t
+  still_since (Opened n t ∷ es) = Some t
+  still_since (_ ∷ es) = still_since es
+
+  -- the moment when the newest one opened, and the one before it began to drain
+  abbrev pub drains_since : List (Event H) → Option ℕ
+  drains_since [] = None
+  drains_since (Opened n t ∷ es) = Some t
+  drains_since (_ ∷ es) = drains_since es
 
   -- how many failed in a row, with none opened between
   abbrev pub failures : List (Event H) → ℕ

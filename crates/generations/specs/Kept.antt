@@ -1,8 +1,9 @@
 -- How open generations are kept.
-use Rattle.std.specs.Prelude.{◌≡◌, ◌⊎◌, ◌≤◌, ◌+◌, ℕ, Option, Some, None}
-use Rattle.generations.specs.declared.course.Generations.{Generations}
-use Rattle.generations.specs.declared.course.TheConstants.{GIVING_UP_MS}
+use Rattle.std.specs.Prelude.{◌≡◌, ◌⊎◌, ℕ, Option, Some, None}
+use Rattle.generations.specs.declared.lifecycle.Generations.{Generations}
+use Rattle.generations.specs.declared.lifecycle.TheConstants.{GIVING_UP_MS, STILL_MS, MAX_DRAINING_MS}
 use Rattle.generations.specs.declared.opened.Open.{Open}
+use Rattle.generations.specs.Moments.{HavePassed}
 
 -- an open one has this number
 abbrev pub IsNumber : Option Open → ℕ → Type 0
@@ -11,4 +12,9 @@ IsNumber (Some kept) n = kept.number ≡ n
 
 -- no older one is kept, or by this moment it had its time for giving up
 abbrev pub HadTime : {H : Type 0} → Generations H → ℕ → Type 0
-HadTime m now = (m.older ≡ None) ⊎ ((since : ℕ) × (m.near_since ≡ Some since) × (since + GIVING_UP_MS ≤ now))
+HadTime m now = (m.older ≡ None) ⊎ HavePassed m.near_since GIVING_UP_MS now
+
+-- no older one is kept, or by this moment it is still
+abbrev pub MayBeLeft : {H : Type 0} → Generations H → ℕ → Type 0
+MayBeLeft m now = (m.older ≡ None)
+    ⊎ (HavePassed m.still_since STILL_MS now ⊎ HavePassed m.drains_since MAX_DRAINING_MS now)

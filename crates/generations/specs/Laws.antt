@@ -1,8 +1,8 @@
 -- What follows of generations, from what may happen.
 use Rattle.std.specs.Prelude.{◌≡◌, ◌⊎◌, ◌↔◌, ◌<◌, ◌≤◌, ◌+◌, ℕ, true, None, Some, IsSome, List, ◌∷◌, ◌++◌}
-use Rattle.generations.specs.declared.course.TheConstants.{GIVING_UP_MS}
+use Rattle.generations.specs.declared.lifecycle.TheConstants.{GIVING_UP_MS}
 use Rattle.generations.specs.Events.{Event, Opened, Near, Full, newest, draining, has_connections, is_asked, near_since, asker, last_number}
-use Rattle.generations.specs.History.{IsHistory}
+use Rattle.generations.specs.History.{IsHistory, IsStill}
 
 -- At most two generations have connections: the newest one, and the one that opened before it.
 abbrev pub TwoHaveConnections : Type 0 → Type 0
@@ -33,7 +33,7 @@ pub record OpensInTurn {H : Type 0} (n : ℕ) (es : List (Event H)) : Type 0 whe
 abbrev pub AllOpenInTurn : Type 0 → Type 0
 AllOpenInTurn H = (es : List (Event H)) (n now : ℕ) → IsHistory (Opened n now ∷ es) → OpensInTurn n es
 
--- The newest one said at this moment that it is near its marks, while the generation n drained.
+-- The newest one said at this moment that it is near its marks, while the generation n drained and was still.
 pub record CameNear {H : Type 0} (n since : ℕ) (es : List (Event H)) : Type 0 where
   pub by : ℕ
   pub later : List (Event H)
@@ -41,8 +41,10 @@ pub record CameNear {H : Type 0} (n since : ℕ) (es : List (Event H)) : Type 0 
   pub are : es ≡ later ++ Near by since ∷ earlier
   pub by_newest : newest earlier ≡ Some by
   pub drained : draining earlier ≡ Some n
+  pub is_still : IsStill earlier since
 
--- A generation is given up only where the newest one said that it is near its marks, while the older one had connections.
+-- A generation is given up only where the newest one said that it is near its marks, while the older one had connections and
+-- was still.
 abbrev pub GivenUpIfNear : Type 0 → Type 0
 GivenUpIfNear H = (es : List (Event H)) → IsHistory es → (n since : ℕ) → draining es ≡ Some n → near_since es ≡ Some since
     → CameNear n since es

@@ -1,7 +1,8 @@
+pub mod Moments
 pub mod Kept
 pub mod Events
 pub mod History
-pub mod Course
+pub mod Phase
 pub mod Stands
 pub mod Laws
 pub mod Steps

@@ -1,12 +1,12 @@
 -- What `Generations` knows of what happened.
 use Rattle.std.specs.Prelude.{◌≡◌, ◌⊎◌, ◌+◌, ◌-◌, ◌≤◌, ℕ, Bool, true, false, Option, Some, None, List, ◌∷◌}
-use Rattle.generations.specs.Events.{Event, Taken, newest, draining, has_connections, is_asked, near_since, failures, handover, last_number, last_sweep, handed_sweep, opening}
+use Rattle.generations.specs.Events.{Event, Taken, newest, draining, has_connections, is_asked, near_since, still_since, drains_since, failures, handover, last_number, last_sweep, handed_sweep, opening}
 use Rattle.generations.specs.History.{MayHappen, IsHistory, IsDue}
-use Rattle.generations.specs.declared.course.Due.{Due}
+use Rattle.generations.specs.declared.lifecycle.Due.{Due}
 use Rattle.generations.specs.declared.opened.Open.{Open}
-use Rattle.generations.specs.declared.course.Next.{Next}
-use Rattle.generations.specs.declared.course.Next.TheVariants.{Unasked, Wanted, Opening}
-use Rattle.generations.specs.declared.course.Generations.{Generations}
+use Rattle.generations.specs.declared.lifecycle.Next.{Next}
+use Rattle.generations.specs.declared.lifecycle.Next.TheVariants.{Unasked, Wanted, Opening}
+use Rattle.generations.specs.declared.lifecycle.Generations.{Generations}
 
 -- what `Generations::new` was given
 pub record Settings : Type 0 where
@@ -35,6 +35,8 @@ module _ {H : Type 0} where
     pub newest_is : m.newest ≡ open_of es (newest es)
     pub older_is : m.older ≡ open_of es (draining es)
     pub near_is : m.near_since ≡ near_since es
+    pub still_is : m.still_since ≡ still_since es
+    pub drains_is : m.drains_since ≡ drains_since es
     pub next_is : m.next ≡ next_of (is_asked es) (opening es) (handover es)
     pub asked_is : m.asked ≡ last_number es
     pub handed_is : m.handed_sweep ≡ handed_sweep es

@@ -5,8 +5,9 @@ ghost use Rattle.generations.specs.Laws.{AllOpenInTurn, GivenUpIfNear, NewestHan
 /// Of what happens to generations: at most two have connections, the newest one and the one that opened before it. From the
 /// first opening on there is a newest one. A further one opens only once the older one has no connections, and goes on from
 /// what the newest one handed over, which is the newest one still. The older one is given up only where the newest one said
-/// that it is near its marks, while the older one had connections. It stops only where the newest one was full while the older
-/// one had connections, at least `GIVING_UP_MS` milliseconds after it said so.
+/// that it is near its marks, while the older one had connections, and no host had answered commands of it for `STILL_MS`
+/// milliseconds or it had drained for `MAX_DRAINING_MS`. It stops only where the newest one was full while the older one had
+/// connections, at least `GIVING_UP_MS` milliseconds after it said so.
 pub fn generations_follow<H>()
     ensures two { TwoHaveConnections H }
     ensures apart { NewestIsAnother H }

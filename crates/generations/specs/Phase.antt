@@ -1,8 +1,8 @@
 -- What a generation is to do.
 use Rattle.std.specs.Prelude.{◌≡◌, ◌↔◌, ◌⊎◌, ℕ, true, false, Some, None, IsSome, List}
 use Rattle.generations.specs.Events.{Event, newest, draining, has_connections, is_asked, near_since}
-use Rattle.generations.specs.declared.course.Course.{Course}
-use Rattle.generations.specs.declared.course.Course.TheVariants.{Serves, Drains, GivesUp, Stops}
+use Rattle.generations.specs.declared.lifecycle.Phase.{Phase}
+use Rattle.generations.specs.declared.lifecycle.Phase.TheVariants.{Serving, Draining, GivingUp, Stopped}
 
 module _ {H : Type 0} where
   -- a generation drains, and no further one is asked for
@@ -15,8 +15,8 @@ module _ {H : Type 0} where
 
   -- The newest one alone serves. The one that drains is given up where the newest one has said that it is near its marks, and
   -- stops where a further one is asked for; one with no connections stops too.
-  pub record IsCourse (course : Course) (es : List (Event H)) (n : ℕ) : Type 0 where
-    pub serves : (course ≡ Serves) ↔ (newest es ≡ Some n)
-    pub drains : (course ≡ Drains) ↔ (IsLeft es n × (near_since es ≡ None))
-    pub gives_up : (course ≡ GivesUp) ↔ (IsLeft es n × IsSome (near_since es))
-    pub stops : (course ≡ Stops) ↔ (IsInTheWay es n ⊎ (has_connections n es ≡ false))
+  pub record IsPhase (phase : Phase) (es : List (Event H)) (n : ℕ) : Type 0 where
+    pub serves : (phase ≡ Serving) ↔ (newest es ≡ Some n)
+    pub drains : (phase ≡ Draining) ↔ (IsLeft es n × (near_since es ≡ None))
+    pub gives_up : (phase ≡ GivingUp) ↔ (IsLeft es n × IsSome (near_since es))
+    pub stops : (phase ≡ Stopped) ↔ (IsInTheWay es n ⊎ (has_connections n es ≡ false))

@@ -1,5 +1,5 @@
 use Rattle.generations.proofs.StandsLemmas.{tells_swept}
-use Rattle.generations.proofs.course.Generations.swept.Goals as goal
+use Rattle.generations.proofs.lifecycle.Generations.swept.Goals as goal
 
 pub returns : goal.returns
 returns g c =

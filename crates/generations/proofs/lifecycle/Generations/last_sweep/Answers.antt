@@ -1,6 +1,6 @@
 use Rattle.std.proofs.Common.{refl}
 use Rattle.generations.proofs.StandsLemmas.{newest_sweep, sweep_told}
-use Rattle.generations.proofs.course.Generations.last_sweep.Goals as goal
+use Rattle.generations.proofs.lifecycle.Generations.last_sweep.Goals as goal
 
 pub returns-in-Some : goal.returns-in-Some
 returns-in-Some g c = λ s es st. newest_sweep c.args.self.now s es c.args.number c.in-Some.moment st c.in-Some.ensures.some

@@ -1,6 +1,6 @@
 use Rattle.std.proofs.lemmas.Bool.{iff_false}
 use Rattle.generations.proofs.StandsLemmas.{number_newest, number_older, serves, is_gone, gives_up, drains, is_unasked, none_otherwise}
-use Rattle.generations.proofs.course.Generations.course.Goals as goal
+use Rattle.generations.proofs.lifecycle.Generations.phase.Goals as goal
 
 pub returns-then-has_number : goal.returns-then-has_number
 returns-then-has_number g c = λ s es st.

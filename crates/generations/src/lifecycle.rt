@@ -1,27 +1,36 @@
 //! Which generation does what.
 ghost use Rattle.std.specs.Prelude.{◌≡◌, ◌↔◌, true, [], List, IsTrue};
 ghost use Rattle.std.specs.Option.{SomeIff};
-ghost use Rattle.generations.specs.Events.{Event, Opened, Failed, Near, Full, Drained, Swept, newest, draining, has_connections, last_sweep};
+ghost use Rattle.generations.specs.Events.{Event, Opened, Failed, Near, Full, Progressed, Drained, Swept, newest, draining, has_connections, last_sweep};
 ghost use Rattle.generations.specs.History.{MayHappen};
+ghost use Rattle.generations.specs.Moments.{HavePassed};
 
 use crate::opened::Open;
 use std::mem;
 
 /// So long an older generation has for giving up before the newest one is full, in milliseconds: its clients are answered by
 /// name, and their sockets go over.
-pub const GIVING_UP_MS: u64 = 50;
+pub const GIVING_UP_MS: u64 = 100;
+
+/// So long no host has answered commands of an older generation that is given up, in milliseconds, unless it has drained for
+/// `MAX_DRAINING_MS`.
+pub const STILL_MS: u64 = 100;
+
+/// So long an older generation may drain while hosts answer its commands, in milliseconds, where the newest one is near its
+/// marks.
+pub const MAX_DRAINING_MS: u64 = 1_000;
 
 /// What a generation is to do.
 #[derive(Clone, Copy, Debug, PartialEq, Eq)]
-pub enum Course {
+pub enum Phase {
     /// It is the newest open one, and takes sockets.
-    Serves,
+    Serving,
     /// It takes in nothing more, and answers what it accepted.
-    Drains,
-    /// As `Drains`, and what still waits for hosts is given up: its links are closed.
-    GivesUp,
+    Draining,
+    /// As `Draining`, and what still waits for hosts is given up: its links are closed.
+    GivingUp,
     /// Its connections are closed at once.
-    Stops,
+    Stopped,
 }
 
 /// A generation that is to be opened.
@@ -58,6 +67,10 @@ pub struct Generations<H> {
     older: Option<Open>,
     // Since when the newest one is near its marks.
     near_since: Option<u64>,
+    // When a host last answered commands of the older one, or when it began to drain.
+    still_since: Option<u64>,
+    // When the newest one opened.
+    drains_since: Option<u64>,
     next: Next<H>,
     // How many were asked for, beside the first one: the number of the further one.
     asked: u64,
@@ -66,8 +79,8 @@ pub struct Generations<H> {
 }
 
 impl<H: Drop> Generations<H> {
-    ghost use Rattle.generations.specs.Course.{IsCourse};
-    ghost use Rattle.generations.specs.Kept.{HadTime};
+    ghost use Rattle.generations.specs.Phase.{IsPhase};
+    ghost use Rattle.generations.specs.Kept.{HadTime, MayBeLeft};
     ghost use Rattle.generations.specs.Stands.{Settings, Stands, Tells, Gives, EndsServing, IsSweepDue};
 
     /// None is open, and the first generation, number 0, is due, from nothing. A sweep is due every `interval_ms` milliseconds,
@@ -83,6 +96,8 @@ impl<H: Drop> Generations<H> {
             newest: None,
             older: None,
             near_since: None,
+            still_since: None,
+            drains_since: None,
             next: Next::Wanted(None),
             asked: 0,
             handed_sweep: None,
@@ -134,6 +149,8 @@ impl<H: Drop> Generations<H> {
                 swept: self.handed_sweep.unwrap_or(now),
             });
             self.near_since = None;
+            self.drains_since = Some(now);
+            self.still_since = self.drains_since;
             self.next = Next::Unasked;
             self.tries_left = self.max_failures;
         }
@@ -155,12 +172,25 @@ impl<H: Drop> Generations<H> {
         self.tries_left == 0 || self.newest.is_none()
     }
 
-    /// The newest generation is near its marks at the moment `now`: an older one that still has connections is given up. Ignored
-    /// unless `by` is the newest one. Told again, the first moment counts.
+    // Whether nothing keeps an older one from being given up at this moment: there is none, no host has answered it for long
+    // enough, or it has drained too long.
+    fn may_be_left(&self, now: u64) -> bool
+        ensures { IsTrue result ↔ MayBeLeft self.now now }
+    {
+        self.older.is_none()
+            || have_passed(self.still_since, STILL_MS, now)
+            || have_passed(self.drains_since, MAX_DRAINING_MS, now)
+    }
+
+    /// The newest generation is near its marks at the moment `now`: an older one that still has connections is given up. Told
+    /// again, the first moment counts.
+    ///
+    /// Ignored unless `by` is the newest one, and while hosts answer commands of an older one: within `STILL_MS` milliseconds of
+    /// the last answer, or of the moment when it began to drain, until it has drained for `MAX_DRAINING_MS` milliseconds.
     pub fn near(&mut self, by: u64, now: u64)
         ensures { Tells (Near by now) self.old self.new }
     {
-        if Open::has_number(self.newest, by) {
+        if Open::has_number(self.newest, by) && self.may_be_left(now) {
             self.near_since = Some(self.near_since.unwrap_or(now));
         }
     }
@@ -170,13 +200,7 @@ impl<H: Drop> Generations<H> {
     fn has_given_up(&self, now: u64) -> bool
         ensures { IsTrue result ↔ HadTime self.now now }
     {
-        if self.older.is_none() {
-            return true;
-        }
-        match self.near_since {
-            None => false,
-            Some(since) => now >= since && now - since >= GIVING_UP_MS,
-        }
+        self.older.is_none() || have_passed(self.near_since, GIVING_UP_MS, now)
     }
 
     /// The newest generation has reached its marks at the moment `now`, or takes in nothing more: another one is wanted, from
@@ -203,6 +227,15 @@ impl<H: Drop> Generations<H> {
         }
     }
 
+    /// A host answered commands of the draining generation, by the moment `now`. Ignored unless it is the older one.
+    pub fn progressed(&mut self, number: u64, now: u64)
+        ensures { Tells (Progressed number now) self.old self.new }
+    {
+        if Open::has_number(self.older, number) {
+            self.still_since = Some(now);
+        }
+    }
+
     /// The draining generation has no connection left. Ignored unless it is the older one.
     pub fn drained(&mut self, number: u64)
         ensures { Tells (Drained number) self.old self.new }
@@ -212,22 +245,22 @@ impl<H: Drop> Generations<H> {
         }
     }
 
-    /// What a generation is to do. One that is not open, that isn't open yet, or that has drained `Stops`: so a generation asks
+    /// What a generation is to do. One that is not open, that isn't open yet, or that has drained is `Stopped`: so a generation asks
     /// only once `opened` was called.
-    pub fn course(&self, number: u64) -> Course
+    pub fn phase(&self, number: u64) -> Phase
         ensures { (s : Settings) (es : List (Event H)) → Stands self.now s es
-            → IsCourse result es number }
+            → IsPhase result es number }
     {
         if Open::has_number(self.newest, number) {
-            return Course::Serves;
+            return Phase::Serving;
         }
         if !Open::has_number(self.older, number) {
-            return Course::Stops;
+            return Phase::Stopped;
         }
         match &self.next {
-            Next::Wanted(_) => Course::Stops,
-            _ if self.near_since.is_some() => Course::GivesUp,
-            _ => Course::Drains,
+            Next::Wanted(_) => Phase::Stopped,
+            _ if self.near_since.is_some() => Phase::GivingUp,
+            _ => Phase::Draining,
         }
     }
 
@@ -283,5 +316,15 @@ impl<H: Drop> Generations<H> {
     {
         self.newest = Open::swept_at(self.newest, number, now);
         self.older = Open::swept_at(self.older, number, now);
+    }
+}
+
+// Whether so many milliseconds have passed by now since a moment, where there is one.
+fn have_passed(since: Option<u64>, span: u64, now: u64) -> bool
+    ensures { IsTrue result ↔ HavePassed since span now }
+{
+    match since {
+        None => false,
+        Some(since) => now >= since && now - since >= span,
     }
 }

@@ -1,7 +1,7 @@
 use Rattle.std.proofs.Common.{inl, inr, eq-eqb}
 use Rattle.generations.specs.Events.{Failed}
 use Rattle.generations.proofs.StandsLemmas.{tells_nothing, tells_it, opening_is, is_opening, stands_failed, tries_end, newest-none, none_from, none_to}
-use Rattle.generations.proofs.course.Generations.failed.Goals as goal
+use Rattle.generations.proofs.lifecycle.Generations.failed.Goals as goal
 
 pub returns-then-not-is_opening-clause-tells : goal.returns-then-not-is_opening-clause-tells
 returns-then-not-is_opening-clause-tells g c =

@@ -1,6 +1,6 @@
 use Rattle.generations.specs.Events.{Opened}
 use Rattle.generations.proofs.StandsLemmas.{tells_nothing, tells_it, opening_is, is_opening, stands_opened}
-use Rattle.generations.proofs.course.Generations.opened.Goals as goal
+use Rattle.generations.proofs.lifecycle.Generations.opened.Goals as goal
 
 pub returns-then-is_opening : goal.returns-then-is_opening
 returns-then-is_opening g c =

@@ -1,7 +1,7 @@
 use Rattle.std.proofs.Common.{arith}
 use Rattle.generations.specs.Events.{Full}
 use Rattle.generations.proofs.StandsLemmas.{tells_it, stands_full}
-use Rattle.generations.proofs.course.Generations.full.Goals as goal
+use Rattle.generations.proofs.lifecycle.Generations.full.Goals as goal
 
 pub returns-then-has_given_up : goal.returns-then-has_given_up
 returns-then-has_given_up g c =
