@@ -2,11 +2,10 @@
 #![tactic(auto)]
 
 mod announced;
-mod ending;
 mod laws;
 mod local;
 mod stubs;
 
-pub use ending::Ending;
+pub use exit_status::Ending;
 pub use laws::steps_are_limited;
 pub use local::local_run;

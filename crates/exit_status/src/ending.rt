@@ -1,7 +1,7 @@
 //! How the program ends where it can't go on.
-ghost use Rattle.proxy_run.specs.Ending.{ending_of};
+ghost use Rattle.exit_status.specs.Ending.{ending_of};
 ghost use Rattle.std.specs.Prelude.{◌≡◌};
-ghost use Rattle.proxy_run.specs.declared.ending.Ending.TheVariants.{Memory};
+ghost use Rattle.exit_status.specs.declared.ending.Ending.TheVariants.{Memory};
 
 use proxy_engines::EngineError;
 use std::alloc::{AllocError, AllocFailed};
@@ -32,7 +32,7 @@ const JOURNAL_FULL: u16 = 1002;
 const SPENT: u16 = 1202;
 
 impl Ending {
-    ghost use Rattle.proxy_run.specs.Ending.{status_of};
+    ghost use Rattle.exit_status.specs.Ending.{status_of};
 
     /// The program's exit status, 4 to 7.
     pub fn status(self) -> u8

@@ -1,8 +1,8 @@
 -- How the program ends where it can't go on.
 use Rattle.std.specs.Prelude.{ℕ, ◌==◌, if◌then◌else◌}
 use Rattle.proxy_engines.specs.declared.error.EngineError.{EngineError}
-use Rattle.proxy_run.specs.declared.ending.Ending.{Ending}
-use Rattle.proxy_run.specs.declared.ending.Ending.TheVariants as endings
+use Rattle.exit_status.specs.declared.ending.Ending.{Ending}
+use Rattle.exit_status.specs.declared.ending.Ending.TheVariants as endings
 
 -- the program's exit status
 abbrev pub status_of : Ending → ℕ
