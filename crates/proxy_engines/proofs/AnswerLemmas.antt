@@ -22,7 +22,7 @@ pub on_ok : (P : Progress → Type 0) (Q : Type 0) (r : Result Progress EngineEr
 on_ok P Q (Ok p) f h = f p h
 on_ok P Q (Err e) f h = tt
 
-pub any_ok : (P : Type 0) (r : Result Progress EngineError) → P → OnOk r P
+pub any_ok : {A : Type 0} (P : Type 0) (r : Result A EngineError) → P → OnOk r P
 any_ok P (Ok p) h = h
 any_ok P (Err e) h = tt
 

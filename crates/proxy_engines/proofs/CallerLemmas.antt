@@ -13,3 +13,5 @@ pub use Rattle.proxy_engines.proofs.ClientLemmas.{ended_is_whole}
 pub use Rattle.proxy_engines.proofs.SocketLemmas.{socket_begins, socket_moves, socket_stays, socket_goes_over, socket_asks_in_order, socket_answers_in_order, socket_ends_whole}
 -- what engines hold may go to another thread
 pub use Rattle.proxy_engines.proofs.Crosses.{bytes_send, reader_send, request_send, rest_send}
+-- turns that an engine made or didn't, and others after them
+pub use Rattle.proxy_engines.proofs.OwnLemmas.{keeps_same, keeps_then}

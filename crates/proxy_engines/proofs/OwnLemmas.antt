@@ -1,5 +1,5 @@
 -- The steps of one caller, where it made one more.
-use Rattle.std.proofs.Common.{◌≡◌, ◌∙◌, ◌≤◌, ◌==◌, ℕ, Bool, List, [], ◌∷◌, ◌++◌, length, filter, ap, refl, arith}
+use Rattle.std.proofs.Common.{◌≡◌, ◌∙◌, ◌≤◌, ◌==◌, ℕ, Bool, List, [], ◌∷◌, ◌++◌, length, filter, ap, append-nil, refl, sym, arith}
 use Rattle.ticket_gate.specs.Journal.{steps_of}
 use Rattle.proxy_history.specs.History.{Step}
 use Rattle.proxy_history.specs.Setting.{max_steps}
@@ -9,7 +9,8 @@ use Rattle.proxy_core.specs.CoreTurns.{seen_of_connection}
 use Rattle.proxy_history.specs.declared.event.Event.{Event}
 use Rattle.proxy_history.specs.declared.answer.Answer.{Answer}
 use Rattle.proxy_history.proofs.CallerLemmas as history
-use Rattle.proxy_engines.specs.OwnSteps.{own_steps}
+use Rattle.proxy_engines.specs.Turns.{KeepsTurns, own_steps}
+use Rattle.proxy_engines.proofs.HostMoves.{starts_then}
 use Rattle.journal_core.specs.Journal.{step_by}
 
 -- one step more of the pass
@@ -42,3 +43,18 @@ connection_steps-own_steps c pass before between none =
     let is_own : Step → Bool = λ s. is_connection_step c s.event s.answer in
     (history.IsReadInOrder-seen (steps_of pass before)).connection_steps_are c
     ∙ ap history_of_seen (filter-none is_own (λ (s : Step). s.pass == pass) before (filter-append_first is_own before between none))
+
+-- THE TURNS OF AN ENGINE
+
+module _ {Turns Setting : Type 0} (pass_of : Turns → ℕ) (setting_of : Turns → Setting) (seen_of : Turns → List Step) where
+  -- no turn was made
+  pub keeps_same : (t : Turns) → KeepsTurns pass_of setting_of seen_of t t
+  keeps_same t = record { pass_is = refl; setting_is = refl; begins = ([], sym (append-nil (seen_of t))) }
+
+  -- some turns, and then others
+  pub keeps_then : (a b c : Turns) → KeepsTurns pass_of setting_of seen_of a b → KeepsTurns pass_of setting_of seen_of b c → KeepsTurns pass_of setting_of seen_of a c
+  keeps_then a b c first last = record {
+    pass_is = last.pass_is ∙ first.pass_is;
+    setting_is = last.setting_is ∙ first.setting_is;
+    begins = starts_then (seen_of a) (seen_of b) (seen_of c) first.begins last.begins;
+  }

@@ -98,6 +98,22 @@ IsAtStage (Stage.Closed false) done asked halted i next b given = IsFinished ask
 abbrev pub HasNoFault : Client → Client → Type 0
 HasNoFault old new = (new.inbox.counts.failed ≡ old.inbox.counts.failed) × (new.outbox.counts.failed ≡ old.outbox.counts.failed)
 
+-- both ends tell of as many faults and pauses as before
+abbrev pub HasSameCounts : Client → Client → Type 0
+HasSameCounts old new = (new.inbox.counts ≡ old.inbox.counts) × (new.outbox.counts ≡ old.outbox.counts)
+
+-- Whether a request waits, as was answered; where none does, all requests that came were given.
+pub record HasNext (e : Client) (is_there : Bool) : Type 0 where
+  pub some : is_there ≡ true → e.next ≢ None
+  pub none : is_there ≡ false → (e.next ≡ None) × HasGivenAll e.inbox
+
+-- No byte is to be read any more, and no refused byte waits to be told: the engine is drained, or the input has ended with all given.
+pub record IsReadOut (e : Client) : Type 0 where
+  pub unbroken : e.next ≢ Some Request'.Broken
+  pub none : e.is_drained ≡ false → e.next ≡ None
+  pub all : e.is_drained ≡ false → HasGivenAll e.inbox
+  pub over : IsOver e.is_drained e.inbox
+
 -- whether the connection finishes and whether it was closed, by its stage: it is closed at its end and for a fault, and not
 -- before; and it finishes before it is closed at its end
 abbrev pub IsToldAt : Stage → Bool → Bool → Type 0

@@ -1,5 +1,5 @@
 -- What contracts see of the two ends of an engine: what it has read and not yet asked, and what it has yet to write.
-use Rattle.std.specs.Prelude.{◌≡◌, ℕ, Bool, List, [], ◌∷◌, ◌++◌, Option, Some, None, map, IfSome}
+use Rattle.std.specs.Prelude.{◌≡◌, ◌≢◌, ℕ, Bool, List, [], ◌∷◌, ◌++◌, Option, Some, None, map, IfSome, IfNone}
 use Rattle.std.specs.Io.KnownBytes.{Appends}
 use Rattle.resp_core.specs.Tree.{Tree}
 use Rattle.resp_core.specs.Laws as resp
@@ -7,7 +7,7 @@ use Rattle.resp_core.specs.Standing.{ReaderState, Stands}
 use Rattle.resp_core.specs.Stream.{HasNoRefusal, Splits}
 use Rattle.resp_core.specs.declared.error.RespError.{RespError}
 use Rattle.resp_core.specs.declared.reader.TheConstants.{CLIENT_MEMBERS}
-use Rattle.splitter.specs.Request.{Request, read, broken}
+use Rattle.splitter.specs.Request.{Request, read, broken, request_of}
 use Rattle.splitter.specs.declared.request.Request.{Request as Request'}
 use Rattle.splitter.specs.Requests.{end_of}
 use Rattle.devices.specs.Device.{Counts}
@@ -92,3 +92,12 @@ pub record HasGivenAll (i : InboxState) : Type 0 where
   pub none_fresh : i.fresh ≡ []
   pub none_refused : i.values.refusal ≡ None
   pub all : (b : List ℕ) (rs : List Request) → Holds i b rs → AreRequests i.values.most b rs
+
+-- What an end gave next, from one state of it to the next: a request more, or nothing, and then it has given all that came. Its
+-- reader of values has refused a byte exactly where that was told.
+pub record GivesNext (old new : InboxState) (next : Option Request') : Type 0 where
+  pub some : IfSome next (λ r. (b : List ℕ) (rs : List Request) → Holds old b rs → Holds new b (rs ++ request_of r ∷ []))
+  pub none : IfNone next ((b : List ℕ) (rs : List Request) → Holds old b rs → Holds new b rs)
+  pub all : IfNone next (HasGivenAll new)
+  pub whole : next ≢ Some Request'.Broken → new.values.refusal ≡ None
+  pub told : next ≡ Some Request'.Broken → new.values.refusal ≢ None

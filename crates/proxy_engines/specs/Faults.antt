@@ -5,6 +5,7 @@ use Rattle.proxy_history.specs.History.{Step}
 use Rattle.proxy_history.specs.declared.event.Event.{Event}
 use Rattle.proxy_history.specs.declared.event.Kind.{Kind}
 use Rattle.proxy_history.specs.declared.refusal.Refusal.{Refusal}
+use Rattle.resp_core.specs.declared.value.Value.{Value}
 use Rattle.devices.specs.Device.{HasRisen}
 use Rattle.proxy_engines.specs.Ends.{InboxState, HasGivenAll}
 use Rattle.proxy_engines.specs.Host.{LineState, LinkState}
@@ -77,6 +78,10 @@ pub record IsLateOn (l : LineState) (k k' : LinkState) (m : ℕ) : Type 0 where
   pub reads : HasRead k.inbox k'.inbox
   pub none_waits : k'.next ≡ None
   pub all : HasGivenAll k'.inbox
+
+-- a value waits for its turn that was refused since nobody asked for it
+abbrev pub IsUnaskedNow : (Event → List Step → Type 0) → List Step → ℕ → LineState → LinkState → Type 0
+IsUnaskedNow cause seen m l k = (v : Value) × (k.next ≡ Some v) × cause (Event.Answered l.host l.epoch v m) seen
 
 -- Why a link broke, from one state of it to the next, and the error that tells it: the input ended; a device failed; a byte was
 -- refused, or a value came that nobody asked for; or a reply is late.

@@ -1,12 +1,15 @@
 pub mod EngineError
 pub mod Ends
-pub mod OwnSteps
+pub mod Turns
 pub mod Turned
 pub mod Moves
 pub mod Client
+pub mod ClientSteps
 pub mod Socket
 pub mod Host
 pub mod Faults
+pub mod LinkSteps
 pub mod HostStep
+pub mod HostTurns
 pub mod Works
 pub mod Laws

@@ -23,6 +23,11 @@ abbrev pub IsDue : (Refusal → Event → List Step → Type 0) → Event → Li
 IsDue cause event seen Denied.Spent = ⊤
 IsDue cause event seen (Denied.By r) = cause r event seen
 
+-- The turn was refused: the caller made no step more, and the cause of its refusal holds of what is seen.
+pub record IsDenied (cause : Refusal → Event → List Step → Type 0) (event : Event) (old new : History) (seen : List Step) (denied : Denied) : Type 0 where
+  pub rests : new ≡ old
+  pub due : IsDue cause event seen denied
+
 -- the cause of a refusal held, of some list of steps between these
 abbrev pub HasHeld : (Event → List Step → Type 0) → Event → List Step → List Step → Type 0
 HasHeld cause event old new =

@@ -1,15 +1,15 @@
 //! One turn, and what it does to the caller's own steps.
 ghost use Rattle.std.specs.Prelude.{◌≡◌, ◌∷◌, [], ℕ, IfOk, IfErr, OnOk};
 ghost use Rattle.journal_core.specs.Journal.{step_by};
-ghost use Rattle.ticket_gate.specs.Journal.{AddsTurn, StartsWith};
+ghost use Rattle.ticket_gate.specs.Journal.{AddsTurn};
 ghost use Rattle.splitter.specs.Plan.{is_last};
 ghost use Rattle.proxy_history.specs.History.{plan_for};
 ghost use Rattle.proxy_history.specs.Own.{connection_steps};
 ghost use Rattle.proxy_history.specs.StepLaws.{is_last_answer};
 ghost use Rattle.proxy_history.specs.declared.answer.Answer.{Answer};
 ghost use Rattle.proxy_history.specs.declared.event.Event.{Event};
-ghost use Rattle.proxy_engines.specs.OwnSteps.{own_steps};
-ghost use Rattle.proxy_engines.specs.Turned.{Adds, IsDue, denied_number, told_as};
+ghost use Rattle.proxy_engines.specs.Turns.{KeepsTurns, own_history};
+ghost use Rattle.proxy_engines.specs.Turned.{Adds, IsDenied, denied_number, told_as};
 
 use crate::error::EngineError;
 use proxy_core::{Answer, CoreTurns, Event, Local, Refusal, Request};
@@ -67,19 +67,15 @@ pub(crate) fn ask<Rt: Wait, T: CoreTurns>(
     turns: &mut T,
     event: Event,
 ) -> Result<Answer, (Denied, Event)>
-    ensures pass { T.pass turns.new ≡ T.pass turns.old }
-    ensures setting { T.setting turns.new ≡ T.setting turns.old }
-    ensures seen { StartsWith (T.seen turns.new) (T.seen turns.old) }
+    ensures turns { KeepsTurns T.pass T.setting T.seen turns.old turns.new }
     ensures added { IfOk result (λ a. AddsTurn (T.legal (T.setting turns.old)) (T.pass turns.old)
         (T.seen turns.old) event a (T.seen turns.new)) }
-    ensures answered { IfOk result
-        (λ a. Adds (T.pass turns.old) (own_steps (T.pass turns.old) (T.seen turns.old))
-        (own_steps (T.pass turns.old) (T.seen turns.new)) event a) }
+    ensures answered { IfOk result (λ a. Adds (T.pass turns.old)
+        (own_history T.pass T.seen turns.old) (own_history T.pass T.seen turns.new) event a) }
     ensures back { IfErr result (λ r. r.1 ≡ event) }
-    ensures rests { IfErr result (λ r. own_steps (T.pass turns.old) (T.seen turns.new)
-        ≡ own_steps (T.pass turns.old) (T.seen turns.old)) }
-    ensures cause { IfErr result (λ r. IsDue (T.cause (T.setting turns.old)) event
-        (T.seen turns.new) r.0) }
+    ensures denied { IfErr result (λ r. IsDenied (T.cause (T.setting turns.old)) event
+        (own_history T.pass T.seen turns.old)
+        (own_history T.pass T.seen turns.new) (T.seen turns.new) r.0) }
 {
     match turns.turn(rt, event) {
         Ok(answer) => Ok(answer),
@@ -96,18 +92,14 @@ pub(crate) fn tell<Rt: Wait, T: CoreTurns>(
     turns: &mut T,
     event: Event,
 ) -> Result<Answer, Denied>
-    ensures pass { T.pass turns.new ≡ T.pass turns.old }
-    ensures setting { T.setting turns.new ≡ T.setting turns.old }
-    ensures seen { StartsWith (T.seen turns.new) (T.seen turns.old) }
+    ensures turns { KeepsTurns T.pass T.setting T.seen turns.old turns.new }
     ensures added { IfOk result (λ a. AddsTurn (T.legal (T.setting turns.old)) (T.pass turns.old)
         (T.seen turns.old) event a (T.seen turns.new)) }
-    ensures answered { IfOk result
-        (λ a. Adds (T.pass turns.old) (own_steps (T.pass turns.old) (T.seen turns.old))
-        (own_steps (T.pass turns.old) (T.seen turns.new)) event a) }
-    ensures rests { IfErr result (λ r. own_steps (T.pass turns.old) (T.seen turns.new)
-        ≡ own_steps (T.pass turns.old) (T.seen turns.old)) }
-    ensures cause { IfErr result (λ r. IsDue (T.cause (T.setting turns.old)) event
-        (T.seen turns.new) r) }
+    ensures answered { IfOk result (λ a. Adds (T.pass turns.old)
+        (own_history T.pass T.seen turns.old) (own_history T.pass T.seen turns.new) event a) }
+    ensures denied { IfErr result (λ r. IsDenied (T.cause (T.setting turns.old)) event
+        (own_history T.pass T.seen turns.old)
+        (own_history T.pass T.seen turns.new) (T.seen turns.new) r) }
 {
     match ask(rt, turns, event) {
         Ok(answer) => Ok(answer),
@@ -132,18 +124,15 @@ pub(crate) fn arrive<Rt: Wait, T: CoreTurns>(
     conn: u64,
     request: Request,
 ) -> Result<bool, (Denied, Request)>
-    ensures pass { T.pass turns.new ≡ T.pass turns.old }
-    ensures setting { T.setting turns.new ≡ T.setting turns.old }
-    ensures seen { StartsWith (T.seen turns.new) (T.seen turns.old) }
+    ensures turns { KeepsTurns T.pass T.setting T.seen turns.old turns.new }
     ensures answered { OnOk result
-        ((a : Answer) × Adds (T.pass turns.old) (own_steps (T.pass turns.old) (T.seen turns.old))
-        (own_steps (T.pass turns.old) (T.seen turns.new)) (Event.Arrived conn request) a) }
+        ((a : Answer) × Adds (T.pass turns.old) (own_history T.pass T.seen turns.old)
+        (own_history T.pass T.seen turns.new) (Event.Arrived conn request) a) }
     ensures last { IfOk result (λ last. last ≡ is_last (plan_for request)) }
     ensures back { IfErr result (λ r. r.1 ≡ request) }
-    ensures rests { IfErr result (λ r. own_steps (T.pass turns.old) (T.seen turns.new)
-        ≡ own_steps (T.pass turns.old) (T.seen turns.old)) }
-    ensures cause { IfErr result (λ r. IsDue (T.cause (T.setting turns.old))
-        (Event.Arrived conn request) (T.seen turns.new) r.0) }
+    ensures denied { IfErr result (λ r. IsDenied (T.cause (T.setting turns.old))
+        (Event.Arrived conn request) (own_history T.pass T.seen turns.old)
+        (own_history T.pass T.seen turns.new) (T.seen turns.new) r.0) }
 {
     match ask(rt, turns, Event::Arrived { conn, request }) {
         Ok(Answer::Accepted { local, .. }) => Ok(is_last_answer(local)),
@@ -155,19 +144,13 @@ pub(crate) fn arrive<Rt: Wait, T: CoreTurns>(
 
 /// One Opened turn. Gives the connection's number, which no step before has.
 pub(crate) fn open<Rt: Wait, T: CoreTurns>(rt: &Rt, turns: &mut T) -> Result<u64, Denied>
-    ensures pass { T.pass turns.new ≡ T.pass turns.old }
-    ensures setting { T.setting turns.new ≡ T.setting turns.old }
-    ensures seen { StartsWith (T.seen turns.new) (T.seen turns.old) }
-    ensures answered { IfOk result
-        (λ c. own_steps (T.pass turns.old) (T.seen turns.new)
-        ≡ step_by (T.pass turns.old) Event.Opened (Answer.Opened c) ∷ own_steps (T.pass turns.old)
-        (T.seen turns.old)) }
-    ensures new { IfOk result (λ c. connection_steps c
-        (own_steps (T.pass turns.old) (T.seen turns.old)) ≡ []) }
-    ensures rests { IfErr result (λ r. own_steps (T.pass turns.old) (T.seen turns.new)
-        ≡ own_steps (T.pass turns.old) (T.seen turns.old)) }
-    ensures cause { IfErr result (λ r. IsDue (T.cause (T.setting turns.old)) Event.Opened
-        (T.seen turns.new) r) }
+    ensures turns { KeepsTurns T.pass T.setting T.seen turns.old turns.new }
+    ensures answered { IfOk result (λ c. own_history T.pass T.seen turns.new ≡ step_by
+        (T.pass turns.old) Event.Opened (Answer.Opened c) ∷ own_history T.pass T.seen turns.old) }
+    ensures new { IfOk result (λ c. connection_steps c (own_history T.pass T.seen turns.old) ≡ []) }
+    ensures denied { IfErr result (λ r. IsDenied (T.cause (T.setting turns.old)) Event.Opened
+        (own_history T.pass T.seen turns.old)
+        (own_history T.pass T.seen turns.new) (T.seen turns.new) r) }
 {
     match tell(rt, turns, Event::Opened) {
         Ok(Answer::Opened { conn }) => Ok(conn),
@@ -185,18 +168,14 @@ pub(crate) fn give<Rt: Wait, T: CoreTurns>(
     value: Value,
     moment: u64,
 ) -> Result<(), (Denied, Value)>
-    ensures pass { T.pass turns.new ≡ T.pass turns.old }
-    ensures setting { T.setting turns.new ≡ T.setting turns.old }
-    ensures seen { StartsWith (T.seen turns.new) (T.seen turns.old) }
-    ensures answered { OnOk result
-        ((a : Answer) × Adds (T.pass turns.old) (own_steps (T.pass turns.old) (T.seen turns.old))
-        (own_steps (T.pass turns.old) (T.seen turns.new))
+    ensures turns { KeepsTurns T.pass T.setting T.seen turns.old turns.new }
+    ensures answered { OnOk result ((a : Answer) × Adds (T.pass turns.old)
+        (own_history T.pass T.seen turns.old) (own_history T.pass T.seen turns.new)
         (Event.Answered host epoch value moment) a) }
     ensures back { IfErr result (λ r. r.1 ≡ value) }
-    ensures rests { IfErr result (λ r. own_steps (T.pass turns.old) (T.seen turns.new)
-        ≡ own_steps (T.pass turns.old) (T.seen turns.old)) }
-    ensures cause { IfErr result (λ r. IsDue (T.cause (T.setting turns.old))
-        (Event.Answered host epoch value moment) (T.seen turns.new) r.0) }
+    ensures denied { IfErr result (λ r. IsDenied (T.cause (T.setting turns.old))
+        (Event.Answered host epoch value moment) (own_history T.pass T.seen turns.old)
+        (own_history T.pass T.seen turns.new) (T.seen turns.new) r.0) }
 {
     let event = Event::Answered {
         host,

@@ -4,13 +4,12 @@ ghost use Rattle.splitter.specs.Request.{Request as Asked};
 ghost use Rattle.proxy_history.specs.History.{History};
 ghost use Rattle.proxy_history.specs.declared.answer.Answer.{Answer};
 ghost use Rattle.proxy_history.specs.declared.event.Event.{Event};
-ghost use Rattle.proxy_engines.specs.OwnSteps.{own_steps};
+ghost use Rattle.proxy_engines.specs.Turns.{KeepsTurns, own_history};
 ghost use Rattle.devices.specs.Device.{HasFailed, HasPaused};
 ghost use Rattle.proxy_engines.specs.Ends.{HasGivenAll};
 ghost use Rattle.proxy_engines.specs.Turned.{IsNumbered};
 ghost use Rattle.journal_core.specs.Journal.{step_by};
 ghost use Rattle.proxy_engines.specs.Moves.{AsTold, told_by_step, told_by_turn};
-ghost use Rattle.ticket_gate.specs.Journal.{StartsWith};
 
 use crate::ask::{arrive, open, tell};
 use crate::error::EngineError;
@@ -105,7 +104,8 @@ impl<R: ReadTally, W: WriteTally> Model for ClientEngine<R, W> {
 
 #[tactic(auto, using(crate::proofs::ClientMoves::same_goes, crate::proofs::ClientMoves::goes_then))]
 impl<R: ReadTally, W: WriteTally> ClientEngine<R, W> {
-    ghost use Rattle.proxy_engines.specs.Client.{AwaitsBytes, AwaitsReplies, Client, Carries, ClosesFirst, Cuts, Goes, HandsNothing, HasNoFault, IsHeldBack, IsIdle, IsLive, IsOver, MayGoOn};
+    ghost use Rattle.proxy_engines.specs.Client.{AwaitsBytes, AwaitsReplies, Client, Carries, ClosesFirst, Cuts, Goes, HandsNothing, HasNext, HasNoFault, HasSameCounts, IsReadOut, IsHeldBack, IsIdle, IsLive, IsOver, MayGoOn};
+    ghost use Rattle.proxy_engines.specs.ClientSteps.{MovesClient, StaysHeld, TellsStep};
     ghost use Rattle.proxy_history.specs.declared.refusal.Refusal.{Refusal};
     ghost use Rattle.splitter.specs.declared.request.Request.{Request};
 
@@ -113,22 +113,14 @@ impl<R: ReadTally, W: WriteTally> ClientEngine<R, W> {
     fn hand<Rt: Wait, T: CoreTurns>(&mut self, rt: &Rt, turns: &mut T) -> Result<bool, EngineError>
         requires live { IsLive self.old.stage }
         requires nothing { self.old.outbox.pending ≡ [] }
-        ensures pass { T.pass turns.new ≡ T.pass turns.old }
-        ensures setting { T.setting turns.new ≡ T.setting turns.old }
-        ensures seen { StartsWith (T.seen turns.new) (T.seen turns.old) }
-        ensures goes { AsTold (Goes self.old self.new
-            (own_steps (T.pass turns.old) (T.seen turns.old))
-            (own_steps (T.pass turns.old) (T.seen turns.new))) (told_by_turn result) }
+        ensures moves { MovesClient T.pass T.setting T.seen T.cause turns.old turns.new
+            self.old self.new (told_by_turn result) result }
         ensures stage { self.new.stage ≡ self.old.stage }
-        ensures same { IfOk result (λ b. b ≡ false → self.new ≡ self.old) }
-        ensures not_ready { IfOk result
-            (λ b. b ≡ false → (left : ℕ) × T.cause (T.setting turns.old) (Refusal.NotReady left)
-            (Event.Handed self.old.conn) (T.seen turns.new)) }
+        ensures not_ready { IfOk result (λ b. b ≡ false → (self.new ≡ self.old)
+            × ((left : ℕ) × T.cause (T.setting turns.old) (Refusal.NotReady left)
+            (Event.Handed self.old.conn) (T.seen turns.new))) }
         ensures err { IfErr result (λ e. (self.new ≡ self.old)
             × ((n : ℕ) × (e ≡ EngineError.TurnRefused n))) }
-        ensures unfailed { HasNoFault self.old self.new }
-        ensures number { IfErr result
-            (IsNumbered (T.cause (T.setting turns.old)) (T.seen turns.new)) }
     {
         match tell(rt, turns, Event::Handed { conn: self.conn }) {
             Ok(Answer::Bytes { text }) => {
@@ -150,20 +142,13 @@ impl<R: ReadTally, W: WriteTally> ClientEngine<R, W> {
         requires stage { self.old.stage ≡ Stage.Finishing }
         requires nothing { self.old.outbox.pending ≡ [] }
         requires handed { self.old.accepted ≡ self.old.handed }
-        ensures pass { T.pass turns.new ≡ T.pass turns.old }
-        ensures setting { T.setting turns.new ≡ T.setting turns.old }
-        ensures seen { StartsWith (T.seen turns.new) (T.seen turns.old) }
-        ensures goes { AsTold (Goes self.old self.new
-            (own_steps (T.pass turns.old) (T.seen turns.old))
-            (own_steps (T.pass turns.old) (T.seen turns.new))) (told_by_step result) }
+        ensures moves { MovesClient T.pass T.setting T.seen T.cause turns.old turns.new
+            self.old self.new (told_by_step result) result }
         ensures ok { IfOk result (λ p. (p ≡ Progress.Ended)
             × (self.new ≡ record self.old { stage = Stage.Closed false })) }
-        ensures err { IfErr result (λ e. (self.new ≡ self.old)
-            × (own_steps (T.pass turns.old) (T.seen turns.new)
-            ≡ own_steps (T.pass turns.old) (T.seen turns.old))
+        ensures err { IfErr result (λ e. (self.new ≡ self.old) × (own_history T.pass T.seen
+            turns.new ≡ own_history T.pass T.seen turns.old)
             × ((n : ℕ) × (e ≡ EngineError.TurnRefused n))) }
-        ensures number { IfErr result
-            (IsNumbered (T.cause (T.setting turns.old)) (T.seen turns.new)) }
     {
         match tell(rt, turns, Event::Closed { conn: self.conn }) {
             Ok(answer) => {
@@ -182,11 +167,9 @@ impl<R: ReadTally, W: WriteTally> ClientEngine<R, W> {
         turns: &mut T,
         answer: Result<Progress, EngineError>,
     ) -> Result<Progress, EngineError>
-        ensures pass { T.pass turns.new ≡ T.pass turns.old }
-        ensures setting { T.setting turns.new ≡ T.setting turns.old }
-        ensures seen { StartsWith (T.seen turns.new) (T.seen turns.old) }
-        ensures cuts { Cuts self.old self.new (own_steps (T.pass turns.old) (T.seen turns.old))
-            (own_steps (T.pass turns.old) (T.seen turns.new)) answer result }
+        ensures turns { KeepsTurns T.pass T.setting T.seen turns.old turns.new }
+        ensures cuts { Cuts self.old self.new (own_history T.pass T.seen turns.old)
+            (own_history T.pass T.seen turns.new) answer result }
         ensures number { (result ≡ answer)
             ⊎ IfErr result (IsNumbered (T.cause (T.setting turns.old)) (T.seen turns.new)) }
     {
@@ -209,20 +192,13 @@ impl<R: ReadTally, W: WriteTally> ClientEngine<R, W> {
         turns: &mut T,
     ) -> Result<Progress, EngineError>
         requires stage { self.old.stage ≡ Stage.AtEnd }
-        ensures pass { T.pass turns.new ≡ T.pass turns.old }
-        ensures setting { T.setting turns.new ≡ T.setting turns.old }
-        ensures seen { StartsWith (T.seen turns.new) (T.seen turns.old) }
-        ensures goes { AsTold (Goes self.old self.new
-            (own_steps (T.pass turns.old) (T.seen turns.old))
-            (own_steps (T.pass turns.old) (T.seen turns.new))) (told_by_step result) }
+        ensures moves { MovesClient T.pass T.setting T.seen T.cause turns.old turns.new
+            self.old self.new (told_by_step result) result }
         ensures ok { IfOk result (λ p. (p ≡ Progress.Moved)
             × (self.new ≡ record self.old { stage = Stage.Finishing })) }
-        ensures err { IfErr result (λ e. (self.new ≡ self.old)
-            × (own_steps (T.pass turns.old) (T.seen turns.new)
-            ≡ own_steps (T.pass turns.old) (T.seen turns.old))
+        ensures err { IfErr result (λ e. (self.new ≡ self.old) × (own_history T.pass T.seen
+            turns.new ≡ own_history T.pass T.seen turns.old)
             × ((n : ℕ) × (e ≡ EngineError.TurnRefused n))) }
-        ensures number { IfErr result
-            (IsNumbered (T.cause (T.setting turns.old)) (T.seen turns.new)) }
     {
         match tell(rt, turns, Event::Finished { conn: self.conn }) {
             Ok(answer) => {
@@ -243,23 +219,13 @@ impl<R: ReadTally, W: WriteTally> ClientEngine<R, W> {
         requires stage { self.old.stage ≡ Stage.Open }
         requires waits { self.old.next ≢ None }
         requires last { self.old.is_drained ≡ true → self.old.next ≡ Some Request.Broken }
-        ensures pass { T.pass turns.new ≡ T.pass turns.old }
-        ensures setting { T.setting turns.new ≡ T.setting turns.old }
-        ensures seen { StartsWith (T.seen turns.new) (T.seen turns.old) }
-        ensures goes { AsTold (Goes self.old self.new
-            (own_steps (T.pass turns.old) (T.seen turns.old))
-            (own_steps (T.pass turns.old) (T.seen turns.new))) (told_by_step result) }
+        ensures moves { MovesClient T.pass T.setting T.seen T.cause turns.old turns.new
+            self.old self.new (told_by_step result) result }
         ensures live { IsLive self.new.stage }
-        ensures told { IfOk result (λ p. (p ≡ Progress.Moved) ⊎ (p ≡ Progress.Idle)) }
-        ensures held { IfOk result (λ p. p ≡ Progress.Idle
-            → (self.new ≡ self.old) × ((r : Request) × (self.old.next ≡ Some r)
-            × T.cause (T.setting turns.old) Refusal.Crowded (Event.Arrived self.old.conn r)
-            (T.seen turns.new))) }
+        ensures ok { IfOk result (λ p. (p ≡ Progress.Moved) ⊎ ((p ≡ Progress.Idle)
+            × StaysHeld (T.cause (T.setting turns.old)) (T.seen turns.new) self.old self.new)) }
         ensures err { IfErr result (λ e. (self.new ≡ self.old)
             × ((n : ℕ) × (e ≡ EngineError.TurnRefused n))) }
-        ensures unfailed { HasNoFault self.old self.new }
-        ensures number { IfErr result
-            (IsNumbered (T.cause (T.setting turns.old)) (T.seen turns.new)) }
     {
         let Some(request) = self.next.take() else {
             return Ok(Progress::Idle);
@@ -285,13 +251,9 @@ impl<R: ReadTally, W: WriteTally> ClientEngine<R, W> {
         requires none { self.old.next ≡ None }
         requires reads { self.old.is_drained ≡ false }
         ensures goes { (H : History) → Goes self.old self.new H H false }
-        ensures reads { self.new.is_drained ≡ false }
-        ensures stage { self.new.stage ≡ Stage.Open }
-        ensures counts { (self.new.inbox.counts ≡ self.old.inbox.counts)
-            × (self.new.outbox.counts ≡ self.old.outbox.counts) }
-        ensures some { IfOk result (λ b. b ≡ true → self.new.next ≢ None) }
-        ensures none { IfOk result (λ b. b ≡ false → (self.new.next ≡ None)
-            × HasGivenAll self.new.inbox) }
+        ensures keeps { (self.new.is_drained ≡ false) × (self.new.stage ≡ Stage.Open)
+            × HasSameCounts self.old self.new }
+        ensures next { IfOk result (HasNext self.new) }
         ensures err { IfErr result (λ e. e ≡ EngineError.NoMemory) }
     {
         match self.inbox.next_request() {
@@ -309,13 +271,9 @@ impl<R: ReadTally, W: WriteTally> ClientEngine<R, W> {
         requires stage { self.old.stage ≡ Stage.Open }
         requires last { self.old.is_drained ≡ true → self.old.next ≡ Some Request.Broken }
         ensures goes { (H : History) → Goes self.old self.new H H false }
-        ensures stage { self.new.stage ≡ Stage.Open }
+        ensures keeps { (self.new.stage ≡ Stage.Open) × HasSameCounts self.old self.new }
         ensures last { self.new.is_drained ≡ true → self.new.next ≡ Some Request.Broken }
-        ensures counts { (self.new.inbox.counts ≡ self.old.inbox.counts)
-            × (self.new.outbox.counts ≡ self.old.outbox.counts) }
-        ensures some { IfOk result (λ b. b ≡ true → self.new.next ≢ None) }
-        ensures none { IfOk result (λ b. b ≡ false → (self.new.next ≡ None)
-            × HasGivenAll self.new.inbox) }
+        ensures next { IfOk result (HasNext self.new) }
         ensures err { IfErr result (λ e. e ≡ EngineError.NoMemory) }
     {
         if self.next.is_none() {
@@ -333,21 +291,14 @@ impl<R: ReadTally, W: WriteTally> ClientEngine<R, W> {
     ) -> Result<Progress, EngineError>
         requires live { IsLive self.old.stage }
         requires some { self.old.outbox.pending ≢ [] }
-        ensures pass { T.pass turns.new ≡ T.pass turns.old }
-        ensures setting { T.setting turns.new ≡ T.setting turns.old }
-        ensures seen { StartsWith (T.seen turns.new) (T.seen turns.old) }
-        ensures goes { AsTold (Goes self.old self.new
-            (own_steps (T.pass turns.old) (T.seen turns.old))
-            (own_steps (T.pass turns.old) (T.seen turns.new))) (told_by_step result) }
+        ensures moves { MovesClient T.pass T.setting T.seen T.cause turns.old turns.new
+            self.old self.new (told_by_step result) result }
         ensures ok { IfOk result (λ p. (self.new.stage ≡ self.old.stage)
             × ((p ≡ Progress.Moved) ⊎ ((p ≡ Progress.Idle)
             × HasPaused self.old.outbox.counts self.new.outbox.counts))) }
         ensures err { IfErr result (λ e.
             ((e ≡ EngineError.WriteFailed) × HasFailed self.old.outbox.counts self.new.outbox.counts
             × (self.new.stage ≡ Stage.Closed true)) ⊎ ((n : ℕ) × (e ≡ EngineError.TurnRefused n))) }
-        ensures unfailed { OnOk result (HasNoFault self.old self.new) }
-        ensures number { IfErr result
-            (IsNumbered (T.cause (T.setting turns.old)) (T.seen turns.new)) }
     {
         match self.outbox.write_once() {
             Told::Moved(_) => Ok(Progress::Moved),
@@ -363,21 +314,11 @@ impl<R: ReadTally, W: WriteTally> ClientEngine<R, W> {
         turns: &mut T,
     ) -> Result<Progress, EngineError>
         requires stage { self.old.stage ≡ Stage.Open }
-        requires unbroken { self.old.next ≢ Some Request.Broken }
-        requires none { self.old.is_drained ≡ false → self.old.next ≡ None }
-        requires all { self.old.is_drained ≡ false → HasGivenAll self.old.inbox }
-        requires over { IsOver self.old.is_drained self.old.inbox }
-        ensures pass { T.pass turns.new ≡ T.pass turns.old }
-        ensures setting { T.setting turns.new ≡ T.setting turns.old }
-        ensures seen { StartsWith (T.seen turns.new) (T.seen turns.old) }
-        ensures goes { AsTold (Goes self.old self.new
-            (own_steps (T.pass turns.old) (T.seen turns.old))
-            (own_steps (T.pass turns.old) (T.seen turns.new))) (told_by_step result) }
+        requires done { IsReadOut self.old }
+        ensures moves { MovesClient T.pass T.setting T.seen T.cause turns.old turns.new
+            self.old self.new (told_by_step result) result }
         ensures ok { IfOk result (λ p. IsLive self.new.stage × (p ≡ Progress.Moved)) }
         ensures err { IfErr result (λ e. (n : ℕ) × (e ≡ EngineError.TurnRefused n)) }
-        ensures unfailed { OnOk result (HasNoFault self.old self.new) }
-        ensures number { IfErr result
-            (IsNumbered (T.cause (T.setting turns.old)) (T.seen turns.new)) }
     {
         self.stage = Stage::AtEnd;
         self.is_halted = self.is_drained;
@@ -394,22 +335,13 @@ impl<R: ReadTally, W: WriteTally> ClientEngine<R, W> {
         requires none { self.old.next ≡ None }
         requires reads { self.old.is_drained ≡ false }
         requires all { HasGivenAll self.old.inbox }
-        ensures pass { T.pass turns.new ≡ T.pass turns.old }
-        ensures setting { T.setting turns.new ≡ T.setting turns.old }
-        ensures seen { StartsWith (T.seen turns.new) (T.seen turns.old) }
-        ensures goes { AsTold (Goes self.old self.new
-            (own_steps (T.pass turns.old) (T.seen turns.old))
-            (own_steps (T.pass turns.old) (T.seen turns.new))) (told_by_step result) }
+        ensures moves { MovesClient T.pass T.setting T.seen T.cause turns.old turns.new
+            self.old self.new (told_by_step result) result }
         ensures ok { IfOk result (λ p. IsLive self.new.stage
-            × ((p ≡ Progress.Moved) ⊎ ((p ≡ Progress.Idle)
-            × HasPaused self.old.inbox.counts self.new.inbox.counts))) }
+            × ((p ≡ Progress.Moved) ⊎ ((p ≡ Progress.Idle) × AwaitsBytes self.old self.new))) }
         ensures err { IfErr result (λ e.
             ((e ≡ EngineError.ReadFailed) × HasFailed self.old.inbox.counts self.new.inbox.counts
             × (self.new.stage ≡ Stage.Closed true)) ⊎ ((n : ℕ) × (e ≡ EngineError.TurnRefused n))) }
-        ensures idle { IfOk result (λ p. p ≡ Progress.Idle → AwaitsBytes self.old self.new) }
-        ensures unfailed { OnOk result (HasNoFault self.old self.new) }
-        ensures number { IfErr result
-            (IsNumbered (T.cause (T.setting turns.old)) (T.seen turns.new)) }
     {
         match self.inbox.read_once() {
             Told::Moved(_) => Ok(Progress::Moved),
@@ -436,12 +368,8 @@ impl<R: ReadTally, W: WriteTally> ClientEngine<R, W> {
         turns: &mut T,
     ) -> Result<Progress, EngineError>
         requires stage { self.old.stage ≡ Stage.Open }
-        ensures pass { T.pass turns.new ≡ T.pass turns.old }
-        ensures setting { T.setting turns.new ≡ T.setting turns.old }
-        ensures seen { StartsWith (T.seen turns.new) (T.seen turns.old) }
-        ensures goes { AsTold (Goes self.old self.new
-            (own_steps (T.pass turns.old) (T.seen turns.old))
-            (own_steps (T.pass turns.old) (T.seen turns.new))) (told_by_step result) }
+        ensures moves { MovesClient T.pass T.setting T.seen T.cause turns.old turns.new
+            self.old self.new (told_by_step result) result }
         ensures ok { IfOk result (λ p. IsLive self.new.stage
             × ((p ≡ Progress.Moved) ⊎ (p ≡ Progress.Idle))) }
         ensures err { IfErr result (λ e. (e ≡ EngineError.NoMemory)
@@ -450,9 +378,6 @@ impl<R: ReadTally, W: WriteTally> ClientEngine<R, W> {
         ensures idle { IfOk result (λ p. p ≡ Progress.Idle
             → IsHeldBack (T.cause (T.setting turns.old)) self.new (T.seen turns.old)
             (T.seen turns.new) ⊎ AwaitsBytes self.old self.new) }
-        ensures unfailed { OnOk result (HasNoFault self.old self.new) }
-        ensures number { IfErr result
-            (IsNumbered (T.cause (T.setting turns.old)) (T.seen turns.new)) }
     {
         if self.is_to_stop() {
             return self.stop_reading(rt, turns);
@@ -471,19 +396,12 @@ impl<R: ReadTally, W: WriteTally> ClientEngine<R, W> {
     ) -> Result<Progress, EngineError>
         requires stage { self.old.stage ≡ Stage.Finishing }
         requires nothing { self.old.outbox.pending ≡ [] }
-        ensures pass { T.pass turns.new ≡ T.pass turns.old }
-        ensures setting { T.setting turns.new ≡ T.setting turns.old }
-        ensures seen { StartsWith (T.seen turns.new) (T.seen turns.old) }
-        ensures goes { AsTold (Goes self.old self.new
-            (own_steps (T.pass turns.old) (T.seen turns.old))
-            (own_steps (T.pass turns.old) (T.seen turns.new))) (told_by_step result) }
+        ensures moves { MovesClient T.pass T.setting T.seen T.cause turns.old turns.new
+            self.old self.new (told_by_step result) result }
         ensures ok { IfOk result (λ p. (p ≡ Progress.Idle)
             ⊎ ((p ≡ Progress.Ended) × (self.new.stage ≡ Stage.Closed false))) }
         ensures err { IfErr result (λ e. (n : ℕ) × (e ≡ EngineError.TurnRefused n)) }
         ensures idle { IfOk result (λ p. p ≡ Progress.Idle → AwaitsReplies self.new) }
-        ensures unfailed { OnOk result (HasNoFault self.old self.new) }
-        ensures number { IfErr result
-            (IsNumbered (T.cause (T.setting turns.old)) (T.seen turns.new)) }
     {
         if self.accepted != self.handed {
             return Ok(Progress::Idle);
@@ -499,21 +417,14 @@ impl<R: ReadTally, W: WriteTally> ClientEngine<R, W> {
     ) -> Result<bool, EngineError>
         requires live { IsLive self.old.stage }
         requires nothing { self.old.outbox.pending ≡ [] }
-        ensures pass { T.pass turns.new ≡ T.pass turns.old }
-        ensures setting { T.setting turns.new ≡ T.setting turns.old }
-        ensures seen { StartsWith (T.seen turns.new) (T.seen turns.old) }
-        ensures goes { AsTold (Goes self.old self.new
-            (own_steps (T.pass turns.old) (T.seen turns.old))
-            (own_steps (T.pass turns.old) (T.seen turns.new))) (told_by_turn result) }
+        ensures moves { MovesClient T.pass T.setting T.seen T.cause turns.old turns.new
+            self.old self.new (told_by_turn result) result }
         ensures stage { self.new.stage ≡ self.old.stage }
-        ensures same { IfOk result (λ b. b ≡ false → self.new ≡ self.old) }
-        ensures err { IfErr result (λ e. (n : ℕ) × (e ≡ EngineError.TurnRefused n)) }
-        ensures nothing { IfOk result (λ b. b ≡ false
-            → HandsNothing (T.cause (T.setting turns.old)) self.old (T.seen turns.old)
+        ensures nothing { IfOk result (λ b. b ≡ false → (self.new ≡ self.old)
+            × HandsNothing (T.cause (T.setting turns.old)) self.old (T.seen turns.old)
             (T.seen turns.new)) }
-        ensures unfailed { HasNoFault self.old self.new }
-        ensures number { IfErr result
-            (IsNumbered (T.cause (T.setting turns.old)) (T.seen turns.new)) }
+        ensures err { IfErr result (λ e. (self.new ≡ self.old)
+            × ((n : ℕ) × (e ≡ EngineError.TurnRefused n))) }
     {
         if self.accepted == self.handed {
             return Ok(false);
@@ -528,29 +439,11 @@ impl<R: ReadTally, W: WriteTally> ClientEngine<R, W> {
         turns: &mut T,
     ) -> Result<Progress, EngineError>
         requires live { IsLive self.old.stage }
-        ensures pass { T.pass turns.new ≡ T.pass turns.old }
-        ensures setting { T.setting turns.new ≡ T.setting turns.old }
-        ensures seen { StartsWith (T.seen turns.new) (T.seen turns.old) }
-        ensures goes { AsTold (Goes self.old self.new
-            (own_steps (T.pass turns.old) (T.seen turns.old))
-            (own_steps (T.pass turns.old) (T.seen turns.new))) (told_by_step result) }
-        ensures ended { IfOk result (λ p. p ≡ Progress.Ended → self.new.stage
-            ≡ Stage.Closed false) }
+        ensures moves { MovesClient T.pass T.setting T.seen T.cause turns.old turns.new
+            self.old self.new (told_by_step result) result }
+        ensures tells { TellsStep (T.cause (T.setting turns.old)) (T.seen turns.old)
+            (T.seen turns.new) self.old self.new result }
         ensures cut { IfOk result (λ p. p ≢ Progress.Cut) }
-        ensures no_link { IfOk result (λ p. p ≢ Progress.NeedsLink) }
-        ensures read_failed { IfErr result
-            (λ e. e ≡ EngineError.ReadFailed → HasFailed self.old.inbox.counts self.new.inbox.counts
-            × (self.new.stage ≡ Stage.Closed true)) }
-        ensures write_failed { IfErr result
-            (λ e. e ≡ EngineError.WriteFailed
-            → HasFailed self.old.outbox.counts self.new.outbox.counts
-            × (self.new.stage ≡ Stage.Closed true)) }
-        ensures idle { IfOk result (λ p. p ≡ Progress.Idle
-            → IsIdle (T.cause (T.setting turns.old)) self.old self.new (T.seen turns.old)
-            (T.seen turns.new)) }
-        ensures unfailed { OnOk result (HasNoFault self.old self.new) }
-        ensures number { IfErr result
-            (IsNumbered (T.cause (T.setting turns.old)) (T.seen turns.new)) }
     {
         if !self.outbox.is_empty() {
             return self.write(rt, turns);
@@ -577,32 +470,13 @@ impl<R: ReadTally, W: WriteTally> ClientEngine<R, W> {
         rt: &Rt,
         turns: &mut T,
     ) -> Result<Progress, EngineError>
-        ensures pass { T.pass turns.new ≡ T.pass turns.old }
-        ensures setting { T.setting turns.new ≡ T.setting turns.old }
-        ensures seen { StartsWith (T.seen turns.new) (T.seen turns.old) }
-        ensures goes { AsTold (Goes self.old self.new
-            (own_steps (T.pass turns.old) (T.seen turns.old))
-            (own_steps (T.pass turns.old) (T.seen turns.new))) (told_by_step result) }
-        ensures ended { IfOk result (λ p. p ≡ Progress.Ended → self.new.stage
-            ≡ Stage.Closed false) }
+        ensures moves { MovesClient T.pass T.setting T.seen T.cause turns.old turns.new
+            self.old self.new (told_by_step result) result }
+        ensures tells { TellsStep (T.cause (T.setting turns.old)) (T.seen turns.old)
+            (T.seen turns.new) self.old self.new result }
         ensures cut { IfOk result (λ p. p ≡ Progress.Cut → self.new.stage ≡ Stage.Closed true) }
-        ensures no_link { IfOk result (λ p. p ≢ Progress.NeedsLink) }
         ensures closed { ClosesFirst self.old.stage self.old self.new
-            (own_steps (T.pass turns.old) (T.seen turns.old))
-            (own_steps (T.pass turns.old) (T.seen turns.new)) result }
-        ensures read_failed { IfErr result
-            (λ e. e ≡ EngineError.ReadFailed → HasFailed self.old.inbox.counts self.new.inbox.counts
-            × (self.new.stage ≡ Stage.Closed true)) }
-        ensures write_failed { IfErr result
-            (λ e. e ≡ EngineError.WriteFailed
-            → HasFailed self.old.outbox.counts self.new.outbox.counts
-            × (self.new.stage ≡ Stage.Closed true)) }
-        ensures idle { IfOk result (λ p. p ≡ Progress.Idle
-            → IsIdle (T.cause (T.setting turns.old)) self.old self.new (T.seen turns.old)
-            (T.seen turns.new)) }
-        ensures unfailed { OnOk result (HasNoFault self.old self.new) }
-        ensures number { IfErr result
-            (IsNumbered (T.cause (T.setting turns.old)) (T.seen turns.new)) }
+            (own_history T.pass T.seen turns.old) (own_history T.pass T.seen turns.new) result }
     {
         match self.stage {
             Stage::Closed { is_cut: true } => Ok(Progress::Cut),
@@ -653,6 +527,7 @@ impl<R: ReadTally, W: WriteTally> ClientEngine<R, W> {
 
 impl<R: ReadTally + Drop, W: WriteTally + Drop> ClientEngine<R, W> {
     ghost use Rattle.proxy_engines.specs.Client.{Carries, MayGoOn};
+    ghost use Rattle.proxy_engines.specs.ClientSteps.{OpensClient};
     ghost use Rattle.proxy_engines.specs.Socket.{IsLeft, IsRest};
 
     /// Opens a connection: all that it needs is taken first, and then one Opened turn is made.
@@ -665,22 +540,14 @@ impl<R: ReadTally + Drop, W: WriteTally + Drop> ClientEngine<R, W> {
         reader: R,
         writer: W,
     ) -> Result<ClientEngine<R, W>, EngineError>
-        ensures pass { T.pass turns.new ≡ T.pass turns.old }
-        ensures setting { T.setting turns.new ≡ T.setting turns.old }
-        ensures seen { StartsWith (T.seen turns.new) (T.seen turns.old) }
-        ensures opened { IfOk result (λ e. own_steps (T.pass turns.old) (T.seen turns.new)
-            ≡ step_by (T.pass turns.old) Event.Opened (Answer.Opened e.conn) ∷ own_steps
-            (T.pass turns.old) (T.seen turns.old)) }
-        ensures carries { IfOk result (λ e. Carries e
-            (own_steps (T.pass turns.old) (T.seen turns.new)) [] []) }
-        ensures ends { IfOk result (λ e. (e.inbox.left ≡ R.remaining reader)
-            × (e.outbox.held ≡ W.contents writer)) }
-        ensures stage { IfOk result (λ e. e.stage ≡ Stage.Open) }
-        ensures reads { IfOk result (λ e. e.is_drained ≡ false) }
-        ensures err { IfErr result (λ e.
-            (own_steps (T.pass turns.old) (T.seen turns.new)
-            ≡ own_steps (T.pass turns.old) (T.seen turns.old))
-            × ((e ≡ EngineError.NoMemory) ⊎ ((n : ℕ) × (e ≡ EngineError.TurnRefused n)))) }
+        ensures turns { KeepsTurns T.pass T.setting T.seen turns.old turns.new }
+        ensures opened { IfOk result (λ e. OpensClient (T.pass turns.old)
+            (own_history T.pass T.seen turns.old) (own_history T.pass T.seen turns.new)
+            (R.remaining reader) (W.contents writer) e) }
+        ensures carries { IfOk result (λ e. Carries e (own_history T.pass T.seen turns.new) [] []) }
+        ensures err { IfErr result (λ e. (own_history T.pass T.seen turns.new ≡ own_history T.pass
+            T.seen turns.old) × ((e ≡ EngineError.NoMemory)
+            ⊎ ((n : ℕ) × (e ≡ EngineError.TurnRefused n)))) }
         ensures number { IfErr result
             (IsNumbered (T.cause (T.setting turns.old)) (T.seen turns.new)) }
     {
@@ -723,22 +590,14 @@ impl<R: ReadTally + Drop, W: WriteTally + Drop> ClientEngine<R, W> {
         writer: W,
         rest: Rest,
     ) -> Result<ClientEngine<R, W>, (EngineError, R, W, Rest)>
-        ensures pass { T.pass turns.new ≡ T.pass turns.old }
-        ensures setting { T.setting turns.new ≡ T.setting turns.old }
-        ensures seen { StartsWith (T.seen turns.new) (T.seen turns.old) }
-        ensures opened { IfOk result (λ e. own_steps (T.pass turns.old) (T.seen turns.new)
-            ≡ step_by (T.pass turns.old) Event.Opened (Answer.Opened e.conn) ∷ own_steps
-            (T.pass turns.old) (T.seen turns.old)) }
+        ensures turns { KeepsTurns T.pass T.setting T.seen turns.old turns.new }
+        ensures opened { IfOk result (λ e. OpensClient (T.pass turns.old)
+            (own_history T.pass T.seen turns.old) (own_history T.pass T.seen turns.new)
+            (R.remaining reader) (W.contents writer) e) }
         ensures carries { IfOk result (λ e. (b : List ℕ) → IsRest rest b → Carries e
-            (own_steps (T.pass turns.old) (T.seen turns.new)) [] b) }
-        ensures ends { IfOk result (λ e. (e.inbox.left ≡ R.remaining reader)
-            × (e.outbox.held ≡ W.contents writer)) }
-        ensures stage { IfOk result (λ e. e.stage ≡ Stage.Open) }
-        ensures reads { IfOk result (λ e. e.is_drained ≡ false) }
-        ensures err { IfErr result (λ x.
-            (own_steps (T.pass turns.old) (T.seen turns.new)
-            ≡ own_steps (T.pass turns.old) (T.seen turns.old))
-            × ((n : ℕ) × (x.0 ≡ EngineError.TurnRefused n))) }
+            (own_history T.pass T.seen turns.new) [] b) }
+        ensures err { IfErr result (λ x. (own_history T.pass T.seen turns.new ≡ own_history T.pass
+            T.seen turns.old) × ((n : ℕ) × (x.0 ≡ EngineError.TurnRefused n))) }
         ensures number { IfErr result
             (λ x. IsNumbered (T.cause (T.setting turns.old)) (T.seen turns.new) x.0) }
         ensures back { IfErr result (λ x. (x.1 ≡ reader) × (x.2 ≡ writer) × (x.3 ≡ rest)) }

@@ -1,16 +1,16 @@
 //! A host's end.
 ghost use Rattle.std.specs.Prelude.{◌≡◌, ◌≢◌, ◌⊎◌, ◌↔◌, ℕ, List, [], Option, Some, None, IfOk, IfErr, IfSome, OnOk, OnErr, true, false, unwrap_or};
-ghost use Rattle.ticket_gate.specs.Journal.{StartsWith};
 ghost use Rattle.proxy_history.specs.History.{History};
 ghost use Rattle.proxy_history.specs.Own.{host_steps};
 ghost use Rattle.proxy_history.specs.declared.event.Event.{Event};
 ghost use Rattle.proxy_history.specs.declared.refusal.Refusal.{Refusal};
-ghost use Rattle.proxy_engines.specs.OwnSteps.{own_steps};
+ghost use Rattle.proxy_engines.specs.Turns.{KeepsTurns, own_history};
 ghost use Rattle.proxy_engines.specs.Turned.{HasHeld};
 ghost use Rattle.proxy_engines.specs.Moves.{AsTold, told_by_turn};
 ghost use Rattle.proxy_engines.specs.Faults.{HasNoFaultOn, IsLate, IsNumberedOn, IsPlain};
 ghost use Rattle.proxy_engines.specs.Ends.{HasGivenAll};
 ghost use Rattle.proxy_engines.specs.Host.{LinkState, GoesOn, FailsHost, CarriesHost};
+ghost use Rattle.proxy_engines.specs.HostTurns.{MarksFault, MovesHost, MovesLine, TellsHost};
 ghost use Rattle.proxy_engines.specs.HostStep.{IsIdleOn, IsUnasked, Records, RestsHost, StepsHost, TellsFault, WorksHost, after_fault, answer_of};
 
 use crate::client::Progress;
@@ -96,19 +96,8 @@ impl<R: ReadTally + Drop, W: WriteTally + Drop> HostEngine<R, W> {
         kind: Kind,
         moment: u64,
     ) -> Result<(), EngineError>
-        ensures pass { T.pass turns.new ≡ T.pass turns.old }
-        ensures setting { T.setting turns.new ≡ T.setting turns.old }
-        ensures seen { StartsWith (T.seen turns.new) (T.seen turns.old) }
-        ensures fails { OnOk result (FailsHost self.old.line self.new.line self.old.link
-            (own_steps (T.pass turns.old) (T.seen turns.old))
-            (own_steps (T.pass turns.old) (T.seen turns.new)) kind moment × (self.new.link ≡ None)
-            × (self.new.fault ≡ None)) }
-        ensures kept { OnErr result ((self.new ≡ record self.old { fault = Some kind })
-            × (own_steps (T.pass turns.old) (T.seen turns.new)
-            ≡ own_steps (T.pass turns.old) (T.seen turns.old))) }
-        ensures err { IfErr result (λ e. (n : ℕ) × (e ≡ EngineError.TurnRefused n)) }
-        ensures number { IfErr result
-            (IsNumberedOn (T.cause (T.setting turns.old)) (T.seen turns.new) self.new.line) }
+        ensures marks { MarksFault T.pass T.setting T.seen T.cause turns.old turns.new
+            self.old self.new kind moment result }
     {
         self.fault = Some(kind);
         self.line.fail(rt, turns, kind, moment)?;
@@ -151,18 +140,8 @@ impl<R: ReadTally + Drop, W: WriteTally + Drop> HostEngine<R, W> {
         moment: u64,
     ) -> Result<(), EngineError>
         requires none { self.old.link ≡ None }
-        ensures pass { T.pass turns.new ≡ T.pass turns.old }
-        ensures setting { T.setting turns.new ≡ T.setting turns.old }
-        ensures seen { StartsWith (T.seen turns.new) (T.seen turns.old) }
-        ensures records { OnOk result (Records self.old self.new
-            (own_steps (T.pass turns.old) (T.seen turns.old))
-            (own_steps (T.pass turns.old) (T.seen turns.new)) Kind.Refused moment) }
-        ensures kept { OnErr result ((self.new ≡ record self.old { fault = Some Kind.Refused })
-            × (own_steps (T.pass turns.old) (T.seen turns.new)
-            ≡ own_steps (T.pass turns.old) (T.seen turns.old))) }
-        ensures err { IfErr result (λ e. (n : ℕ) × (e ≡ EngineError.TurnRefused n)) }
-        ensures number { IfErr result
-            (IsNumberedOn (T.cause (T.setting turns.old)) (T.seen turns.new) self.new.line) }
+        ensures marks { MarksFault T.pass T.setting T.seen T.cause turns.old turns.new
+            self.old self.new Kind.Refused moment result }
     {
         self.record_fault(rt, turns, Kind::Refused, moment)
     }
@@ -177,20 +156,8 @@ impl<R: ReadTally + Drop, W: WriteTally + Drop> HostEngine<R, W> {
         turns: &mut T,
         moment: u64,
     ) -> Result<(), EngineError>
-        ensures pass { T.pass turns.new ≡ T.pass turns.old }
-        ensures setting { T.setting turns.new ≡ T.setting turns.old }
-        ensures seen { StartsWith (T.seen turns.new) (T.seen turns.old) }
-        ensures records { OnOk result (Records self.old self.new
-            (own_steps (T.pass turns.old) (T.seen turns.old))
-            (own_steps (T.pass turns.old) (T.seen turns.new))
-            (unwrap_or self.old.fault Kind.Dropped) moment) }
-        ensures kept { OnErr result
-            ((self.new ≡ record self.old { fault = Some (unwrap_or self.old.fault Kind.Dropped) })
-            × (own_steps (T.pass turns.old) (T.seen turns.new)
-            ≡ own_steps (T.pass turns.old) (T.seen turns.old))) }
-        ensures err { IfErr result (λ e. (n : ℕ) × (e ≡ EngineError.TurnRefused n)) }
-        ensures number { IfErr result
-            (IsNumberedOn (T.cause (T.setting turns.old)) (T.seen turns.new) self.new.line) }
+        ensures marks { MarksFault T.pass T.setting T.seen T.cause turns.old turns.new
+            self.old self.new (unwrap_or self.old.fault Kind.Dropped) moment result }
     {
         let kind = self.fault.unwrap_or(Kind::Dropped);
         self.record_fault(rt, turns, kind, moment)
@@ -205,12 +172,9 @@ impl<R: ReadTally + Drop, W: WriteTally + Drop> HostEngine<R, W> {
         error: Option<EngineError>,
         moment: u64,
     ) -> Result<Progress, EngineError>
-        ensures pass { T.pass turns.new ≡ T.pass turns.old }
-        ensures setting { T.setting turns.new ≡ T.setting turns.old }
-        ensures seen { StartsWith (T.seen turns.new) (T.seen turns.old) }
-        ensures tells { TellsFault self.old self.new
-            (own_steps (T.pass turns.old) (T.seen turns.old))
-            (own_steps (T.pass turns.old) (T.seen turns.new)) kind error moment result }
+        ensures turns { KeepsTurns T.pass T.setting T.seen turns.old turns.new }
+        ensures tells { TellsFault self.old self.new (own_history T.pass T.seen turns.old)
+            (own_history T.pass T.seen turns.new) kind error moment result }
         ensures number { (result ≡ answer_of error) ⊎ IfErr result
             (IsNumberedOn (T.cause (T.setting turns.old)) (T.seen turns.new) self.new.line) }
     {
@@ -230,27 +194,14 @@ impl<R: ReadTally + Drop, W: WriteTally + Drop> HostEngine<R, W> {
     ) -> Result<Progress, EngineError>
         requires some { self.old.link ≢ None }
         requires no_fault { self.old.fault ≡ None }
-        ensures pass { T.pass turns.new ≡ T.pass turns.old }
-        ensures setting { T.setting turns.new ≡ T.setting turns.old }
-        ensures seen { StartsWith (T.seen turns.new) (T.seen turns.old) }
-        ensures works { WorksHost (IsUnasked (T.cause (T.setting turns.old) Refusal.Unasked)
-            (T.seen turns.old) (T.seen turns.new) moment) self.old.line self.new self.old.link
-            (own_steps (T.pass turns.old) (T.seen turns.old))
-            (own_steps (T.pass turns.old) (T.seen turns.new)) moment result }
+        ensures moves { MovesHost T.pass T.setting T.seen T.cause turns.old turns.new self.old.line
+            self.old.link self.new moment result }
         ensures needs_link { IfOk result
             (λ p. (p ≢ Progress.NeedsLink) × (self.new.link ≡ None → self.new.line.pending ≡ [])) }
         ensures all { IfOk result (λ p. IfSome self.new.link
             (λ k. (k.next ≡ None) × HasGivenAll k.inbox)) }
-        ensures recorded { OnOk result (self.new.fault ≡ None) }
-        ensures unfailed { OnOk result (IfSome self.old.link
-            (λ j. IfSome self.new.link (HasNoFaultOn j))) }
-        ensures in_time { IfOk result (λ _. ¬ IsLate self.new.line moment) }
-        ensures idle { IfOk result (λ p. p ≡ Progress.Idle
-            → IsIdleOn (HasHeld (T.cause (T.setting turns.old) Refusal.NothingWaiting)
-            (Event.Taken self.old.line.host) (T.seen turns.old)
-            (T.seen turns.new)) self.old.line self.old.link self.new.link) }
-        ensures number { IfErr result
-            (IsNumberedOn (T.cause (T.setting turns.old)) (T.seen turns.new) self.new.line) }
+        ensures tells { TellsHost (T.cause (T.setting turns.old)) (T.seen turns.old)
+            (T.seen turns.new) self.old.line self.old.link self.new moment result }
     {
         let Some(link) = &mut self.link else {
             unreachable!()
@@ -273,12 +224,9 @@ impl<R: ReadTally + Drop, W: WriteTally + Drop> HostEngine<R, W> {
         moment: u64,
     ) -> Result<bool, EngineError>
         requires none { self.old.link ≡ None }
-        ensures pass { T.pass turns.new ≡ T.pass turns.old }
-        ensures setting { T.setting turns.new ≡ T.setting turns.old }
-        ensures seen { StartsWith (T.seen turns.new) (T.seen turns.old) }
-        ensures goes { AsTold (GoesOn self.old.line self.new.line None None
-            (own_steps (T.pass turns.old) (T.seen turns.old))
-            (own_steps (T.pass turns.old) (T.seen turns.new)) moment) (told_by_turn result) }
+        ensures moves { MovesLine T.pass T.setting T.seen T.cause turns.old turns.new self.old.line
+            self.new.line None None
+            moment (told_by_turn result) result }
         ensures link { self.new.link ≡ None }
         ensures fault { self.new.fault ≡ self.old.fault }
         ensures nothing_waits { IfOk result
@@ -286,8 +234,6 @@ impl<R: ReadTally + Drop, W: WriteTally + Drop> HostEngine<R, W> {
             → T.cause (T.setting turns.old) Refusal.NothingWaiting (Event.Taken self.old.line.host)
             (T.seen turns.new)) }
         ensures same { IfOk result (λ b. b ≡ false → self.new.line ≡ self.old.line) }
-        ensures plain { IfErr result
-            (IsPlain (T.cause (T.setting turns.old)) (T.seen turns.new) self.new.line) }
     {
         if self.line.is_empty() {
             self.line.take(rt, turns, moment)
@@ -305,23 +251,13 @@ impl<R: ReadTally + Drop, W: WriteTally + Drop> HostEngine<R, W> {
     ) -> Result<Progress, EngineError>
         requires none { self.old.link ≡ None }
         requires no_fault { self.old.fault ≡ None }
-        ensures pass { T.pass turns.new ≡ T.pass turns.old }
-        ensures setting { T.setting turns.new ≡ T.setting turns.old }
-        ensures seen { StartsWith (T.seen turns.new) (T.seen turns.old) }
-        ensures works { WorksHost (IsUnasked (T.cause (T.setting turns.old) Refusal.Unasked)
-            (T.seen turns.old) (T.seen turns.new) moment) self.old.line self.new None
-            (own_steps (T.pass turns.old) (T.seen turns.old))
-            (own_steps (T.pass turns.old) (T.seen turns.new)) moment result }
+        ensures moves { MovesHost T.pass T.setting T.seen T.cause turns.old turns.new self.old.line
+            None self.new moment result }
         ensures needs_link { IfOk result
             (λ p. (p ≡ Progress.NeedsLink) ↔ (self.new.line.pending ≢ [])) }
         ensures link { self.new.link ≡ None }
-        ensures recorded { OnOk result (self.new.fault ≡ None) }
-        ensures in_time { IfOk result (λ _. ¬ IsLate self.new.line moment) }
-        ensures idle { IfOk result (λ p. p ≡ Progress.Idle → (self.old.line.pending ≡ [])
-            × HasHeld (T.cause (T.setting turns.old) Refusal.NothingWaiting)
-            (Event.Taken self.old.line.host) (T.seen turns.old) (T.seen turns.new)) }
-        ensures number { IfErr result
-            (IsNumberedOn (T.cause (T.setting turns.old)) (T.seen turns.new) self.new.line) }
+        ensures tells { TellsHost (T.cause (T.setting turns.old)) (T.seen turns.old)
+            (T.seen turns.new) self.old.line None (record self.new { link = None }) moment result }
     {
         let taken = self.take_one(rt, turns, moment)?;
         if self.line.is_late(moment) {
@@ -345,29 +281,16 @@ impl<R: ReadTally + Drop, W: WriteTally + Drop> HostEngine<R, W> {
         moment: u64,
     ) -> Result<Progress, EngineError>
         requires no_fault { self.old.fault ≡ None }
-        ensures pass { T.pass turns.new ≡ T.pass turns.old }
-        ensures setting { T.setting turns.new ≡ T.setting turns.old }
-        ensures seen { StartsWith (T.seen turns.new) (T.seen turns.old) }
-        ensures works { WorksHost (IsUnasked (T.cause (T.setting turns.old) Refusal.Unasked)
-            (T.seen turns.old) (T.seen turns.new) moment) self.old.line self.new self.old.link
-            (own_steps (T.pass turns.old) (T.seen turns.old))
-            (own_steps (T.pass turns.old) (T.seen turns.new)) moment result }
+        ensures moves { MovesHost T.pass T.setting T.seen T.cause turns.old turns.new self.old.line
+            self.old.link self.new moment result }
         ensures needs_link { IfOk result
             (λ p. (p ≡ Progress.NeedsLink)
             ↔ ((self.new.link ≡ None) × (self.new.line.pending ≢ []))) }
         ensures all { IfOk result (λ p. IfSome self.old.link
             (λ _. IfSome self.new.link (λ k. (k.next ≡ None) × HasGivenAll k.inbox))) }
         ensures alone { self.old.link ≡ None → self.new.link ≡ None }
-        ensures recorded { OnOk result (self.new.fault ≡ None) }
-        ensures unfailed { OnOk result (IfSome self.old.link
-            (λ j. IfSome self.new.link (HasNoFaultOn j))) }
-        ensures in_time { IfOk result (λ _. ¬ IsLate self.new.line moment) }
-        ensures idle { IfOk result (λ p. p ≡ Progress.Idle
-            → IsIdleOn (HasHeld (T.cause (T.setting turns.old) Refusal.NothingWaiting)
-            (Event.Taken self.old.line.host) (T.seen turns.old)
-            (T.seen turns.new)) self.old.line self.old.link self.new.link) }
-        ensures number { IfErr result
-            (IsNumberedOn (T.cause (T.setting turns.old)) (T.seen turns.new) self.new.line) }
+        ensures tells { TellsHost (T.cause (T.setting turns.old)) (T.seen turns.old)
+            (T.seen turns.new) self.old.line self.old.link self.new moment result }
     {
         if self.link.is_some() {
             self.go_on_link(rt, turns, moment)
@@ -391,29 +314,20 @@ impl<R: ReadTally + Drop, W: WriteTally + Drop> HostEngine<R, W> {
         turns: &mut T,
         moment: u64,
     ) -> Result<Progress, EngineError>
-        ensures pass { T.pass turns.new ≡ T.pass turns.old }
-        ensures setting { T.setting turns.new ≡ T.setting turns.old }
-        ensures seen { StartsWith (T.seen turns.new) (T.seen turns.old) }
+        ensures turns { KeepsTurns T.pass T.setting T.seen turns.old turns.new }
         ensures steps { StepsHost (IsUnasked (T.cause (T.setting turns.old) Refusal.Unasked)
             (T.seen turns.old) (T.seen turns.new) moment) self.old self.new
-            (own_steps (T.pass turns.old) (T.seen turns.old))
-            (own_steps (T.pass turns.old) (T.seen turns.new)) moment result
-            ⊎ RestsHost self.old self.new (own_steps (T.pass turns.old) (T.seen turns.old))
-            (own_steps (T.pass turns.old) (T.seen turns.new)) result }
+            (own_history T.pass T.seen turns.old) (own_history T.pass T.seen turns.new) moment
+            result ⊎ RestsHost self.old self.new (own_history T.pass T.seen turns.old)
+            (own_history T.pass T.seen turns.new) result }
         ensures needs_link { IfOk result
             (λ p. (p ≡ Progress.NeedsLink)
             ↔ ((self.new.link ≡ None) × (self.new.line.pending ≢ []))) }
         ensures all { IfOk result (λ p. self.old.fault ≡ None
             → IfSome self.old.link (λ _. IfSome self.new.link
             (λ k. (k.next ≡ None) × HasGivenAll k.inbox))) }
-        ensures recorded { OnOk result (self.new.fault ≡ None) }
-        ensures unfailed { OnOk result (IfSome self.old.link
-            (λ j. IfSome self.new.link (HasNoFaultOn j))) }
-        ensures in_time { IfOk result (λ _. ¬ IsLate self.new.line moment) }
-        ensures idle { IfOk result (λ p. p ≡ Progress.Idle
-            → IsIdleOn (HasHeld (T.cause (T.setting turns.old) Refusal.NothingWaiting)
-            (Event.Taken self.old.line.host) (T.seen turns.old)
-            (T.seen turns.new)) self.old.line self.old.link self.new.link) }
+        ensures tells { TellsHost (T.cause (T.setting turns.old)) (T.seen turns.old)
+            (T.seen turns.new) self.old.line self.old.link self.new moment result }
         ensures number { IfErr result
             (IsNumberedOn (T.cause (T.setting turns.old)) (T.seen turns.new) self.new.line) }
     {

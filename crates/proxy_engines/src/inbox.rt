@@ -117,7 +117,7 @@ impl<R: ReadTally> Model for Inbox<R> {
 }
 
 impl<R: ReadTally> Inbox<R> {
-    ghost use Rattle.proxy_engines.specs.Ends.{Holds, HasGivenAll, IsCut};
+    ghost use Rattle.proxy_engines.specs.Ends.{GivesNext, Holds, IsCut, KeepsReader};
 
     /// An end that has read nothing yet. Where there is no memory for its buffer, the reader comes back.
     pub(crate) fn new(alloc: Global, input: R, limits: Limits) -> Result<Inbox<R>, R>
@@ -247,9 +247,8 @@ impl<R: ReadTally> Inbox<R> {
         ensures fresh { OnOk result (self.new.fresh ≡ []) }
         ensures holds { (b : List ℕ) (rs : List Asked) → Holds self.old b rs → Holds self.new b rs }
         ensures whole { self.new.values.refusal ≡ None }
-        ensures left { self.new.left ≡ self.old.left }
-        ensures counts { self.new.counts ≡ self.old.counts }
-        ensures most { self.new.values.most ≡ self.old.values.most }
+        ensures keeps { KeepsReader self.old self.new
+            × (self.new.values.most ≡ self.old.values.most) }
     {
         if self.fresh > 0 {
             self.has_given_all = false;
@@ -266,21 +265,11 @@ impl<R: ReadTally> Inbox<R> {
     /// Refused where there is no memory; nothing is lost then.
     pub(crate) fn next_request(&mut self) -> Result<Option<Request>, AllocError>
         requires { self.old.values.refusal ≡ None }
-        ensures some { IfOk result (λ o. IfSome o
-            (λ r. (b : List ℕ) (rs : List Asked) → Holds self.old b rs
-            → Holds self.new b (rs ++ request_of r ∷ []))) }
-        ensures none { IfOk result (λ o. IfNone o
-            ((b : List ℕ) (rs : List Asked) → Holds self.old b rs → Holds self.new b rs)) }
-        ensures all { IfOk result (λ o. IfNone o (HasGivenAll self.new)) }
-        ensures whole { IfOk result (λ o. o ≢ Some Request.Broken → self.new.values.refusal
-            ≡ None) }
-        ensures told { IfOk result (λ o. o ≡ Some Request.Broken → self.new.values.refusal ≢ None) }
-        ensures err { OnErr result ((b : List ℕ) (rs : List Asked) → Holds self.old b rs
-            → Holds self.new b rs) }
-        ensures still { OnErr result (self.new.values.refusal ≡ None) }
-        ensures left { self.new.left ≡ self.old.left }
-        ensures counts { self.new.counts ≡ self.old.counts }
-        ensures most { self.new.values.most ≡ self.old.values.most }
+        ensures next { IfOk result (λ o. GivesNext self.old self.new o) }
+        ensures err { OnErr result (((b : List ℕ) (rs : List Asked) → Holds self.old b rs
+            → Holds self.new b rs) × (self.new.values.refusal ≡ None)) }
+        ensures keeps { KeepsReader self.old self.new
+            × (self.new.values.most ≡ self.old.values.most) }
     {
         if self.has_given_all && self.fresh == 0 {
             return Ok(None);

@@ -1,10 +1,9 @@
 //! What goes to a host: the text that is to be written, and when each part without reply was taken.
 ghost use Rattle.std.specs.Prelude.{◌≡◌, ◌≢◌, ◌⊎◌, ◌++◌, ◌==◌, ◌↔◌, ℕ, List, [], Option, true, false, length, drop, IfOk, IfErr, OnOk, OnErr};
 ghost use Rattle.std.specs.Io.KnownBytes.{Appends};
-ghost use Rattle.ticket_gate.specs.Journal.{StartsWith};
 ghost use Rattle.proxy_history.specs.declared.event.Event.{Event};
 ghost use Rattle.proxy_history.specs.declared.refusal.Refusal.{Refusal};
-ghost use Rattle.proxy_engines.specs.OwnSteps.{own_steps};
+ghost use Rattle.proxy_engines.specs.Turns.{KeepsTurns, own_history};
 ghost use Rattle.devices.specs.Device.{HasFailed, HasPaused, is_moved};
 ghost use Rattle.proxy_engines.specs.Moves.{AsTold, has_moved, told_by_turn};
 ghost use Rattle.proxy_engines.specs.Faults.{IsLate, IsNumberedOn, IsPlain};
@@ -81,12 +80,10 @@ impl Line {
         moment: u64,
     ) -> Result<bool, EngineError>
         requires nothing { self.old.pending ≡ [] }
-        ensures pass { T.pass turns.new ≡ T.pass turns.old }
-        ensures setting { T.setting turns.new ≡ T.setting turns.old }
-        ensures seen { StartsWith (T.seen turns.new) (T.seen turns.old) }
+        ensures turns { KeepsTurns T.pass T.setting T.seen turns.old turns.new }
         ensures goes { (k : Option LinkState)
-            → AsTold (GoesOn self.old self.new k k (own_steps (T.pass turns.old) (T.seen turns.old))
-            (own_steps (T.pass turns.old) (T.seen turns.new)) moment) (told_by_turn result) }
+            → AsTold (GoesOn self.old self.new k k (own_history T.pass T.seen turns.old)
+            (own_history T.pass T.seen turns.new) moment) (told_by_turn result) }
         ensures none { IfOk result (λ b. b ≡ false → self.new ≡ self.old) }
         ensures nothing_waits { IfOk result
             (λ b. b ≡ false → T.cause (T.setting turns.old) Refusal.NothingWaiting
@@ -123,15 +120,12 @@ impl Line {
         kind: Kind,
         moment: u64,
     ) -> Result<(), EngineError>
-        ensures pass { T.pass turns.new ≡ T.pass turns.old }
-        ensures setting { T.setting turns.new ≡ T.setting turns.old }
-        ensures seen { StartsWith (T.seen turns.new) (T.seen turns.old) }
+        ensures turns { KeepsTurns T.pass T.setting T.seen turns.old turns.new }
         ensures fails { OnOk result ((k : Option LinkState)
-            → FailsHost self.old self.new k (own_steps (T.pass turns.old) (T.seen turns.old))
-            (own_steps (T.pass turns.old) (T.seen turns.new)) kind moment) }
-        ensures same { OnErr result ((self.new ≡ self.old)
-            × (own_steps (T.pass turns.old) (T.seen turns.new)
-            ≡ own_steps (T.pass turns.old) (T.seen turns.old))) }
+            → FailsHost self.old self.new k (own_history T.pass T.seen turns.old)
+            (own_history T.pass T.seen turns.new) kind moment) }
+        ensures same { OnErr result ((self.new ≡ self.old) × (own_history T.pass T.seen turns.new
+            ≡ own_history T.pass T.seen turns.old)) }
         ensures err { IfErr result (λ e. (n : ℕ) × (e ≡ EngineError.TurnRefused n)) }
         ensures number { IfErr result
             (IsNumberedOn (T.cause (T.setting turns.old)) (T.seen turns.new) self.new) }

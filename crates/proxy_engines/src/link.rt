@@ -1,18 +1,19 @@
 //! A link to a host.
 ghost use Rattle.std.specs.Prelude.{◌≡◌, ◌≢◌, ◌⊎◌, ℕ, [], Option, Some, None, IfOk, IfErr, OnErr, true, false};
-ghost use Rattle.ticket_gate.specs.Journal.{StartsWith};
 ghost use Rattle.resp_core.specs.declared.reader.TheConstants.{HOST_MEMBERS};
 ghost use Rattle.proxy_history.specs.History.{History};
 ghost use Rattle.proxy_history.specs.declared.event.Event.{Event};
 ghost use Rattle.proxy_history.specs.declared.refusal.Refusal.{Refusal};
 ghost use Rattle.resp_core.specs.declared.value.Value.{Value};
-ghost use Rattle.proxy_engines.specs.OwnSteps.{own_steps};
+ghost use Rattle.proxy_engines.specs.Turns.{KeepsTurns, own_history};
 ghost use Rattle.devices.specs.Device.{HasPaused, HasRisen};
 ghost use Rattle.proxy_engines.specs.Turned.{HasHeld};
 ghost use Rattle.proxy_engines.specs.Ends.{HasGivenAll, KeepsReader};
+ghost use Rattle.proxy_engines.specs.LinkSteps.{FindsNext, HasReadAll, IsCalmOn, TellsNext};
+ghost use Rattle.proxy_engines.specs.HostTurns.{MovesLine};
 ghost use Rattle.proxy_engines.specs.Host.{LineState, LinkState, GoesOn};
 ghost use Rattle.proxy_engines.specs.Moves.{AsTold};
-ghost use Rattle.proxy_engines.specs.Faults.{either, is_fault, HasNoFaultOn, HasRead, IfFault, IsCauseOf, IsLate, IsLateOn, IsPlain, told_by_moves, told_by_outcome};
+ghost use Rattle.proxy_engines.specs.Faults.{either, is_fault, HasNoFaultOn, HasRead, IfFault, IsCauseOf, IsLate, IsUnaskedNow, IsLateOn, IsPlain, told_by_moves, told_by_outcome};
 
 use crate::ask::give;
 use crate::error::EngineError;
@@ -123,8 +124,7 @@ impl<R: ReadTally, W: WriteTally> Link<R, W> {
         ensures goes { (H : History) (m : ℕ)
             → AsTold (GoesOn line.old line.new (Some self.old) (Some self.new) H H m)
             (told_by_outcome result) }
-        ensures inbox { self.new.inbox ≡ self.old.inbox }
-        ensures next { self.new.next ≡ self.old.next }
+        ensures keeps { (self.new.inbox ≡ self.old.inbox) × (self.new.next ≡ self.old.next) }
         ensures still { result ≡ Outcome.Still → HasPaused self.old.counts self.new.counts }
         ensures writer { is_fault result ≡ false → self.new.counts.failed ≡ self.old.counts.failed }
         ensures fault { IfFault result
@@ -145,16 +145,11 @@ impl<R: ReadTally, W: WriteTally> Link<R, W> {
         requires whole { self.old.inbox.values.refusal ≡ None }
         ensures goes { (l : LineState) (H : History) (m : ℕ)
             → GoesOn l l (Some self.old) (Some self.new) H H m false }
-        ensures nothing { IfOk result (λ f. f ≡ Found.Nothing → (self.new.next ≡ None)
-            × HasGivenAll self.new.inbox) }
-        ensures value { IfOk result (λ f. f ≡ Found.Value → (self.new.next ≢ None)
+        ensures found { IfOk result (FindsNext self.new) }
+        ensures err { IfErr result (λ e. (e ≡ EngineError.NoMemory)
             × (self.new.inbox.values.refusal ≡ None)) }
-        ensures garbled { IfOk result (λ f. f ≡ Found.Garbled
-            → self.new.inbox.values.refusal ≢ None) }
-        ensures err { OnErr result (self.new.inbox.values.refusal ≡ None) }
         ensures counts { KeepsReader self.old.inbox self.new.inbox
             × (self.new.counts ≡ self.old.counts) }
-        ensures plain { IfErr result (λ e. e ≡ EngineError.NoMemory) }
     {
         if self.next.is_some() {
             return Ok(Found::Value);
@@ -179,22 +174,14 @@ impl<R: ReadTally, W: WriteTally> Link<R, W> {
         moment: u64,
     ) -> Result<Outcome, EngineError>
         requires waits { self.old.next ≢ None }
-        ensures pass { T.pass turns.new ≡ T.pass turns.old }
-        ensures setting { T.setting turns.new ≡ T.setting turns.old }
-        ensures seen { StartsWith (T.seen turns.new) (T.seen turns.old) }
-        ensures goes { AsTold (GoesOn line.old line.new (Some self.old) (Some self.new)
-            (own_steps (T.pass turns.old) (T.seen turns.old))
-            (own_steps (T.pass turns.old) (T.seen turns.new)) moment) (told_by_moves result) }
-        ensures inbox { self.new.inbox ≡ self.old.inbox }
-        ensures counts { self.new.counts ≡ self.old.counts }
+        ensures moves { MovesLine T.pass T.setting T.seen T.cause turns.old turns.new
+            line.old line.new (Some self.old) (Some self.new) moment (told_by_moves result) result }
+        ensures keeps { (self.new.inbox ≡ self.old.inbox) × (self.new.counts ≡ self.old.counts) }
         ensures moved { IfOk result (λ o. o ≢ Outcome.Still) }
         ensures fault { IfOk result (λ o. IfFault o
             (λ kind error. IsCauseOf kind error self.old self.new
-            ((v : Value) × (self.new.next ≡ Some v)
-            × T.cause (T.setting turns.old) Refusal.Unasked
-            (Event.Answered line.new.host line.new.epoch v moment) (T.seen turns.new)) ⊥)) }
-        ensures plain { IfErr result
-            (IsPlain (T.cause (T.setting turns.old)) (T.seen turns.new) line.new) }
+            (IsUnaskedNow (T.cause (T.setting turns.old) Refusal.Unasked) (T.seen turns.new) moment
+            line.new self.new) ⊥)) }
     {
         let Some(value) = self.next.take() else {
             return Ok(Outcome::Moved);
@@ -220,12 +207,10 @@ impl<R: ReadTally, W: WriteTally> Link<R, W> {
         requires given { HasGivenAll self.old.inbox }
         ensures goes { (l : LineState) (H : History) (m : ℕ)
             → AsTold (GoesOn l l (Some self.old) (Some self.new) H H m) (told_by_outcome result) }
-        ensures whole { self.new.inbox.values.refusal ≡ None }
-        ensures counts { self.new.counts ≡ self.old.counts }
+        ensures keeps { (self.new.inbox.values.refusal ≡ None)
+            × (self.new.counts ≡ self.old.counts) }
         ensures still { result ≡ Outcome.Still
             → HasPaused self.old.inbox.counts self.new.inbox.counts }
-        ensures reader { is_fault result ≡ false → self.new.inbox.counts.failed
-            ≡ self.old.inbox.counts.failed }
         ensures reads { is_fault result ≡ false → HasRead self.old.inbox self.new.inbox }
         ensures fault { IfFault result
             (λ kind error. IsCauseOf kind error self.old self.new ⊥ ⊥) }
@@ -253,26 +238,16 @@ impl<R: ReadTally, W: WriteTally> Link<R, W> {
         moment: u64,
     ) -> Result<Outcome, EngineError>
         requires whole { self.old.inbox.values.refusal ≡ None }
-        ensures pass { T.pass turns.new ≡ T.pass turns.old }
-        ensures setting { T.setting turns.new ≡ T.setting turns.old }
-        ensures seen { StartsWith (T.seen turns.new) (T.seen turns.old) }
-        ensures goes { AsTold (GoesOn line.old line.new (Some self.old) (Some self.new)
-            (own_steps (T.pass turns.old) (T.seen turns.old))
-            (own_steps (T.pass turns.old) (T.seen turns.new)) moment) (told_by_moves result) }
-        ensures still { IfOk result (λ o. o ≡ Outcome.Still → (self.new.next ≡ None)
-            × HasGivenAll self.new.inbox) }
-        ensures moved { IfOk result (λ o. o ≡ Outcome.Moved → self.new.inbox.values.refusal
-            ≡ None) }
+        ensures moves { MovesLine T.pass T.setting T.seen T.cause turns.old turns.new
+            line.old line.new (Some self.old) (Some self.new) moment (told_by_moves result) result }
+        ensures told { IfOk result (TellsNext self.new) }
         ensures fault { IfOk result (λ o. IfFault o
             (λ kind error. IsCauseOf kind error self.old self.new
-            ((v : Value) × (self.new.next ≡ Some v)
-            × T.cause (T.setting turns.old) Refusal.Unasked
-            (Event.Answered line.new.host line.new.epoch v moment) (T.seen turns.new)) ⊥)) }
-        ensures reads { KeepsReader self.old.inbox self.new.inbox }
-        ensures writes { self.new.counts ≡ self.old.counts }
+            (IsUnaskedNow (T.cause (T.setting turns.old) Refusal.Unasked) (T.seen turns.new) moment
+            line.new self.new) ⊥)) }
+        ensures keeps { KeepsReader self.old.inbox self.new.inbox
+            × (self.new.counts ≡ self.old.counts) }
         ensures err { OnErr result (self.new.inbox.values.refusal ≡ None) }
-        ensures plain { IfErr result
-            (IsPlain (T.cause (T.setting turns.old)) (T.seen turns.new) line.new) }
     {
         match self.seek()? {
             Found::Nothing => Ok(Outcome::Still),
@@ -293,24 +268,17 @@ impl<R: ReadTally, W: WriteTally> Link<R, W> {
         moment: u64,
     ) -> Result<Outcome, EngineError>
         requires whole { self.old.inbox.values.refusal ≡ None }
-        ensures pass { T.pass turns.new ≡ T.pass turns.old }
-        ensures setting { T.setting turns.new ≡ T.setting turns.old }
-        ensures seen { StartsWith (T.seen turns.new) (T.seen turns.old) }
-        ensures goes { AsTold (GoesOn line.old line.new (Some self.old) (Some self.new)
-            (own_steps (T.pass turns.old) (T.seen turns.old))
-            (own_steps (T.pass turns.old) (T.seen turns.new)) moment) (told_by_moves result) }
+        ensures moves { MovesLine T.pass T.setting T.seen T.cause turns.old turns.new
+            line.old line.new (Some self.old) (Some self.new) moment (told_by_moves result) result }
         ensures all { IfOk result (λ o. is_fault o ≡ false → (self.new.next ≡ None)
             × HasGivenAll self.new.inbox) }
         ensures fault { IfOk result (λ o. IfFault o
             (λ kind error. IsCauseOf kind error self.old self.new
-            ((v : Value) × (self.new.next ≡ Some v)
-            × T.cause (T.setting turns.old) Refusal.Unasked
-            (Event.Answered line.new.host line.new.epoch v moment) (T.seen turns.new)) ⊥)) }
-        ensures reads { KeepsReader self.old.inbox self.new.inbox }
-        ensures writes { self.new.counts ≡ self.old.counts }
+            (IsUnaskedNow (T.cause (T.setting turns.old) Refusal.Unasked) (T.seen turns.new) moment
+            line.new self.new) ⊥)) }
+        ensures keeps { KeepsReader self.old.inbox self.new.inbox
+            × (self.new.counts ≡ self.old.counts) }
         ensures err { OnErr result (self.new.inbox.values.refusal ≡ None) }
-        ensures plain { IfErr result
-            (IsPlain (T.cause (T.setting turns.old)) (T.seen turns.new) line.new) }
     {
         let mut outcome = Outcome::Still;
         for _ in rt.forever() {
@@ -331,14 +299,9 @@ impl<R: ReadTally, W: WriteTally> Link<R, W> {
         turns: &mut T,
         moment: u64,
     ) -> Result<Outcome, EngineError>
-        ensures pass { T.pass turns.new ≡ T.pass turns.old }
-        ensures setting { T.setting turns.new ≡ T.setting turns.old }
-        ensures seen { StartsWith (T.seen turns.new) (T.seen turns.old) }
-        ensures goes { AsTold (GoesOn line.old line.new (Some self.old) (Some self.new)
-            (own_steps (T.pass turns.old) (T.seen turns.old))
-            (own_steps (T.pass turns.old) (T.seen turns.new)) moment) (told_by_moves result) }
-        ensures inbox { self.new.inbox ≡ self.old.inbox }
-        ensures next { self.new.next ≡ self.old.next }
+        ensures moves { MovesLine T.pass T.setting T.seen T.cause turns.old turns.new
+            line.old line.new (Some self.old) (Some self.new) moment (told_by_moves result) result }
+        ensures keeps { (self.new.inbox ≡ self.old.inbox) × (self.new.next ≡ self.old.next) }
         ensures idle { IfOk result (λ o. o ≡ Outcome.Still
             → HasRisen self.old.counts.paused self.new.counts.paused
             ⊎ ((line.old.pending ≡ []) × T.cause (T.setting turns.old) Refusal.NothingWaiting
@@ -347,8 +310,6 @@ impl<R: ReadTally, W: WriteTally> Link<R, W> {
             ≡ self.old.counts.failed) }
         ensures fault { IfOk result (λ o. IfFault o
             (λ kind error. IsCauseOf kind error self.old self.new ⊥ ⊥)) }
-        ensures plain { IfErr result
-            (IsPlain (T.cause (T.setting turns.old)) (T.seen turns.new) line.new) }
     {
         if !line.is_empty() {
             return Ok(self.write(line));
@@ -369,27 +330,17 @@ impl<R: ReadTally, W: WriteTally> Link<R, W> {
         moment: u64,
     ) -> Result<Outcome, EngineError>
         requires whole { self.old.inbox.values.refusal ≡ None }
-        ensures pass { T.pass turns.new ≡ T.pass turns.old }
-        ensures setting { T.setting turns.new ≡ T.setting turns.old }
-        ensures seen { StartsWith (T.seen turns.new) (T.seen turns.old) }
-        ensures goes { AsTold (GoesOn line.old line.new (Some self.old) (Some self.new)
-            (own_steps (T.pass turns.old) (T.seen turns.old))
-            (own_steps (T.pass turns.old) (T.seen turns.new)) moment) (told_by_moves result) }
+        ensures moves { MovesLine T.pass T.setting T.seen T.cause turns.old turns.new
+            line.old line.new (Some self.old) (Some self.new) moment (told_by_moves result) result }
         ensures idle { IfOk result (λ o. o ≡ Outcome.Still
             → HasRisen self.old.inbox.counts.paused self.new.inbox.counts.paused) }
-        ensures all { IfOk result (λ o. is_fault o ≡ false → (self.new.next ≡ None)
-            × HasGivenAll self.new.inbox) }
-        ensures reads { IfOk result (λ o. is_fault o ≡ false → HasRead self.old.inbox
-            self.new.inbox) }
+        ensures calm { IfOk result (λ o. is_fault o ≡ false → HasReadAll self.old self.new) }
         ensures fault { IfOk result (λ o. IfFault o
             (λ kind error. IsCauseOf kind error self.old self.new
-            ((v : Value) × (self.new.next ≡ Some v)
-            × T.cause (T.setting turns.old) Refusal.Unasked
-            (Event.Answered line.new.host line.new.epoch v moment) (T.seen turns.new)) ⊥)) }
+            (IsUnaskedNow (T.cause (T.setting turns.old) Refusal.Unasked) (T.seen turns.new) moment
+            line.new self.new) ⊥)) }
         ensures writes { self.new.counts ≡ self.old.counts }
         ensures err { OnErr result (self.new.inbox.values.refusal ≡ None) }
-        ensures plain { IfErr result
-            (IsPlain (T.cause (T.setting turns.old)) (T.seen turns.new) line.new) }
     {
         let before = self.answer_all(line, rt, turns, moment)?;
         if before.is_fault() {
@@ -415,31 +366,22 @@ impl<R: ReadTally, W: WriteTally> Link<R, W> {
         moment: u64,
     ) -> Result<Outcome, EngineError>
         requires whole { self.old.inbox.values.refusal ≡ None }
-        ensures pass { T.pass turns.new ≡ T.pass turns.old }
-        ensures setting { T.setting turns.new ≡ T.setting turns.old }
-        ensures seen { StartsWith (T.seen turns.new) (T.seen turns.old) }
-        ensures goes { AsTold (GoesOn line.old line.new (Some self.old) (Some self.new)
-            (own_steps (T.pass turns.old) (T.seen turns.old))
-            (own_steps (T.pass turns.old) (T.seen turns.new)) moment) (told_by_moves result) }
+        ensures moves { MovesLine T.pass T.setting T.seen T.cause turns.old turns.new
+            line.old line.new (Some self.old) (Some self.new) moment (told_by_moves result) result }
         ensures idle { IfOk result (λ o. o ≡ Outcome.Still
             → HasRisen self.old.inbox.counts.paused self.new.inbox.counts.paused
             × (HasRisen self.old.counts.paused self.new.counts.paused
             ⊎ ((line.old.pending ≡ []) × HasHeld
             (T.cause (T.setting turns.old) Refusal.NothingWaiting) (Event.Taken line.old.host)
             (T.seen turns.old) (T.seen turns.new)))) }
-        ensures all { IfOk result (λ o. is_fault o ≡ false → (self.new.next ≡ None)
-            × HasGivenAll self.new.inbox) }
+        ensures calm { IfOk result (λ o. is_fault o ≡ false → IsCalmOn self.old self.new line.new
+            moment) }
         ensures fault { IfOk result (λ o. IfFault o
             (λ kind error. IsCauseOf kind error self.old self.new
-            ((v : Value) × (self.new.next ≡ Some v)
-            × T.cause (T.setting turns.old) Refusal.Unasked
-            (Event.Answered line.new.host line.new.epoch v moment) (T.seen turns.new))
+            (IsUnaskedNow (T.cause (T.setting turns.old) Refusal.Unasked) (T.seen turns.new) moment
+            line.new self.new)
             (IsLateOn line.new self.old self.new moment))) }
-        ensures unfailed { IfOk result (λ o. is_fault o ≡ false → HasNoFaultOn self.old self.new) }
-        ensures in_time { IfOk result (λ o. is_fault o ≡ false → ¬ IsLate line.new moment) }
         ensures err { OnErr result (self.new.inbox.values.refusal ≡ None) }
-        ensures plain { IfErr result
-            (IsPlain (T.cause (T.setting turns.old)) (T.seen turns.new) line.new) }
     {
         let sent = self.send(line, rt, turns, moment)?;
         if sent.is_fault() {

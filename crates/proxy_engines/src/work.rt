@@ -1,9 +1,8 @@
 //! What a thread does, from its start to its end.
 ghost use Rattle.std.specs.Prelude.{◌≡◌, ◌⊎◌, Result, Bool, true, None, IfErr, OnOk, ⊤};
-ghost use Rattle.ticket_gate.specs.Journal.{StartsWith};
 ghost use Rattle.proxy_engines.specs.Client.{Goes, HasNoFault};
 ghost use Rattle.proxy_engines.specs.Moves.{AsTold};
-ghost use Rattle.proxy_engines.specs.OwnSteps.{own_steps};
+ghost use Rattle.proxy_engines.specs.Turns.{KeepsTurns, own_history};
 ghost use Rattle.proxy_engines.specs.declared.client.Stage.{Stage};
 ghost use Rattle.proxy_engines.specs.declared.error.EngineError.{EngineError};
 
@@ -48,12 +47,10 @@ impl<Rt: Wait, T: CoreTurns, R: ReadTally, W: WriteTally> Work<Rt> for ClientWor
     /// Refused as the step was: after 1402 and 1403 the connection is closed; after 1401 and 1404 a further run goes on from
     /// the same place.
     fn run(&mut self, rt: &Rt) -> Result<(), EngineError>
-        ensures pass { T.pass self.new.turns ≡ T.pass self.old.turns }
-        ensures setting { T.setting self.new.turns ≡ T.setting self.old.turns }
-        ensures seen { StartsWith (T.seen self.new.turns) (T.seen self.old.turns) }
+        ensures turns { KeepsTurns T.pass T.setting T.seen self.old.turns self.new.turns }
         ensures goes { AsTold (Goes self.old.engine self.new.engine
-            (own_steps (T.pass self.old.turns) (T.seen self.old.turns))
-            (own_steps (T.pass self.old.turns) (T.seen self.new.turns))) None }
+            (own_history T.pass T.seen self.old.turns)
+            (own_history T.pass T.seen self.new.turns)) None }
         ensures closed { OnOk result ((is_cut : Bool)
             × (self.new.engine.stage ≡ Stage.Closed is_cut)) }
         ensures failed { IfErr result (λ e. (e ≡ EngineError.ReadFailed)

@@ -21,7 +21,7 @@ use Rattle.proxy_engines.specs.Client.{Client, Carries, asked_requests}
 use Rattle.proxy_core.specs.Recorded.{Origin, IsLegalJournal, journal_of, made_with, setting_by}
 use Rattle.ticket_gate.specs.Journal.{steps_of}
 use Rattle.ticket_gate.specs.Turns.{AloneFacts}
-use Rattle.proxy_engines.specs.OwnSteps.{own_steps}
+use Rattle.proxy_engines.specs.Turns.{own_steps}
 use Rattle.journal_core.specs.Journal.{step_by}
 use Rattle.proxy_engines.specs.declared.client.Stage.{Stage}
 use Rattle.proxy_engines.proofs.CallerLemmas as engines
@@ -92,17 +92,17 @@ module _ (S : Setting) (old new : Client) (pass : ℕ) (before H : History) (ope
 
 -- Turns on a core of one's own: where the client was opened first on an empty journal and ended, what is promised is left.
 pub RunsLocal-alone : (core : Proxy) (mid last : AloneFacts Proxy) (pass : ℕ) (old new : Client) → core.steps ≡ [] → IsOfStubs core.setting
-    → own_steps pass (journal_of mid.state) ≡ step_by pass Event.Opened (Answer.Opened old.conn) ∷ own_steps pass (journal_of core)
-    → mid.pass ≡ pass → made_with mid.state ≡ made_with core → Carries old (own_steps pass (journal_of mid.state)) [] [] → old.is_drained ≡ false
-    → GoesBeside old new (own_steps mid.pass (journal_of mid.state)) (own_steps mid.pass (journal_of last.state)) → new.stage ≡ Stage.Closed false
+    → own_steps mid.pass (journal_of mid.state) ≡ step_by pass Event.Opened (Answer.Opened old.conn) ∷ own_steps pass (journal_of core)
+    → mid.pass ≡ pass → made_with mid.state ≡ made_with core → Carries old (own_steps mid.pass (journal_of mid.state)) [] [] → old.is_drained ≡ false
+    → GoesBeside old new (own_steps mid.pass (journal_of mid.state)) (own_steps last.pass (journal_of last.state)) → new.stage ≡ Stage.Closed false
     → last.pass ≡ mid.pass → made_with last.state ≡ made_with mid.state
     → IsLegalJournal (made_with last.state) (journal_of last.state) → steps_of last.pass (journal_of last.state) ≡ journal_of last.state
     → RunsLocal old.inbox.left old.outbox.held new.outbox.held
 RunsLocal-alone core mid last pass old new empty of_stubs opened pass_is made begins reads goes ended pass_stays made_stays legal all =
-    let own : own_steps mid.pass (journal_of last.state) ≡ history_of_seen (journal_of last.state) = ap history_of_seen (subst (λ (p : ℕ). steps_of p (journal_of last.state) ≡ journal_of last.state) pass_stays all) in
+    let own : own_steps last.pass (journal_of last.state) ≡ history_of_seen (journal_of last.state) = ap history_of_seen all in
     let here : IsLegal core.setting (history_of_seen (journal_of last.state)) = subst (λ (m : Origin). IsLegal (setting_by m) (history_of_seen (journal_of last.state))) (made_stays ∙ made) legal in
-    RunsLocal-ended core.setting old new pass (own_steps pass (journal_of mid.state)) (own_steps mid.pass (journal_of last.state))
-    (rw empty at opened) begins reads (subst (λ (p : ℕ). GoesBeside old new (own_steps p (journal_of mid.state)) (own_steps mid.pass (journal_of last.state))) pass_is goes) ended
+    RunsLocal-ended core.setting old new pass (own_steps mid.pass (journal_of mid.state)) (own_steps last.pass (journal_of last.state))
+    (rw empty at opened) begins reads goes ended
     (rw own here) of_stubs
 
 -- with nothing gathered before, and all given back after

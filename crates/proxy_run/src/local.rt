@@ -3,20 +3,20 @@ ghost use Rattle.std.specs.Prelude.{◌≡◌, ◌≢◌, ◌⊎◌, ◌+◌, �
 ghost use Rattle.std.specs.Io.Buffered.{writer_contents};
 ghost use Rattle.std.specs.Io.KnownBytes.{Keeps, append_known};
 ghost use Rattle.proxy_core.specs.Recorded.{IsCauseIn, journal_of, made_with};
-ghost use Rattle.ticket_gate.specs.Journal.{StartsWith};
 ghost use Rattle.std.specs.List.{AllZip};
 ghost use Rattle.journal_core.specs.Journal.{step_by};
 ghost use Rattle.proxy_history.specs.declared.answer.Answer.{Answer};
 ghost use Rattle.proxy_history.specs.declared.event.Event.{Event};
 ghost use Rattle.proxy_engines.specs.Client.{Carries, Client};
-ghost use Rattle.proxy_engines.specs.OwnSteps.{own_steps};
+ghost use Rattle.proxy_engines.specs.ClientSteps.{OpensClient};
+ghost use Rattle.proxy_engines.specs.Turns.{KeepsTurns, own_history, own_steps};
 ghost use Rattle.proxy_engines.specs.declared.client.Stage.{Stage};
 ghost use Rattle.proxy_run.specs.Local.{RunsLocal};
 ghost use Rattle.proxy_run.specs.Moves.{GoesBeside, HaveRested, IsBeside, RestsIdle};
 
 use crate::announced::Announced;
-use crate::ending::Ending;
 use crate::stubs::{stub_core, stub_engines};
+use exit_status::Ending;
 use proxy_core::{Answer, Core, CoreTurns, Step};
 use proxy_engines::{ClientEngine, HostEngine, Progress, ReadTally, Tallied, WriteTally};
 use std::alloc::Global;
@@ -77,16 +77,12 @@ fn open_client<Rt: Wait, T: CoreTurns, R: Read + Drop, W: Write + Drop>(
     reader: R,
     writer: W,
 ) -> Result<Client<R, W>, Ending>
-    ensures pass { T.pass turns.new ≡ T.pass turns.old }
-    ensures setting { T.setting turns.new ≡ T.setting turns.old }
-    ensures opened { IfOk result (λ e. own_steps (T.pass turns.old) (T.seen turns.new)
-        ≡ step_by (T.pass turns.old) Event.Opened (Answer.Opened e.conn) ∷ own_steps
-        (T.pass turns.old) (T.seen turns.old)) }
+    ensures turns { KeepsTurns T.pass T.setting T.seen turns.old turns.new }
+    ensures opened { IfOk result (λ e. OpensClient (T.pass turns.old)
+        (own_history T.pass T.seen turns.old) (own_history T.pass T.seen turns.new)
+        (R.remaining reader) (append_known (W.contents writer) []) e) }
     ensures carries { IfOk result (λ e. Carries e
-        (own_steps (T.pass turns.old) (T.seen turns.new)) [] []) }
-    ensures ends { IfOk result (λ e. (e.inbox.left ≡ R.remaining reader)
-        × (e.outbox.held ≡ append_known (W.contents writer) [])) }
-    ensures reads { IfOk result (λ e. e.is_drained ≡ false) }
+        (own_history T.pass T.seen turns.new) [] []) }
 {
     let Ok(output) = BufWriter::with_capacity(alloc, MAX_GATHERED, writer) else {
         return Err(Ending::Memory);
@@ -113,7 +109,7 @@ fn run_to_end<
     ensures runs { IfOk result (λ r. (last : Client) × Keeps last.outbox.held (W.contents r.1)
         × GoesBeside client last
         (own_steps turns.old.pass (journal_of turns.old.state))
-        (own_steps turns.old.pass (journal_of turns.new.state))
+        (own_steps turns.new.pass (journal_of turns.new.state))
         × OnOk r.0 (last.stage ≡ Stage.Closed false)) }
     ensures err { IfErr result (λ e. e ≡ Ending.Socket) }
 {
@@ -154,7 +150,7 @@ fn run_client<
     ensures setting { made_with turns.new.state ≡ made_with turns.old.state }
     ensures goes { GoesBeside client.old client.new
         (own_steps turns.old.pass (journal_of turns.old.state))
-        (own_steps turns.old.pass (journal_of turns.new.state)) }
+        (own_steps turns.new.pass (journal_of turns.new.state)) }
     ensures ended { OnOk result (client.new.stage ≡ Stage.Closed false) }
 {
     let mut left = MAX_STEPS;
@@ -199,7 +195,7 @@ fn step_all<
     ensures setting { made_with turns.new.state ≡ made_with turns.old.state }
     ensures goes { GoesBeside client.old client.new
         (own_steps turns.old.pass (journal_of turns.old.state))
-        (own_steps turns.old.pass (journal_of turns.new.state)) }
+        (own_steps turns.new.pass (journal_of turns.new.state)) }
     ensures ended { IfOk result (λ p. p ≡ Progress.Ended → client.new.stage ≡ Stage.Closed false) }
     ensures rested { IfOk result (λ p. (p ≡ Progress.Ended) ⊎ ((p ≡ Progress.Moved)
         ⊎ HaveRested (IsCauseIn (made_with turns.old.state)) (journal_of turns.old.state)
@@ -223,12 +219,10 @@ fn step_client<Rt: Wait, T: CoreTurns, R: ReadTally + Drop, W: WriteTally + Drop
     client: &mut ClientEngine<R, W>,
     left: &mut u32,
 ) -> Result<Progress, Ending>
-    ensures pass { T.pass turns.new ≡ T.pass turns.old }
-    ensures setting { T.setting turns.new ≡ T.setting turns.old }
-    ensures seen { StartsWith (T.seen turns.new) (T.seen turns.old) }
+    ensures turns { KeepsTurns T.pass T.setting T.seen turns.old turns.new }
     ensures goes { GoesBeside client.old client.new
-        (own_steps (T.pass turns.old) (T.seen turns.old))
-        (own_steps (T.pass turns.old) (T.seen turns.new)) }
+        (own_history T.pass T.seen turns.old)
+        (own_history T.pass T.seen turns.new) }
     ensures ended { IfOk result (λ p. p ≡ Progress.Ended → client.new.stage ≡ Stage.Closed false) }
     ensures cut { IfOk result (λ p. p ≢ Progress.Cut) }
 {
@@ -251,11 +245,9 @@ fn settle<Rt: Wait, T: CoreTurns, P: ReadTally + Drop, Q: WriteTally + Drop>(
     hosts: &mut [HostEngine<P, Q>],
     left: &mut u32,
 ) -> Result<(), Ending>
-    ensures pass { T.pass turns.new ≡ T.pass turns.old }
-    ensures setting { T.setting turns.new ≡ T.setting turns.old }
-    ensures seen { StartsWith (T.seen turns.new) (T.seen turns.old) }
-    ensures beside { IsBeside (own_steps (T.pass turns.old) (T.seen turns.old))
-        (own_steps (T.pass turns.old) (T.seen turns.new)) }
+    ensures turns { KeepsTurns T.pass T.setting T.seen turns.old turns.new }
+    ensures beside { IsBeside (own_history T.pass T.seen turns.old)
+        (own_history T.pass T.seen turns.new) }
     ensures rested { OnOk result (HaveRested (T.cause (T.setting turns.old))
         (T.seen turns.old) (T.seen turns.new) hosts.new) }
 {
@@ -274,11 +266,9 @@ fn step_hosts<Rt: Wait, T: CoreTurns, P: ReadTally + Drop, Q: WriteTally + Drop>
     hosts: &mut [HostEngine<P, Q>],
     left: &mut u32,
 ) -> Result<bool, Ending>
-    ensures pass { T.pass turns.new ≡ T.pass turns.old }
-    ensures setting { T.setting turns.new ≡ T.setting turns.old }
-    ensures seen { StartsWith (T.seen turns.new) (T.seen turns.old) }
-    ensures beside { IsBeside (own_steps (T.pass turns.old) (T.seen turns.old))
-        (own_steps (T.pass turns.old) (T.seen turns.new)) }
+    ensures turns { KeepsTurns T.pass T.setting T.seen turns.old turns.new }
+    ensures beside { IsBeside (own_history T.pass T.seen turns.old)
+        (own_history T.pass T.seen turns.new) }
     ensures idle { IfOk result (λ b. b ≡ true → AllZip (RestsIdle (T.cause (T.setting turns.old))
         (T.seen turns.old) (T.seen turns.new)) hosts.old hosts.new) }
 {
@@ -298,11 +288,9 @@ fn step_host<Rt: Wait, T: CoreTurns, P: ReadTally + Drop, Q: WriteTally + Drop>(
     host: &mut HostEngine<P, Q>,
     left: &mut u32,
 ) -> Result<bool, Ending>
-    ensures pass { T.pass turns.new ≡ T.pass turns.old }
-    ensures setting { T.setting turns.new ≡ T.setting turns.old }
-    ensures seen { StartsWith (T.seen turns.new) (T.seen turns.old) }
-    ensures beside { IsBeside (own_steps (T.pass turns.old) (T.seen turns.old))
-        (own_steps (T.pass turns.old) (T.seen turns.new)) }
+    ensures turns { KeepsTurns T.pass T.setting T.seen turns.old turns.new }
+    ensures beside { IsBeside (own_history T.pass T.seen turns.old)
+        (own_history T.pass T.seen turns.new) }
     ensures idle { IfOk result (λ b. b ≡ true → RestsIdle (T.cause (T.setting turns.old))
         (T.seen turns.old) (T.seen turns.new) host.old host.new) }
 {

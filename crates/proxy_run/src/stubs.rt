@@ -3,9 +3,9 @@ ghost use Rattle.std.specs.Prelude.{◌≡◌, [], ◌∷◌, map, IfOk, IfErr};
 ghost use Rattle.ketama.specs.HostName.{IsHostName};
 ghost use Rattle.ketama.specs.Ketama.{IsKetamaRing};
 ghost use Rattle.proxy_run.specs.Stubs.{IsOfStubs, stub_names, stub_weights};
-ghost use Rattle.proxy_run.specs.declared.ending.Ending.TheVariants.{Memory};
+ghost use Rattle.exit_status.specs.declared.ending.Ending.TheVariants.{Memory};
 
-use crate::ending::Ending;
+use exit_status::Ending;
 use ketama::{HostName, Ring, RingError};
 use proxy_core::{Core, Refusal, Settings};
 use proxy_engines::{HostEngine, Tallied};

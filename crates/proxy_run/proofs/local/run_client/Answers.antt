@@ -9,14 +9,14 @@ pub loop-preserved : goal.loop-preserved
 loop-preserved g c = record {
   pass = c.step_all.ensures.pass ∙ c.loop.invariant.pass;
   setting = c.step_all.ensures.setting ∙ c.loop.invariant.setting;
-  goes = GoesBeside-then _ _ _ _ _ _ c.loop.invariant.goes (rw c.loop.invariant.pass at c.step_all.ensures.goes);
+  goes = GoesBeside-then _ _ _ _ _ _ c.loop.invariant.goes c.step_all.ensures.goes;
 }
 
 pub returns-in_err-step_all-clause-goes : goal.returns-in_err-step_all-clause-goes
-returns-in_err-step_all-clause-goes g c = GoesBeside-then _ _ _ _ _ _ c.loop.invariant.goes (rw c.loop.invariant.pass at c.step_all.ensures.goes)
+returns-in_err-step_all-clause-goes g c = GoesBeside-then _ _ _ _ _ _ c.loop.invariant.goes c.step_all.ensures.goes
 
 pub returns-in-Ended-clause-goes : goal.returns-in-Ended-clause-goes
-returns-in-Ended-clause-goes g c = GoesBeside-then _ _ _ _ _ _ c.loop.invariant.goes (rw c.loop.invariant.pass at c.step_all.ensures.goes)
+returns-in-Ended-clause-goes g c = GoesBeside-then _ _ _ _ _ _ c.loop.invariant.goes c.step_all.ensures.goes
 
 pub returns-in-Ended-clause-ended : goal.returns-in-Ended-clause-ended
 returns-in-Ended-clause-ended g c = c.in_ok-step_all.ensures.ended c.in-Ended.is

@@ -12,9 +12,7 @@ returns-in-NeedsLink-clause-beside g c = IsBeside-step _ _ _ _ _ _ _ c.step.ensu
 
 pub returns-in_default : goal.returns-in_default
 returns-in_default g c = record {
-  pass = c.step.ensures.pass;
-  setting = c.step.ensures.setting;
-  seen = c.step.ensures.seen;
+  turns = c.step.ensures.turns;
   beside = IsBeside-step _ _ _ _ _ _ _ c.step.ensures.steps;
   idle = λ e. absurd cc;
 }

@@ -1,3 +1,4 @@
+use Rattle.proxy_engines.proofs.AnswerLemmas.{any_ok}
 use Rattle.proxy_engines.specs.Client.{Client}
 use Rattle.std.proofs.Common.{◌≡◌, false, ap, refl}
 use Rattle.proxy_history.specs.declared.event.Event.{Event}
@@ -6,20 +7,16 @@ use Rattle.proxy_engines.proofs.NumberLemmas.{expected, is_not_ready, told_ok, t
 use Rattle.proxy_engines.proofs.ClientMoves.{handed_goes, same_goes}
 use Rattle.proxy_engines.proofs.client.ClientEngine.hand.Goals as goal
 
-pub returns-in-Ok-Bytes-clause-goes : goal.returns-in-Ok-Bytes-clause-goes
-returns-in-Ok-Bytes-clause-goes g c =
-    let adds = rw c.in-Ok-Bytes.field-0-is at c.in-Ok-Bytes.ensures.answered in
-    rw (c.put.ensures, c.saturating_add-self-inside.ensures, adds.steps, ← c.self.view_is)
-    (handed_goes _ (g.T.Turns.pass c.args.turns.now) _ c.in-Ok-Bytes.text (rw adds.steps at adds.few) (rw (← c.self.view_is) at c.requires.nothing) (rw (← c.self.view_is) at c.requires.live))
-
-pub returns-in-Ok-Bytes-clause-pass : goal.returns-in-Ok-Bytes-clause-pass
-returns-in-Ok-Bytes-clause-pass g c = c.tell.ensures.pass
-
-pub returns-in-Ok-Bytes-clause-setting : goal.returns-in-Ok-Bytes-clause-setting
-returns-in-Ok-Bytes-clause-setting g c = c.tell.ensures.setting
-
-pub returns-in-Ok-Bytes-clause-seen : goal.returns-in-Ok-Bytes-clause-seen
-returns-in-Ok-Bytes-clause-seen g c = c.tell.ensures.seen
+pub returns-in-Ok-Bytes-clause-moves : goal.returns-in-Ok-Bytes-clause-moves
+returns-in-Ok-Bytes-clause-moves g c =
+    record {
+      turns = c.tell.ensures.turns;
+      goes = let adds = rw c.in-Ok-Bytes.field-0-is at c.in-Ok-Bytes.ensures.answered in
+          rw (c.put.ensures, c.saturating_add-self-inside.ensures, adds.steps, ← c.self.view_is)
+          (handed_goes _ (g.T.Turns.pass c.args.turns.now) _ c.in-Ok-Bytes.text (rw adds.steps at adds.few) (rw (← c.self.view_is) at c.requires.nothing) (rw (← c.self.view_is) at c.requires.live));
+      unfailed = rw (c.put.ensures, ← c.self.view_is) (refl, refl);
+      number = tt;
+    }
 
 pub returns-in-Ok-Bytes-clause-err : goal.returns-in-Ok-Bytes-clause-err
 returns-in-Ok-Bytes-clause-err g c = tt
@@ -27,29 +24,20 @@ returns-in-Ok-Bytes-clause-err g c = tt
 pub returns-in-Ok-Bytes-clause-stage : goal.returns-in-Ok-Bytes-clause-stage
 returns-in-Ok-Bytes-clause-stage g c = ap (λ (e : Client). e.stage) c.self.view_is
 
-pub returns-in-Ok-Bytes-clause-same : goal.returns-in-Ok-Bytes-clause-same
-returns-in-Ok-Bytes-clause-same g c = λ e. absurd cc
-
 pub returns-in-Ok-Bytes-clause-not_ready : goal.returns-in-Ok-Bytes-clause-not_ready
 returns-in-Ok-Bytes-clause-not_ready g c = λ e. absurd cc
 
-pub returns-in-Err-clause-pass : goal.returns-in-Err-clause-pass
-returns-in-Err-clause-pass g c = c.tell.ensures.pass
-
-pub returns-in-Err-clause-setting : goal.returns-in-Err-clause-setting
-returns-in-Err-clause-setting g c = c.tell.ensures.setting
-
-pub returns-in-Err-clause-seen : goal.returns-in-Err-clause-seen
-returns-in-Err-clause-seen g c = c.tell.ensures.seen
-
-pub returns-in-Err-clause-goes : goal.returns-in-Err-clause-goes
-returns-in-Err-clause-goes g c = turn_told _ c.told_as.result (told_ok c.in-Err.denied false c.told_as.result c.told_as.ensures (λ b. b ≡ false) (λ x is soft. refl)) (same_goes _ _ _ c.in-Err.ensures.rests)
+pub returns-in-Err-clause-moves : goal.returns-in-Err-clause-moves
+returns-in-Err-clause-moves g c =
+    record {
+      turns = c.tell.ensures.turns;
+      goes = turn_told _ c.told_as.result (told_ok c.in-Err.denied false c.told_as.result c.told_as.ensures (λ b. b ≡ false) (λ x is soft. refl)) (same_goes _ _ _ c.in-Err.ensures.denied.rests);
+      unfailed = any_ok _ c.told_as.result (refl, refl);
+      number = told_number c.in-Err.denied false c.told_as.result c.told_as.ensures (g.T.Turns.cause (g.T.Turns.setting c.args.turns.now)) (Event.Handed c.self.inside.conn) (g.T.Turns.seen c.tell.new.turns) c.in-Err.ensures.denied.due;
+    }
 
 pub returns-in-Err-clause-stage : goal.returns-in-Err-clause-stage
 returns-in-Err-clause-stage g c = refl
-
-pub returns-in-Err-clause-same : goal.returns-in-Err-clause-same
-returns-in-Err-clause-same g c = told_ok c.in-Err.denied false c.told_as.result c.told_as.ensures _ (λ x is soft _. refl)
 
 pub returns-in-Err-clause-not_ready : goal.returns-in-Err-clause-not_ready
 returns-in-Err-clause-not_ready g c =
@@ -58,17 +46,7 @@ returns-in-Err-clause-not_ready g c =
     let event = Event.Handed c.self.inside.conn in
     rw (← c.self.view_is)
     (told_ok c.in-Err.denied false c.told_as.result c.told_as.ensures _
-    (λ x is soft _. is_not_ready (λ r. g.T.Turns.cause made r event seen) c.self.inside.conn x (expected g.T.Turns.cause g.met.T.CoreTurns.refusals_mean made event seen c.in-Err.denied c.in-Err.ensures.cause x is soft)))
+    (λ x is soft _. (refl, is_not_ready (λ r. g.T.Turns.cause made r event seen) c.self.inside.conn x (expected g.T.Turns.cause g.met.T.CoreTurns.refusals_mean made event seen c.in-Err.denied c.in-Err.ensures.denied.due x is soft))))
 
 pub returns-in-Err-clause-err : goal.returns-in-Err-clause-err
 returns-in-Err-clause-err g c = told_turn c.in-Err.denied false c.told_as.result c.told_as.ensures _ refl
-
-pub returns-in-Err-clause-number : goal.returns-in-Err-clause-number
-returns-in-Err-clause-number g c =
-    told_number c.in-Err.denied false c.told_as.result c.told_as.ensures (g.T.Turns.cause (g.T.Turns.setting c.args.turns.now)) (Event.Handed c.self.inside.conn) (g.T.Turns.seen c.tell.new.turns) c.in-Err.ensures.cause
-
-pub returns-in-Ok-Bytes-clause-unfailed : goal.returns-in-Ok-Bytes-clause-unfailed
-returns-in-Ok-Bytes-clause-unfailed g c = rw (c.put.ensures, ← c.self.view_is) (refl, refl)
-
-pub returns-in-Err-clause-unfailed : goal.returns-in-Err-clause-unfailed
-returns-in-Err-clause-unfailed g c = (refl, refl)

@@ -3,5 +3,5 @@ use Rattle.proxy_engines.proofs.client.ClientEngine.has_next.Goals as goal
 
 pub returns-then-is_none-clause-last : goal.returns-then-is_none-clause-last
 returns-then-is_none-clause-last g c = λ drained.
-    let no : true ≡ false = sym drained ∙ c.fetch.ensures.reads in
+    let no : true ≡ false = sym drained ∙ c.fetch.ensures.keeps.0 in
     absurd cc

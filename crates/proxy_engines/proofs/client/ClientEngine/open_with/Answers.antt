@@ -1,5 +1,5 @@
 use Rattle.proxy_engines.proofs.ClientMoves.{opened_carries}
-use Rattle.std.proofs.Common.{◌∙◌, ap}
+use Rattle.std.proofs.Common.{◌∙◌, ap, rules, refl}
 use Rattle.resp_core.specs.Standing.{ReaderState}
 use Rattle.proxy_engines.specs.Client.{waiting_requests}
 use Rattle.proxy_engines.proofs.InboxLemmas.{with-behind}
@@ -7,7 +7,8 @@ use Rattle.proxy_engines.proofs.NumberLemmas.{is_numbered}
 use Rattle.proxy_engines.proofs.client.ClientEngine.open_with.Goals as goal
 
 pub returns-in-Ok-clause-carries : goal.returns-in-Ok-clause-carries
-returns-in-Ok-clause-carries g c = λ b rest. rw (c.in-Ok.ensures.answered, c.with-inbox.ensures.next)
+returns-in-Ok-clause-carries g c =
+    λ b rest. rw (c.in-Ok.ensures.answered, c.with-inbox.ensures.next)
     (opened_carries c.in-Ok.conn (g.T.Turns.pass c.args.turns.now) c.with-inbox.result.0 _ c.args.rest.next _ b c.in-Ok.ensures.new c.new.ensures.pending
     (ap (λ (z : ReaderState). z.most) c.with-inbox.ensures.values ∙ rest.most_is)
     (with-behind c.with-inbox.result.0 c.args.rest b (waiting_requests c.args.rest.next) c.with-inbox.ensures.fresh c.with-inbox.ensures.values rest.holds))
@@ -17,4 +18,14 @@ returns-in-Ok-clause-number g c = tt
 
 pub returns-in-Err-clause-number : goal.returns-in-Err-clause-number
 returns-in-Err-clause-number g c =
-    is_numbered g.T.Turns.cause g.met.T.CoreTurns.refusals_mean (g.T.Turns.setting c.args.turns.now) _ (g.T.Turns.seen c.open.new.turns) c.in-Err.denied c.in-Err.ensures.cause c.error.result c.error.ensures (λ x none. none)
+    is_numbered g.T.Turns.cause g.met.T.CoreTurns.refusals_mean (g.T.Turns.setting c.args.turns.now) _ (g.T.Turns.seen c.open.new.turns) c.in-Err.denied c.in-Err.ensures.denied.due c.error.result c.error.ensures (λ x none. none)
+
+pub returns-in-Ok-clause-opened : goal.returns-in-Ok-clause-opened
+returns-in-Ok-clause-opened g c =
+    record {
+      opened = c.in-Ok.ensures.answered;
+      left_is = search rules;
+      held_is = search rules;
+      stage = refl;
+      reads = refl;
+    }

@@ -1,41 +1,33 @@
+use Rattle.proxy_engines.proofs.OwnLemmas.{keeps_same}
 use Rattle.proxy_engines.specs.declared.error.EngineError.{EngineError}
 use Rattle.devices.specs.Device.{Counts, HasFailed}
 use Rattle.proxy_engines.specs.Client.{Client}
 use Rattle.proxy_engines.proofs.AnswerLemmas.{cut_told, cut_ok, cut_err}
 use Rattle.std.proofs.Common.{true, false, ap, refl, inl, inr}
 use Rattle.proxy_engines.proofs.ClientMoves.{wrote_goes}
-use Rattle.proxy_engines.proofs.HostMoves.{starts_same}
 use Rattle.std.specs.Prelude.{Err}
 use Rattle.proxy_engines.proofs.NumberLemmas.{numbered_cut}
 use Rattle.proxy_engines.proofs.client.ClientEngine.write.Goals as goal
 
-pub returns-in-Moved-clause-goes : goal.returns-in-Moved-clause-goes
-returns-in-Moved-clause-goes g c =
-    let (gave, sends, moved) = c.in-Moved.ensures.bytes in
-    rw (← c.self.view_is) (wrote_goes _ c.write_once.new.self gave _ true (rw (← c.self.view_is) at c.requires.live) sends moved)
+pub returns-in-Moved-clause-moves : goal.returns-in-Moved-clause-moves
+returns-in-Moved-clause-moves g c =
+    record {
+      turns = keeps_same _ _ _ _;
+      goes = let (gave, sends, moved) = c.in-Moved.ensures.bytes in
+          rw (← c.self.view_is) (wrote_goes _ c.write_once.new.self gave _ true (rw (← c.self.view_is) at c.requires.live) sends moved);
+      unfailed = rw (← c.self.view_is) (refl, ap (λ (n : Counts). n.failed) (c.write_once.ensures.moved _ c.in-Moved.is).1);
+      number = tt;
+    }
 
-pub returns-in-Paused-clause-goes : goal.returns-in-Paused-clause-goes
-returns-in-Paused-clause-goes g c =
-    let (gave, sends, moved) = rw c.in-Paused.is at c.write_once.ensures.bytes in
-    rw (← c.self.view_is) (wrote_goes _ c.write_once.new.self gave _ false (rw (← c.self.view_is) at c.requires.live) sends moved)
-
-pub returns-in-Moved-clause-pass : goal.returns-in-Moved-clause-pass
-returns-in-Moved-clause-pass g c = refl
-
-pub returns-in-Moved-clause-setting : goal.returns-in-Moved-clause-setting
-returns-in-Moved-clause-setting g c = refl
-
-pub returns-in-Moved-clause-seen : goal.returns-in-Moved-clause-seen
-returns-in-Moved-clause-seen g c = starts_same _
-
-pub returns-in-Paused-clause-pass : goal.returns-in-Paused-clause-pass
-returns-in-Paused-clause-pass g c = refl
-
-pub returns-in-Paused-clause-setting : goal.returns-in-Paused-clause-setting
-returns-in-Paused-clause-setting g c = refl
-
-pub returns-in-Paused-clause-seen : goal.returns-in-Paused-clause-seen
-returns-in-Paused-clause-seen g c = starts_same _
+pub returns-in-Paused-clause-moves : goal.returns-in-Paused-clause-moves
+returns-in-Paused-clause-moves g c =
+    record {
+      turns = keeps_same _ _ _ _;
+      goes = let (gave, sends, moved) = rw c.in-Paused.is at c.write_once.ensures.bytes in
+          rw (← c.self.view_is) (wrote_goes _ c.write_once.new.self gave _ false (rw (← c.self.view_is) at c.requires.live) sends moved);
+      unfailed = rw (← c.self.view_is) (refl, (c.write_once.ensures.paused c.in-Paused.is).failed);
+      number = tt;
+    }
 
 pub returns-in-Moved-clause-err : goal.returns-in-Moved-clause-err
 returns-in-Moved-clause-err g c = tt
@@ -43,19 +35,15 @@ returns-in-Moved-clause-err g c = tt
 pub returns-in-Paused-clause-err : goal.returns-in-Paused-clause-err
 returns-in-Paused-clause-err g c = tt
 
-pub returns-in-End-clause-pass : goal.returns-in-End-clause-pass
-returns-in-End-clause-pass g c = c.cut.ensures.pass
-
-pub returns-in-End-clause-setting : goal.returns-in-End-clause-setting
-returns-in-End-clause-setting g c = c.cut.ensures.setting
-
-pub returns-in-End-clause-seen : goal.returns-in-End-clause-seen
-returns-in-End-clause-seen g c = c.cut.ensures.seen
-
-pub returns-in-End-clause-goes : goal.returns-in-End-clause-goes
-returns-in-End-clause-goes g c =
-    let (gave, sends, moved) = c.write_once.ensures.bytes in
-    rw (← c.self.view_is) (cut_told _ _ _ _ _ _ _ _ c.cut.result refl (wrote_goes _ c.write_once.new.self gave _ _ (rw (← c.self.view_is) at c.requires.live) sends moved) c.cut.ensures.cuts)
+pub returns-in-End-clause-moves : goal.returns-in-End-clause-moves
+returns-in-End-clause-moves g c =
+    record {
+      turns = c.cut.ensures.turns;
+      goes = let (gave, sends, moved) = c.write_once.ensures.bytes in
+          rw (← c.self.view_is) (cut_told _ _ _ _ _ _ _ _ c.cut.result refl (wrote_goes _ c.write_once.new.self gave _ _ (rw (← c.self.view_is) at c.requires.live) sends moved) c.cut.ensures.cuts);
+      unfailed = cut_ok _ _ _ _ _ EngineError.WriteFailed c.cut.result c.cut.ensures.cuts;
+      number = numbered_cut _ (Err EngineError.WriteFailed) c.cut.result tt c.cut.ensures.number;
+    }
 
 pub returns-in-End-clause-ok : goal.returns-in-End-clause-ok
 returns-in-End-clause-ok g c = cut_ok _ _ _ _ _ EngineError.WriteFailed c.cut.result c.cut.ensures.cuts
@@ -70,15 +58,3 @@ returns-in-Moved-clause-ok g c = rw (← c.self.view_is) (refl, inl refl)
 
 pub returns-in-Paused-clause-ok : goal.returns-in-Paused-clause-ok
 returns-in-Paused-clause-ok g c = rw (← c.self.view_is) (refl, inr (refl, c.write_once.ensures.paused c.in-Paused.is))
-
-pub returns-in-End-clause-number : goal.returns-in-End-clause-number
-returns-in-End-clause-number g c = numbered_cut _ (Err EngineError.WriteFailed) c.cut.result tt c.cut.ensures.number
-
-pub returns-in-Moved-clause-unfailed : goal.returns-in-Moved-clause-unfailed
-returns-in-Moved-clause-unfailed g c = rw (← c.self.view_is) (refl, ap (λ (n : Counts). n.failed) (c.write_once.ensures.moved _ c.in-Moved.is).1)
-
-pub returns-in-Paused-clause-unfailed : goal.returns-in-Paused-clause-unfailed
-returns-in-Paused-clause-unfailed g c = rw (← c.self.view_is) (refl, (c.write_once.ensures.paused c.in-Paused.is).failed)
-
-pub returns-in-End-clause-unfailed : goal.returns-in-End-clause-unfailed
-returns-in-End-clause-unfailed g c = cut_ok _ _ _ _ _ EngineError.WriteFailed c.cut.result c.cut.ensures.cuts

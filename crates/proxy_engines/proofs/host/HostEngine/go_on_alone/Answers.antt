@@ -1,15 +1,17 @@
+use Rattle.proxy_engines.proofs.AnswerLemmas.{any_ok}
+use Rattle.proxy_engines.proofs.OwnLemmas.{keeps_then}
 use Rattle.proxy_engines.specs.declared.error.EngineError.{EngineError}
 use Rattle.proxy_engines.specs.declared.client.Progress.{Progress}
 use Rattle.std.specs.Prelude.{ℕ, Bool, Option, Result}
 use Rattle.proxy_history.specs.History.{History}
 use Rattle.std.proofs.lemmas.Result.{IfOk-from_err, err_from_is_err_and}
-use Rattle.std.proofs.Common.{◌≡◌, ◌∙◌, None, [], ap, append-nil, refl, sym}
+use Rattle.std.proofs.Common.{◌≡◌, ◌∙◌, None, [], ap, append-nil, refl, sym, true, false}
 use Rattle.proxy_engines.specs.Moves.{told_by_turn}
 use Rattle.proxy_engines.specs.Host.{LineState, LinkState, GoesOn}
 use Rattle.proxy_engines.specs.HostStep.{HostState, TellsFault, IsAnswered, IsCausedOn, WorksHost}
 use Rattle.proxy_engines.specs.Faults.{IsLate}
 use Rattle.proxy_history.specs.declared.event.Kind.{Kind}
-use Rattle.proxy_engines.proofs.HostMoves.{some_told, starts_then}
+use Rattle.proxy_engines.proofs.HostMoves.{some_told}
 use Rattle.proxy_engines.proofs.HostLemmas.{empty_is, works_told, works_on, told_needs_alone, told_recorded, told_in_time, told_moved, told_link}
 use Rattle.proxy_engines.proofs.NumberLemmas.{numbered_cut}
 use Rattle.proxy_engines.proofs.FaultLemmas.{not_late}
@@ -26,59 +28,75 @@ module _ (U : LineState → LinkState → Type 0) (l : LineState) where
       → TellsFault last new I J kind error m result → IsCausedOn U kind error last.line None None m → WorksHost U l new None H J m result
   told_alone last new kind error H I J m moved result none goes told cause = works_told U l None last new kind error H I J m moved result (rw none goes) told (rw none cause)
 
-pub returns-clause-idle : goal.returns-clause-idle
-returns-clause-idle g c =
-    elim c.if-taken.branch [
-      | then-taken w ↦ rw w.result-is (λ e. absurd cc)
-      | else-taken w ↦
-          let same = c.in_ok-taken.ensures.same w.if-taken.false in
-          let empty : c.args.self.now.line.pending ≡ [] =
-          ap (λ (l : LineState). l.pending) (sym same) ∙ ap (λ (h : HostState). h.line.pending) (sym c.self.view_is) ∙ empty_is c.self.inside.line.pending c.is_empty.result c.is_empty.ensures c.if-not-is_empty.false in
-          rw w.result-is (λ e. (empty, (g.T.Turns.seen c.take_one.new.turns, c.take_one.ensures.seen, ([], sym (append-nil (g.T.Turns.seen c.take_one.new.turns))), c.in_ok-taken.ensures.nothing_waits w.if-taken.false empty)))
-    ]
+pub returns-clause-tells : goal.returns-clause-tells
+returns-clause-tells g c =
+    record {
+      recorded = elim c.if-taken.branch [
+        | then-taken w ↦ rw w.result-is (c.take_one.ensures.fault ∙ c.requires.no_fault)
+        | else-taken w ↦ rw w.result-is (c.take_one.ensures.fault ∙ c.requires.no_fault)
+      ];
+      unfailed = elim c.if-taken.branch [
+        | then-taken w ↦ rw w.result-is tt
+        | else-taken w ↦ rw w.result-is tt
+      ];
+      in_time = let calm : ¬ IsLate c.take_one.new.self.line c.args.moment = rw (← c.self.view_is) (not_late c.self.inside.line c.args.moment c.is_late.result c.if-is_late.false c.is_late.ensures) in
+          elim c.if-taken.branch [
+            | then-taken w ↦ rw w.result-is calm
+            | else-taken w ↦ rw w.result-is calm
+          ];
+      idle = elim c.if-taken.branch [
+        | then-taken w ↦ rw w.result-is (λ e. absurd cc)
+        | else-taken w ↦
+            let same = c.in_ok-taken.ensures.same w.if-taken.false in
+            let empty : c.args.self.now.line.pending ≡ [] =
+            ap (λ (l : LineState). l.pending) (sym same) ∙ ap (λ (h : HostState). h.line.pending) (sym c.self.view_is) ∙ empty_is c.self.inside.line.pending c.is_empty.result c.is_empty.ensures c.if-not-is_empty.false in
+            rw w.result-is (λ e. (empty, (g.T.Turns.seen c.take_one.new.turns, c.take_one.ensures.moves.turns.begins, ([], sym (append-nil (g.T.Turns.seen c.take_one.new.turns))), c.in_ok-taken.ensures.nothing_waits w.if-taken.false empty)))
+      ];
+    }
 
-pub returns-in_err-taken-clause-pass : goal.returns-in_err-taken-clause-pass
-returns-in_err-taken-clause-pass g c = c.take_one.ensures.pass
+pub returns-in_err-taken-clause-moves : goal.returns-in_err-taken-clause-moves
+returns-in_err-taken-clause-moves g c =
+    record {
+      turns = c.take_one.ensures.moves.turns;
+      works = let (_, result_is, error_is) = err_from_is_err_and c.from_residual.result c.from_residual.ensures.1 in
+          let went = c.in_err-taken.ensures.moves.goes in
+          rw (result_is, error_is)
+          (on_alone _ _ c.take_one.new.self _ _ c.args.moment went.0 _ c.take_one.ensures.link went.1 c.in_err-taken.ensures.moves.plain.0 (c.take_one.ensures.fault ∙ c.requires.no_fault));
+      number = let (_, result_is, error_is) = err_from_is_err_and c.from_residual.result c.from_residual.ensures.1 in rw (result_is, error_is) c.in_err-taken.ensures.moves.plain.1;
+    }
 
-pub returns-in_err-taken-clause-setting : goal.returns-in_err-taken-clause-setting
-returns-in_err-taken-clause-setting g c = c.take_one.ensures.setting
+pub returns-then-not-is_empty-clause-moves : goal.returns-then-not-is_empty-clause-moves
+returns-then-not-is_empty-clause-moves g c =
+    record {
+      turns = c.take_one.ensures.moves.turns;
+      works = on_alone _ _ c.take_one.new.self _ _ c.args.moment c.in_ok-taken.taken _ c.take_one.ensures.link c.in_ok-taken.ensures.moves.goes tt (c.take_one.ensures.fault ∙ c.requires.no_fault);
+      number = tt;
+    }
 
-pub returns-in_err-taken-clause-seen : goal.returns-in_err-taken-clause-seen
-returns-in_err-taken-clause-seen g c = c.take_one.ensures.seen
+pub returns-clause-moves : goal.returns-clause-moves
+returns-clause-moves g c =
+    record {
+      turns = c.take_one.ensures.moves.turns;
+      works = elim c.if-taken.branch [
+        | then-taken w ↦ rw w.result-is (on_alone _ _ c.take_one.new.self _ _ c.args.moment true _ c.take_one.ensures.link (rw w.if-taken.true at c.in_ok-taken.ensures.moves.goes) refl (c.take_one.ensures.fault ∙ c.requires.no_fault))
+        | else-taken w ↦ rw w.result-is (on_alone _ _ c.take_one.new.self _ _ c.args.moment false _ c.take_one.ensures.link (rw w.if-taken.false at c.in_ok-taken.ensures.moves.goes) refl (c.take_one.ensures.fault ∙ c.requires.no_fault))
+      ];
+      number = elim c.if-taken.branch [
+        | then-taken w ↦ rw w.result-is tt
+        | else-taken w ↦ rw w.result-is tt
+      ];
+    }
 
-pub returns-then-not-is_empty-clause-pass : goal.returns-then-not-is_empty-clause-pass
-returns-then-not-is_empty-clause-pass g c = c.take_one.ensures.pass
-
-pub returns-then-not-is_empty-clause-setting : goal.returns-then-not-is_empty-clause-setting
-returns-then-not-is_empty-clause-setting g c = c.take_one.ensures.setting
-
-pub returns-then-not-is_empty-clause-seen : goal.returns-then-not-is_empty-clause-seen
-returns-then-not-is_empty-clause-seen g c = c.take_one.ensures.seen
-
-pub returns-clause-pass : goal.returns-clause-pass
-returns-clause-pass g c = c.take_one.ensures.pass
-
-pub returns-clause-setting : goal.returns-clause-setting
-returns-clause-setting g c = c.take_one.ensures.setting
-
-pub returns-clause-seen : goal.returns-clause-seen
-returns-clause-seen g c = c.take_one.ensures.seen
-
-pub returns-then-is_late-clause-pass : goal.returns-then-is_late-clause-pass
-returns-then-is_late-clause-pass g c = c.tell_fault.ensures.pass ∙ c.take_one.ensures.pass
-
-pub returns-then-is_late-clause-setting : goal.returns-then-is_late-clause-setting
-returns-then-is_late-clause-setting g c = c.tell_fault.ensures.setting ∙ c.take_one.ensures.setting
-
-pub returns-then-is_late-clause-seen : goal.returns-then-is_late-clause-seen
-returns-then-is_late-clause-seen g c = starts_then _ _ _ c.take_one.ensures.seen c.tell_fault.ensures.seen
-
-pub returns-then-is_late-clause-works : goal.returns-then-is_late-clause-works
-returns-then-is_late-clause-works g c =
-    let went = some_told _ (told_by_turn c.take_one.result) c.take_one.ensures.goes in
-    let late : IsLate c.take_one.new.self.line c.args.moment = rw (← c.self.view_is) (c.is_late.ensures.0 c.if-is_late.true) in
-    told_alone _ _ c.take_one.new.self c.tell_fault.new.self Kind.Late None _ _ _ c.args.moment went.0 c.tell_fault.result c.take_one.ensures.link went.1
-    (rw c.take_one.ensures.pass at c.tell_fault.ensures.tells) (refl, refl, late)
+pub returns-then-is_late-clause-moves : goal.returns-then-is_late-clause-moves
+returns-then-is_late-clause-moves g c =
+    record {
+      turns = keeps_then _ _ _ _ _ _ c.take_one.ensures.moves.turns c.tell_fault.ensures.turns;
+      works = let went = some_told _ (told_by_turn c.take_one.result) c.take_one.ensures.moves.goes in
+          let late : IsLate c.take_one.new.self.line c.args.moment = rw (← c.self.view_is) (c.is_late.ensures.0 c.if-is_late.true) in
+          told_alone _ _ c.take_one.new.self c.tell_fault.new.self Kind.Late None _ _ _ c.args.moment went.0 c.tell_fault.result c.take_one.ensures.link went.1
+          c.tell_fault.ensures.tells (refl, refl, late);
+      number = numbered_cut _ _ c.tell_fault.result tt (rw c.take_one.ensures.moves.turns.setting_is at c.tell_fault.ensures.number);
+    }
 
 pub returns-then-is_late-clause-needs_link : goal.returns-then-is_late-clause-needs_link
 returns-then-is_late-clause-needs_link g c = told_needs_alone _ _ _ _ _ _ None c.tell_fault.result c.tell_fault.ensures.tells
@@ -86,60 +104,35 @@ returns-then-is_late-clause-needs_link g c = told_needs_alone _ _ _ _ _ _ None c
 pub returns-then-is_late-clause-link : goal.returns-then-is_late-clause-link
 returns-then-is_late-clause-link g c = told_link _ _ _ _ _ _ None c.tell_fault.result c.take_one.ensures.link c.tell_fault.ensures.tells
 
-pub returns-then-is_late-clause-recorded : goal.returns-then-is_late-clause-recorded
-returns-then-is_late-clause-recorded g c = told_recorded _ _ _ _ _ _ None c.tell_fault.result c.tell_fault.ensures.tells
-
-pub returns-then-is_late-clause-in_time : goal.returns-then-is_late-clause-in_time
-returns-then-is_late-clause-in_time g c = told_in_time _ _ _ _ _ _ None c.tell_fault.result c.tell_fault.ensures.tells
-
-pub returns-then-is_late-clause-idle : goal.returns-then-is_late-clause-idle
-returns-then-is_late-clause-idle g c = told_moved _ _ _ _ _ _ _ None c.tell_fault.result c.tell_fault.ensures.tells
+pub returns-then-is_late-clause-tells : goal.returns-then-is_late-clause-tells
+returns-then-is_late-clause-tells g c =
+    record {
+      recorded = told_recorded _ _ _ _ _ _ None c.tell_fault.result c.tell_fault.ensures.tells;
+      unfailed = any_ok _ c.tell_fault.result tt;
+      in_time = told_in_time _ _ _ _ _ _ None c.tell_fault.result c.tell_fault.ensures.tells;
+      idle = told_moved _ _ _ _ _ _ _ None c.tell_fault.result c.tell_fault.ensures.tells;
+    }
 
 pub returns-in_err-taken-clause-needs_link : goal.returns-in_err-taken-clause-needs_link
 returns-in_err-taken-clause-needs_link g c = IfOk-from_err c.from_residual.result _ c.from_residual.ensures.0
 
-pub returns-in_err-taken-clause-recorded : goal.returns-in_err-taken-clause-recorded
-returns-in_err-taken-clause-recorded g c = IfOk-from_err c.from_residual.result _ c.from_residual.ensures.0
-
-pub returns-in_err-taken-clause-in_time : goal.returns-in_err-taken-clause-in_time
-returns-in_err-taken-clause-in_time g c = IfOk-from_err c.from_residual.result _ c.from_residual.ensures.0
-
-pub returns-in_err-taken-clause-idle : goal.returns-in_err-taken-clause-idle
-returns-in_err-taken-clause-idle g c = IfOk-from_err c.from_residual.result _ c.from_residual.ensures.0
+pub returns-in_err-taken-clause-tells : goal.returns-in_err-taken-clause-tells
+returns-in_err-taken-clause-tells g c =
+    record {
+      recorded = IfOk-from_err c.from_residual.result _ c.from_residual.ensures.0;
+      unfailed = IfOk-from_err c.from_residual.result _ c.from_residual.ensures.0;
+      in_time = IfOk-from_err c.from_residual.result _ c.from_residual.ensures.0;
+      idle = IfOk-from_err c.from_residual.result _ c.from_residual.ensures.0;
+    }
 
 pub returns-in_err-taken-clause-link : goal.returns-in_err-taken-clause-link
 returns-in_err-taken-clause-link g c = c.take_one.ensures.link
 
-pub returns-in_err-taken-clause-works : goal.returns-in_err-taken-clause-works
-returns-in_err-taken-clause-works g c =
-    let (_, result_is, error_is) = err_from_is_err_and c.from_residual.result c.from_residual.ensures.1 in
-    let went = c.in_err-taken.ensures.goes in
-    rw (result_is, error_is)
-    (on_alone _ _ c.take_one.new.self _ _ c.args.moment went.0 _ c.take_one.ensures.link went.1 c.in_err-taken.ensures.plain.0 (c.take_one.ensures.fault ∙ c.requires.no_fault))
-
-pub returns-then-not-is_empty-clause-idle : goal.returns-then-not-is_empty-clause-idle
-returns-then-not-is_empty-clause-idle g c = λ idle. absurd cc
-
-pub returns-in_err-taken-clause-number : goal.returns-in_err-taken-clause-number
-returns-in_err-taken-clause-number g c = let (_, result_is, error_is) = err_from_is_err_and c.from_residual.result c.from_residual.ensures.1 in rw (result_is, error_is) c.in_err-taken.ensures.plain.1
-
-pub returns-then-is_late-clause-number : goal.returns-then-is_late-clause-number
-returns-then-is_late-clause-number g c = numbered_cut _ _ c.tell_fault.result tt (rw c.take_one.ensures.setting at c.tell_fault.ensures.number)
-
-pub returns-then-not-is_empty-clause-number : goal.returns-then-not-is_empty-clause-number
-returns-then-not-is_empty-clause-number g c = tt
-
-pub returns-clause-number : goal.returns-clause-number
-returns-clause-number g c =
-    elim c.if-taken.branch [
-      | then-taken w ↦ rw w.result-is tt
-      | else-taken w ↦ rw w.result-is tt
-    ]
-
-pub returns-clause-in_time : goal.returns-clause-in_time
-returns-clause-in_time g c =
-    let calm : ¬ IsLate c.take_one.new.self.line c.args.moment = rw (← c.self.view_is) (not_late c.self.inside.line c.args.moment c.is_late.result c.if-is_late.false c.is_late.ensures) in
-    elim c.if-taken.branch [
-      | then-taken w ↦ rw w.result-is calm
-      | else-taken w ↦ rw w.result-is calm
-    ]
+pub returns-then-not-is_empty-clause-tells : goal.returns-then-not-is_empty-clause-tells
+returns-then-not-is_empty-clause-tells g c =
+    record {
+      recorded = c.take_one.ensures.fault ∙ c.requires.no_fault;
+      unfailed = tt;
+      in_time = rw (← c.self.view_is) (not_late c.self.inside.line c.args.moment c.is_late.result c.if-is_late.false c.is_late.ensures);
+      idle = λ idle. absurd cc;
+    }

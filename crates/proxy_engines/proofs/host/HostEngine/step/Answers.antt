@@ -1,3 +1,4 @@
+use Rattle.proxy_engines.proofs.OwnLemmas.{keeps_then}
 use Rattle.proxy_engines.specs.declared.error.EngineError.{EngineError}
 use Rattle.proxy_engines.specs.declared.client.Progress.{Progress}
 use Rattle.std.specs.Prelude.{Result, Err, IfOk, IfErr}
@@ -8,7 +9,6 @@ use Rattle.proxy_engines.specs.HostStep.{HostState, after_fault}
 use Rattle.proxy_engines.specs.Faults.{HasNoFaultOn}
 use Rattle.proxy_engines.proofs.AnswerLemmas.{any_ok}
 use Rattle.proxy_engines.proofs.HostLemmas.{no_link, steps_after}
-use Rattle.proxy_engines.proofs.HostMoves.{starts_then}
 use Rattle.proxy_engines.proofs.host.HostEngine.step.Goals as goal
 
 -- an error stays behind an earlier fault
@@ -49,48 +49,24 @@ module _ (A : Type 0) where
 pub returns-clause-steps : goal.returns-clause-steps
 returns-clause-steps g c =
     let was = ap (λ (h : HostState). h.fault) (sym c.self.view_is) ∙ c.in-Some.is in
-    let (fails, no_link, no_fault) = c.in_ok-record_fault.ensures.fails in
-    inl (steps_after (g.T.Turns.cause (g.T.Turns.setting c.args.turns.now) Refusal.Unasked) (g.T.Turns.seen c.args.turns.now) (g.T.Turns.seen c.record_fault.new.turns) (g.T.Turns.seen c.go_on-2.new.turns) c.args.moment c.record_fault.ensures.seen
-    c.args.self.now c.record_fault.new.self c.go_on-2.new.self c.in-Some.kind _ _ _ c.go_on-2.result _ was fails no_link no_fault (rw c.record_fault.ensures.setting at (rw c.record_fault.ensures.pass at c.go_on-2.ensures.works)) c.after_fault.ensures)
+    let records = c.in_ok-record_fault.ensures.marks.records in
+    inl (steps_after (g.T.Turns.cause (g.T.Turns.setting c.args.turns.now) Refusal.Unasked) (g.T.Turns.seen c.args.turns.now) (g.T.Turns.seen c.record_fault.new.turns) (g.T.Turns.seen c.go_on-2.new.turns) c.args.moment c.record_fault.ensures.marks.turns.begins
+    c.args.self.now c.record_fault.new.self c.go_on-2.new.self c.in-Some.kind _ _ _ c.go_on-2.result _ was records.fails records.link records.fault (rw c.record_fault.ensures.marks.turns.setting_is at c.go_on-2.ensures.moves.works) c.after_fault.ensures)
 
-pub returns-clause-seen : goal.returns-clause-seen
-returns-clause-seen g c = starts_then (g.T.Turns.seen c.args.turns.now) (g.T.Turns.seen c.record_fault.new.turns) (g.T.Turns.seen c.go_on-2.new.turns) c.record_fault.ensures.seen c.go_on-2.ensures.seen
+pub returns-clause-turns : goal.returns-clause-turns
+returns-clause-turns g c = keeps_then _ _ _ _ _ _ c.record_fault.ensures.marks.turns c.go_on-2.ensures.moves.turns
 
-pub returns-in_default-clause-pass : goal.returns-in_default-clause-pass
-returns-in_default-clause-pass g c = c.go_on.ensures.pass
+pub returns-in_default-clause-turns : goal.returns-in_default-clause-turns
+returns-in_default-clause-turns g c = c.go_on.ensures.moves.turns
 
-pub returns-in_default-clause-setting : goal.returns-in_default-clause-setting
-returns-in_default-clause-setting g c = c.go_on.ensures.setting
-
-pub returns-in_default-clause-seen : goal.returns-in_default-clause-seen
-returns-in_default-clause-seen g c = c.go_on.ensures.seen
-
-pub returns-in_err-record_fault-clause-pass : goal.returns-in_err-record_fault-clause-pass
-returns-in_err-record_fault-clause-pass g c = c.record_fault.ensures.pass
-
-pub returns-in_err-record_fault-clause-setting : goal.returns-in_err-record_fault-clause-setting
-returns-in_err-record_fault-clause-setting g c = c.record_fault.ensures.setting
-
-pub returns-in_err-record_fault-clause-seen : goal.returns-in_err-record_fault-clause-seen
-returns-in_err-record_fault-clause-seen g c = c.record_fault.ensures.seen
-
-pub returns-clause-pass : goal.returns-clause-pass
-returns-clause-pass g c = c.go_on-2.ensures.pass ∙ c.record_fault.ensures.pass
-
-pub returns-clause-setting : goal.returns-clause-setting
-returns-clause-setting g c = c.go_on-2.ensures.setting ∙ c.record_fault.ensures.setting
+pub returns-in_err-record_fault-clause-turns : goal.returns-in_err-record_fault-clause-turns
+returns-in_err-record_fault-clause-turns g c = c.record_fault.ensures.marks.turns
 
 pub returns-in_default-clause-needs_link : goal.returns-in_default-clause-needs_link
 returns-in_default-clause-needs_link g c = c.go_on.ensures.needs_link
 
-pub returns-in_default-clause-recorded : goal.returns-in_default-clause-recorded
-returns-in_default-clause-recorded g c = c.go_on.ensures.recorded
-
-pub returns-in_default-clause-in_time : goal.returns-in_default-clause-in_time
-returns-in_default-clause-in_time g c = c.go_on.ensures.in_time
-
-pub returns-in_default-clause-idle : goal.returns-in_default-clause-idle
-returns-in_default-clause-idle g c = c.go_on.ensures.idle
+pub returns-in_default-clause-tells : goal.returns-in_default-clause-tells
+returns-in_default-clause-tells g c = c.go_on.ensures.tells
 
 pub returns-in_err-record_fault-clause-needs_link : goal.returns-in_err-record_fault-clause-needs_link
 returns-in_err-record_fault-clause-needs_link g c = IfOk-from_err c.from_residual.result _ c.from_residual.ensures.0
@@ -98,43 +74,33 @@ returns-in_err-record_fault-clause-needs_link g c = IfOk-from_err c.from_residua
 pub returns-in_err-record_fault-clause-all : goal.returns-in_err-record_fault-clause-all
 returns-in_err-record_fault-clause-all g c = IfOk-from_err c.from_residual.result _ c.from_residual.ensures.0
 
-pub returns-in_err-record_fault-clause-recorded : goal.returns-in_err-record_fault-clause-recorded
-returns-in_err-record_fault-clause-recorded g c = IfOk-from_err c.from_residual.result _ c.from_residual.ensures.0
-
-pub returns-in_err-record_fault-clause-in_time : goal.returns-in_err-record_fault-clause-in_time
-returns-in_err-record_fault-clause-in_time g c = IfOk-from_err c.from_residual.result _ c.from_residual.ensures.0
-
-pub returns-in_err-record_fault-clause-idle : goal.returns-in_err-record_fault-clause-idle
-returns-in_err-record_fault-clause-idle g c = IfOk-from_err c.from_residual.result _ c.from_residual.ensures.0
+pub returns-in_err-record_fault-clause-tells : goal.returns-in_err-record_fault-clause-tells
+returns-in_err-record_fault-clause-tells g c =
+    record {
+      recorded = IfOk-from_err c.from_residual.result _ c.from_residual.ensures.0;
+      unfailed = IfOk-from_err c.from_residual.result _ c.from_residual.ensures.0;
+      in_time = IfOk-from_err c.from_residual.result _ c.from_residual.ensures.0;
+      idle = IfOk-from_err c.from_residual.result _ c.from_residual.ensures.0;
+    }
 
 pub returns-clause-needs_link : goal.returns-clause-needs_link
 returns-clause-needs_link g c = rw c.after_fault.ensures (after_needs _ c.go_on-2.result c.go_on-2.ensures.needs_link)
 
-pub returns-clause-recorded : goal.returns-clause-recorded
-returns-clause-recorded g c = rw c.after_fault.ensures (after_any _ c.go_on-2.result c.go_on-2.ensures.recorded)
-
-pub returns-clause-in_time : goal.returns-clause-in_time
-returns-clause-in_time g c = rw c.after_fault.ensures (after_any _ c.go_on-2.result c.go_on-2.ensures.in_time)
-
-pub returns-clause-idle : goal.returns-clause-idle
-returns-clause-idle g c = rw c.after_fault.ensures (after_idle _ c.go_on-2.result)
+pub returns-clause-tells : goal.returns-clause-tells
+returns-clause-tells g c =
+    record {
+      recorded = rw c.after_fault.ensures (after_any _ c.go_on-2.result c.go_on-2.ensures.tells.recorded);
+      unfailed = let none = c.in_ok-record_fault.ensures.marks.records.link in
+          rw c.after_fault.ensures (after_any _ c.go_on-2.result (any_ok _ c.go_on-2.result (no_link HasNoFaultOn c.args.self.now.link c.go_on-2.new.self.link (c.go_on-2.ensures.alone none))));
+      in_time = rw c.after_fault.ensures (after_any _ c.go_on-2.result c.go_on-2.ensures.tells.in_time);
+      idle = rw c.after_fault.ensures (after_idle _ c.go_on-2.result);
+    }
 
 pub returns-in_default-clause-number : goal.returns-in_default-clause-number
-returns-in_default-clause-number g c = c.go_on.ensures.number
+returns-in_default-clause-number g c = c.go_on.ensures.moves.number
 
 pub returns-in_err-record_fault-clause-number : goal.returns-in_err-record_fault-clause-number
-returns-in_err-record_fault-clause-number g c = let (_, result_is, error_is) = err_from_is_err_and c.from_residual.result c.from_residual.ensures.1 in rw (result_is, error_is) c.in_err-record_fault.ensures.number
+returns-in_err-record_fault-clause-number g c = let (_, result_is, error_is) = err_from_is_err_and c.from_residual.result c.from_residual.ensures.1 in rw (result_is, error_is) c.in_err-record_fault.ensures.marks.number
 
 pub returns-clause-number : goal.returns-clause-number
-returns-clause-number g c = rw c.after_fault.ensures (after_err _ c.go_on-2.result (rw c.record_fault.ensures.setting at c.go_on-2.ensures.number))
-
-pub returns-in_default-clause-unfailed : goal.returns-in_default-clause-unfailed
-returns-in_default-clause-unfailed g c = c.go_on.ensures.unfailed
-
-pub returns-in_err-record_fault-clause-unfailed : goal.returns-in_err-record_fault-clause-unfailed
-returns-in_err-record_fault-clause-unfailed g c = IfOk-from_err c.from_residual.result _ c.from_residual.ensures.0
-
-pub returns-clause-unfailed : goal.returns-clause-unfailed
-returns-clause-unfailed g c =
-    let (_, none, _) = c.in_ok-record_fault.ensures.fails in
-    rw c.after_fault.ensures (after_any _ c.go_on-2.result (any_ok _ c.go_on-2.result (no_link HasNoFaultOn c.args.self.now.link c.go_on-2.new.self.link (c.go_on-2.ensures.alone none))))
+returns-clause-number g c = rw c.after_fault.ensures (after_err _ c.go_on-2.result (rw c.record_fault.ensures.marks.turns.setting_is at c.go_on-2.ensures.moves.number))

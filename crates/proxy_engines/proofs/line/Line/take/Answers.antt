@@ -1,17 +1,19 @@
+use Rattle.proxy_engines.proofs.OwnLemmas.{keeps_same}
 use Rattle.std.proofs.Common.{◌≡◌, ◌∙◌, ap, refl, sym, true, false, inl, inr}
 use Rattle.proxy_history.specs.declared.event.Event.{Event}
 use Rattle.proxy_engines.specs.Host.{LineState}
 use Rattle.proxy_engines.proofs.AnswerLemmas.{if_err}
 use Rattle.proxy_engines.proofs.MoveLemmas.{turn_told}
 use Rattle.proxy_engines.proofs.NumberLemmas.{expected, is_nothing_waiting, told_ok, told_plain}
-use Rattle.proxy_engines.proofs.HostMoves.{stays_on, taken_on, taken_astray, starts_same}
+use Rattle.proxy_engines.proofs.HostMoves.{stays_on, taken_on, taken_astray}
 use Rattle.proxy_engines.proofs.line.Line.take.Goals as goal
 
 pub returns-then-is_err-clause-goes : goal.returns-then-is_err-clause-goes
 returns-then-is_err-clause-goes g c = λ k. (false, rw (c.reserve.ensures.items, ← c.self.view_is) (stays_on _ k _ _ c.args.moment refl))
 
 pub returns-then-epoch-self-clause-goes : goal.returns-then-epoch-self-clause-goes
-returns-then-epoch-self-clause-goes g c = λ k.
+returns-then-epoch-self-clause-goes g c =
+    λ k.
     let adds = rw c.in-Ok-Sent.field-0-is at c.in-Ok-Sent.ensures.answered in (
       true,
       rw (c.push_back_reserved.ensures.items, c.reserve.ensures.items, adds.steps, ← c.self.view_is)
@@ -19,62 +21,34 @@ returns-then-epoch-self-clause-goes g c = λ k.
     )
 
 pub returns-else-epoch-self-clause-goes : goal.returns-else-epoch-self-clause-goes
-returns-else-epoch-self-clause-goes g c = λ k.
+returns-else-epoch-self-clause-goes g c =
+    λ k.
     let adds = rw c.in-Ok-Sent.field-0-is at c.in-Ok-Sent.ensures.answered in
     rw (c.push_back_reserved.ensures.items, c.reserve.ensures.items, adds.steps, ← c.self.view_is)
     (taken_on _ (g.T.Turns.pass c.args.turns.now) _ c.in-Ok-Sent.epoch _ c.args.moment c.in-Ok-Sent.text (rw (← c.self.view_is) at c.requires.nothing) c.if-self.false k c.if-epoch-self.false)
 
 pub returns-in-Err-clause-goes : goal.returns-in-Err-clause-goes
-returns-in-Err-clause-goes g c = λ k.
-    turn_told _ c.told_as.result (told_ok c.in-Err.denied false c.told_as.result c.told_as.ensures (λ b. b ≡ false) (λ x is soft. refl)) (rw (c.reserve.ensures.items, ← c.self.view_is) (stays_on _ k _ _ c.args.moment c.in-Err.ensures.rests))
+returns-in-Err-clause-goes g c =
+    λ k.
+    turn_told _ c.told_as.result (told_ok c.in-Err.denied false c.told_as.result c.told_as.ensures (λ b. b ≡ false) (λ x is soft. refl)) (rw (c.reserve.ensures.items, ← c.self.view_is) (stays_on _ k _ _ c.args.moment c.in-Err.ensures.denied.rests))
 
 pub returns-then-self-clause-goes : goal.returns-then-self-clause-goes
 returns-then-self-clause-goes g c = λ k. (false, stays_on _ k _ _ c.args.moment refl)
 
-pub returns-else-epoch-self-clause-pass : goal.returns-else-epoch-self-clause-pass
-returns-else-epoch-self-clause-pass g c = c.tell.ensures.pass
+pub returns-else-epoch-self-clause-turns : goal.returns-else-epoch-self-clause-turns
+returns-else-epoch-self-clause-turns g c = c.tell.ensures.turns
 
-pub returns-else-epoch-self-clause-setting : goal.returns-else-epoch-self-clause-setting
-returns-else-epoch-self-clause-setting g c = c.tell.ensures.setting
+pub returns-then-epoch-self-clause-turns : goal.returns-then-epoch-self-clause-turns
+returns-then-epoch-self-clause-turns g c = c.tell.ensures.turns
 
-pub returns-else-epoch-self-clause-seen : goal.returns-else-epoch-self-clause-seen
-returns-else-epoch-self-clause-seen g c = c.tell.ensures.seen
+pub returns-then-is_err-clause-turns : goal.returns-then-is_err-clause-turns
+returns-then-is_err-clause-turns g c = keeps_same _ _ _ _
 
-pub returns-then-epoch-self-clause-pass : goal.returns-then-epoch-self-clause-pass
-returns-then-epoch-self-clause-pass g c = c.tell.ensures.pass
+pub returns-in-Err-clause-turns : goal.returns-in-Err-clause-turns
+returns-in-Err-clause-turns g c = c.tell.ensures.turns
 
-pub returns-then-epoch-self-clause-setting : goal.returns-then-epoch-self-clause-setting
-returns-then-epoch-self-clause-setting g c = c.tell.ensures.setting
-
-pub returns-then-epoch-self-clause-seen : goal.returns-then-epoch-self-clause-seen
-returns-then-epoch-self-clause-seen g c = c.tell.ensures.seen
-
-pub returns-then-is_err-clause-pass : goal.returns-then-is_err-clause-pass
-returns-then-is_err-clause-pass g c = refl
-
-pub returns-then-is_err-clause-setting : goal.returns-then-is_err-clause-setting
-returns-then-is_err-clause-setting g c = refl
-
-pub returns-then-is_err-clause-seen : goal.returns-then-is_err-clause-seen
-returns-then-is_err-clause-seen g c = starts_same _
-
-pub returns-in-Err-clause-pass : goal.returns-in-Err-clause-pass
-returns-in-Err-clause-pass g c = c.tell.ensures.pass
-
-pub returns-in-Err-clause-setting : goal.returns-in-Err-clause-setting
-returns-in-Err-clause-setting g c = c.tell.ensures.setting
-
-pub returns-in-Err-clause-seen : goal.returns-in-Err-clause-seen
-returns-in-Err-clause-seen g c = c.tell.ensures.seen
-
-pub returns-then-self-clause-pass : goal.returns-then-self-clause-pass
-returns-then-self-clause-pass g c = refl
-
-pub returns-then-self-clause-setting : goal.returns-then-self-clause-setting
-returns-then-self-clause-setting g c = refl
-
-pub returns-then-self-clause-seen : goal.returns-then-self-clause-seen
-returns-then-self-clause-seen g c = starts_same _
+pub returns-then-self-clause-turns : goal.returns-then-self-clause-turns
+returns-then-self-clause-turns g c = keeps_same _ _ _ _
 
 pub returns-then-self-clause-none : goal.returns-then-self-clause-none
 returns-then-self-clause-none g c = tt
@@ -122,9 +96,9 @@ returns-in-Err-clause-nothing_waits g c =
     let event = Event.Taken c.self.inside.host in
     rw (← c.self.view_is)
     (told_ok c.in-Err.denied false c.told_as.result c.told_as.ensures _
-    (λ x is soft _. is_nothing_waiting (λ r. g.T.Turns.cause made r event seen) c.self.inside.host x (expected g.T.Turns.cause g.met.T.CoreTurns.refusals_mean made event seen c.in-Err.denied c.in-Err.ensures.cause x is soft)))
+    (λ x is soft _. is_nothing_waiting (λ r. g.T.Turns.cause made r event seen) c.self.inside.host x (expected g.T.Turns.cause g.met.T.CoreTurns.refusals_mean made event seen c.in-Err.denied c.in-Err.ensures.denied.due x is soft)))
 
 pub returns-in-Err-clause-plain : goal.returns-in-Err-clause-plain
 returns-in-Err-clause-plain g c =
     if_err _ _ c.told_as.result (λ e (plain, number). (plain, inl number))
-    (told_plain c.in-Err.denied false c.told_as.result c.told_as.ensures (g.T.Turns.cause (g.T.Turns.setting c.args.turns.now)) (Event.Taken c.self.inside.host) (g.T.Turns.seen c.tell.new.turns) c.in-Err.ensures.cause)
+    (told_plain c.in-Err.denied false c.told_as.result c.told_as.ensures (g.T.Turns.cause (g.T.Turns.setting c.args.turns.now)) (Event.Taken c.self.inside.host) (g.T.Turns.seen c.tell.new.turns) c.in-Err.ensures.denied.due)

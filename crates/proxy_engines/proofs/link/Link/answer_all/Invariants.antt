@@ -1,6 +1,5 @@
 use Rattle.std.proofs.Common.{◌≡◌, Some, None, false}
-use Rattle.ticket_gate.specs.Journal.{StartsWith}
-use Rattle.proxy_engines.specs.OwnSteps.{own_steps}
+use Rattle.proxy_engines.specs.Turns.{KeepsTurns, own_history}
 use Rattle.proxy_engines.specs.Ends.{KeepsReader}
 use Rattle.proxy_engines.specs.Host.{GoesOn}
 use Rattle.proxy_engines.specs.Moves.{AsTold}
@@ -9,12 +8,10 @@ use Rattle.proxy_engines.proofs.link.Link.answer_all.Given as goal
 
 abbrev pub invariant-loop : goal.invariant-loop
 invariant-loop g l =
-    AsTold (GoesOn l.fn.line l.line (Some l.fn.self) (Some l.self) (own_steps (g.T.Turns.pass l.fn.turns) (g.T.Turns.seen l.fn.turns))
-    (own_steps (g.T.Turns.pass l.fn.turns) (g.T.Turns.seen l.turns)) l.fn.moment) (told_by_outcome l.outcome)
+    AsTold (GoesOn l.fn.line l.line (Some l.fn.self) (Some l.self) (own_history g.T.Turns.pass g.T.Turns.seen l.fn.turns)
+    (own_history g.T.Turns.pass g.T.Turns.seen l.turns) l.fn.moment) (told_by_outcome l.outcome)
     × (l.self.inbox.values.refusal ≡ None)
     × KeepsReader l.fn.self.inbox l.self.inbox
     × (l.self.counts ≡ l.fn.self.counts)
     × (is_fault l.outcome ≡ false)
-    × (g.T.Turns.pass l.turns ≡ g.T.Turns.pass l.fn.turns)
-    × (g.T.Turns.setting l.turns ≡ g.T.Turns.setting l.fn.turns)
-    × StartsWith (g.T.Turns.seen l.turns) (g.T.Turns.seen l.fn.turns)
+    × KeepsTurns g.T.Turns.pass g.T.Turns.setting g.T.Turns.seen l.fn.turns l.turns
