@@ -5,9 +5,10 @@ ghost use Rattle.std.specs.Prelude.{IfOk};
 ghost use Rattle.proxy_config.specs.RingParts.{AreRingParts};
 
 use command_line::{Asked, KIT, Refused, VERSION};
+use exit_status::Ending;
 use mio::net::TcpListener;
 use proxy_config::{Config, ConfigError, check_line};
-use proxy_run::{Ending, local_run};
+use proxy_run::local_run;
 use proxy_serve::{Admin, Level, Log, Marks, Options, Stop, serve};
 use std::fs::{File, Files};
 use std::hash::RandomState;

@@ -7,18 +7,18 @@ use Rattle.proxy_core.specs.contracts.handover.Handover as Handover
 use Rattle.proxy_engines.proofs.CallerLemmas.{rest_send}
 use Rattle.proxy_stats.proofs.CallerLemmas.{counts_send}
 use Rattle.admin_pages.proofs.CallerLemmas.{histogram_send, look_send}
-use Rattle.generations.specs.contracts.course.Due as Due
-use Rattle.generations.specs.contracts.course.Generations as Generations
-use Rattle.proxy_serve.specs.contracts.admin.AdminServer as AdminServer
+use Rattle.generations.specs.contracts.lifecycle.Due as Due
+use Rattle.generations.specs.contracts.lifecycle.Generations as Generations
+use Rattle.proxy_serve.specs.contracts.admin.AdminListener as AdminListener
 use Rattle.proxy_serve.specs.contracts.admin.AdminWork as AdminWork
 use Rattle.proxy_serve.specs.contracts.board.Board as Board
-use Rattle.proxy_serve.specs.contracts.client.Carried as Carried
-use Rattle.proxy_serve.specs.contracts.house.Door as Door
-use Rattle.proxy_serve.specs.contracts.house.House as House
-use Rattle.proxy_serve.specs.contracts.house.Inherited as Inherited
-use Rattle.proxy_serve.specs.contracts.generation.Plan as Plan
-use Rattle.proxy_serve.specs.contracts.hall.Desk as Desk
-use Rattle.proxy_serve.specs.contracts.hall.Hall as Hall
+use Rattle.proxy_serve.specs.contracts.client.CarriedSocket as CarriedSocket
+use Rattle.proxy_serve.specs.contracts.server.AcceptQueue as AcceptQueue
+use Rattle.proxy_serve.specs.contracts.server.Server as Server
+use Rattle.proxy_serve.specs.contracts.server.Inherited as Inherited
+use Rattle.proxy_serve.specs.contracts.generation.GenerationOptions as GenerationOptions
+use Rattle.proxy_serve.specs.contracts.generation_state.WorkerStatus as WorkerStatus
+use Rattle.proxy_serve.specs.contracts.generation_state.GenerationState as GenerationState
 use Rattle.proxy_serve.specs.contracts.ledger.Ledger as Ledger
 use Rattle.proxy_serve.specs.contracts.stats.Living as Living
 use Rattle.proxy_serve.specs.contracts.stats.Stats as Stats
@@ -55,29 +55,29 @@ stats_send = search (counts_send, living_send, histogram_send, crosses, sendable
 sockets_send : IsSend Sockets.the_row
 sockets_send = search (crosses, sendable) depth 30 fits 20000
 
-carried_send : IsSend Carried.the_row
+carried_send : IsSend CarriedSocket.the_row
 carried_send = search (rest_send, crosses, sendable) depth 40 fits 20000
 
-door_sync : IsSync Door.the_row
-door_sync = search (carried_send, crosses, sendable) depth 40 fits 20000
+queue_sync : IsSync AcceptQueue.the_row
+queue_sync = search (carried_send, crosses, sendable) depth 40 fits 20000
 
-pub house_sync : IsSync House.the_row
-house_sync = search (generations_send, board_sync, stats_send, sockets_send, door_sync, stop_send, crosses, sendable) depth 40 fits 20000
+pub server_sync : IsSync Server.the_row
+server_sync = search (generations_send, board_sync, stats_send, sockets_send, queue_sync, stop_send, crosses, sendable) depth 40 fits 20000
 
-desk_sync : IsSync Desk.the_row
-desk_sync = search (crosses, sendable) depth 40 fits 20000
+worker_sync : IsSync WorkerStatus.the_row
+worker_sync = search (crosses, sendable) depth 40 fits 20000
 
-pub hall_sync : (κ : NamedLft) → IsSync (Hall.the_row κ)
-hall_sync κ = search (house_sync, desk_sync, ledger_send, crosses, sendable) depth 40 fits 20000
+pub generation_sync : (κ : NamedLft) → IsSync (GenerationState.the_row κ)
+generation_sync κ = search (server_sync, worker_sync, ledger_send, crosses, sendable) depth 40 fits 20000
 
-pub admin_send : IsSend AdminServer.the_row
+pub admin_send : IsSend AdminListener.the_row
 admin_send = search (crosses, sendable) depth 60 fits 20000
 
 pub config_sync : IsSync Config.the_row
 config_sync = search (crosses, sendable) depth 40 fits 20000
 
 pub admin_work_send : (κ : NamedLft) → IsSend (AdminWork.the_row κ)
-admin_work_send κ = search (admin_send, house_sync, config_sync, crosses, sendable) depth 40 fits 20000
+admin_work_send κ = search (admin_send, server_sync, config_sync, crosses, sendable) depth 40 fits 20000
 
-pub plan_send : (κ : NamedLft) → IsSend (Plan.the_row κ)
-plan_send κ = search (house_sync, config_sync, due_send, crosses, sendable) depth 40 fits 20000
+pub options_send : (κ : NamedLft) → IsSend (GenerationOptions.the_row κ)
+options_send κ = search (server_sync, config_sync, due_send, crosses, sendable) depth 40 fits 20000

@@ -1,11 +1,12 @@
 //! The address at which an operator asks how the serving stands, and orders its end: HTTP, in a thread of its own that makes
 //! no turn and has no look at a core.
 
-use crate::generation::Ground;
-use crate::house::House;
+use crate::generation::ServeRuntime;
+use crate::log::Level;
+use crate::server::Server;
 use crate::stop::Stop;
 use crate::worker::now;
-use admin_pages::{About, Admin as Answers, Order};
+use admin_pages::{About, Admin as Answers, Order, Snapshot};
 use http_server::{Config as Limits, Connection};
 use mio::net::{TcpListener, TcpStream};
 use mio::{Events, Interest, Poll, Token};
@@ -26,7 +27,7 @@ const MAX_VISITORS: usize = 64;
 // So long may a visit last without a further request, in milliseconds.
 const VISIT_MS: u64 = 10_000;
 
-// So many reads and writes of one visitor are made at most in one pass.
+// So many reads and writes of one visitor are made at most in one round.
 const MAX_MOVES: u32 = 16;
 
 // How long a head and a body may be, and how much is read at once, in bytes.
@@ -66,7 +67,15 @@ fn is_pause(error: &io::Error) -> bool {
     error.kind() == ErrorKind::WouldBlock || error.kind() == ErrorKind::Interrupted
 }
 
-// What a visitor's pass came to.
+fn obey<R: ServeRuntime>(rt: &R, server: &Server, order: Option<Order>) {
+    match order {
+        None => {}
+        Some(Order::Drain) => server.drain(rt),
+        Some(Order::Quit) => server.quit(),
+    }
+}
+
+// What a visitor's round came to.
 #[derive(Clone, Copy, Drop)]
 enum Moved {
     // Nothing was read or written.
@@ -106,23 +115,58 @@ impl Visitor {
         }
         moved
     }
+
+    // As `attend`, with the order that was among what was asked.
+    fn answer(&mut self, mut answers: Answers<'_>) -> (Moved, Option<Order>) {
+        let moved = self.attend(&mut answers);
+        (moved, answers.order())
+    }
+
+    // Whether the visit is over, by what its round at this moment came to.
+    fn is_over(&mut self, moved: Moved, moment: u64) -> bool {
+        match moved {
+            Moved::Something => {
+                self.moved = moment;
+                false
+            }
+            Moved::Nothing => moment.saturating_sub(self.moved) >= VISIT_MS,
+            Moved::Gone => true,
+        }
+    }
 }
 
 /// What answers there, before anybody has come.
-#[derive(Drop)]
-pub(crate) struct AdminServer {
+pub(crate) struct AdminListener {
     alloc: Global,
     admin: Admin,
     poll: Poll,
 }
 
-impl AdminServer {
-    /// Stops with `Socket` where the poll fails.
-    pub(crate) fn new<R: Net>(
+// Written out, so that where one is dropped that is one call: each function that holds one is proved sooner.
+impl Drop for AdminListener {
+    fn drop(self) {
+        let AdminListener {
+            alloc: _,
+            admin: _,
+            poll: _,
+        } = self;
+    }
+}
+
+impl AdminListener {
+    /// What answers at the address, where there is one. Stops with `Socket` where the poll fails.
+    pub(crate) fn open<R: Net>(
         rt: &R,
         alloc: Global,
-        mut admin: Admin,
-    ) -> Result<AdminServer, Stop> {
+        admin: Option<Admin>,
+    ) -> Result<Option<AdminListener>, Stop> {
+        match admin {
+            None => Ok(None),
+            Some(admin) => Ok(Some(AdminListener::new(rt, alloc, admin)?)),
+        }
+    }
+
+    fn new<R: Net>(rt: &R, alloc: Global, mut admin: Admin) -> Result<AdminListener, Stop> {
         let poll = match Poll::new(rt) {
             Ok(poll) => poll,
             Err(error) => return Err(Stop::socket("cannot make a poll", error)),
@@ -131,8 +175,18 @@ impl AdminServer {
             .registry()
             .register(&mut admin.listener, LISTENER, Interest::READABLE);
         match registered {
-            Ok(()) => Ok(AdminServer { alloc, admin, poll }),
+            Ok(()) => Ok(AdminListener { alloc, admin, poll }),
             Err(error) => Err(Stop::socket("cannot poll the listener", error)),
+        }
+    }
+
+    fn into_visits(self) -> Visits {
+        let AdminListener { alloc, admin, poll } = self;
+        Visits {
+            alloc,
+            admin,
+            poll,
+            visitors: Slab::new(alloc),
         }
     }
 }
@@ -140,28 +194,21 @@ impl AdminServer {
 /// The work of the thread that answers there.
 #[derive(Drop)]
 pub(crate) struct AdminWork<'a> {
-    pub(crate) server: AdminServer,
-    pub(crate) house: &'a House,
+    pub(crate) listener: AdminListener,
+    pub(crate) server: &'a Server,
     pub(crate) config: &'a Config,
 }
 
 impl<'a> AdminWork<'a> {
     /// Answers until the serving has ended.
-    pub(crate) fn run<R: Ground>(self, rt: &R) {
+    pub(crate) fn run<R: ServeRuntime>(self, rt: &R) {
         let AdminWork {
+            listener,
             server,
-            house,
             config,
         } = self;
-        let AdminServer { alloc, admin, poll } = server;
-        let visitors = Slab::new(alloc);
-        let mut visits = Visits {
-            alloc,
-            admin,
-            poll,
-            visitors,
-        };
-        visits.serve(rt, house, config);
+        let mut visits = listener.into_visits();
+        visits.serve(rt, server, config);
     }
 }
 
@@ -175,20 +222,32 @@ struct Visits {
 }
 
 impl Visits {
-    fn serve<R: Ground>(&mut self, rt: &R, house: &House, config: &Config) {
+    fn serve<R: ServeRuntime>(&mut self, rt: &R, server: &Server, config: &Config) {
         let Ok(mut events) = Events::with_capacity(self.alloc, EVENTS) else {
             return;
         };
-        let pause = Some(Duration::from_millis(PAUSE_MS));
         for _ in rt.forever() {
-            if !house.runs() || self.poll.poll(&mut events, pause).is_err() {
+            if !server.runs() || !self.wait(rt, server, &mut events) {
                 return;
             }
             let moment = now(rt);
             self.welcome(moment);
-            self.attend(rt, house, config, moment);
+            self.attend(rt, server, config, moment);
         }
         unreachable!()
+    }
+
+    // Waits for visitors. Where that fails it is told, and nothing is answered from then on.
+    fn wait<R: Eprint>(&mut self, rt: &R, server: &Server, events: &mut Events) -> bool {
+        let pause = Some(Duration::from_millis(PAUSE_MS));
+        let Err(error) = self.poll.poll(events, pause) else {
+            return true;
+        };
+        let tag = server.log().tag(Level::Error);
+        let _ = eprintln!(rt;
+            "{tag}redproxy: nothing is answered at the operator's address any more: {error}"
+        );
+        false
     }
 
     fn welcome(&mut self, moment: u64) {
@@ -203,70 +262,79 @@ impl Visits {
         }
     }
 
-    // The visitor goes with whom nothing has moved the longest.
-    fn let_oldest_go(&mut self) {
-        let mut oldest: Option<(usize, u64)> = None;
-        for (key, visitor) in self.visitors.iter() {
-            match oldest {
-                Some((_, moved)) if moved <= visitor.moved => {}
-                _ => oldest = Some((key, visitor.moved)),
+    // With whom nothing has moved the longest.
+    fn oldest(&self) -> Option<usize> {
+        let (mut oldest, mut moved) = (None, u64::MAX);
+        for key in 0..self.visitors.capacity() {
+            if let Some(visitor) = self.visitors.get(key) {
+                if visitor.moved <= moved {
+                    oldest = Some(key);
+                    moved = visitor.moved;
+                }
             }
         }
-        if let Some((key, _)) = oldest {
-            let _ = self.visitors.try_remove(key);
+        oldest
+    }
+
+    fn let_oldest_go(&mut self) {
+        if let Some(key) = self.oldest() {
+            drop(self.visitors.try_remove(key));
         }
+    }
+
+    // Has the poll tell of the socket of the next visitor.
+    fn register(&self, stream: &mut TcpStream) -> bool {
+        let token = Token(self.visitors.vacant_key());
+        let interests = Interest::READABLE | Interest::WRITABLE;
+        self.poll
+            .registry()
+            .register(stream, token, interests)
+            .is_ok()
     }
 
     fn open(&mut self, mut stream: TcpStream, moment: u64) -> Result<(), AllocError> {
         self.visitors.reserve(1)?;
-        let token = Token(self.visitors.vacant_key());
-        let interests = Interest::READABLE | Interest::WRITABLE;
-        if self
-            .poll
-            .registry()
-            .register(&mut stream, token, interests)
-            .is_err()
-        {
-            return Ok(());
+        if self.register(&mut stream) {
+            let visitor = Visitor {
+                connection: Connection::new(self.alloc, self.admin.keys, limits()),
+                stream,
+                moved: moment,
+            };
+            drop(self.visitors.insert(visitor));
         }
-        let connection = Connection::new(self.alloc, self.admin.keys, limits());
-        let _ = self.visitors.insert(Visitor {
-            connection,
-            stream,
-            moved: moment,
-        });
         Ok(())
     }
 
-    // Each visitor is tried at each pass: they are few.
-    fn attend<R: Ground>(&mut self, rt: &R, house: &House, config: &Config, moment: u64) {
+    // Each visitor is tried in each round: they are few.
+    fn attend<R: ServeRuntime>(&mut self, rt: &R, server: &Server, config: &Config, moment: u64) {
         if self.visitors.is_empty() {
             return;
         }
-        let snapshot = house.snapshot(rt);
+        let snapshot = server.snapshot(rt);
         let about = About {
             version: self.admin.version,
             kit: self.admin.kit,
             hosts: config.hosts.as_slice(),
         };
         for key in 0..self.visitors.capacity() {
-            let Some(visitor) = self.visitors.get_mut(key) else {
-                continue;
-            };
-            let mut answers = Answers::new(self.alloc, &about, &snapshot);
-            let moved = visitor.attend(&mut answers);
-            match answers.order() {
-                None => {}
-                Some(Order::Drain) => house.drain(rt),
-                Some(Order::Quit) => house.quit(),
-            }
-            match moved {
-                Moved::Something => visitor.moved = moment,
-                Moved::Nothing if moment.saturating_sub(visitor.moved) < VISIT_MS => {}
-                Moved::Nothing | Moved::Gone => {
-                    let _ = self.visitors.try_remove(key);
-                }
-            }
+            let order = self.attend_one(key, &about, &snapshot, moment);
+            obey(rt, server, order);
         }
+    }
+
+    // What the visitor ordered.
+    fn attend_one(
+        &mut self,
+        key: usize,
+        about: &About<'_>,
+        snapshot: &Snapshot,
+        moment: u64,
+    ) -> Option<Order> {
+        let visitor = self.visitors.get_mut(key)?;
+        let (moved, order) = visitor.answer(Answers::new(self.alloc, about, snapshot));
+        if visitor.is_over(moved, moment) {
+            drop(self.visitors.try_remove(key));
+        }
+        order
     }
 }

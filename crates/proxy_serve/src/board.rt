@@ -1,6 +1,6 @@
 //! What each generation is to do, for threads that look without waiting.
 
-use generations::{Course, Generations};
+use generations::{Generations, Phase};
 use std::sync::atomic::{AtomicU8, AtomicU64, Ordering};
 
 // Stands in place of a generation's number where there is none.
@@ -17,7 +17,7 @@ const STOPS: u8 = 2;
 pub(crate) struct Board {
     newest: AtomicU64,
     older: AtomicU64,
-    course: AtomicU8,
+    phase: AtomicU8,
 }
 
 impl Board {
@@ -26,40 +26,40 @@ impl Board {
         Board {
             newest: AtomicU64::new(NONE),
             older: AtomicU64::new(NONE),
-            course: AtomicU8::new(DRAINS),
+            phase: AtomicU8::new(DRAINS),
         }
     }
 
     /// Shows what was decided. Who is told to serve no more finds what it is to do by then.
     pub(crate) fn show<H: Drop>(&self, generations: &Generations<H>) {
         let older = generations.older().unwrap_or(NONE);
-        let course = match generations.course(older) {
-            Course::GivesUp => GIVES_UP,
-            Course::Stops => STOPS,
-            Course::Serves | Course::Drains => DRAINS,
+        let phase = match generations.phase(older) {
+            Phase::GivingUp => GIVES_UP,
+            Phase::Stopped => STOPS,
+            Phase::Serving | Phase::Draining => DRAINS,
         };
-        self.course.store(course, Ordering::SeqCst);
+        self.phase.store(phase, Ordering::SeqCst);
         self.older.store(older, Ordering::SeqCst);
         let newest = generations.newest().unwrap_or(NONE);
         self.newest.store(newest, Ordering::SeqCst);
     }
 
     /// What the generation is to do. One that isn't open yet drains: it has no connection.
-    pub(crate) fn course(&self, number: u64) -> Course {
+    pub(crate) fn phase(&self, number: u64) -> Phase {
         let newest = self.newest.load(Ordering::SeqCst);
         if newest == number {
-            return Course::Serves;
+            return Phase::Serving;
         }
         if newest == NONE || newest < number {
-            return Course::Drains;
+            return Phase::Draining;
         }
         if self.older.load(Ordering::SeqCst) != number {
-            return Course::Stops;
+            return Phase::Stopped;
         }
-        match self.course.load(Ordering::SeqCst) {
-            GIVES_UP => Course::GivesUp,
-            STOPS => Course::Stops,
-            _ => Course::Drains,
+        match self.phase.load(Ordering::SeqCst) {
+            GIVES_UP => Phase::GivingUp,
+            STOPS => Phase::Stopped,
+            _ => Phase::Draining,
         }
     }
 

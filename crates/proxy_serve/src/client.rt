@@ -1,32 +1,32 @@
 //! A client's connection, as a worker has it.
 
-use crate::hall::{Hall, LARGE, LARGE_STEP};
-use crate::port::{Port, PortReader, PortWriter, ends};
-use crate::watched::{Notes, Watched};
+use crate::counted_turns::{CountedTurns, TurnCounts};
+use crate::generation_state::{GenerationState, LARGE, LARGE_STEP};
+use crate::socket::{SharedSocket, Socket, SocketReader, SocketWriter, ends, shared};
+use exit_status::Ending;
 use histogram::{Histogram, Unanswered};
 use mio::event::Event as Readiness;
 use mio::net::TcpStream;
 use mio::{Registry, Token};
 use proxy_core::CoreTurns;
 use proxy_engines::{ClientEngine, EngineError, Progress, Rest, Tallied};
-use proxy_run::Ending;
 use serve_parts::Refusals;
 use std::alloc::Global;
 use std::cell::RefCell;
 use std::rc::Rc;
 use std::sync::Wait;
 
-// Steps of one connection in one pass, so that one pipeline doesn't starve the others.
-const MOST_STEPS: u32 = 256;
+// Steps of one connection in one round, so that one pipeline doesn't starve the others.
+const MAX_STEPS: u32 = 256;
 
 // A connection whose unfinished command has fewer bytes isn't ended for what all of them have.
-const MOST_SPARED: u64 = 16_384;
+const MAX_SPARED: u64 = 16_384;
 
 // For so long a closed connection's bytes are still read and thrown away, in milliseconds: a socket that is let go with bytes
 // unread would take the last answers from its peer.
 const LINGER_MS: u64 = 1_000;
 
-type Engine = ClientEngine<Tallied<PortReader>, Tallied<PortWriter>>;
+type Engine = ClientEngine<Tallied<SocketReader>, Tallied<SocketWriter>>;
 
 /// How far a client has come.
 #[derive(Clone, Copy, Drop)]
@@ -38,59 +38,110 @@ enum Stage {
     Lingering { until: u64 },
 }
 
-/// A worker's pass over its clients.
+/// A worker's round over its clients.
 #[derive(Clone, Copy, Drop)]
-pub(crate) struct Pass {
+pub(crate) struct Round {
     /// The moment of it, in milliseconds.
     pub(crate) now: u64,
     /// Steps of the journal that the worker keeps for its links.
     pub(crate) reserve: u64,
 }
 
-/// What a pass over a client did.
+/// What a round of a client did.
 #[derive(Clone, Copy, Drop)]
-pub(crate) enum Attended {
+pub(crate) enum Stepped {
     /// Nothing more can be done for now.
-    Rests,
+    Idle,
     /// More can be done at once.
-    Goes,
+    Ready,
     /// The socket is to be let go.
-    Gone,
+    Closed,
     /// All was answered, and the socket goes over to the newest generation.
-    GoesOver,
+    CarriedOver,
 }
 
 /// A socket on its way from one generation to the next, with what was read from it and not asked, and what it is still to be
 /// given.
-#[derive(Drop)]
-pub(crate) struct Carried {
-    port: Port,
+pub(crate) struct CarriedSocket {
+    socket: Socket,
     rest: Rest,
     // How many bytes had come when a command was last accepted.
     begun: u64,
 }
 
-impl Carried {
-    /// The newest generation takes no further connection: what is gathered is written as far as the socket takes it, and nothing
-    /// more is sent.
-    pub(crate) fn part(mut self, room: &mut Vec<u8>) {
-        self.port.write_out(room);
-        self.port.shut();
-        let _ = self.port.throw_away();
+// Written out, so that where one is dropped that is one call: each function that holds one is proved sooner.
+impl Drop for CarriedSocket {
+    fn drop(self) {
+        let CarriedSocket {
+            socket: _,
+            rest: _,
+            begun: _,
+        } = self;
     }
 }
 
+impl CarriedSocket {
+    /// The newest generation takes no further connection: what is gathered is written as far as the socket takes it, and nothing
+    /// more is sent.
+    pub(crate) fn shut_down(&mut self, buffer: &mut Vec<u8>) {
+        self.socket.write_out(buffer);
+        self.socket.shut();
+        let _ = self.socket.throw_away();
+    }
+
+    // Has the poll tell of the socket, and shares it with the two ends that an engine is to have.
+    fn share(
+        mut self,
+        alloc: Global,
+        registry: &Registry,
+        token: Token,
+    ) -> Result<SharedRest, (EngineError, CarriedSocket)> {
+        if self.socket.register(registry, token).is_err() {
+            return Err((EngineError::ReadFailed, self));
+        }
+        let CarriedSocket {
+            socket,
+            rest,
+            begun,
+        } = self;
+        match Rc::new(alloc, RefCell::new(socket)) {
+            Ok(socket) => Ok(SharedRest {
+                socket,
+                rest,
+                begun,
+            }),
+            Err(failed) => {
+                let socket = failed.value.into_inner();
+                socket.deregister(registry);
+                let carried = CarriedSocket {
+                    socket,
+                    rest,
+                    begun,
+                };
+                Err((EngineError::NoMemory, carried))
+            }
+        }
+    }
+}
+
+// A carried socket that is shared.
 #[derive(Drop)]
+struct SharedRest {
+    socket: Rc<RefCell<Socket>>,
+    rest: Rest,
+    begun: u64,
+}
+
 pub(crate) struct Client {
     engine: Engine,
-    port: Rc<RefCell<Port>>,
+    socket: Rc<RefCell<Socket>>,
     stage: Stage,
     // Commands that are accepted and not yet handed out: how many, and since when.
     unanswered: u64,
     waits: Unanswered,
     // How many replies had come to all clients when this one was last asked for its own.
     replies: u64,
-    // The last pass ended before all was done.
+    // The last round ended before all was done.
     has_more: bool,
     // Refusals of memory to its next step.
     refusals: Refusals,
@@ -101,9 +152,28 @@ pub(crate) struct Client {
     unfinished: u64,
 }
 
+// Written out, so that where one is dropped that is one call: each function that holds one is proved sooner.
+impl Drop for Client {
+    fn drop(self) {
+        let Client {
+            engine: _,
+            socket: _,
+            stage: _,
+            unanswered: _,
+            waits: _,
+            replies: _,
+            has_more: _,
+            refusals: _,
+            is_drained: _,
+            begun: _,
+            unfinished: _,
+        } = self;
+    }
+}
+
 /// Why a worker could not go on with a step.
 #[derive(Clone, Copy, Drop)]
-pub(crate) enum Hitch {
+pub(crate) enum StepError {
     /// There was no memory; the step is made again.
     Memory,
     /// The journal has no room for it.
@@ -114,50 +184,50 @@ pub(crate) enum Hitch {
     Alone,
 }
 
-/// What an engine's refusal means to its worker.
-pub(crate) fn hitch_of(error: EngineError) -> Hitch {
-    match error {
-        EngineError::NoMemory | EngineError::TurnRefused { number: 1001 } => Hitch::Memory,
-        EngineError::TurnRefused { number: 1002 } => Hitch::Full,
-        EngineError::TurnRefused { number: 1202 } => Hitch::Ends(Ending::Spent),
-        _ => Hitch::Alone,
+impl StepError {
+    /// Whether the connection or link ends alone.
+    pub(crate) fn is_alone(self) -> bool {
+        matches!(self, StepError::Alone)
+    }
+}
+
+impl From<EngineError> for StepError {
+    /// What an engine's refusal means to its worker.
+    fn from(error: EngineError) -> StepError {
+        match error {
+            EngineError::NoMemory | EngineError::TurnRefused { number: 1001 } => StepError::Memory,
+            EngineError::TurnRefused { number: 1002 } => StepError::Full,
+            EngineError::TurnRefused { number: 1202 } => StepError::Ends(Ending::Spent),
+            _ => StepError::Alone,
+        }
     }
 }
 
 // The socket, once no engine has its ends any more.
-fn bring(port: Rc<RefCell<Port>>, registry: &Registry, rest: Rest, begun: u64) -> Option<Carried> {
-    let Ok(cell) = Rc::try_unwrap(port) else {
+fn detach(
+    socket: Rc<RefCell<Socket>>,
+    registry: &Registry,
+    rest: Rest,
+    begun: u64,
+) -> Option<CarriedSocket> {
+    let Ok(cell) = Rc::try_unwrap(socket) else {
         return None;
     };
-    let port = cell.into_inner();
-    port.deregister(registry);
-    Some(Carried { port, rest, begun })
+    let socket = cell.into_inner();
+    socket.deregister(registry);
+    Some(CarriedSocket {
+        socket,
+        rest,
+        begun,
+    })
 }
 
 impl Client {
-    /// Opens a connection on a socket.
-    pub(crate) fn open<R: Wait, T: CoreTurns>(
-        rt: &R,
-        alloc: Global,
-        turns: &mut Watched<T>,
-        stream: TcpStream,
-    ) -> Result<Client, EngineError> {
-        let Ok(port) = Rc::new(alloc, RefCell::new(Port::new(alloc, stream))) else {
-            return Err(EngineError::NoMemory);
-        };
-        let Some((reader, writer)) = ends(&port) else {
-            return Err(EngineError::NoMemory);
-        };
-        let engine = ClientEngine::open(
-            rt,
-            alloc,
-            turns,
-            Tallied::new(reader),
-            Tallied::new(writer),
-        )?;
-        Ok(Client {
+    // A client of which nothing has come.
+    fn new(alloc: Global, engine: Engine, socket: Rc<RefCell<Socket>>) -> Client {
+        Client {
             engine,
-            port,
+            socket,
             stage: Stage::Served,
             unanswered: 0,
             waits: Unanswered::new(alloc),
@@ -167,86 +237,108 @@ impl Client {
             is_drained: false,
             begun: 0,
             unfinished: 0,
-        })
+        }
+    }
+
+    /// Opens a connection on a socket.
+    pub(crate) fn open<R: Wait, T: CoreTurns>(
+        rt: &R,
+        alloc: Global,
+        turns: &mut CountedTurns<T>,
+        stream: TcpStream,
+    ) -> Result<Client, EngineError> {
+        let Some(
+            SharedSocket {
+                socket,
+                reader,
+                writer,
+            },
+        ) = shared(alloc, stream)
+        else {
+            return Err(EngineError::NoMemory);
+        };
+        let engine = ClientEngine::open(
+            rt,
+            alloc,
+            turns,
+            Tallied::new(reader),
+            Tallied::new(writer),
+        )?;
+        Ok(Client::new(alloc, engine, socket))
     }
 
     /// Opens a connection on a socket that comes from another generation. Where the turn is refused the socket comes back.
-    pub(crate) fn go_on<R: Wait, T: CoreTurns>(
+    pub(crate) fn open_carried<R: Wait, T: CoreTurns>(
         rt: &R,
         alloc: Global,
-        turns: &mut Watched<T>,
+        turns: &mut CountedTurns<T>,
         registry: &Registry,
         token: Token,
-        carried: Carried,
-    ) -> Result<Client, (EngineError, Option<Carried>)> {
-        let Carried {
-            mut port,
+        carried: CarriedSocket,
+    ) -> Result<Client, (EngineError, Option<CarriedSocket>)> {
+        let taken = carried.socket.taken();
+        let SharedRest {
+            socket,
             rest,
             begun,
-        } = carried;
-        let taken = port.taken();
-        if port.register(registry, token).is_err() {
-            return Err((EngineError::ReadFailed, Some(Carried { port, rest, begun })));
-        }
-        let port = match Rc::new(alloc, RefCell::new(port)) {
-            Ok(port) => port,
-            Err(failed) => {
-                let port = failed.value.into_inner();
-                port.deregister(registry);
-                return Err((EngineError::NoMemory, Some(Carried { port, rest, begun })));
-            }
+        } = match carried.share(alloc, registry, token) {
+            Ok(shared) => shared,
+            Err((error, carried)) => return Err((error, Some(carried))),
         };
-        let Some((reader, writer)) = ends(&port) else {
+        let Some((reader, writer)) = ends(&socket) else {
             return Err((EngineError::NoMemory, None));
         };
         let unfinished = taken.saturating_sub(begun);
         match ClientEngine::open_with(rt, turns, Tallied::new(reader), Tallied::new(writer), rest) {
-            Ok(engine) => Ok(Client {
-                engine,
-                port,
-                stage: Stage::Served,
-                unanswered: 0,
-                waits: Unanswered::new(alloc),
-                replies: 0,
-                has_more: true,
-                refusals: Refusals::new(),
-                is_drained: false,
-                begun,
-                unfinished,
-            }),
+            Ok(engine) => {
+                let mut client = Client::new(alloc, engine, socket);
+                client.begun = begun;
+                client.unfinished = unfinished;
+                Ok(client)
+            }
             Err((error, reader, writer, rest)) => {
                 drop(reader);
                 drop(writer);
-                Err((error, bring(port, registry, rest, begun)))
+                Err((error, detach(socket, registry, rest, begun)))
             }
         }
     }
 
     /// Counts what has come of its unfinished command.
-    pub(crate) fn note_carried(&self, hall: &Hall<'_>) {
-        hall.note_unfinished(self.unfinished, 0);
+    pub(crate) fn note_carried(&self, generation: &GenerationState<'_>) {
+        generation.note_unfinished(self.unfinished, 0);
     }
 
     /// The socket with what was read and not asked, for the newest generation.
-    pub(crate) fn carry(self, registry: &Registry, hall: &Hall<'_>) -> Option<Carried> {
+    pub(crate) fn carry(
+        self,
+        registry: &Registry,
+        generation: &GenerationState<'_>,
+    ) -> Option<CarriedSocket> {
         let Client {
             engine,
-            port,
+            socket,
             begun,
             unfinished,
-            ..
+            stage: _,
+            unanswered: _,
+            waits: _,
+            replies: _,
+            has_more: _,
+            refusals: _,
+            is_drained: _,
         } = self;
-        hall.note_unfinished(0, unfinished);
+        generation.note_unfinished(0, unfinished);
         let (reader, writer, rest) = engine.into_rest()?;
         drop(reader);
         drop(writer);
-        bring(port, registry, rest, begun)
+        detach(socket, registry, rest, begun)
     }
 
     /// Takes note of what the poll tells.
-    pub(crate) fn note(&mut self, event: &Readiness) {
-        if let Ok(mut port) = self.port.try_borrow_mut() {
-            port.note(event);
+    pub(crate) fn on_readiness(&mut self, event: &Readiness) {
+        if let Ok(mut socket) = self.socket.try_borrow_mut() {
+            socket.on_readiness(event);
         }
     }
 
@@ -259,19 +351,19 @@ impl Client {
 
     /// Its input ends behind what has come by now: that is answered, and then the connection is closed.
     pub(crate) fn end_input(&mut self) {
-        if let Ok(mut port) = self.port.try_borrow_mut() {
-            port.end_input();
+        if let Ok(mut socket) = self.socket.try_borrow_mut() {
+            socket.end_input();
         }
         self.has_more = true;
     }
 
     /// Writes what the socket takes at once, and sends nothing more. What has come is thrown away, as the end of a socket with
     /// bytes unread would take the last answers from its peer.
-    pub(crate) fn part(&mut self, room: &mut Vec<u8>) {
-        if let Ok(mut port) = self.port.try_borrow_mut() {
-            port.write_out(room);
-            port.shut();
-            let _ = port.throw_away();
+    pub(crate) fn shut_down(&mut self, buffer: &mut Vec<u8>) {
+        if let Ok(mut socket) = self.socket.try_borrow_mut() {
+            socket.write_out(buffer);
+            socket.shut();
+            let _ = socket.throw_away();
         }
     }
 
@@ -285,132 +377,120 @@ impl Client {
         self.unanswered > 0
     }
 
-    /// Whether a pass can bring anything.
-    pub(crate) fn may_go(&self, hall: &Hall<'_>, now: u64) -> bool {
+    /// Whether a round can bring anything.
+    pub(crate) fn may_go(&self, generation: &GenerationState<'_>, now: u64) -> bool {
         if self.has_more {
             return true;
         }
         if let Stage::Lingering { until } = self.stage {
             return now >= until || self.may_read();
         }
-        self.is_stirred() || (self.unanswered > 0 && self.replies != hall.replies())
+        self.has_event() || (self.unanswered > 0 && self.replies != generation.replies())
     }
 
     // Whether the socket may have something.
     fn may_read(&self) -> bool {
-        match self.port.try_borrow() {
-            Ok(port) => port.may_read(),
+        match self.socket.try_borrow() {
+            Ok(socket) => socket.may_read(),
             Err(_) => false,
         }
     }
 
     // Whether the socket may have or take something.
-    fn is_stirred(&self) -> bool {
-        match self.port.try_borrow() {
-            Ok(port) => port.may_read() || port.may_write(),
+    fn has_event(&self) -> bool {
+        match self.socket.try_borrow() {
+            Ok(socket) => socket.may_read() || socket.may_write(),
             Err(_) => false,
         }
     }
 
     /// Steps the engine as far as it goes, and writes what it gathered.
-    pub(crate) fn attend<R: Wait, T: CoreTurns>(
+    pub(crate) fn run_once<R: Wait, T: CoreTurns>(
         &mut self,
         rt: &R,
-        turns: &mut Watched<T>,
-        hall: &Hall<'_>,
-        room: &mut Vec<u8>,
+        turns: &mut CountedTurns<T>,
+        generation: &GenerationState<'_>,
+        buffer: &mut Vec<u8>,
         durations: &mut Histogram,
-        pass: Pass,
-    ) -> Result<Attended, Hitch> {
+        round: Round,
+    ) -> Result<Stepped, StepError> {
         self.has_more = false;
         match self.stage {
             Stage::Served => {
-                self.replies = hall.replies();
-                self.lend(room);
-                let stepped = self.step_on(rt, turns, hall, pass.reserve);
-                let notes = turns.take_notes();
-                self.waits.accepted(pass.now, notes.accepted);
-                self.waits.answered(pass.now, notes.handed, durations);
-                self.count(notes, hall);
-                self.write_out(room);
+                self.replies = generation.replies();
+                self.lend_buffer(buffer);
+                let stepped = self.step_engine(rt, turns, generation, round.reserve);
+                let counts = turns.take_counts();
+                self.waits.accepted(round.now, counts.accepted);
+                self.waits.answered(round.now, counts.handed, durations);
+                self.count(counts, generation);
+                self.write_out(buffer);
                 self.has_more = self.has_more || stepped.is_err();
                 stepped?;
             }
-            Stage::Leaving => self.write_out(room),
+            Stage::Leaving => self.write_out(buffer),
             Stage::Lingering { .. } => {}
         }
-        if matches!(self.stage, Stage::Leaving) && self.may_go_over(hall) {
-            return Ok(Attended::GoesOver);
+        if matches!(self.stage, Stage::Leaving) && self.may_carry_over(generation) {
+            return Ok(Stepped::CarriedOver);
         }
-        Ok(self.leave(rt, hall, pass.now))
+        Ok(self.finish_closing(rt, generation, round.now))
     }
 
     // The journal has no room for a further command: none is taken in any more, from any client.
-    fn close_up(&mut self, hall: &Hall<'_>) {
-        hall.close_up();
+    fn close_up(&mut self, generation: &GenerationState<'_>) {
+        generation.close_up();
         self.drain();
     }
 
     // Whether the socket can go on in a newer generation.
-    fn may_go_over(&self, hall: &Hall<'_>) -> bool {
-        self.engine.may_go_on() && hall.house().runs() && !self.is_broken()
+    fn may_carry_over(&self, generation: &GenerationState<'_>) -> bool {
+        self.engine.may_go_on() && generation.server().runs() && !self.is_broken()
     }
 
     fn is_broken(&self) -> bool {
-        match self.port.try_borrow() {
-            Ok(port) => port.is_broken(),
+        match self.socket.try_borrow() {
+            Ok(socket) => socket.is_broken(),
             Err(_) => true,
         }
     }
 
-    fn lend(&mut self, room: &mut Vec<u8>) {
-        if let Ok(mut port) = self.port.try_borrow_mut() {
-            port.borrow_room(room);
+    fn lend_buffer(&mut self, buffer: &mut Vec<u8>) {
+        if let Ok(mut socket) = self.socket.try_borrow_mut() {
+            socket.lend_buffer(buffer);
         }
     }
 
-    fn write_out(&mut self, room: &mut Vec<u8>) {
-        if let Ok(mut port) = self.port.try_borrow_mut() {
-            port.write_out(room);
+    fn write_out(&mut self, buffer: &mut Vec<u8>) {
+        if let Ok(mut socket) = self.socket.try_borrow_mut() {
+            socket.write_out(buffer);
         }
     }
 
     // Steps until nothing more can be done for now, for so many steps, or until many parts have come. A command is taken in only
     // with all steps that it will owe.
-    fn step_on<R: Wait, T: CoreTurns>(
+    fn step_engine<R: Wait, T: CoreTurns>(
         &mut self,
         rt: &R,
-        turns: &mut Watched<T>,
-        hall: &Hall<'_>,
+        turns: &mut CountedTurns<T>,
+        generation: &GenerationState<'_>,
         reserve: u64,
-    ) -> Result<(), Hitch> {
-        let most_parts = hall.share();
+    ) -> Result<(), StepError> {
+        let most_parts = generation.parts_per_worker();
         // (there is room for as many commands as this and one more)
         let mut room_for = None;
-        for _ in 0..MOST_STEPS {
-            if turns.notes().parts >= most_parts {
+        for _ in 0..MAX_STEPS {
+            if turns.counts().parts >= most_parts {
                 break;
             }
-            if !self.is_drained && room_for != Some(turns.notes().accepted) {
-                room_for = Some(turns.notes().accepted);
-                if !self.may_take_in(rt, turns, hall, reserve) {
-                    self.close_up(hall);
+            if !self.is_drained && room_for != Some(turns.counts().accepted) {
+                room_for = Some(turns.counts().accepted);
+                if !self.may_take_in(rt, turns, generation, reserve) {
+                    self.close_up(generation);
                 }
             }
             let stepped = self.engine.step(rt, turns);
-            if stepped.is_ok() {
-                self.refusals.succeeded();
-            }
-            match stepped {
-                Ok(Progress::Moved) => {}
-                Ok(Progress::Idle | Progress::NeedsLink) => return Ok(()),
-                Ok(Progress::Cut | Progress::Ended) => {
-                    self.stage = Stage::Leaving;
-                    return Ok(());
-                }
-                Err(error) => self.bear(hitch_of(error), hall)?,
-            }
-            if matches!(self.stage, Stage::Leaving) {
+            if self.heed(stepped, generation)? {
                 return Ok(());
             }
         }
@@ -418,85 +498,123 @@ impl Client {
         Ok(())
     }
 
+    // What a step of the engine came to. True says that nothing more can be done for now.
+    fn heed(
+        &mut self,
+        stepped: Result<Progress, EngineError>,
+        generation: &GenerationState<'_>,
+    ) -> Result<bool, StepError> {
+        match stepped {
+            Ok(progress) => {
+                self.refusals.succeeded();
+                Ok(self.heed_progress(progress))
+            }
+            Err(error) => {
+                self.handle_error(StepError::from(error), generation)?;
+                Ok(matches!(self.stage, Stage::Leaving))
+            }
+        }
+    }
+
+    fn heed_progress(&mut self, progress: Progress) -> bool {
+        match progress {
+            Progress::Moved => false,
+            Progress::Idle | Progress::NeedsLink => true,
+            Progress::Cut | Progress::Ended => {
+                self.stage = Stage::Leaving;
+                true
+            }
+        }
+    }
+
     // Whether the journal has room for a further command of the client, with all that it will owe.
     fn may_take_in<R: Wait, T: CoreTurns>(
         &self,
         rt: &R,
-        turns: &mut Watched<T>,
-        hall: &Hall<'_>,
+        turns: &mut CountedTurns<T>,
+        generation: &GenerationState<'_>,
         reserve: u64,
     ) -> bool {
         if self.unfinished.max(turns.untold_bytes()) >= LARGE || turns.average() >= LARGE_STEP {
-            hall.settle(rt, turns, reserve);
+            generation.settle(rt, turns, reserve);
         }
-        hall.lend(rt, turns, reserve) && turns.has_room_for_command(self.unfinished)
+        generation.lend(rt, turns, reserve) && turns.has_room_for_command(self.unfinished)
     }
 
-    // What a hitch means. A command for which the journal has no room isn't taken in; where it has none for an answer, the
+    // What an error means. A command for which the journal has no room isn't taken in; where it has none for an answer, the
     // connection can't go on.
-    fn bear(&mut self, hitch: Hitch, hall: &Hall<'_>) -> Result<(), Hitch> {
-        match hitch {
-            Hitch::Full if !self.is_drained => self.close_up(hall),
-            Hitch::Full | Hitch::Alone => self.stage = Stage::Leaving,
-            Hitch::Memory => return Err(self.refuse()),
-            Hitch::Ends(_) => return Err(hitch),
+    fn handle_error(
+        &mut self,
+        error: StepError,
+        generation: &GenerationState<'_>,
+    ) -> Result<(), StepError> {
+        match error {
+            StepError::Full if !self.is_drained => self.close_up(generation),
+            StepError::Full | StepError::Alone => self.stage = Stage::Leaving,
+            StepError::Memory => return Err(self.refuse()),
+            StepError::Ends(_) => return Err(error),
         }
         Ok(())
     }
 
     /// Memory was refused to it: it's tried again, unless that was so too often in a row.
-    pub(crate) fn refuse(&mut self) -> Hitch {
+    pub(crate) fn refuse(&mut self) -> StepError {
         self.has_more = true;
         if self.refusals.refused() {
-            Hitch::Ends(Ending::Memory)
+            StepError::Ends(Ending::Memory)
         } else {
-            Hitch::Memory
+            StepError::Memory
         }
     }
 
     // Counts what is unanswered, and tells others of parts.
-    fn count(&mut self, notes: Notes, hall: &Hall<'_>) {
+    fn count(&mut self, counts: TurnCounts, generation: &GenerationState<'_>) {
         self.unanswered = self
             .unanswered
-            .saturating_add(notes.accepted)
-            .saturating_sub(notes.handed);
-        if notes.parts > 0 {
-            hall.tell_parts(notes.parts);
+            .saturating_add(counts.accepted)
+            .saturating_sub(counts.handed);
+        if counts.parts > 0 {
+            generation.count_parts(counts.parts);
         }
-        self.weigh(hall, notes.accepted > 0);
+        self.count_unfinished_bytes(generation, counts.accepted > 0);
     }
 
     // Counts what came of a command that isn't whole yet, and ends the connection where all of them have too much.
-    fn weigh(&mut self, hall: &Hall<'_>, has_accepted: bool) {
-        let Ok(mut port) = self.port.try_borrow_mut() else {
+    fn count_unfinished_bytes(&mut self, generation: &GenerationState<'_>, has_accepted: bool) {
+        let Ok(mut socket) = self.socket.try_borrow_mut() else {
             return;
         };
-        let taken = port.taken();
+        let taken = socket.taken();
         if has_accepted {
             self.begun = taken;
         }
         let unfinished = taken.saturating_sub(self.begun);
-        hall.note_unfinished(unfinished, self.unfinished);
+        generation.note_unfinished(unfinished, self.unfinished);
         let grows = unfinished > self.unfinished;
         self.unfinished = unfinished;
-        if grows && unfinished > MOST_SPARED && hall.is_overfull() {
-            port.break_off();
+        if grows && unfinished > MAX_SPARED && generation.is_overfull() {
+            socket.break_off();
             self.has_more = true;
         }
     }
 
     // What is still to be done of a connection that was closed.
-    fn leave<R: Wait>(&mut self, rt: &R, hall: &Hall<'_>, now: u64) -> Attended {
-        let Ok(mut port) = self.port.try_borrow_mut() else {
-            return Attended::Rests;
+    fn finish_closing<R: Wait>(
+        &mut self,
+        rt: &R,
+        generation: &GenerationState<'_>,
+        now: u64,
+    ) -> Stepped {
+        let Ok(mut socket) = self.socket.try_borrow_mut() else {
+            return Stepped::Idle;
         };
         if matches!(self.stage, Stage::Leaving) {
-            if port.has_gathered() && !port.is_broken() {
-                return Attended::Rests;
+            if socket.has_gathered() && !socket.is_broken() {
+                return Stepped::Idle;
             }
-            port.shut();
-            hall.house().count_closed(rt);
-            hall.note_unfinished(0, self.unfinished);
+            socket.shut();
+            generation.server().count_closed(rt);
+            generation.note_unfinished(0, self.unfinished);
             self.unfinished = 0;
             self.stage = Stage::Lingering {
                 until: now.saturating_add(LINGER_MS),
@@ -504,15 +622,15 @@ impl Client {
         }
         let Stage::Lingering { until } = self.stage else {
             return if self.has_more {
-                Attended::Goes
+                Stepped::Ready
             } else {
-                Attended::Rests
+                Stepped::Idle
             };
         };
-        if now >= until || port.is_broken() || port.throw_away() {
-            Attended::Gone
+        if now >= until || socket.is_broken() || socket.throw_away() {
+            Stepped::Closed
         } else {
-            Attended::Rests
+            Stepped::Idle
         }
     }
 }

@@ -3,17 +3,17 @@ ghost use Rattle.std.specs.Prelude.{◌≡◌, [], IfOk, ⊤};
 ghost use Rattle.ticket_gate.specs.Gate.{IsSpareOf};
 ghost use Rattle.proxy_config.specs.RingParts.{AreRingParts};
 
-use crate::hall::{Desk, Hall};
-use crate::house::{House, Inherited};
+use crate::generation_state::{GenerationState, WorkerStatus};
+use crate::server::{Inherited, Server};
 use crate::stop::Stop;
-use crate::sweeping::Sweeps;
-use crate::worker::{WAKER, Worker};
+use crate::sweeping::SweepThread;
+use crate::worker::{WAKER, WorkerSetup};
+use exit_status::Ending;
 use generations::{Due, Marks};
 use mio::{Poll, Waker};
 use proxy_config::Config;
 use proxy_core::{Core, Handover, Settings};
 use proxy_engines::{EngineError, Work, run_all};
-use proxy_run::Ending;
 use proxy_stats::{Counted, CountedSeat};
 use std::alloc::Global;
 use std::mem;
@@ -24,7 +24,7 @@ use std::thread::Threads;
 use ticket_gate::{Gate, Spare};
 
 /// What serving stands on: threads that wait, sockets, the clock, and standard error.
-pub(crate) trait Ground: Threads
+pub(crate) trait ServeRuntime: Threads
     + Wait
     + Net<Listener = std::net::TcpListener, Stream = std::net::TcpStream>
     + Clock
@@ -38,35 +38,35 @@ impl<
         + Clock
         + Eprint
         + Sync,
-> Ground for R {}
+> ServeRuntime for R {}
 
 /// What each thread of a generation is given beside its seat at the gate.
 #[derive(Clone, Copy, Drop)]
-pub(crate) struct Post<'a> {
+pub(crate) struct ThreadContext<'a> {
     pub(crate) alloc: Global,
-    pub(crate) hall: &'a Hall<'a>,
+    pub(crate) generation: &'a GenerationState<'a>,
     pub(crate) config: &'a Config,
     pub(crate) marks: Marks,
 }
 
 /// What one thread of a generation does.
 #[derive(Drop)]
-enum Role<'a> {
-    Works(Worker<'a>),
-    Sweeps(Sweeps<'a>),
+enum Task<'a> {
+    Work(WorkerSetup<'a>),
+    Sweep(SweepThread<'a>),
     Done,
 }
 
-impl<'a, Rt: Wait + Net + Clock + Eprint> Work<Rt> for Role<'a> {
+impl<'a, Rt: Wait + Net + Clock + Eprint> Work<Rt> for Task<'a> {
     ghost is_fresh = { λ work. ⊤ };
 
     ghost may_answer = { λ work answer. ⊤ };
 
     fn run(&mut self, rt: &Rt) -> Result<(), EngineError> {
-        match mem::replace(self, Role::Done) {
-            Role::Works(worker) => worker.run(rt),
-            Role::Sweeps(sweeps) => sweeps.run(rt),
-            Role::Done => {}
+        match mem::replace(self, Task::Done) {
+            Task::Work(worker) => worker.run(rt),
+            Task::Sweep(sweeps) => sweeps.run(rt),
+            Task::Done => {}
         }
         Ok(())
     }
@@ -122,31 +122,29 @@ fn seat<'a, R: Wait>(
 }
 
 // A worker for each poll, and what sweeps and opens the generation.
-fn roles<'a, R: Wait>(
+fn tasks<'a, R: Wait>(
     rt: &R,
-    post: Post<'a>,
+    context: ThreadContext<'a>,
     gate: &'a Gate<Counted>,
     spare: Spare<Counted>,
     polls: Vec<Poll>,
     wakers: Vec<Waker>,
-) -> Result<(Vec<Role<'a>>, Spare<Counted>), Stop>
+) -> Result<Vec<Task<'a>>, Stop>
     requires { IsSpareOf gate.now spare }
-    ensures { IfOk result (λ made. IsSpareOf gate.now made.1) }
 {
-    let mut roles = Vec::new(post.alloc);
+    let mut tasks = Vec::new(context.alloc);
     let mut spare = spare;
     let mut place = 0usize;
     for poll in polls {
         let (one, rest) = gate.split(spare);
         spare = rest;
         let seat = seat(rt, gate, one)?;
-        roles.push(Role::Works(Worker::new(post, place, poll, seat)))?;
+        tasks.push(Task::Work(WorkerSetup::new(context, place, poll, seat)))?;
         place = place.saturating_add(1);
     }
-    let (one, rest) = gate.split(spare);
-    let seat = seat(rt, gate, one)?;
-    roles.push(Role::Sweeps(Sweeps::new(post, seat, wakers)?))?;
-    Ok((roles, rest))
+    let seat = seat(rt, gate, spare)?;
+    tasks.push(Task::Sweep(SweepThread::new(context, seat, wakers)?))?;
+    Ok(tasks)
 }
 
 fn waker_of(poll: &Poll) -> Result<Waker, Stop> {
@@ -156,97 +154,125 @@ fn waker_of(poll: &Poll) -> Result<Waker, Stop> {
     }
 }
 
-/// The polls of the workers, their desks, and what wakes them for a new socket.
+/// The polls of the workers, their workers, and what wakes them for a new socket.
 #[derive(Drop)]
-struct Furniture {
+struct Polls {
     polls: Vec<Poll>,
-    desks: Vec<Desk>,
+    workers: Vec<WorkerStatus>,
     wakers: Vec<Waker>,
 }
 
-fn furnish<R: Net>(rt: &R, alloc: Global, workers: usize, hosts: usize) -> Result<Furniture, Stop> {
-    let mut all = Furniture {
-        polls: Vec::new(alloc),
-        desks: Vec::new(alloc),
-        wakers: Vec::new(alloc),
-    };
-    for place in 0..workers {
+impl Polls {
+    // Those of one worker more.
+    fn add<R: Net>(&mut self, rt: &R, has_hosts: bool) -> Result<(), Stop> {
         let poll = match Poll::new(rt) {
             Ok(poll) => poll,
             Err(error) => return Err(Stop::socket("cannot make a worker's poll", error)),
         };
-        all.desks.push(Desk::new(waker_of(&poll)?, place < hosts))?;
-        all.wakers.push(waker_of(&poll)?)?;
-        all.polls.push(poll)?;
+        self.workers
+            .push(WorkerStatus::new(waker_of(&poll)?, has_hosts))?;
+        self.wakers.push(waker_of(&poll)?)?;
+        self.polls.push(poll)?;
+        Ok(())
+    }
+}
+
+fn make_polls<R: Net>(rt: &R, alloc: Global, workers: usize, hosts: usize) -> Result<Polls, Stop> {
+    let mut all = Polls {
+        polls: Vec::new(alloc),
+        workers: Vec::new(alloc),
+        wakers: Vec::new(alloc),
+    };
+    for place in 0..workers {
+        all.add(rt, place < hosts)?;
     }
     Ok(all)
 }
 
 /// A generation that is to be opened.
 #[derive(Drop)]
-pub(crate) struct Plan<'a> {
-    pub(crate) house: &'a House,
+pub(crate) struct GenerationOptions<'a> {
+    pub(crate) server: &'a Server,
     pub(crate) config: &'a Config,
     pub(crate) marks: Marks,
     pub(crate) due: Due<Inherited>,
 }
 
-/// Opens the generation, and serves in it until its threads have ended. What it did is added to the house's counts.
+/// Opens the generation, and serves in it until its threads have ended. What it did is added to the server's counts.
 ///
-/// Where it can't be opened, the house is told.
-pub(crate) fn keep<R: Ground>(rt: &R, alloc: Global, plan: Plan<'_>)
-    requires { AreRingParts plan.config.now.hosts.items plan.config.now.weights.items }
+/// Where it can't be opened, the server is told.
+pub(crate) fn run_generation<R: ServeRuntime>(rt: &R, alloc: Global, options: GenerationOptions<'_>)
+    requires { AreRingParts options.config.now.hosts.items options.config.now.weights.items }
 {
-    let (house, number) = (plan.house, plan.due.number);
-    if let Err(stop) = serve_in(rt, alloc, plan) {
-        if house.has_opened(number) {
-            house.end(rt, stop);
+    let (server, number) = (options.server, options.due.number);
+    if let Err(stop) = serve_generation(rt, alloc, options) {
+        if server.has_opened(number) {
+            server.end(rt, stop);
         } else {
-            house.fail(rt, number, stop);
+            server.fail(rt, number, stop);
         }
     }
 }
 
 // Ends with `Memory` or `Socket` where it could not be opened, and then it was never the newest.
-fn serve_in<R: Ground>(rt: &R, alloc: Global, plan: Plan<'_>) -> Result<(), Stop>
-    requires { AreRingParts plan.config.now.hosts.items plan.config.now.weights.items }
+fn serve_generation<R: ServeRuntime>(
+    rt: &R,
+    alloc: Global,
+    options: GenerationOptions<'_>,
+) -> Result<(), Stop>
+    requires { AreRingParts options.config.now.hosts.items options.config.now.weights.items }
 {
-    let Plan {
-        house,
+    let GenerationOptions {
+        server,
         config,
         marks,
         due,
-    } = plan;
+    } = options;
     let Due { number, from } = due;
     let (from, average) = match from {
         None => (None, 0),
         Some(Inherited { handover, average }) => (Some(handover), average),
     };
-    let Furniture {
+    let Polls {
         polls,
-        desks,
+        workers,
         wakers,
-    } = furnish(rt, alloc, house.workers(), config.hosts.len())?;
-    let hall = Hall::new(house, number, average, desks);
-    let Ok((gate, spare)) = Gate::new(alloc, core(alloc, config, from)?) else {
-        return Err(Stop::from(Ending::Memory));
-    };
-    let post = Post {
+    } = make_polls(rt, alloc, server.workers(), config.hosts.len())?;
+    let generation = GenerationState::new(server, number, average, workers);
+    let context = ThreadContext {
         alloc,
-        hall: &hall,
+        generation: &generation,
         config,
         marks,
     };
-    let (roles, spare) = roles(rt, post, &gate, spare, polls, wakers)?;
-    let Ok(pass) = gate.enrol(rt, spare) else {
-        return Err(Stop::from(Ending::Spent));
-    };
-    if run_all(rt, alloc, roles).is_err() || !hall.has_begun() {
-        return Err(Stop::from(Ending::Memory));
-    }
-    if let Some(core) = gate.close(pass) {
+    if let Some(core) = work(rt, context, core(alloc, config, from)?, polls, wakers)? {
         let steps = core.core().journal().len() as u64;
-        house.gone(rt, number, core.counts(), steps);
+        server.gone(rt, number, core.counts(), steps);
+        drop(core);
     }
     Ok(())
+}
+
+// Lets the threads make turns of the core, and gives it back once all of them have ended: `None` where a ticket was left.
+fn work<R: ServeRuntime>(
+    rt: &R,
+    context: ThreadContext<'_>,
+    core: Counted,
+    polls: Vec<Poll>,
+    wakers: Vec<Waker>,
+) -> Result<Option<Counted>, Stop>
+    requires { core.steps ≡ [] }
+{
+    let Ok((gate, spare)) = Gate::new(context.alloc, core) else {
+        return Err(Stop::from(Ending::Memory));
+    };
+    let (own, spare) = gate.split(spare);
+    let Ok(pass) = gate.enrol(rt, own) else {
+        return Err(Stop::from(Ending::Spent));
+    };
+    let tasks = tasks(rt, context, &gate, spare, polls, wakers)?;
+    if run_all(rt, context.alloc, tasks).is_err() || !context.generation.has_begun() {
+        return Err(Stop::from(Ending::Memory));
+    }
+    Ok(gate.close(pass))
 }

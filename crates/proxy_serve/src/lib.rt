@@ -12,18 +12,18 @@
 mod admin;
 mod board;
 mod client;
+mod counted_turns;
 mod generation;
-mod hall;
-mod house;
+mod generation_state;
+mod host_connection;
 mod ledger;
 mod log;
-mod port;
+mod server;
 mod serving;
+mod socket;
 mod stats;
 mod stop;
 mod sweeping;
-mod upstream;
-mod watched;
 mod worker;
 
 pub use admin::Admin;

@@ -2,17 +2,17 @@
 ghost use Rattle.std.specs.Prelude.{◌≤◌, length};
 ghost use Rattle.proxy_config.specs.RingParts.{AreRingParts};
 
-use crate::admin::{Admin, AdminServer, AdminWork};
-use crate::generation::{Ground, Plan, keep};
-use crate::house::House;
+use crate::admin::{Admin, AdminListener, AdminWork};
+use crate::generation::{GenerationOptions, ServeRuntime, run_generation};
 use crate::log::{Level, Log};
+use crate::server::Server;
 use crate::stop::Stop;
 use crate::worker::now;
+use exit_status::Ending;
 use generations::Marks;
 use mio::net::TcpListener;
 use mio::{Events, Interest, Poll, Token, Waker};
 use proxy_config::Config;
-use proxy_run::Ending;
 use proxy_stats::Counts;
 use serve_parts::{Asked, Rota, asked_by_signals, is_term_blocked};
 use std::alloc::Global;
@@ -30,7 +30,7 @@ const LISTENER: Token = Token(0);
 const WAKER: Token = Token(1);
 
 // So many sockets are taken at once at most.
-const MOST_TAKEN: u32 = 1_024;
+const MAX_TAKEN: u32 = 1_024;
 
 // So often it is looked whether a signal waits, in milliseconds.
 const SIGNAL_MS: u64 = 100;
@@ -46,20 +46,65 @@ const PAUSE_MS: u64 = 10;
 const NO_ROOM: [i32; 4] = [12, 23, 24, 105];
 
 /// What the thread that listens has before it.
-#[derive(Drop)]
-struct Porter<'a> {
+struct Acceptor<'a> {
     poll: Poll,
     // None once no client is taken any more.
     listener: Option<TcpListener>,
     // The listener's.
     address: SocketAddr,
-    house: &'a House,
+    server: &'a Server,
     // To which worker the next socket goes.
     rota: Rota,
     signals: Signals,
 }
 
-impl<'a> Porter<'a> {
+// Written out, so that where one is dropped that is one call: each function that holds one is proved sooner.
+impl Drop for Acceptor<'_> {
+    fn drop(self) {
+        let Acceptor {
+            poll: _,
+            listener: _,
+            address: _,
+            server: _,
+            rota: _,
+            signals: _,
+        } = self;
+    }
+}
+
+impl<'a> Acceptor<'a> {
+    // The listener's address is this one where the system doesn't tell it.
+    fn new(
+        poll: Poll,
+        listener: TcpListener,
+        address: SocketAddr,
+        server: &'a Server,
+        status: Option<File>,
+    ) -> Acceptor<'a> {
+        Acceptor {
+            poll,
+            address: listener.local_addr().unwrap_or(address),
+            listener: Some(listener),
+            server,
+            rota: Rota::new(server.workers()),
+            signals: Signals { status, looked: 0 },
+        }
+    }
+
+    // How SIGTERM ends it depends on how it was started.
+    fn tell_start<R: Eprint>(&mut self, rt: &R, config: &Config) {
+        let tag = self.server.log().tag(Level::Info);
+        let (address, hosts, workers) = (self.address, config.hosts.len(), config.workers);
+        let ends = if self.signals.is_term_orderly() {
+            "drains"
+        } else {
+            "ends it at once"
+        };
+        let _ = eprintln!(rt;
+            "{tag}redproxy: listening on {address}, {hosts} hosts, {workers} workers; SIGTERM {ends}"
+        );
+    }
+
     fn wait(&mut self, events: &mut Events) -> Result<(), Stop> {
         match self
             .poll
@@ -71,35 +116,35 @@ impl<'a> Porter<'a> {
     }
 
     // Waits for what is to be done, deals new sockets, and heeds what the process is asked.
-    fn attend<R: Wait + Clock + Eprint>(
+    fn run_once<R: Wait + Clock + Eprint>(
         &mut self,
         rt: &R,
         events: &mut Events,
     ) -> Result<(), Stop> {
         self.wait(events)?;
-        self.deal(rt)?;
+        self.accept_all(rt)?;
         match self.signals.asked(now(rt)) {
             Asked::Nothing => {}
-            Asked::Drain => self.house.drain(rt),
-            Asked::Quit => self.house.quit(),
+            Asked::Drain => self.server.drain(rt),
+            Asked::Quit => self.server.quit(),
         }
-        if self.house.is_draining() {
+        if self.server.is_draining() {
             // (the system refuses clients from here on)
             self.listener = None;
         }
         Ok(())
     }
 
-    // Deals the sockets of new connections to the workers in turn. One for which there is no room is closed.
-    fn deal<R: Wait>(&mut self, rt: &R) -> Result<(), Stop> {
+    // Gives the sockets of new connections to the workers in turn. One for which there is no room is closed.
+    fn accept_all<R: Wait>(&mut self, rt: &R) -> Result<(), Stop> {
         let Some(listener) = &self.listener else {
             return Ok(());
         };
-        for _ in 0..MOST_TAKEN {
+        for _ in 0..MAX_TAKEN {
             match listener.accept() {
                 Ok((stream, _)) => {
-                    if self.house.accept(rt) {
-                        self.house.put(rt, self.rota.take(), stream);
+                    if self.server.accept(rt) {
+                        self.server.push(rt, self.rota.take(), stream);
                     }
                 }
                 Err(error) => {
@@ -227,12 +272,27 @@ pub fn serve<
 >(
     rt: &R,
     alloc: Global,
-    mut listener: TcpListener,
+    listener: TcpListener,
     config: Config,
     options: Options,
     output: &mut W,
 ) -> Result<(), Stop>
     requires { AreRingParts config.hosts.items config.weights.items }
+{
+    let served = serve_with(rt, alloc, listener, &config, options, output);
+    drop(config);
+    served
+}
+
+fn serve_with<R: ServeRuntime, W: Write>(
+    rt: &R,
+    alloc: Global,
+    mut listener: TcpListener,
+    config: &Config,
+    options: Options,
+    output: &mut W,
+) -> Result<(), Stop>
+    requires { AreRingParts config.now.hosts.items config.now.weights.items }
 {
     let Options {
         admin,
@@ -242,27 +302,12 @@ pub fn serve<
         log,
     } = options;
     let (poll, waker) = open(rt, &mut listener)?;
-    let house = House::new(alloc, &config, waker, connections, log)?;
-    let admin = match admin {
-        None => None,
-        Some(admin) => Some(AdminServer::new(rt, alloc, admin)?),
-    };
-    let address = listener.local_addr().unwrap_or(config.listen);
-    let mut signals = Signals { status, looked: 0 };
-    tell_start(rt, log, address, &config, signals.is_term_orderly());
-    let porter = Porter {
-        poll,
-        listener: Some(listener),
-        address,
-        house: &house,
-        rota: Rota::new(house.workers()),
-        signals,
-    };
-    serve_on(rt, alloc, porter, admin, &house, &config, marks)?;
-    if let Some(stop) = house.stop(rt) {
-        return Err(stop);
-    }
-    write_counts(&house.counts(rt), output)
+    let server = Server::new(alloc, config, waker, connections, log)?;
+    let admin = AdminListener::open(rt, alloc, admin)?;
+    let mut acceptor = Acceptor::new(poll, listener, config.listen, &server, status);
+    acceptor.tell_start(rt, config);
+    serve_on(rt, alloc, acceptor, admin, &server, config, marks)?;
+    finish(rt, &server, output)
 }
 
 /// As `serve`, for who needs to know how it ended alone: without an operator's address, and whatever signals wait.
@@ -299,12 +344,12 @@ pub fn serve_run<
 }
 
 // Keeps one generation after the other until the serving ends.
-fn serve_on<R: Ground>(
+fn serve_on<R: ServeRuntime>(
     rt: &R,
     alloc: Global,
-    mut porter: Porter<'_>,
-    admin: Option<AdminServer>,
-    house: &House,
+    mut acceptor: Acceptor<'_>,
+    admin: Option<AdminListener>,
+    server: &Server,
     config: &Config,
     marks: Marks,
 ) -> Result<(), Stop>
@@ -317,43 +362,43 @@ fn serve_on<R: Ground>(
         |scope|
             requires { AreRingParts config.now.hosts.items config.now.weights.items }
         {
-            let mut threads = Generated::new();
-            if let Some(server) = admin {
+            let mut threads = GenerationThreads::new();
+            if let Some(listener) = admin {
                 let work = AdminWork {
+                    listener,
                     server,
-                    house,
                     config,
                 };
                 if scope.spawn(move || work.run(rt)).is_err() {
-                    house.end(rt, Stop::from(Ending::Memory));
+                    server.end(rt, Stop::from(Ending::Memory));
                 }
             }
             for _ in rt.forever() {
-                if !house.runs() {
+                if !server.runs() {
                     break;
                 }
-                if let Some(due) = house.take_due(rt) {
+                if let Some(due) = server.take_due(rt) {
                     let number = due.number;
-                    threads.make_room(rt, house);
-                    let plan = Plan {
-                        house,
+                    threads.make_room(rt, server);
+                    let options = GenerationOptions {
+                        server,
                         config,
                         marks,
                         due,
                     };
                     let begun = scope.spawn(
                         move ||
-                            requires { AreRingParts plan.config.now.hosts.items
-                                plan.config.now.weights.items }
-                        { keep(rt, alloc, plan) },
+                            requires { AreRingParts options.config.now.hosts.items
+                                options.config.now.weights.items }
+                        { run_generation(rt, alloc, options) },
                     );
                     match begun {
                         Ok(handle) => threads.add(number, handle),
-                        Err(_) => house.fail(rt, number, Stop::from(Ending::Memory)),
+                        Err(_) => server.fail(rt, number, Stop::from(Ending::Memory)),
                     }
                 }
-                if let Err(stop) = porter.attend(rt, &mut events) {
-                    house.end(rt, stop);
+                if let Err(stop) = acceptor.run_once(rt, &mut events) {
+                    server.end(rt, stop);
                 }
             }
             threads.join_all(rt);
@@ -370,7 +415,7 @@ fn join<R: Threads>(rt: &R, generation: Option<JoinHandle<()>>) {
 
 /// The threads of the generations that were begun last. At most two of them have connections; the third closes its gate.
 #[derive(Drop)]
-struct Generated {
+struct GenerationThreads {
     newest: Option<JoinHandle<()>>,
     // The number of that one.
     number: u64,
@@ -378,9 +423,9 @@ struct Generated {
     oldest: Option<JoinHandle<()>>,
 }
 
-impl Generated {
-    fn new() -> Generated {
-        Generated {
+impl GenerationThreads {
+    fn new() -> GenerationThreads {
+        GenerationThreads {
             newest: None,
             number: 0,
             older: None,
@@ -390,8 +435,8 @@ impl Generated {
 
     // Makes room for a thread more: waits for the newest one where that could not be opened, else for the one that has had no
     // connection the longest. So few journals stand at a time.
-    fn make_room<R: Threads>(&mut self, rt: &R, house: &House) {
-        if !house.has_opened(self.number) {
+    fn make_room<R: Threads>(&mut self, rt: &R, server: &Server) {
+        if !server.has_opened(self.number) {
             return join(rt, self.newest.take());
         }
         join(rt, self.oldest.take());
@@ -411,25 +456,12 @@ impl Generated {
     }
 }
 
-// How SIGTERM ends it depends on how it was started.
-fn tell_start<R: Eprint>(
-    rt: &R,
-    log: Log,
-    address: SocketAddr,
-    config: &Config,
-    is_term_orderly: bool,
-) {
-    let tag = log.tag(Level::Info);
-    let hosts = config.hosts.len();
-    let workers = config.workers;
-    let ends = if is_term_orderly {
-        "drains"
-    } else {
-        "ends it at once"
-    };
-    let _ = eprintln!(rt;
-        "{tag}redproxy: listening on {address}, {hosts} hosts, {workers} workers; SIGTERM {ends}"
-    );
+// How it ended, and the last line.
+fn finish<R: Wait, W: Write>(rt: &R, server: &Server, output: &mut W) -> Result<(), Stop> {
+    match server.stop(rt) {
+        Some(stop) => Err(stop),
+        None => write_counts(&server.counts(rt), output),
+    }
 }
 
 fn write_counts<W: Write>(counts: &Counts, output: &mut W) -> Result<(), Stop> {

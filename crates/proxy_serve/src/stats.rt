@@ -79,10 +79,12 @@ impl Stats {
     /// How many steps the journals have of all generations but these two.
     pub(crate) fn steps_beside(&self, newest: Option<u64>, older: Option<u64>) -> u64 {
         let mut steps = self.past_steps;
-        for living in self.living.iter().flatten() {
-            let number = Some(living.number);
-            if number != newest && number != older {
-                steps = steps.saturating_add(living.look.steps);
+        for living in &self.living {
+            if let Some(living) = living {
+                let number = Some(living.number);
+                if number != newest && number != older {
+                    steps = steps.saturating_add(living.look.steps);
+                }
             }
         }
         steps
@@ -96,17 +98,20 @@ impl Stats {
     /// What all generations did.
     pub(crate) fn counts(&self) -> Counts {
         let mut counts = self.past;
-        for living in self.living.iter().flatten() {
-            counts = counts.plus(&living.counts);
+        for living in &self.living {
+            if let Some(living) = living {
+                counts = counts.plus(&living.counts);
+            }
         }
         counts
     }
 
     /// The last look at a generation, if it lives.
     pub(crate) fn look(&self, number: Option<u64>) -> Look {
-        for living in self.living.iter().flatten() {
-            if Some(living.number) == number {
-                return living.look;
+        for living in &self.living {
+            match living {
+                Some(living) if Some(living.number) == number => return living.look,
+                _ => {}
             }
         }
         Look::NONE

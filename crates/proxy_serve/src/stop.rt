@@ -1,6 +1,6 @@
 //! Why a serving ends before it is done.
 
-use proxy_run::Ending;
+use exit_status::Ending;
 use std::alloc::{AllocError, AllocFailed};
 use std::fmt::{self, Display, Formatter};
 use std::io::Error;

@@ -1,17 +1,17 @@
-//! Sweeps at their pace, and looks how hosts and journal stand.
+//! SweepThread at their pace, and looks how hosts and journal stand.
 
-use crate::generation::Post;
-use crate::hall::Hall;
-use crate::house::Inherited;
+use crate::counted_turns::CountedTurns;
+use crate::generation::ThreadContext;
+use crate::generation_state::GenerationState;
 use crate::log::Level;
+use crate::server::Inherited;
 use crate::stop::Stop;
-use crate::watched::Watched;
 use crate::worker::now;
-use generations::{Course, Marks};
+use exit_status::Ending;
+use generations::{Marks, Phase};
 use mio::Waker;
 use proxy_config::Config;
 use proxy_core::Handover;
-use proxy_run::Ending;
 use proxy_stats::{CountedSeat, Sight};
 use serve_parts::Refusals;
 use std::alloc::AllocError;
@@ -25,84 +25,102 @@ use sweeper::{SweepRefusal, sweep_once};
 const PAUSE_MS: u64 = 5;
 
 /// What sweeps, tells which hosts are put aside and come back, and asks for another generation in time.
-#[derive(Drop)]
-pub(crate) struct Sweeps<'a> {
-    turns: Watched<CountedSeat<'a>>,
-    hall: &'a Hall<'a>,
+pub(crate) struct SweepThread<'a> {
+    turns: CountedTurns<CountedSeat<'a>>,
+    generation: &'a GenerationState<'a>,
     config: &'a Config,
     marks: Marks,
     // Wake the workers for new sockets, once the generation is open.
     wakers: Vec<Waker>,
-    // Sweeps that found no memory.
+    // SweepThread that found no memory.
     refusals: Refusals,
     // Whether each host was put aside when they were last looked at.
     are_out: Vec<bool>,
+    // How many commands the hosts had answered then.
+    answered: u64,
 }
 
-impl<'a> Sweeps<'a> {
+// Written out, so that where one is dropped that is one call: each function that holds one is proved sooner.
+impl Drop for SweepThread<'_> {
+    fn drop(self) {
+        let SweepThread {
+            turns: _,
+            generation: _,
+            config: _,
+            marks: _,
+            wakers: _,
+            refusals: _,
+            are_out: _,
+            answered: _,
+        } = self;
+    }
+}
+
+impl<'a> SweepThread<'a> {
     /// The first look is only noted. Refused where there is no memory.
     pub(crate) fn new(
-        post: Post<'a>,
+        context: ThreadContext<'a>,
         seat: CountedSeat<'a>,
         wakers: Vec<Waker>,
-    ) -> Result<Sweeps<'a>, AllocError> {
-        let Post {
+    ) -> Result<SweepThread<'a>, AllocError> {
+        let ThreadContext {
             alloc,
-            hall,
+            generation,
             config,
             marks,
-        } = post;
-        Ok(Sweeps {
-            turns: Watched::new(seat),
-            hall,
+        } = context;
+        Ok(SweepThread {
+            turns: CountedTurns::new(seat),
+            generation,
             config,
             marks,
             wakers,
             refusals: Refusals::new(),
             are_out: vec![in alloc; false; config.hosts.len()]?,
+            answered: 0,
         })
     }
 
     /// Opens the generation once all its threads have come, and sweeps until it has nothing more to do, or ends the
     /// serving.
     pub(crate) fn run<R: Wait + Clock + Eprint>(mut self, rt: &R) {
-        if !self.hall.meet(rt) {
+        if !self.generation.wait_for_all(rt) {
             return;
         }
         self.open(rt);
         if let Err(stop) = self.sweep_on(rt) {
-            self.hall.house().end(rt, stop);
+            self.generation.server().end(rt, stop);
         }
     }
 
     fn open<R: Wait + Clock>(&mut self, rt: &R) {
         let alloc = *self.wakers.allocator();
         let wakers = mem::replace(&mut self.wakers, Vec::new(alloc));
-        self.hall
-            .house()
-            .open(rt, self.hall.number(), now(rt), wakers);
+        self.generation
+            .server()
+            .open(rt, self.generation.number(), now(rt), wakers);
     }
 
     fn sweep_on<R: Wait + Clock + Eprint>(&mut self, rt: &R) -> Result<(), Stop> {
-        let (house, number) = (self.hall.house(), self.hall.number());
+        let (server, number) = (self.generation.server(), self.generation.number());
         self.note_first(rt)?;
         for _ in rt.forever() {
-            if !house.runs() {
+            if !server.runs() {
                 return Ok(());
             }
-            if self.hall.is_drained() {
-                house.drained(rt, number);
+            if self.generation.is_drained() {
+                server.drained(rt, number);
                 return Ok(());
             }
-            let course = house.course(number);
+            let phase = server.phase(number);
             let moment = now(rt);
-            if course != Course::Stops
-                && house.is_sweep_due(rt, number, moment)
+            if phase != Phase::Stopped
+                && server.is_sweep_due(rt, number, moment)
                 && self.sweep(rt, moment)?
             {
-                house.swept(rt, number, moment);
+                server.swept(rt, number, moment);
             }
-            self.look(rt, course, moment)?;
+            self.look(rt, phase, moment)?;
             thread::sleep(rt, Duration::from_millis(PAUSE_MS));
         }
         unreachable!()
@@ -110,11 +128,11 @@ impl<'a> Sweeps<'a> {
 
     // One sweep, where the journal has a step for it that nobody owes. False says that it has to be made again.
     fn sweep<R: Wait>(&mut self, rt: &R, moment: u64) -> Result<bool, Stop> {
-        if !self.hall.lend_steps(rt, &mut self.turns, 1) {
+        if !self.generation.lend_steps(rt, &mut self.turns, 1) {
             return Ok(false);
         }
         let swept = sweep_once(rt, &mut self.turns, moment);
-        self.hall.settle(rt, &mut self.turns, 0);
+        self.generation.settle(rt, &mut self.turns, 0);
         match swept {
             Ok(_) | Err(SweepRefusal::JournalFull) => {
                 self.refusals.succeeded();
@@ -134,8 +152,8 @@ impl<'a> Sweeps<'a> {
     fn sight<R: Wait>(&mut self, rt: &R) -> Result<Sight, Stop> {
         match self.turns.inner().sight(rt) {
             Ok(sight) => {
-                let house = self.hall.house();
-                house.looked(rt, self.hall.number(), &sight);
+                let server = self.generation.server();
+                server.looked(rt, self.generation.number(), &sight);
                 Ok(sight)
             }
             Err(_) => Err(Stop::from(Ending::Spent)),
@@ -152,27 +170,37 @@ impl<'a> Sweeps<'a> {
         Ok(())
     }
 
-    // Looks how the core stands. Of a generation that serves it tells of the hosts, and of how full the journal is. Steps that
-    // are owed count as steps.
-    fn look<R: Wait + Eprint>(&mut self, rt: &R, course: Course, moment: u64) -> Result<(), Stop> {
-        let Sight { handover, .. } = self.sight(rt)?;
-        if course != Course::Serves {
+    // Looks how the core stands. Of a generation that drains it tells that hosts still answer; of one that serves it tells of
+    // the hosts, and of how full the journal is. Steps that are owed count as steps.
+    fn look<R: Wait + Eprint>(&mut self, rt: &R, phase: Phase, moment: u64) -> Result<(), Stop> {
+        let Sight {
+            handover,
+            counts,
+            ..
+        } = self.sight(rt)?;
+        let answered = mem::replace(&mut self.answered, counts.answered);
+        if phase != Phase::Serving {
+            if answered != counts.answered {
+                self.generation
+                    .server()
+                    .progressed(rt, self.generation.number(), moment);
+            }
             return Ok(());
         }
         for host in 0..self.are_out.len() {
             self.tell(rt, &handover, host);
         }
-        let (house, number) = (self.hall.house(), self.hall.number());
-        let steps = handover.steps().max(self.hall.spent(rt));
+        let (server, number) = (self.generation.server(), self.generation.number());
+        let steps = handover.steps().max(self.generation.spent(rt));
         let bytes = handover.bytes();
-        let is_full = self.marks.are_reached(steps, bytes) || self.hall.is_closing();
+        let is_full = self.marks.are_reached(steps, bytes) || self.generation.is_closing();
         if !is_full && !self.marks.are_near(steps, bytes) {
             return Ok(());
         }
-        house.near(rt, number, moment);
+        server.near(rt, number, moment);
         if is_full {
-            let average = self.hall.average(rt);
-            house.full(rt, number, moment, Inherited { handover, average });
+            let average = self.generation.average(rt);
+            server.full(rt, number, moment, Inherited { handover, average });
         }
         Ok(())
     }
@@ -187,7 +215,7 @@ impl<'a> Sweeps<'a> {
         }
         let is_out = sight.is_out(host);
         let address = entry.address;
-        let log = self.hall.house().log();
+        let log = self.generation.server().log();
         if is_out && !*was_out {
             let tag = log.tag(Level::Warning);
             let _ = eprintln!(rt; "{tag}redproxy: host {address} is put aside");

@@ -1,18 +1,18 @@
 //! A worker: a thread with a poll of its own, over its clients and hosts.
 
-use crate::client::{Attended, Carried, Client, Hitch, Pass, hitch_of};
-use crate::generation::Post;
-use crate::hall::Hall;
+use crate::client::{CarriedSocket, Client, Round, StepError, Stepped};
+use crate::counted_turns::CountedTurns;
+use crate::generation::ThreadContext;
+use crate::generation_state::GenerationState;
+use crate::host_connection::{HostConnection, HostRound};
 use crate::log::Level;
 use crate::stop::Stop;
-use crate::upstream::{Call, Upstream};
-use crate::watched::Watched;
-use generations::{Course, StepKind};
+use exit_status::Ending;
+use generations::{Phase, StepKind};
 use histogram::Histogram;
 use mio::net::TcpStream;
 use mio::{Events, Interest, Poll, Token};
 use proxy_config::Config;
-use proxy_run::Ending;
 use proxy_stats::CountedSeat;
 use serve_parts::{MAX_SOCKETS, Refusals, own_hosts};
 use slab::Slab;
@@ -32,13 +32,13 @@ pub(crate) const WAKER: Token = Token(usize::MAX);
 // A worker without anything to do looks again after so many milliseconds at the latest.
 const PAUSE_MS: u64 = 10;
 
-// So many passes are made at most before the last sockets of a generation are closed.
-const LAST_PASSES: u32 = 16;
+// So many rounds are made at most before the last sockets of a generation are closed.
+const LAST_ROUNDS: u32 = 16;
 
 // After a try that found no memory the next one is made so many milliseconds later.
 const NO_MEMORY_MS: u64 = 1;
 
-// So many events are taken from the poll, and so many sockets from the door, at once.
+// So many events are taken from the poll, and so many sockets from the queue, at once.
 const EVENTS: usize = 1_024;
 
 /// The milliseconds of the clock.
@@ -50,23 +50,34 @@ pub(crate) fn now<R: Clock>(rt: &R) -> u64 {
 }
 
 /// What a worker is made of.
-#[derive(Drop)]
-pub(crate) struct Worker<'a> {
-    post: Post<'a>,
+pub(crate) struct WorkerSetup<'a> {
+    context: ThreadContext<'a>,
     place: usize,
     poll: Poll,
     seat: CountedSeat<'a>,
 }
 
-impl<'a> Worker<'a> {
+// Written out, so that where one is dropped that is one call: each function that holds one is proved sooner.
+impl Drop for WorkerSetup<'_> {
+    fn drop(self) {
+        let WorkerSetup {
+            context: _,
+            place: _,
+            poll: _,
+            seat: _,
+        } = self;
+    }
+}
+
+impl<'a> WorkerSetup<'a> {
     pub(crate) fn new(
-        post: Post<'a>,
+        context: ThreadContext<'a>,
         place: usize,
         poll: Poll,
         seat: CountedSeat<'a>,
-    ) -> Worker<'a> {
-        Worker {
-            post,
+    ) -> WorkerSetup<'a> {
+        WorkerSetup {
+            context,
             place,
             poll,
             seat,
@@ -76,47 +87,37 @@ impl<'a> Worker<'a> {
     /// Works once all threads of its generation have come, until that has nothing more to do, or ends the serving. Where
     /// there is no memory to begin with the generation is given up.
     pub(crate) fn run<R: Wait + Net + Clock + Eprint>(self, rt: &R) {
-        let hall = self.post.hall;
-        let (Ok(events), Ok(mut floor)) = (self.events(), self.floor()) else {
-            hall.give_up();
-            return;
-        };
-        if !hall.meet(rt) {
-            return;
-        }
-        match floor.serve(rt, events) {
-            Ok(()) => floor.leave(rt),
-            Err(stop) => hall.house().end(rt, stop),
+        let generation = self.context.generation;
+        let events = Events::with_capacity(self.context.alloc, EVENTS);
+        match (events, self.worker()) {
+            (Ok(events), Ok(worker)) => worker.run(rt, events),
+            _ => generation.give_up(),
         }
     }
 
-    fn events(&self) -> Result<Events, AllocError> {
-        Events::with_capacity(self.post.alloc, EVENTS)
-    }
-
-    fn floor(self) -> Result<Floor<'a>, Ending> {
-        let Worker {
-            post,
+    fn worker(self) -> Result<Worker<'a>, Ending> {
+        let WorkerSetup {
+            context,
             place,
             poll,
             seat,
         } = self;
-        let (alloc, hall) = (post.alloc, post.hall);
-        Ok(Floor {
+        let (alloc, generation) = (context.alloc, context.generation);
+        Ok(Worker {
             alloc,
             place,
             poll,
-            hall,
-            turns: Watched::new(seat),
+            generation,
+            turns: CountedTurns::new(seat),
             clients: Slab::new(alloc),
-            hosts: hosts_of(alloc, place, hall.house().workers(), post.config)?,
-            room: Vec::new(alloc),
+            hosts: hosts_of(alloc, place, generation.server().workers(), context.config)?,
+            buffer: Vec::new(alloc),
             opening: Refusals::new(),
             lacks_memory: false,
-            is_called: true,
-            welcomed: 0,
+            may_have_sockets: true,
+            accepted_at: 0,
             next: 0,
-            is_held: false,
+            is_held_back: false,
             is_draining: false,
             ends_inputs: false,
             gives_up: false,
@@ -132,7 +133,7 @@ fn hosts_of(
     place: usize,
     workers: usize,
     config: &Config,
-) -> Result<Vec<Upstream>, Ending> {
+) -> Result<Vec<HostConnection>, Ending> {
     let mut hosts = Vec::new(alloc);
     if workers == 0 {
         return Ok(hosts);
@@ -141,46 +142,45 @@ fn hosts_of(
         if let Some(entry) = config.hosts.get(host) {
             let token = Token(HOSTS.saturating_add(hosts.len()));
             let reply_ms = u64::from(config.reply_ms);
-            hosts.push(Upstream::new(alloc, host, entry.address, token, reply_ms))?;
+            hosts.push(HostConnection::new(alloc, host, entry.address, token, reply_ms))?;
         }
     }
     Ok(hosts)
 }
 
-/// What became of the socket that stood first at a worker's door.
+/// What became of the socket that stood first in a worker's queue.
 #[derive(Clone, Copy, Drop)]
-enum Welcomed {
+enum Accepted {
     /// It has a connection.
     Opened,
     /// It was closed.
-    LetGo,
+    Closed,
     /// None stands there, or it can't be opened for now.
     None,
 }
 
 /// What a worker has before it while it works.
-#[derive(Drop)]
-struct Floor<'a> {
+struct Worker<'a> {
     alloc: Global,
     place: usize,
     poll: Poll,
-    hall: &'a Hall<'a>,
-    turns: Watched<CountedSeat<'a>>,
+    generation: &'a GenerationState<'a>,
+    turns: CountedTurns<CountedSeat<'a>>,
     clients: Slab<Client>,
-    hosts: Vec<Upstream>,
+    hosts: Vec<HostConnection>,
     // Lent to one socket after the other to gather what is written.
-    room: Vec<u8>,
-    // Refusals of memory to what stands first at the door.
+    buffer: Vec<u8>,
+    // Refusals of memory to what stands first in the queue.
     opening: Refusals,
-    // Whether something found no memory in this pass.
+    // Whether something found no memory in this round.
     lacks_memory: bool,
-    // Something may stand at the door, and when it was last looked.
-    is_called: bool,
-    welcomed: u64,
-    // The client with which the next pass begins.
+    // Sockets may wait in the queue, and when it was last looked.
+    may_have_sockets: bool,
+    accepted_at: u64,
+    // The client with which the next round begins.
     next: usize,
     // No further parts may come until other workers have looked for theirs.
-    is_held: bool,
+    is_held_back: bool,
     is_draining: bool,
     // The serving drains: inputs end behind what has come.
     ends_inputs: bool,
@@ -193,7 +193,45 @@ struct Floor<'a> {
     told: u64,
 }
 
-impl<'a> Floor<'a> {
+// Written out, so that where one is dropped that is one call: each function that holds one is proved sooner.
+impl Drop for Worker<'_> {
+    fn drop(self) {
+        let Worker {
+            alloc: _,
+            place: _,
+            poll: _,
+            generation: _,
+            turns: _,
+            clients: _,
+            hosts: _,
+            buffer: _,
+            opening: _,
+            lacks_memory: _,
+            may_have_sockets: _,
+            accepted_at: _,
+            next: _,
+            is_held_back: _,
+            is_draining: _,
+            ends_inputs: _,
+            gives_up: _,
+            awaiting: _,
+            durations: _,
+            told: _,
+        } = self;
+    }
+}
+
+impl<'a> Worker<'a> {
+    fn run<R: Wait + Net + Clock + Eprint>(mut self, rt: &R, events: Events) {
+        if !self.generation.wait_for_all(rt) {
+            return;
+        }
+        match self.serve(rt, events) {
+            Ok(()) => self.close_clients(rt),
+            Err(stop) => self.generation.server().end(rt, stop),
+        }
+    }
+
     fn serve<R: Wait + Net + Clock + Eprint>(
         &mut self,
         rt: &R,
@@ -202,38 +240,52 @@ impl<'a> Floor<'a> {
         let mut pause = 0;
         self.settle(rt);
         for _ in rt.forever() {
-            match self.hall.course() {
-                Course::Serves => {}
-                Course::Drains => self.drain(),
-                Course::GivesUp => {
-                    self.drain();
-                    self.gives_up = true;
-                }
-                Course::Stops => return self.finish(rt),
+            if !self.follow_phase() {
+                return self.finish(rt);
             }
-            let pause_at_most = Some(Duration::from_millis(pause));
-            if let Err(error) = self.poll.poll(&mut events, pause_at_most) {
-                return Err(Stop::socket("cannot poll", error));
-            }
-            if let Some(desk) = self.hall.desk(self.place) {
-                desk.rise();
-            }
-            self.note(&events);
+            self.wait(&mut events, pause)?;
+            self.on_readiness(&events);
             self.end_inputs();
-            let before = (self.hall.parts(), self.hall.replies());
-            let moves = self.pass(rt)?;
+            let before = (self.generation.parts(), self.generation.replies());
+            let moves = self.run_once(rt)?;
             pause = self.pause(moves, before);
             self.settle(rt);
         }
         unreachable!()
     }
 
+    // Drains and gives up where the generation does. False says that its last sockets are to be closed.
+    fn follow_phase(&mut self) -> bool {
+        match self.generation.phase() {
+            Phase::Serving => {}
+            Phase::Draining => self.drain(),
+            Phase::GivingUp => {
+                self.drain();
+                self.gives_up = true;
+            }
+            Phase::Stopped => return false,
+        }
+        true
+    }
+
+    // Waits so many milliseconds at most for what the poll tells.
+    fn wait(&mut self, events: &mut Events, pause: u64) -> Result<(), Stop> {
+        let polled = self.poll.poll(events, Some(Duration::from_millis(pause)));
+        if let Some(worker) = self.generation.worker(self.place) {
+            worker.mark_awake();
+        }
+        match polled {
+            Ok(()) => Ok(()),
+            Err(error) => Err(Stop::socket("cannot poll", error)),
+        }
+    }
+
     // What can still be answered is answered, and sockets that can go over do, before the others are closed.
     fn finish<R: Wait + Net + Clock + Eprint>(&mut self, rt: &R) -> Result<(), Stop> {
         self.drain();
         self.gives_up = true;
-        for _ in 0..LAST_PASSES {
-            if !self.hall.house().runs() || !self.pass(rt)? {
+        for _ in 0..LAST_ROUNDS {
+            if !self.generation.server().runs() || !self.run_once(rt)? {
                 break;
             }
         }
@@ -244,7 +296,7 @@ impl<'a> Floor<'a> {
     // lost.
     fn settle<R: Wait>(&mut self, rt: &R) {
         let reserve = self.reserve();
-        self.hall.settle(rt, &mut self.turns, reserve);
+        self.generation.settle(rt, &mut self.turns, reserve);
     }
 
     fn reserve(&self) -> u64 {
@@ -253,7 +305,7 @@ impl<'a> Floor<'a> {
 
     // Ends the inputs of all clients once the serving drains.
     fn end_inputs(&mut self) {
-        if self.ends_inputs || !self.hall.house().is_draining() {
+        if self.ends_inputs || !self.generation.server().is_draining() {
             return;
         }
         self.ends_inputs = true;
@@ -278,43 +330,44 @@ impl<'a> Floor<'a> {
     }
 
     // The connections that are cut short get what is gathered for them, and are counted as closed.
-    fn leave<R: Wait + Eprint>(&mut self, rt: &R) {
-        let house = self.hall.house();
+    fn close_clients<R: Wait + Eprint>(&mut self, rt: &R) {
+        let server = self.generation.server();
         let mut cut = 0u32;
         for key in 0..self.clients.capacity() {
             if let Some(client) = self.clients.get_mut(key) {
                 if client.is_uncounted() {
                     cut = cut.saturating_add(1);
-                    house.count_closed(rt);
+                    server.count_closed(rt);
                 }
-                client.part(&mut self.room);
-                house.let_go(rt);
-                self.hall.count_gone();
+                client.shut_down(&mut self.buffer);
+                server.let_go(rt);
+                self.generation.count_gone();
             }
         }
-        if cut > 0 && house.runs() {
-            let tag = house.log().tag(Level::Warning);
-            let number = self.hall.number();
+        if cut > 0 && server.runs() {
+            let tag = server.log().tag(Level::Warning);
+            let number = self.generation.number();
             let _ = eprintln!(rt;
                 "{tag}redproxy: generation {number} is cut short, {cut} connections are closed"
             );
         }
         self.tell_durations(rt);
-        self.part_with_carried(rt);
+        self.close_carried(rt);
     }
 
-    // Once the serving ends no generation takes what waits at the door.
-    fn part_with_carried<R: Wait>(&mut self, rt: &R) {
-        let house = self.hall.house();
+    // Once the serving ends no generation takes what waits in the queue.
+    fn close_carried<R: Wait>(&mut self, rt: &R) {
+        let server = self.generation.server();
         for _ in 0..MAX_SOCKETS {
-            if house.runs() {
+            if server.runs() {
                 return;
             }
-            let Some(carried) = house.take_carried(rt, self.place) else {
+            let Some(mut carried) = server.take_carried(rt, self.place) else {
                 return;
             };
-            carried.part(&mut self.room);
-            house.close(rt);
+            carried.shut_down(&mut self.buffer);
+            drop(carried);
+            server.close(rt);
         }
     }
 
@@ -323,75 +376,86 @@ impl<'a> Floor<'a> {
         if self.lacks_memory {
             return NO_MEMORY_MS;
         }
-        if moves && !self.is_held {
+        if moves && !self.is_held_back {
             return 0;
         }
-        if let Some(desk) = self.hall.desk(self.place) {
-            desk.rest(self.awaiting > 0, self.is_held);
+        if let Some(worker) = self.generation.worker(self.place) {
+            worker.mark_asleep(self.awaiting > 0, self.is_held_back);
         }
         if self.has_news(before) { 0 } else { PAUSE_MS }
     }
 
-    // Whether something came since the pass began, or what held clients back is gone.
+    // Whether something came since the round began, or what held clients back is gone.
     fn has_news(&self, before: (u64, u64)) -> bool {
-        (!self.hosts.is_empty() && before.0 != self.hall.parts())
-            || (self.awaiting > 0 && before.1 != self.hall.replies())
-            || (self.is_held && !self.hall.is_pressed())
+        (!self.hosts.is_empty() && before.0 != self.generation.parts())
+            || (self.awaiting > 0 && before.1 != self.generation.replies())
+            || (self.is_held_back && !self.generation.must_hold_back())
     }
 
-    fn note(&mut self, events: &Events) {
+    fn on_readiness(&mut self, events: &Events) {
         for event in events {
             let token = event.token();
             if token == WAKER {
-                self.is_called = true;
+                self.may_have_sockets = true;
                 continue;
             }
             if token.0 >= HOSTS {
                 if let Some(host) = self.hosts.get_mut(token.0 - HOSTS) {
-                    host.note(event);
+                    host.on_readiness(event);
                 }
             } else if let Some(client) = self.clients.get_mut(token.0) {
-                client.note(event);
+                client.on_readiness(event);
             }
         }
     }
 
-    // One pass: new sockets, replies, clients, and the parts that these asked for. Whether more is to be done at once.
-    fn pass<R: Wait + Net + Clock + Eprint>(&mut self, rt: &R) -> Result<bool, Stop> {
+    // One round: new sockets, replies, clients, and the parts that these asked for. Whether more is to be done at once.
+    fn run_once<R: Wait + Net + Clock + Eprint>(&mut self, rt: &R) -> Result<bool, Stop> {
         let now = now(rt);
         self.lacks_memory = false;
-        if self.is_called || now.saturating_sub(self.welcomed) >= PAUSE_MS {
-            self.welcomed = now;
-            self.welcome(rt)?;
+        if self.may_have_sockets || now.saturating_sub(self.accepted_at) >= PAUSE_MS {
+            self.accepted_at = now;
+            self.accept_new(rt)?;
         }
-        let before = (self.hall.parts(), self.hall.replies());
-        let hosts = self.attend_hosts(rt, now)?;
-        let clients = self.attend_clients(rt, now)?;
-        let after = self.attend_hosts(rt, now)?;
+        let before = (self.generation.parts(), self.generation.replies());
+        let moves = self.step_all(rt, now)?;
         if now.saturating_sub(self.told) >= PAUSE_MS {
             self.told = now;
             self.tell_durations(rt);
         }
-        let has_parts = before.0 != self.hall.parts();
-        let has_replies = before.1 != self.hall.replies();
-        if has_parts || has_replies {
-            self.hall.wake_for(self.place, has_parts, has_replies);
-        }
+        self.wake_others(before);
+        Ok(moves)
+    }
+
+    // Hosts, clients, and the parts that these asked for.
+    fn step_all<R: Wait + Net + Eprint>(&mut self, rt: &R, now: u64) -> Result<bool, Stop> {
+        let hosts = self.step_hosts(rt, now)?;
+        let clients = self.step_clients(rt, now)?;
+        let after = self.step_hosts(rt, now)?;
         Ok(hosts || clients || after)
+    }
+
+    // Wakes the workers whom parts and replies may concern that came since there were so many.
+    fn wake_others(&self, before: (u64, u64)) {
+        let has_parts = before.0 != self.generation.parts();
+        let has_replies = before.1 != self.generation.replies();
+        if has_parts || has_replies {
+            self.generation.wake_for(self.place, has_parts, has_replies);
+        }
     }
 
     // Tells how long commands took.
     fn tell_durations<R: Wait>(&mut self, rt: &R) {
         let durations = mem::replace(&mut self.durations, Histogram::new());
         if durations.total > 0 {
-            self.hall.house().add_durations(rt, &durations);
+            self.generation.server().add_durations(rt, &durations);
         }
     }
 
-    // Counts a refusal of memory to what stands first at the door.
-    fn try_again(&mut self) -> Result<(), Stop> {
+    // Counts a refusal of memory to what stands first in the queue.
+    fn count_refusal(&mut self) -> Result<(), Stop> {
         self.lacks_memory = true;
-        self.is_called = true;
+        self.may_have_sockets = true;
         if self.opening.refused() {
             Err(Stop::from(Ending::Memory))
         } else {
@@ -399,106 +463,105 @@ impl<'a> Floor<'a> {
         }
     }
 
-    // What a hitch means. For want of memory the step is made again, until it was refused too often in a row.
-    fn bear(&mut self, hitch: Hitch) -> Result<(), Stop> {
-        match hitch {
-            Hitch::Full => {
-                self.hall.close_up();
+    // What an error means. For want of memory the step is made again, until it was refused too often in a row.
+    fn handle_error(&mut self, error: StepError) -> Result<(), Stop> {
+        match error {
+            StepError::Full => {
+                self.generation.close_up();
                 Ok(())
             }
-            Hitch::Ends(ending) => Err(Stop::from(ending)),
-            Hitch::Memory => {
+            StepError::Ends(ending) => Err(Stop::from(ending)),
+            StepError::Memory => {
                 self.lacks_memory = true;
                 Ok(())
             }
-            Hitch::Alone => Ok(()),
+            StepError::Alone => Ok(()),
         }
     }
 
-    // What a hitch means to a connection that is being opened.
-    fn bear_at_door(&mut self, hitch: Hitch) -> Result<(), Stop> {
-        match hitch {
-            Hitch::Memory => self.try_again(),
-            Hitch::Full | Hitch::Ends(_) | Hitch::Alone => self.bear(hitch),
+    // What an error means to a connection that is being opened.
+    fn handle_open_error(&mut self, error: StepError) -> Result<(), Stop> {
+        match error {
+            StepError::Memory => self.count_refusal(),
+            StepError::Full | StepError::Ends(_) | StepError::Alone => self.handle_error(error),
         }
     }
 
     // Whether a connection more may be opened: the generation serves, and its journal has room for the connection and a command.
     fn may_open<R: Wait>(&mut self, rt: &R) -> bool {
-        if self.hall.course() != Course::Serves {
+        if self.generation.phase() != Phase::Serving {
             return false;
         }
         let reserve = self.reserve().saturating_add(StepKind::Opened.cost());
-        let has_room = self.hall.lend(rt, &mut self.turns, reserve);
+        let has_room = self.generation.lend(rt, &mut self.turns, reserve);
         if !has_room {
-            self.hall.close_up();
+            self.generation.close_up();
         }
         has_room
     }
 
-    // Takes the sockets that stand at the worker's door, those that go over first. Each is counted before it is looked whether
+    // Takes the sockets that wait in the worker's queue, those that go over first. Each is counted before it is looked whether
     // the generation still serves: so none comes to one that has drained.
-    fn welcome<R: Wait>(&mut self, rt: &R) -> Result<(), Stop> {
-        self.is_called = false;
+    fn accept_new<R: Wait>(&mut self, rt: &R) -> Result<(), Stop> {
+        self.may_have_sockets = false;
         for _ in 0..EVENTS {
-            self.hall.count_opened();
-            let welcomed = if self.may_open(rt) {
-                self.welcome_one(rt)?
+            self.generation.count_opened();
+            let accepted = if self.may_open(rt) {
+                self.accept_one(rt)?
             } else {
-                Welcomed::None
+                Accepted::None
             };
-            match welcomed {
-                Welcomed::Opened => {}
-                Welcomed::LetGo => self.hall.count_gone(),
-                Welcomed::None => {
-                    self.hall.count_gone();
+            match accepted {
+                Accepted::Opened => {}
+                Accepted::Closed => self.generation.count_gone(),
+                Accepted::None => {
+                    self.generation.count_gone();
                     return Ok(());
                 }
             }
         }
-        self.is_called = true;
+        self.may_have_sockets = true;
         Ok(())
     }
 
-    fn welcome_one<R: Wait>(&mut self, rt: &R) -> Result<Welcomed, Stop> {
-        let house = self.hall.house();
-        if !house.has_waiting(rt, self.place) {
-            return Ok(Welcomed::None);
+    fn accept_one<R: Wait>(&mut self, rt: &R) -> Result<Accepted, Stop> {
+        let server = self.generation.server();
+        if !server.has_waiting(rt, self.place) {
+            return Ok(Accepted::None);
         }
         if self.clients.reserve(1).is_err() {
-            self.try_again()?;
-            return Ok(Welcomed::None);
+            self.count_refusal()?;
+            return Ok(Accepted::None);
         }
-        if let Some(carried) = house.take_carried(rt, self.place) {
-            return self.go_on(rt, carried);
+        if let Some(carried) = server.take_carried(rt, self.place) {
+            return self.open_carried(rt, carried);
         }
-        match house.take(rt, self.place) {
+        match server.pop(rt, self.place) {
             Some(stream) => self.open(rt, stream),
-            None => Ok(Welcomed::None),
+            None => Ok(Accepted::None),
         }
     }
 
     // The client has a connection from here on.
-    fn keep<R: Wait>(&mut self, rt: &R, mut client: Client) -> Welcomed {
+    fn insert<R: Wait>(&mut self, rt: &R, mut client: Client) -> Accepted {
         self.opening.succeeded();
         if self.ends_inputs {
             client.end_input();
         }
         match self.clients.insert(client) {
-            Ok(_) => Welcomed::Opened,
+            Ok(_) => Accepted::Opened,
             Err(_) => {
-                self.hall.house().close(rt);
-                Welcomed::LetGo
+                self.generation.server().close(rt);
+                Accepted::Closed
             }
         }
     }
 
     // A socket that comes from another generation. Where there is no memory, or the journal takes no further step, it waits at
-    // the door once more. Where its connection can't be opened otherwise it gets what is gathered for it and is closed.
-    fn go_on<R: Wait>(&mut self, rt: &R, carried: Carried) -> Result<Welcomed, Stop> {
-        let house = self.hall.house();
+    // the queue once more. Where its connection can't be opened otherwise it gets what is gathered for it and is closed.
+    fn open_carried<R: Wait>(&mut self, rt: &R, carried: CarriedSocket) -> Result<Accepted, Stop> {
         let token = Token(self.clients.vacant_key());
-        let gone_on = Client::go_on(
+        let opened = Client::open_carried(
             rt,
             self.alloc,
             &mut self.turns,
@@ -506,183 +569,210 @@ impl<'a> Floor<'a> {
             token,
             carried,
         );
-        match gone_on {
+        match opened {
             Ok(client) => {
-                client.note_carried(self.hall);
-                Ok(self.keep(rt, client))
+                client.note_carried(self.generation);
+                Ok(self.insert(rt, client))
             }
-            Err((error, carried)) => {
-                let hitch = hitch_of(error);
-                self.bear_at_door(hitch)?;
-                match (hitch, carried) {
-                    (Hitch::Memory | Hitch::Full | Hitch::Ends(_), Some(carried)) => {
-                        house.carry_back(rt, self.place, carried);
-                        return Ok(Welcomed::None);
-                    }
-                    (Hitch::Alone, Some(carried)) => carried.part(&mut self.room),
-                    (_, None) => {}
-                }
-                house.close(rt);
-                Ok(Welcomed::LetGo)
-            }
+            Err((error, carried)) => self.refuse_carried(rt, StepError::from(error), carried),
         }
+    }
+
+    fn refuse_carried<R: Wait>(
+        &mut self,
+        rt: &R,
+        error: StepError,
+        carried: Option<CarriedSocket>,
+    ) -> Result<Accepted, Stop> {
+        let server = self.generation.server();
+        self.handle_open_error(error)?;
+        let Some(mut carried) = carried else {
+            server.close(rt);
+            return Ok(Accepted::Closed);
+        };
+        if error.is_alone() {
+            carried.shut_down(&mut self.buffer);
+            drop(carried);
+            server.close(rt);
+            return Ok(Accepted::Closed);
+        }
+        server.carry_back(rt, self.place, carried);
+        Ok(Accepted::None)
+    }
+
+    // Has the poll tell of the socket of the next client.
+    fn register(&self, stream: &mut TcpStream) -> bool {
+        let token = Token(self.clients.vacant_key());
+        let interests = Interest::READABLE | Interest::WRITABLE;
+        self.poll
+            .registry()
+            .register(stream, token, interests)
+            .is_ok()
     }
 
     // A new socket. One whose connection can't be opened is let go.
-    fn open<R: Wait>(&mut self, rt: &R, mut stream: TcpStream) -> Result<Welcomed, Stop> {
+    fn open<R: Wait>(&mut self, rt: &R, mut stream: TcpStream) -> Result<Accepted, Stop> {
         let _ = stream.set_nodelay(true);
-        let token = Token(self.clients.vacant_key());
-        let interests = Interest::READABLE | Interest::WRITABLE;
-        if self
-            .poll
-            .registry()
-            .register(&mut stream, token, interests)
-            .is_err()
-        {
-            self.hall.house().let_go(rt);
-            return Ok(Welcomed::LetGo);
+        if !self.register(&mut stream) {
+            self.generation.server().let_go(rt);
+            return Ok(Accepted::Closed);
         }
         match Client::open(rt, self.alloc, &mut self.turns, stream) {
-            Ok(client) => Ok(self.keep(rt, client)),
+            Ok(client) => Ok(self.insert(rt, client)),
             Err(error) => {
-                self.hall.house().let_go(rt);
-                self.bear_at_door(hitch_of(error))?;
-                Ok(Welcomed::LetGo)
+                self.generation.server().let_go(rt);
+                self.handle_open_error(StepError::from(error))?;
+                Ok(Accepted::Closed)
             }
         }
     }
 
-    fn attend_hosts<R: Wait + Net + Eprint>(&mut self, rt: &R, now: u64) -> Result<bool, Stop> {
-        let parts = self.hall.parts();
+    fn step_hosts<R: Wait + Net + Eprint>(&mut self, rt: &R, now: u64) -> Result<bool, Stop> {
+        let parts = self.generation.parts();
         let mut moves = false;
         for place in 0..self.hosts.len() {
             let Some(host) = self.hosts.get_mut(place) else {
                 break;
             };
-            if !host.may_go(self.hall, now) {
+            if !host.may_go(self.generation, now) {
                 continue;
             }
-            let attended = host.attend(
+            let stepped = host.run_once(
                 rt,
                 &mut self.turns,
-                self.hall,
+                self.generation,
                 self.poll.registry(),
-                &mut self.room,
-                Call {
+                &mut self.buffer,
+                HostRound {
                     now,
                     gives_up: self.gives_up,
                 },
             );
-            moves = moves || host.may_go(self.hall, now);
-            match attended {
+            moves = moves || host.may_go(self.generation, now);
+            match stepped {
                 Ok(false) => {}
                 Ok(true) => {
                     let address = host.address();
-                    let tag = self.hall.house().log().tag(Level::Warning);
+                    let tag = self.generation.server().log().tag(Level::Warning);
                     let _ = eprintln!(rt; "{tag}redproxy: host {address} can't be reached");
                 }
-                Err(hitch) => self.bear(hitch)?,
+                Err(error) => self.handle_error(error)?,
             }
         }
-        self.note_seen(parts, now);
+        self.mark_parts_seen(parts, now);
         Ok(moves)
     }
 
     // What came for a host whose link is being made isn't seen yet: too much of it holds clients back.
-    fn note_seen(&self, parts: u64, now: u64) {
-        if self.hosts.iter().any(|host| host.is_dialled_newly(now)) {
+    fn mark_parts_seen(&self, parts: u64, now: u64) {
+        if self.hosts.iter().any(|host| host.is_connecting(now)) {
             return;
         }
-        if let Some(desk) = self.hall.desk(self.place) {
+        if let Some(worker) = self.generation.worker(self.place) {
             let seen = if self.hosts.is_empty() {
                 u64::MAX
             } else {
                 parts
             };
-            if desk.note_seen(seen) {
-                self.hall.wake_held(self.place);
+            if worker.mark_seen(seen) {
+                self.generation.wake_held(self.place);
             }
         }
     }
 
-    // Each client in turn, beginning where the last pass stopped. Between two of them the parts that have come are taken.
-    fn attend_clients<R: Wait + Net + Eprint>(&mut self, rt: &R, now: u64) -> Result<bool, Stop> {
+    // Each client in turn, beginning where the last round stopped. Between two of them the parts that have come are taken.
+    fn step_clients<R: Wait + Net + Eprint>(&mut self, rt: &R, now: u64) -> Result<bool, Stop> {
         let mut moves = false;
-        self.is_held = false;
+        self.is_held_back = false;
         let count = self.clients.capacity();
         for step in 0..count {
             let key = self.next.saturating_add(step) % count;
-            if self.hall.is_pressed() {
-                moves = self.attend_hosts(rt, now)? || moves;
-                if self.hall.is_pressed() {
+            if self.generation.must_hold_back() {
+                moves = self.step_hosts(rt, now)? || moves;
+                if self.generation.must_hold_back() {
                     // (others have to look for theirs first)
-                    self.hall.wake_behind(self.place);
+                    self.generation.wake_behind(self.place);
                     self.next = key;
-                    self.is_held = true;
+                    self.is_held_back = true;
                     return Ok(true);
                 }
             }
-            moves = self.attend_client(rt, key, now)? || moves;
+            moves = self.step_client(rt, key, now)? || moves;
         }
         Ok(moves)
     }
 
     // The worker of this place in the newest generation gets the socket. Where there is no memory for that it stays for now.
-    fn go_over<R: Wait>(&mut self, rt: &R, key: usize) -> Result<bool, Stop> {
-        let house = self.hall.house();
-        if !house.has_room_to_carry(rt, self.place) {
+    fn carry_over<R: Wait>(&mut self, rt: &R, key: usize) -> Result<bool, Stop> {
+        let server = self.generation.server();
+        if !server.has_room_to_carry(rt, self.place) {
             if let Some(client) = self.clients.get_mut(key) {
-                let hitch = client.refuse();
-                self.bear(hitch)?;
+                let error = client.refuse();
+                self.handle_error(error)?;
             }
             return Ok(true);
         }
         if let Some(client) = self.clients.try_remove(key) {
-            match client.carry(self.poll.registry(), self.hall) {
-                Some(carried) => house.carry(rt, self.place, carried),
-                None => house.close(rt),
+            match client.carry(self.poll.registry(), self.generation) {
+                Some(carried) => server.carry(rt, self.place, carried),
+                None => server.close(rt),
             }
         }
-        self.hall.count_gone();
+        self.generation.count_gone();
         Ok(false)
     }
 
-    fn attend_client<R: Wait>(&mut self, rt: &R, key: usize, now: u64) -> Result<bool, Stop> {
+    fn step_client<R: Wait>(&mut self, rt: &R, key: usize, now: u64) -> Result<bool, Stop> {
         let Some(client) = self.clients.get_mut(key) else {
             return Ok(false);
         };
-        if !client.may_go(self.hall, now) {
+        if !client.may_go(self.generation, now) {
             return Ok(false);
         }
         let did_await = client.awaits_reply();
         let reserve = self.hosts.len() as u64;
-        let attended = client.attend(
+        let stepped = client.run_once(
             rt,
             &mut self.turns,
-            self.hall,
-            &mut self.room,
+            self.generation,
+            &mut self.buffer,
             &mut self.durations,
-            Pass { now, reserve },
+            Round { now, reserve },
         );
-        let awaits = client.awaits_reply() && !matches!(attended, Ok(Attended::Gone));
+        let awaits = client.awaits_reply() && !matches!(stepped, Ok(Stepped::Closed));
+        self.count_awaiting(did_await, awaits);
+        self.heed(rt, key, stepped)
+    }
+
+    // Counts a client that waits for replies now or doesn't, and did so before its round or didn't.
+    fn count_awaiting(&mut self, did_await: bool, awaits: bool) {
         if did_await && !awaits {
             self.awaiting = self.awaiting.saturating_sub(1);
         }
         if awaits && !did_await {
             self.awaiting = self.awaiting.saturating_add(1);
         }
-        match attended {
-            Ok(Attended::Rests) => Ok(false),
-            Ok(Attended::Goes) => Ok(true),
-            Ok(Attended::Gone) => {
+    }
+
+    // What a client's round asks for. True says that more can be done at once.
+    fn heed<R: Wait>(
+        &mut self,
+        rt: &R,
+        key: usize,
+        stepped: Result<Stepped, StepError>,
+    ) -> Result<bool, Stop> {
+        match stepped {
+            Ok(Stepped::Idle) => Ok(false),
+            Ok(Stepped::Ready) => Ok(true),
+            Ok(Stepped::Closed) => {
                 let _ = self.clients.try_remove(key);
-                self.hall.count_gone();
-                self.hall.house().let_go(rt);
+                self.generation.count_gone();
+                self.generation.server().let_go(rt);
                 Ok(false)
             }
-            Ok(Attended::GoesOver) => self.go_over(rt, key),
-            Err(hitch) => {
-                self.bear(hitch)?;
+            Ok(Stepped::CarriedOver) => self.carry_over(rt, key),
+            Err(error) => {
+                self.handle_error(error)?;
                 Ok(true)
             }
         }

@@ -1,9 +1,9 @@
 //! What the threads of one generation share beside their gate.
 
-use crate::house::House;
+use crate::counted_turns::CountedTurns;
 use crate::ledger::Ledger;
-use crate::watched::Watched;
-use generations::{Course, MAX_COMMAND_STEPS};
+use crate::server::Server;
+use generations::{MAX_COMMAND_STEPS, Phase};
 use mio::Waker;
 use proxy_core::CoreTurns;
 use std::rt::Clock;
@@ -14,10 +14,10 @@ use std::time::Duration;
 
 // So many parts or more may wait that some worker hasn't looked for yet: then no further command is taken in. A host has
 // room for 1,024 that wait.
-const MOST_UNSEEN: u64 = 256;
+const MAX_UNSEEN: u64 = 256;
 
 // So many parts or more may all workers together let come between two looks at that.
-const MOST_AT_ONCE: u64 = 512;
+const MAX_PARTS_AT_ONCE: u64 = 512;
 
 /// Payload of so many bytes is told to the other workers before it is decided what the journal has room for.
 pub(crate) const LARGE: u64 = 65_536;
@@ -29,10 +29,10 @@ pub(crate) const LARGE_STEP: u64 = 8_192;
 const MAX_LENT: u64 = 65_536;
 
 // So many bytes may the unfinished commands of all connections have, before those connections that add to them are ended.
-const MOST_UNFINISHED: u64 = 67_108_864;
+const MAX_UNFINISHED: u64 = 67_108_864;
 
 // So long the threads of a generation wait for each other at its start, in milliseconds.
-const MOST_WAITS: u32 = 1_000;
+const MAX_START_MS: u32 = 1_000;
 
 // What becomes of a generation: its threads come together, they have begun, or some were missing.
 const GATHERS: u8 = 0;
@@ -43,14 +43,14 @@ const GIVEN_UP: u8 = 2;
 
 /// How a worker is woken, and how far it is.
 #[derive(Drop)]
-pub(crate) struct Desk {
+pub(crate) struct WorkerStatus {
     waker: Waker,
     // Whether it has hosts.
     has_hosts: bool,
     // Whether clients of it wait for replies.
     awaits: AtomicBool,
     // Whether it takes in nothing until others have looked for their parts.
-    is_held: AtomicBool,
+    is_held_back: AtomicBool,
     // Whether it may be asleep.
     is_asleep: AtomicBool,
     // So many parts had come when it last looked for those of its hosts.
@@ -58,11 +58,10 @@ pub(crate) struct Desk {
 }
 
 /// What the threads of a generation look at.
-#[derive(Drop)]
-pub(crate) struct Hall<'a> {
-    house: &'a House,
+pub(crate) struct GenerationState<'a> {
+    server: &'a Server,
     number: u64,
-    desks: Vec<Desk>,
+    workers: Vec<WorkerStatus>,
     // How many of its threads have come.
     come: AtomicU64,
     // GATHERS, BEGUN or GIVEN_UP.
@@ -81,13 +80,32 @@ pub(crate) struct Hall<'a> {
     unfinished: AtomicU64,
 }
 
-impl Desk {
-    pub(crate) fn new(waker: Waker, has_hosts: bool) -> Desk {
-        Desk {
+// Written out, so that where one is dropped that is one call: each function that holds one is proved sooner.
+impl Drop for GenerationState<'_> {
+    fn drop(self) {
+        let GenerationState {
+            server: _,
+            number: _,
+            workers: _,
+            come: _,
+            start: _,
+            open: _,
+            ledger: _,
+            is_closing: _,
+            parts: _,
+            replies: _,
+            unfinished: _,
+        } = self;
+    }
+}
+
+impl WorkerStatus {
+    pub(crate) fn new(waker: Waker, has_hosts: bool) -> WorkerStatus {
+        WorkerStatus {
             waker,
             has_hosts,
             awaits: AtomicBool::new(false),
-            is_held: AtomicBool::new(false),
+            is_held_back: AtomicBool::new(false),
             is_asleep: AtomicBool::new(false),
             seen: AtomicU64::new(0),
         }
@@ -95,25 +113,25 @@ impl Desk {
 
     // Whether it has so many parts yet to look for that no further ones are to come.
     fn is_behind(&self, parts: u64) -> bool {
-        parts.saturating_sub(self.seen.load(Ordering::SeqCst)) >= MOST_UNSEEN
+        parts.saturating_sub(self.seen.load(Ordering::SeqCst)) >= MAX_UNSEEN
     }
 
     /// The worker looked for the parts of its hosts when so many parts had come. True says that others may have waited for it.
-    pub(crate) fn note_seen(&self, parts: u64) -> bool {
+    pub(crate) fn mark_seen(&self, parts: u64) -> bool {
         let was_behind = self.is_behind(parts);
         self.seen.store(parts, Ordering::SeqCst);
         was_behind
     }
 
     /// The worker may sleep from here on.
-    pub(crate) fn rest(&self, awaits: bool, is_held: bool) {
+    pub(crate) fn mark_asleep(&self, awaits: bool, is_held_back: bool) {
         self.awaits.store(awaits, Ordering::SeqCst);
-        self.is_held.store(is_held, Ordering::SeqCst);
+        self.is_held_back.store(is_held_back, Ordering::SeqCst);
         self.is_asleep.store(true, Ordering::SeqCst);
     }
 
     /// The worker is awake.
-    pub(crate) fn rise(&self) {
+    pub(crate) fn mark_awake(&self) {
         self.is_asleep.store(false, Ordering::SeqCst);
     }
 
@@ -125,13 +143,18 @@ impl Desk {
     }
 }
 
-impl<'a> Hall<'a> {
+impl<'a> GenerationState<'a> {
     /// A generation to which nothing has happened. The one before had so many bytes of payload a step.
-    pub(crate) fn new(house: &'a House, number: u64, average: u64, desks: Vec<Desk>) -> Hall<'a> {
-        Hall {
-            house,
+    pub(crate) fn new(
+        server: &'a Server,
+        number: u64,
+        average: u64,
+        workers: Vec<WorkerStatus>,
+    ) -> GenerationState<'a> {
+        GenerationState {
+            server,
             number,
-            desks,
+            workers,
             come: AtomicU64::new(0),
             start: AtomicU8::new(GATHERS),
             open: AtomicU64::new(0),
@@ -143,9 +166,9 @@ impl<'a> Hall<'a> {
         }
     }
 
-    /// The house that it belongs to.
-    pub(crate) fn house(&self) -> &'a House {
-        self.house
+    /// The server that it belongs to.
+    pub(crate) fn server(&self) -> &'a Server {
+        self.server
     }
 
     /// Its number.
@@ -153,17 +176,17 @@ impl<'a> Hall<'a> {
         self.number
     }
 
-    // A worker for each desk, and one thread that sweeps.
+    // A worker for each worker, and one thread that sweeps.
     fn threads(&self) -> u64 {
-        (self.desks.len() as u64).saturating_add(1)
+        (self.workers.len() as u64).saturating_add(1)
     }
 
     /// Counts a thread that has come, and waits for the others. False says that some didn't come in time: then none begins.
-    pub(crate) fn meet<R: Clock>(&self, rt: &R) -> bool {
+    pub(crate) fn wait_for_all<R: Clock>(&self, rt: &R) -> bool {
         if self.come.fetch_add(1, Ordering::SeqCst).saturating_add(1) == self.threads() {
             self.decide(BEGUN);
         }
-        for _ in 0..MOST_WAITS {
+        for _ in 0..MAX_START_MS {
             if self.start.load(Ordering::SeqCst) != GATHERS {
                 break;
             }
@@ -190,24 +213,24 @@ impl<'a> Hall<'a> {
         self.start.load(Ordering::SeqCst) == BEGUN
     }
 
-    /// The desk of a worker.
-    pub(crate) fn desk(&self, place: usize) -> Option<&Desk> {
-        self.desks.get(place)
+    /// The worker of a worker.
+    pub(crate) fn worker(&self, place: usize) -> Option<&WorkerStatus> {
+        self.workers.get(place)
     }
 
-    /// What is to be done. Sockets wait at the doors while nothing more is taken in and no newer generation is open.
-    pub(crate) fn course(&self) -> Course {
-        let course = self.house.course(self.number);
-        if course == Course::Serves && self.is_closing() {
-            Course::Drains
+    /// What is to be done. Sockets wait at the queues while nothing more is taken in and no newer generation is open.
+    pub(crate) fn phase(&self) -> Phase {
+        let phase = self.server.phase(self.number);
+        if phase == Phase::Serving && self.is_closing() {
+            Phase::Draining
         } else {
-            course
+            phase
         }
     }
 
     /// Whether no connection is open in it and none will be: it serves no more, by what was said before it was counted.
     pub(crate) fn is_drained(&self) -> bool {
-        self.house.course(self.number) != Course::Serves && self.open.load(Ordering::SeqCst) == 0
+        self.server.phase(self.number) != Phase::Serving && self.open.load(Ordering::SeqCst) == 0
     }
 
     /// Tells what the worker's turns did since it was last here, and what it was lent and didn't spend comes back. So many
@@ -215,7 +238,7 @@ impl<'a> Hall<'a> {
     pub(crate) fn settle<R: Wait, T: CoreTurns>(
         &self,
         rt: &R,
-        turns: &mut Watched<T>,
+        turns: &mut CountedTurns<T>,
         reserve: u64,
     ) {
         let mut ledger = self.ledger.lock(rt);
@@ -228,7 +251,7 @@ impl<'a> Hall<'a> {
     pub(crate) fn lend_steps<R: Wait, T: CoreTurns>(
         &self,
         rt: &R,
-        turns: &mut Watched<T>,
+        turns: &mut CountedTurns<T>,
         steps: u64,
     ) -> bool {
         turns.borrow_steps(&mut self.ledger.lock(rt), steps)
@@ -238,14 +261,14 @@ impl<'a> Hall<'a> {
     pub(crate) fn lend<R: Wait, T: CoreTurns>(
         &self,
         rt: &R,
-        turns: &mut Watched<T>,
+        turns: &mut CountedTurns<T>,
         reserve: u64,
     ) -> bool {
         let least = reserve.saturating_add(MAX_COMMAND_STEPS);
         if turns.free_steps() >= least {
             return true;
         }
-        let workers = (self.desks.len() as u64).max(1);
+        let workers = (self.workers.len() as u64).max(1);
         let many = (MAX_LENT / workers).clamp(MAX_COMMAND_STEPS, 2 * MAX_COMMAND_STEPS);
         let missing = least.saturating_sub(turns.free_steps());
         let mut ledger = self.ledger.lock(rt);
@@ -258,7 +281,7 @@ impl<'a> Hall<'a> {
     pub(crate) fn takes_reply<R: Wait, T: CoreTurns>(
         &self,
         rt: &R,
-        turns: &mut Watched<T>,
+        turns: &mut CountedTurns<T>,
         came: u64,
         before: u64,
     ) -> bool {
@@ -309,7 +332,7 @@ impl<'a> Hall<'a> {
     }
 
     /// Tells that so many parts came for hosts.
-    pub(crate) fn tell_parts(&self, count: u64) {
+    pub(crate) fn count_parts(&self, count: u64) {
         self.parts.fetch_add(count, Ordering::SeqCst);
     }
 
@@ -324,56 +347,56 @@ impl<'a> Hall<'a> {
 
     /// Whether the unfinished commands of all connections have more bytes than may be.
     pub(crate) fn is_overfull(&self) -> bool {
-        self.unfinished.load(Ordering::SeqCst) > MOST_UNFINISHED
+        self.unfinished.load(Ordering::SeqCst) > MAX_UNFINISHED
     }
 
     /// How many parts one worker may let come of a client before it looks for its own.
-    pub(crate) fn share(&self) -> u64 {
-        let workers = self.desks.len() as u64;
+    pub(crate) fn parts_per_worker(&self) -> u64 {
+        let workers = self.workers.len() as u64;
         if workers == 0 {
-            MOST_AT_ONCE
+            MAX_PARTS_AT_ONCE
         } else {
-            MOST_AT_ONCE / workers
+            MAX_PARTS_AT_ONCE / workers
         }
     }
 
     /// Whether so many parts came since some worker looked for its own that no further ones are to come.
-    pub(crate) fn is_pressed(&self) -> bool {
+    pub(crate) fn must_hold_back(&self) -> bool {
         let parts = self.parts();
-        self.desks.iter().any(|desk| desk.is_behind(parts))
+        self.workers.iter().any(|worker| worker.is_behind(parts))
     }
 
     /// Tells that replies came for clients.
-    pub(crate) fn tell_replies(&self) {
+    pub(crate) fn count_replies(&self) {
         self.replies.fetch_add(1, Ordering::SeqCst);
     }
 
     /// Wakes those of the workers beside this one that are behind with the parts of their hosts.
     pub(crate) fn wake_behind(&self, place: usize) {
         let parts = self.parts();
-        for (other, desk) in self.desks.iter().enumerate() {
-            if other != place && desk.is_behind(parts) {
-                desk.wake();
+        for (other, worker) in self.workers.iter().enumerate() {
+            if other != place && worker.is_behind(parts) {
+                worker.wake();
             }
         }
     }
 
     /// Wakes those of the workers beside this one that were held back.
     pub(crate) fn wake_held(&self, place: usize) {
-        for (other, desk) in self.desks.iter().enumerate() {
-            if other != place && desk.is_held.load(Ordering::SeqCst) {
-                desk.wake();
+        for (other, worker) in self.workers.iter().enumerate() {
+            if other != place && worker.is_held_back.load(Ordering::SeqCst) {
+                worker.wake();
             }
         }
     }
 
     /// Wakes those of the workers beside this one whom parts or replies that came may concern.
     pub(crate) fn wake_for(&self, place: usize, has_parts: bool, has_replies: bool) {
-        for (other, desk) in self.desks.iter().enumerate() {
-            let concerns = (has_parts && desk.has_hosts)
-                || (has_replies && desk.awaits.load(Ordering::SeqCst));
+        for (other, worker) in self.workers.iter().enumerate() {
+            let concerns = (has_parts && worker.has_hosts)
+                || (has_replies && worker.awaits.load(Ordering::SeqCst));
             if other != place && concerns {
-                desk.wake();
+                worker.wake();
             }
         }
     }

@@ -1,5 +1,5 @@
 use Rattle.ticket_gate.specs.Gate.{IsSpareOf}
-use Rattle.proxy_serve.proofs.generation.roles.Given as goal
+use Rattle.proxy_serve.proofs.generation.tasks.Given as goal
 
 -- the spare place is still one of the gate
 abbrev pub invariant-loop-poll : goal.invariant-loop-poll

@@ -13,7 +13,7 @@ const STEPS_A_REPLY: u64 = 4;
 
 /// What happened since it was last looked at.
 #[derive(Clone, Copy, Drop)]
-pub(crate) struct Notes {
+pub(crate) struct TurnCounts {
     /// Commands were accepted, so many.
     pub(crate) accepted: u64,
     /// Replies were handed out, so many.
@@ -28,8 +28,8 @@ pub(crate) struct Notes {
     pub(crate) has_replies: bool,
 }
 
-impl Notes {
-    pub(crate) const NONE: Notes = Notes {
+impl TurnCounts {
+    pub(crate) const NONE: TurnCounts = TurnCounts {
         accepted: 0,
         handed: 0,
         parts: 0,
@@ -99,10 +99,10 @@ fn bytes_of(event: &Event) -> u64 {
     }
 }
 
-/// What a worker knows of its turns' answers and of the journal: notes, the steps that it was lent, and the payload.
+/// What a worker knows of its turns' answers and of the journal: counts, the steps that it was lent, and the payload.
 #[derive(Drop)]
 struct Account {
-    notes: Notes,
+    counts: TurnCounts,
     loan: Loan,
     // Steps since it last settled, what they cost, and their bytes.
     steps: u64,
@@ -119,7 +119,7 @@ struct Account {
 impl Account {
     fn new() -> Account {
         Account {
-            notes: Notes::NONE,
+            counts: TurnCounts::NONE,
             loan: Loan::new(),
             steps: 0,
             cost: 0,
@@ -134,7 +134,7 @@ impl Account {
     // A step of this kind was made.
     #[inline(always)]
     fn step(&mut self, kind: StepKind) {
-        self.notes.note(kind);
+        self.counts.note(kind);
         self.loan.note(kind);
         self.steps = self.steps.saturating_add(1);
         self.cost = self.cost.saturating_add(kind.cost());
@@ -225,14 +225,14 @@ impl Account {
 
 /// A worker's turns, looked at as they go by.
 #[derive(Drop)]
-pub(crate) struct Watched<T: CoreTurns> {
+pub(crate) struct CountedTurns<T: CoreTurns> {
     turns: T,
     account: Account,
 }
 
-impl<T: CoreTurns> Watched<T> {
-    pub(crate) fn new(turns: T) -> Watched<T> {
-        Watched {
+impl<T: CoreTurns> CountedTurns<T> {
+    pub(crate) fn new(turns: T) -> CountedTurns<T> {
+        CountedTurns {
             turns,
             account: Account::new(),
         }
@@ -245,13 +245,13 @@ impl<T: CoreTurns> Watched<T> {
 
     /// What happened since it was last taken.
     #[inline(always)]
-    pub(crate) fn notes(&self) -> &Notes {
-        &self.account.notes
+    pub(crate) fn counts(&self) -> &TurnCounts {
+        &self.account.counts
     }
 
     /// What happened since it was last taken, and takes it.
-    pub(crate) fn take_notes(&mut self) -> Notes {
-        mem::replace(&mut self.account.notes, Notes::NONE)
+    pub(crate) fn take_counts(&mut self) -> TurnCounts {
+        mem::replace(&mut self.account.counts, TurnCounts::NONE)
     }
 
     /// How many steps more may be made or owed of those that were lent.
@@ -307,7 +307,7 @@ impl<T: CoreTurns> Watched<T> {
     }
 }
 
-impl<T: CoreTurns> Turns for Watched<T> {
+impl<T: CoreTurns> Turns for CountedTurns<T> {
     type Event = Event;
 
     type Answer = Answer;
@@ -347,7 +347,7 @@ impl<T: CoreTurns> Turns for Watched<T> {
     }
 }
 
-impl<T: CoreTurns> CoreTurns for Watched<T> {
+impl<T: CoreTurns> CoreTurns for CountedTurns<T> {
     ghost are_histories = { T.are_histories };
 
     ghost answers_fit = { T.answers_fit };

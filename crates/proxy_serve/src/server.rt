@@ -1,12 +1,12 @@
 //! What all threads of a serving share, whichever generation they belong to.
 
 use crate::board::Board;
-use crate::client::Carried;
+use crate::client::CarriedSocket;
 use crate::log::{Level, Log};
 use crate::stats::Stats;
 use crate::stop::Stop;
 use admin_pages::Snapshot;
-use generations::{Course, Due, Generations};
+use generations::{Due, Generations, Phase};
 use histogram::Histogram;
 use mio::Waker;
 use mio::net::TcpStream;
@@ -31,19 +31,18 @@ pub(crate) struct Inherited {
     pub(crate) average: u64,
 }
 
-/// Where the new sockets of a worker's place wait, and those that go over to the newest generation, and how the worker that
-/// has that place now is woken.
+/// Where the new sockets of one worker wait, and those that go over to the newest generation, and how the worker that takes
+/// them now is woken.
 #[derive(Drop)]
-pub(crate) struct Door {
+pub(crate) struct AcceptQueue {
     sockets: Mutex<VecDeque<TcpStream>>,
-    carried: Mutex<VecDeque<Carried>>,
+    carried: Mutex<VecDeque<CarriedSocket>>,
     waker: Mutex<Option<Waker>>,
 }
 
 /// What all threads look at.
-#[derive(Drop)]
-pub(crate) struct House {
-    doors: Vec<Door>,
+pub(crate) struct Server {
+    queues: Vec<AcceptQueue>,
     // Wakes the thread that listens and opens generations.
     waker: Waker,
     // Whether the serving goes on, and where it doesn't, why, if not because it is done.
@@ -59,26 +58,44 @@ pub(crate) struct House {
     stats: Mutex<Stats>,
 }
 
-impl House {
-    /// A house with a door for each worker. The first generation is due.
+// Written out, so that where one is dropped that is one call: each function that holds one is proved sooner.
+impl Drop for Server {
+    fn drop(self) {
+        let Server {
+            queues: _,
+            waker: _,
+            is_running: _,
+            stop: _,
+            log: _,
+            sockets: _,
+            is_draining: _,
+            generations: _,
+            board: _,
+            stats: _,
+        } = self;
+    }
+}
+
+impl Server {
+    /// A server with a queue for each worker. The first generation is due.
     pub(crate) fn new(
         alloc: Global,
         config: &Config,
         waker: Waker,
         connections: u64,
         log: Log,
-    ) -> Result<House, AllocFailed<Door>> {
-        let mut doors = Vec::new(alloc);
+    ) -> Result<Server, AllocFailed<AcceptQueue>> {
+        let mut queues = Vec::new(alloc);
         let interval_ms = u64::from(config.interval_ms);
         for _ in 0..config.workers {
-            doors.push(Door {
+            queues.push(AcceptQueue {
                 sockets: Mutex::new(VecDeque::new(alloc)),
                 carried: Mutex::new(VecDeque::new(alloc)),
                 waker: Mutex::new(None),
             })?;
         }
-        Ok(House {
-            doors,
+        Ok(Server {
+            queues,
             waker,
             is_running: AtomicBool::new(true),
             stop: Mutex::new(None),
@@ -93,7 +110,7 @@ impl House {
 
     /// How many workers each generation has.
     pub(crate) fn workers(&self) -> usize {
-        self.doors.len()
+        self.queues.len()
     }
 
     /// How lines on standard error begin.
@@ -101,9 +118,9 @@ impl House {
         self.log
     }
 
-    // Wakes the worker that has this door now.
-    fn wake<R: Wait>(&self, rt: &R, door: &Door) {
-        if let Some(waker) = &*door.waker.lock(rt) {
+    // Wakes the worker that takes from this queue now.
+    fn wake<R: Wait>(&self, rt: &R, queue: &AcceptQueue) {
+        if let Some(waker) = &*queue.waker.lock(rt) {
             let _ = waker.wake();
         }
     }
@@ -154,8 +171,13 @@ impl House {
         self.end_if_done(sockets);
         let tag = self.log.tag(Level::Notice);
         let _ = eprintln!(rt; "{tag}redproxy: draining, {count} sockets of clients are open");
-        for door in self.doors.iter() {
-            self.wake(rt, door);
+        self.wake_all(rt);
+    }
+
+    // Wakes all workers, and the thread that listens.
+    fn wake_all<R: Wait>(&self, rt: &R) {
+        for queue in self.queues.iter() {
+            self.wake(rt, queue);
         }
         let _ = self.waker.wake();
     }
@@ -170,65 +192,67 @@ impl House {
         self.halt();
     }
 
-    /// Puts a socket down at a worker's door, and wakes the worker. Where there is no memory the socket is closed.
-    pub(crate) fn put<R: Wait>(&self, rt: &R, place: usize, stream: TcpStream) {
-        let Some(door) = self.doors.get(place) else {
+    /// Puts a socket into a worker's queue, and wakes the worker. Where there is no memory the socket is closed.
+    pub(crate) fn push<R: Wait>(&self, rt: &R, place: usize, stream: TcpStream) {
+        let Some(queue) = self.queues.get(place) else {
             return self.let_go(rt);
         };
-        if door.sockets.lock(rt).push_back(stream).is_err() {
+        if queue.sockets.lock(rt).push_back(stream).is_err() {
             self.let_go(rt);
         }
-        self.wake(rt, door);
+        self.wake(rt, queue);
     }
 
-    /// Whether a socket waits at a worker's door.
+    /// Whether a socket waits in a worker's queue.
     pub(crate) fn has_waiting<R: Wait>(&self, rt: &R, place: usize) -> bool {
-        match self.doors.get(place) {
-            Some(door) => { !door.carried.lock(rt).is_empty() || !door.sockets.lock(rt).is_empty() }
+        match self.queues.get(place) {
+            Some(queue) => {
+                !queue.carried.lock(rt).is_empty() || !queue.sockets.lock(rt).is_empty()
+            }
             None => false,
         }
     }
 
-    /// Takes the socket that waits longest at a worker's door.
-    pub(crate) fn take<R: Wait>(&self, rt: &R, place: usize) -> Option<TcpStream> {
-        self.doors.get(place)?.sockets.lock(rt).pop_front()
+    /// Takes the socket that waits longest in a worker's queue.
+    pub(crate) fn pop<R: Wait>(&self, rt: &R, place: usize) -> Option<TcpStream> {
+        self.queues.get(place)?.sockets.lock(rt).pop_front()
     }
 
-    /// Makes room at the door of the place for one socket more that goes over. False says that there is no memory.
+    /// Makes room in the queue for one socket more that goes over. False says that there is no memory.
     ///
-    /// Of each place one worker alone puts sockets down that go over, and the other takes them; so the room stays.
+    /// Into each queue one worker alone puts sockets that go over, and one takes them; so the room stays.
     pub(crate) fn has_room_to_carry<R: Wait>(&self, rt: &R, place: usize) -> bool {
-        match self.doors.get(place) {
-            Some(door) => door.carried.lock(rt).reserve(1).is_ok(),
+        match self.queues.get(place) {
+            Some(queue) => queue.carried.lock(rt).reserve(1).is_ok(),
             None => false,
         }
     }
 
-    /// Puts a socket that goes over down at the door of its place, and wakes the worker that has the place now. Where there is
-    /// no memory the socket is closed, and is counted as closed.
-    pub(crate) fn carry<R: Wait>(&self, rt: &R, place: usize, carried: Carried) {
-        let Some(door) = self.doors.get(place) else {
+    /// Puts a socket that goes over into the queue, and wakes the worker that takes from it now. Where there is no memory the
+    /// socket is closed, and is counted as closed.
+    pub(crate) fn carry<R: Wait>(&self, rt: &R, place: usize, carried: CarriedSocket) {
+        let Some(queue) = self.queues.get(place) else {
             return self.close(rt);
         };
-        if door.carried.lock(rt).push_back(carried).is_err() {
+        if queue.carried.lock(rt).push_back(carried).is_err() {
             self.close(rt);
         }
-        self.wake(rt, door);
+        self.wake(rt, queue);
     }
 
     /// Puts a socket that could not go on yet back in front of the others, as `carry` does.
-    pub(crate) fn carry_back<R: Wait>(&self, rt: &R, place: usize, carried: Carried) {
-        let Some(door) = self.doors.get(place) else {
+    pub(crate) fn carry_back<R: Wait>(&self, rt: &R, place: usize, carried: CarriedSocket) {
+        let Some(queue) = self.queues.get(place) else {
             return self.close(rt);
         };
-        if door.carried.lock(rt).push_front(carried).is_err() {
+        if queue.carried.lock(rt).push_front(carried).is_err() {
             self.close(rt);
         }
     }
 
-    /// Takes the socket that goes over and waits longest at a worker's door.
-    pub(crate) fn take_carried<R: Wait>(&self, rt: &R, place: usize) -> Option<Carried> {
-        self.doors.get(place)?.carried.lock(rt).pop_front()
+    /// Takes the socket that goes over and waits longest in a worker's queue.
+    pub(crate) fn take_carried<R: Wait>(&self, rt: &R, place: usize) -> Option<CarriedSocket> {
+        self.queues.get(place)?.carried.lock(rt).pop_front()
     }
 
     /// Whether the serving goes on.
@@ -257,11 +281,11 @@ impl House {
     }
 
     /// What the generation is to do.
-    pub(crate) fn course(&self, number: u64) -> Course {
+    pub(crate) fn phase(&self, number: u64) -> Phase {
         if self.runs() {
-            self.board.course(number)
+            self.board.phase(number)
         } else {
-            Course::Stops
+            Phase::Stopped
         }
     }
 
@@ -288,9 +312,9 @@ impl House {
         generations.opened(number, now);
         self.publish(generations);
         self.stats.lock(rt).opened();
-        for (door, waker) in self.doors.iter().zip(wakers) {
-            *door.waker.lock(rt) = Some(waker);
-            self.wake(rt, door);
+        for (queue, waker) in self.queues.iter().zip(wakers) {
+            *queue.waker.lock(rt) = Some(waker);
+            self.wake(rt, queue);
         }
     }
 
@@ -300,6 +324,11 @@ impl House {
         if is_last {
             self.end(rt, stop);
         }
+    }
+
+    /// Hosts answered commands of the generation that drains, by this moment.
+    pub(crate) fn progressed<R: Wait>(&self, rt: &R, number: u64, now: u64) {
+        self.generations.lock(rt).progressed(number, now);
     }
 
     /// The newest generation is at three quarters of its marks at this moment.

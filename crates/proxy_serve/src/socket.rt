@@ -16,14 +16,13 @@ use std::os::fd::AsRawFd;
 use std::rc::Rc;
 
 // So many reads of a closed connection's socket are made at most.
-const MOST_THROWN: u32 = 64;
+const MAX_THROWN: u32 = 64;
 
 // So many bytes are still read of an input that is to end behind what has come.
 const MAX_LAST: u64 = 1_048_576;
 
 /// A socket with what is known of it, and the bytes that it is still to be given.
-#[derive(Drop)]
-pub(crate) struct Port {
+pub(crate) struct Socket {
     output: Gatherer<TcpStream>,
     is_readable: bool,
     // The peer sends nothing more: an end of the input stands behind what is unread.
@@ -38,14 +37,29 @@ pub(crate) struct Port {
     left: Option<u64>,
 }
 
+// Written out, so that where one is dropped that is one call: each function that holds one is proved sooner.
+impl Drop for Socket {
+    fn drop(self) {
+        let Socket {
+            output: _,
+            is_readable: _,
+            is_ended: _,
+            is_short: _,
+            has_room: _,
+            taken: _,
+            left: _,
+        } = self;
+    }
+}
+
 fn paused() -> io::Error {
     io::Error::from(ErrorKind::WouldBlock)
 }
 
-impl Port {
+impl Socket {
     /// A socket that may have something and may take something.
-    pub(crate) fn new(alloc: Global, stream: TcpStream) -> Port {
-        Port {
+    pub(crate) fn new(alloc: Global, stream: TcpStream) -> Socket {
+        Socket {
             output: Gatherer::new(alloc, stream),
             is_readable: true,
             is_ended: false,
@@ -77,7 +91,7 @@ impl Port {
     }
 
     /// Takes note of what the poll tells.
-    pub(crate) fn note(&mut self, event: &Event) {
+    pub(crate) fn on_readiness(&mut self, event: &Event) {
         if event.is_readable() || event.is_read_closed() || event.is_error() {
             self.is_readable = true;
         }
@@ -129,15 +143,15 @@ impl Port {
         self.output.is_broken()
     }
 
-    /// Gives the room that is lent for gathering, where the socket has nothing gathered.
-    pub(crate) fn borrow_room(&mut self, room: &mut Vec<u8>) {
-        self.output.borrow_room(room);
+    /// Lends the socket a buffer for gathering, where it has nothing gathered.
+    pub(crate) fn lend_buffer(&mut self, buffer: &mut Vec<u8>) {
+        self.output.borrow_room(buffer);
     }
 
-    /// Writes what is gathered, and gives the room back where all of it was taken.
-    pub(crate) fn write_out(&mut self, room: &mut Vec<u8>) {
+    /// Writes what is gathered, and gives the buffer back where all of it was taken.
+    pub(crate) fn write_out(&mut self, buffer: &mut Vec<u8>) {
         self.has_room = false;
-        self.output.write_out(room);
+        self.output.write_out(buffer);
     }
 
     fn write(&mut self, bytes: &[u8]) -> io::Result<usize>
@@ -213,7 +227,7 @@ impl Port {
     /// Reads what has come and throws it away. True says that the input has ended or failed.
     pub(crate) fn throw_away(&mut self) -> bool {
         let mut piece = [0u8; 1_024];
-        for _ in 0..MOST_THROWN {
+        for _ in 0..MAX_THROWN {
             match self.read_socket(&mut piece) {
                 Ok(0) => return true,
                 Ok(_) => {}
@@ -231,32 +245,53 @@ impl Port {
 
 /// The reading end of a shared socket.
 #[derive(Drop)]
-pub(crate) struct PortReader(Rc<RefCell<Port>>);
+pub(crate) struct SocketReader(Rc<RefCell<Socket>>);
 
 /// The writing end of a shared socket.
 #[derive(Drop)]
-pub(crate) struct PortWriter(Rc<RefCell<Port>>);
+pub(crate) struct SocketWriter(Rc<RefCell<Socket>>);
+
+/// A socket, and the two ends of it for an engine.
+#[derive(Drop)]
+pub(crate) struct SharedSocket {
+    pub(crate) socket: Rc<RefCell<Socket>>,
+    pub(crate) reader: SocketReader,
+    pub(crate) writer: SocketWriter,
+}
+
+/// A new socket with its two ends, or `None` where there is no memory.
+pub(crate) fn shared(alloc: Global, stream: TcpStream) -> Option<SharedSocket> {
+    let Ok(socket) = Rc::new(alloc, RefCell::new(Socket::new(alloc, stream))) else {
+        return None;
+    };
+    let (reader, writer) = ends(&socket)?;
+    Some(SharedSocket {
+        socket,
+        reader,
+        writer,
+    })
+}
 
 /// The two ends of a socket, for an engine.
-pub(crate) fn ends(port: &Rc<RefCell<Port>>) -> Option<(PortReader, PortWriter)> {
-    let reader = PortReader(port.clone().ok()?);
-    let writer = PortWriter(port.clone().ok()?);
+pub(crate) fn ends(socket: &Rc<RefCell<Socket>>) -> Option<(SocketReader, SocketWriter)> {
+    let reader = SocketReader(socket.clone().ok()?);
+    let writer = SocketWriter(socket.clone().ok()?);
     Some((reader, writer))
 }
 
-impl Read for PortReader {
+impl Read for SocketReader {
     fn read(&mut self, buffer: &mut [u8]) -> io::Result<usize> {
         match self.0.try_borrow_mut() {
-            Ok(mut port) => port.read(buffer),
+            Ok(mut socket) => socket.read(buffer),
             Err(_) => Err(paused()),
         }
     }
 }
 
-impl Write for PortWriter {
+impl Write for SocketWriter {
     fn write(&mut self, bytes: &[u8]) -> io::Result<usize> {
         match self.0.try_borrow_mut() {
-            Ok(mut port) => port.write(bytes),
+            Ok(mut socket) => socket.write(bytes),
             Err(_) => Err(paused()),
         }
     }

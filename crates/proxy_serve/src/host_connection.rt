@@ -1,0 +1,551 @@
+//! A host, as its worker has it.
+ghost use Rattle.std.specs.Prelude.{◌≡◌, None, IfOk};
+
+use crate::client::StepError;
+use crate::counted_turns::{CountedTurns, TurnCounts};
+use crate::generation_state::{GenerationState, LARGE};
+use crate::socket::{SharedSocket, Socket, SocketReader, SocketWriter, shared};
+use exit_status::Ending;
+use mio::event::Event as Readiness;
+use mio::net::TcpStream;
+use mio::{Interest, Registry, Token};
+use proxy_core::CoreTurns;
+use proxy_engines::{HostEngine, Progress, Tallied};
+use serve_parts::Refusals;
+use std::alloc::Global;
+use std::cell::RefCell;
+use std::mem;
+use std::net::{Net, SocketAddr};
+use std::rc::Rc;
+use std::sync::Wait;
+
+// Steps of one host in one round.
+const MAX_STEPS: u32 = 4_096;
+
+// A host is looked at after so long at the latest, in milliseconds, so that a late reply is found.
+const LOOK_MS: u64 = 10;
+
+// For so long a link that is being made holds clients back, in milliseconds: until it stands nothing goes out to its host, and
+// what waits there has room for 1,024 parts alone. One that takes longer holds nobody back.
+const CONNECTING_MS: u64 = 20;
+
+// It is told again that a host can't be reached after so many milliseconds.
+const TELL_MS: u64 = 1_000;
+
+type Engine = HostEngine<Tallied<SocketReader>, Tallied<SocketWriter>>;
+
+/// The socket to a host.
+#[derive(Drop)]
+enum LinkState {
+    Down,
+    /// A connection is being made since this moment; whether the poll told anything of it.
+    Connecting {
+        stream: TcpStream,
+        since: u64,
+        is_told: bool,
+    },
+    Up(Rc<RefCell<Socket>>),
+}
+
+/// What came of a connection that is being made.
+#[derive(Clone, Copy, Drop)]
+enum ConnectOutcome {
+    Pending,
+    Refused,
+    Established,
+}
+
+/// A worker's round over its hosts.
+#[derive(Clone, Copy, Drop)]
+pub(crate) struct HostRound {
+    /// The moment, in milliseconds.
+    pub(crate) now: u64,
+    /// Whether what waits for the host is given up.
+    pub(crate) gives_up: bool,
+}
+
+pub(crate) struct HostConnection {
+    alloc: Global,
+    engine: Engine,
+    address: SocketAddr,
+    token: Token,
+    reply_ms: u64,
+    link: LinkState,
+    // How often parts had come for all hosts when this one was last asked for its own.
+    parts: u64,
+    looked: u64,
+    has_more: bool,
+    // Refusals of memory to its next step, or to its link.
+    refusals: Refusals,
+    // How many bytes had come on the link when a reply was last taken.
+    begun: u64,
+    // How many bytes of a large reply that is coming were told.
+    coming: u64,
+    // When it was last told that the host can't be reached.
+    told: Option<u64>,
+}
+
+// Written out, so that where one is dropped that is one call: each function that holds one is proved sooner.
+impl Drop for HostConnection {
+    fn drop(self) {
+        let HostConnection {
+            alloc: _,
+            engine: _,
+            address: _,
+            token: _,
+            reply_ms: _,
+            link: _,
+            parts: _,
+            looked: _,
+            has_more: _,
+            refusals: _,
+            begun: _,
+            coming: _,
+            told: _,
+        } = self;
+    }
+}
+
+impl HostConnection {
+    pub(crate) fn new(
+        alloc: Global,
+        host: usize,
+        address: SocketAddr,
+        token: Token,
+        reply_ms: u64,
+    ) -> HostConnection {
+        HostConnection {
+            alloc,
+            engine: HostEngine::new(alloc, host, reply_ms),
+            address,
+            token,
+            reply_ms,
+            link: LinkState::Down,
+            parts: 0,
+            looked: 0,
+            has_more: true,
+            refusals: Refusals::new(),
+            begun: 0,
+            coming: 0,
+            told: None,
+        }
+    }
+
+    /// Where it is.
+    pub(crate) fn address(&self) -> SocketAddr {
+        self.address
+    }
+
+    /// Whether a link to it is being made, and that not for long.
+    pub(crate) fn is_connecting(&self, now: u64) -> bool {
+        match &self.link {
+            LinkState::Connecting { since, .. } => now.saturating_sub(*since) < CONNECTING_MS,
+            LinkState::Down | LinkState::Up(_) => false,
+        }
+    }
+
+    /// Takes note of what the poll tells.
+    pub(crate) fn on_readiness(&mut self, event: &Readiness) {
+        match &mut self.link {
+            LinkState::Down => {}
+            LinkState::Connecting { is_told, .. } => *is_told = true,
+            LinkState::Up(socket) => {
+                if let Ok(mut socket) = socket.try_borrow_mut() {
+                    socket.on_readiness(event);
+                }
+            }
+        }
+    }
+
+    /// Whether a round can bring anything.
+    pub(crate) fn may_go(&self, generation: &GenerationState<'_>, now: u64) -> bool {
+        self.has_more
+            || self.parts != generation.parts()
+            || now.saturating_sub(self.looked) >= LOOK_MS
+            || self.has_event()
+    }
+
+    fn has_event(&self) -> bool {
+        match &self.link {
+            LinkState::Down => false,
+            LinkState::Connecting { is_told, .. } => *is_told,
+            LinkState::Up(socket) => match socket.try_borrow() {
+                Ok(socket) => socket.may_read() || socket.may_write(),
+                Err(_) => false,
+            },
+        }
+    }
+
+    /// Steps the engine as far as it goes, writes what it gathered, and makes a link where one is needed. True says that
+    /// the host couldn't be reached, and that this is to be told.
+    pub(crate) fn run_once<R: Wait + Net, T: CoreTurns>(
+        &mut self,
+        rt: &R,
+        turns: &mut CountedTurns<T>,
+        generation: &GenerationState<'_>,
+        registry: &Registry,
+        buffer: &mut Vec<u8>,
+        round: HostRound,
+    ) -> Result<bool, StepError> {
+        self.has_more = false;
+        self.looked = round.now;
+        self.parts = generation.parts();
+        self.lend_buffer(buffer);
+        let stepped = self.step_engine(rt, turns, generation, registry, round);
+        self.write_out(buffer);
+        if turns.take_counts().has_replies {
+            generation.count_replies();
+        }
+        self.has_more = self.has_more || stepped.is_err();
+        match stepped {
+            Ok(is_refused) => Ok(is_refused && self.is_to_be_told(round.now)),
+            Err(StepError::Memory) if self.refusals.refused() => Err(StepError::Ends(
+                Ending::Memory,
+            )),
+            Err(error) => Err(error),
+        }
+    }
+
+    // Whether it is time to tell again that the host can't be reached.
+    fn is_to_be_told(&mut self, now: u64) -> bool {
+        let is_due = match self.told {
+            None => true,
+            Some(told) => now.saturating_sub(told) >= TELL_MS,
+        };
+        if is_due {
+            self.told = Some(now);
+        }
+        is_due
+    }
+
+    fn lend_buffer(&mut self, buffer: &mut Vec<u8>) {
+        if let LinkState::Up(socket) = &self.link {
+            if let Ok(mut socket) = socket.try_borrow_mut() {
+                socket.lend_buffer(buffer);
+            }
+        }
+    }
+
+    fn write_out(&mut self, buffer: &mut Vec<u8>) {
+        if let LinkState::Up(socket) = &self.link {
+            if let Ok(mut socket) = socket.try_borrow_mut() {
+                socket.write_out(buffer);
+            }
+        }
+    }
+
+    fn step_engine<R: Wait + Net, T: CoreTurns>(
+        &mut self,
+        rt: &R,
+        turns: &mut CountedTurns<T>,
+        generation: &GenerationState<'_>,
+        registry: &Registry,
+        round: HostRound,
+    ) -> Result<bool, StepError> {
+        let mut is_refused = false;
+        for _ in 0..MAX_STEPS {
+            match self.step(rt, turns, generation, round)? {
+                Progress::Moved => self.refusals.succeeded(),
+                Progress::NeedsLink if round.gives_up || turns.free_steps() == 0 => {
+                    self.give_up(rt, turns, round.now)?;
+                }
+                Progress::NeedsLink => match self.make_link(rt, turns, registry, round.now)? {
+                    ConnectOutcome::Pending => return Ok(is_refused),
+                    ConnectOutcome::Refused => is_refused = true,
+                    ConnectOutcome::Established => {}
+                },
+                Progress::Idle | Progress::Cut | Progress::Ended => {
+                    self.refusals.succeeded();
+                    self.abandon_connecting();
+                    return Ok(is_refused);
+                }
+            }
+        }
+        self.has_more = true;
+        Ok(is_refused)
+    }
+
+    // Has a connection made, and tells the engine what came of it.
+    fn make_link<R: Wait + Net, T: CoreTurns>(
+        &mut self,
+        rt: &R,
+        turns: &mut CountedTurns<T>,
+        registry: &Registry,
+        now: u64,
+    ) -> Result<ConnectOutcome, StepError>
+        requires link { self.old.engine.link ≡ None }
+        requires fault { self.old.engine.fault ≡ None }
+    {
+        let outcome = self.connect(rt, registry, now);
+        match outcome {
+            ConnectOutcome::Pending => {}
+            ConnectOutcome::Refused => self.refuse(rt, turns, now)?,
+            ConnectOutcome::Established => self.attach()?,
+        }
+        Ok(outcome)
+    }
+
+    // One step of the engine, and what it says of the socket. A link that has to go is given up before it.
+    fn step<R: Wait, T: CoreTurns>(
+        &mut self,
+        rt: &R,
+        turns: &mut CountedTurns<T>,
+        generation: &GenerationState<'_>,
+        round: HostRound,
+    ) -> Result<Progress, StepError>
+        ensures { IfOk result (λ p. p ≡ Progress.NeedsLink
+            → (self.new.engine.link ≡ None) × (self.new.engine.fault ≡ None)) }
+    {
+        if self.is_to_be_given_up(rt, turns, generation, round.gives_up) {
+            self.give_up(rt, turns, round.now)?;
+        }
+        let before = *turns.counts();
+        let stepped = self.engine.step(rt, turns, round.now);
+        self.note_step(&before, turns.counts());
+        match stepped {
+            Ok(progress) => Ok(progress),
+            Err(error) => {
+                self.handle_error(rt, turns, StepError::from(error), round.now)?;
+                Ok(Progress::Moved)
+            }
+        }
+    }
+
+    // What a step said of the socket, by what was counted before it and behind it.
+    fn note_step(&mut self, before: &TurnCounts, after: &TurnCounts)
+        ensures { self.new.engine ≡ self.old.engine }
+    {
+        if after.matched != before.matched {
+            self.note_reply();
+        }
+        if after.faults != before.faults {
+            self.abandon_connecting();
+        }
+        self.drop_if_released();
+    }
+
+    // What an error means: a reply that doesn't fit the journal goes with its link.
+    fn handle_error<R: Wait, T: CoreTurns>(
+        &mut self,
+        rt: &R,
+        turns: &mut CountedTurns<T>,
+        error: StepError,
+        now: u64,
+    ) -> Result<(), StepError> {
+        match error {
+            StepError::Alone => Ok(()),
+            StepError::Full => self.give_up(rt, turns, now),
+            StepError::Memory | StepError::Ends(_) => Err(error),
+        }
+    }
+
+    // Whether the link has to go: what waits for the host is given up, or the journal has no room for the reply that comes.
+    fn is_to_be_given_up<R: Wait, T: CoreTurns>(
+        &mut self,
+        rt: &R,
+        turns: &mut CountedTurns<T>,
+        generation: &GenerationState<'_>,
+        gives_up: bool,
+    ) -> bool
+        ensures { self.new.engine ≡ self.old.engine }
+    {
+        let taken = self.taken();
+        let came = taken.unwrap_or(0).saturating_sub(self.begun);
+        let is_small = came.max(self.coming).max(turns.untold_bytes()) < LARGE;
+        let has_room = if is_small {
+            turns.has_room_for_reply(came)
+        } else {
+            generation.takes_reply(rt, turns, came, self.coming)
+        };
+        if !is_small {
+            self.coming = came;
+        }
+        taken.is_some() && (gives_up || !has_room)
+    }
+
+    // How many bytes came on the link.
+    fn taken(&self) -> Option<u64> {
+        match &self.link {
+            LinkState::Up(socket) => match socket.try_borrow() {
+                Ok(socket) => Some(socket.taken()),
+                Err(_) => None,
+            },
+            LinkState::Down | LinkState::Connecting { .. } => None,
+        }
+    }
+
+    // What comes from here on belongs to another reply.
+    fn note_reply(&mut self)
+        ensures { self.new.engine ≡ self.old.engine }
+    {
+        if let Some(taken) = self.taken() {
+            self.begun = taken;
+        }
+    }
+
+    // Gives up what waits for the host and the link to it: each part is answered by name.
+    fn give_up<R: Wait, T: CoreTurns>(
+        &mut self,
+        rt: &R,
+        turns: &mut CountedTurns<T>,
+        now: u64,
+    ) -> Result<(), StepError> {
+        let given_up = self.engine.give_up(rt, turns, now);
+        self.set_link(LinkState::Down);
+        match given_up {
+            Ok(()) => Ok(()),
+            Err(error) => match StepError::from(error) {
+                StepError::Alone => Ok(()),
+                other => Err(other),
+            },
+        }
+    }
+
+    // Lets the socket go once the engine has given the link up.
+    fn drop_if_released(&mut self)
+        ensures { self.new.engine ≡ self.old.engine }
+    {
+        if let LinkState::Up(socket) = &self.link {
+            if Rc::strong_count(socket) < 3 {
+                self.set_link(LinkState::Down);
+            }
+        }
+    }
+
+    // Lets a connection go that is being made, once nothing waits for it or what waited is lost: what comes next has one made
+    // anew.
+    fn abandon_connecting(&mut self)
+        ensures { self.new.engine ≡ self.old.engine }
+    {
+        if matches!(self.link, LinkState::Connecting { .. }) {
+            self.set_link(LinkState::Down);
+        }
+    }
+
+    // Puts another link in the place of the one that was there.
+    fn set_link(&mut self, link: LinkState)
+        ensures { self.new.engine ≡ self.old.engine }
+    {
+        drop(mem::replace(&mut self.link, link));
+    }
+
+    // Begins a connection, or looks what came of it.
+    fn connect<R: Net>(&mut self, rt: &R, registry: &Registry, now: u64) -> ConnectOutcome
+        ensures { self.new.engine ≡ self.old.engine }
+    {
+        if let LinkState::Connecting {
+            stream,
+            since,
+            is_told,
+        } = &mut self.link
+        {
+            let overdue = now.saturating_sub(*since) >= self.reply_ms;
+            let found = look(stream, *is_told, overdue);
+            *is_told = false;
+            return found;
+        }
+        match TcpStream::connect(rt, self.address) {
+            Ok(stream) => self.begin_connecting(stream, registry, now),
+            Err(_) => ConnectOutcome::Refused,
+        }
+    }
+
+    fn begin_connecting(
+        &mut self,
+        mut stream: TcpStream,
+        registry: &Registry,
+        now: u64,
+    ) -> ConnectOutcome
+        ensures { self.new.engine ≡ self.old.engine }
+    {
+        let _ = stream.set_nodelay(true);
+        let interests = Interest::READABLE | Interest::WRITABLE;
+        if registry
+            .register(&mut stream, self.token, interests)
+            .is_err()
+        {
+            return ConnectOutcome::Refused;
+        }
+        self.set_link(LinkState::Connecting {
+            stream,
+            since: now,
+            is_told: false,
+        });
+        ConnectOutcome::Pending
+    }
+
+    fn refuse<R: Wait, T: CoreTurns>(
+        &mut self,
+        rt: &R,
+        turns: &mut CountedTurns<T>,
+        now: u64,
+    ) -> Result<(), StepError>
+        requires { self.old.engine.link ≡ None }
+    {
+        self.set_link(LinkState::Down);
+        match self.engine.refused(rt, turns, now) {
+            Ok(()) => Ok(()),
+            Err(error) => match StepError::from(error) {
+                StepError::Alone => Ok(()),
+                other => Err(other),
+            },
+        }
+    }
+
+    // Gives the engine the link that stands.
+    fn attach(&mut self) -> Result<(), StepError>
+        requires link { self.old.engine.link ≡ None }
+        requires fault { self.old.engine.fault ≡ None }
+    {
+        match mem::replace(&mut self.link, LinkState::Down) {
+            LinkState::Connecting { stream, .. } => self.attach_socket(stream),
+            other => {
+                self.set_link(other);
+                Ok(())
+            }
+        }
+    }
+
+    fn attach_socket(&mut self, stream: TcpStream) -> Result<(), StepError>
+        requires link { self.old.engine.link ≡ None }
+        requires fault { self.old.engine.fault ≡ None }
+    {
+        let Some(
+            SharedSocket {
+                socket,
+                reader,
+                writer,
+            },
+        ) = shared(self.alloc, stream)
+        else {
+            return Err(StepError::Memory);
+        };
+        let attached = self
+            .engine
+            .attach(Tallied::new(reader), Tallied::new(writer));
+        if attached.is_err() {
+            return Err(StepError::Memory);
+        }
+        self.set_link(LinkState::Up(socket));
+        self.begun = 0;
+        Ok(())
+    }
+}
+
+// What came of a connection that is being made.
+fn look(stream: &TcpStream, is_told: bool, is_overdue: bool) -> ConnectOutcome {
+    if is_told {
+        match stream.take_error() {
+            Ok(None) => {}
+            Ok(Some(_)) | Err(_) => return ConnectOutcome::Refused,
+        }
+        if stream.peer_addr().is_ok() {
+            return ConnectOutcome::Established;
+        }
+    }
+    if is_overdue {
+        ConnectOutcome::Refused
+    } else {
+        ConnectOutcome::Pending
+    }
+}
