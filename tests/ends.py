@@ -116,7 +116,8 @@ class Proxy:
     def __init__(self, servers, connections=0, program=PROGRAM, environment=None, before=(), after=(), **settings):
         self.port = free_port()
         self.room = tempfile.mkdtemp(prefix="redproxy-")
-        self.names = [f"127.0.0.1:{server.port}" for server in servers]
+        self.names = settings.get("hosts") or [f"127.0.0.1:{server.port}" for server in servers]
+        self.weights = settings.get("weights") or [1] * len(self.names)
         self.file = os.path.join(self.room, "settings.json")
         with open(self.file, "w", encoding="utf-8") as out:
             json.dump({"listen": f"127.0.0.1:{self.port}", "hosts": self.names, **settings}, out)
@@ -153,11 +154,12 @@ class Proxy:
         return self.errors.read()
 
     def owner(self, key):
-        """Which server owns a key: libketama's ring of hosts of equal weight."""
+        """Which server owns a key: libketama's ring."""
         if not hasattr(self, "ring"):
+            digests = [40 * len(self.names) * weight // sum(self.weights) for weight in self.weights]
             self.ring = sorted(
                 (int.from_bytes(hashlib.md5(f"{name}-{n}".encode()).digest()[4 * k:4 * k + 4], "little"), host)
-                for host, name in enumerate(self.names) for n in range(40) for k in range(4))
+                for host, name in enumerate(self.names) for n in range(digests[host]) for k in range(4))
         point = int.from_bytes(hashlib.md5(key.encode()).digest()[:4], "little")
         return self.ring[bisect.bisect_left(self.ring, (point, -1)) % len(self.ring)][1]
 
