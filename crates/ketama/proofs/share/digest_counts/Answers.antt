@@ -1,5 +1,6 @@
 use Rattle.std.proofs.Common.{◌≤◌, ◌<◌, ◌^◌, ◌*◌, ◌/◌, ◌∙◌, length, map, sum, ap, sym, subst, arith}
 use Rattle.std.proofs.lemmas.List.{take_all}
+use Rattle.std.proofs.lemmas.Grind.{common_steps}
 use Rattle.ketama.proofs.Shares.{weights_fit, counts_fit}
 use Rattle.ketama.proofs.share.digest_counts.Goals as goal
 
@@ -12,3 +13,6 @@ returns-clause-few c =
     let done : length weights ≤ c.loop-weight.weight-index = omega arith in
     subst (λ counts. sum counts < 2 ^ 32) (sym (c.loop-weight.invariant ∙ ap (map (λ w. 40 * length weights * w / sum weights)) (take_all c.loop-weight.weight-index weights done)))
     (counts_fit weights c.requires.few)
+
+pub loop-weight-preserved : goal.loop-weight-preserved
+loop-weight-preserved c = grind (arith, common_steps)

@@ -42,3 +42,6 @@ returns-in_default c =
       };
       err = tt;
     }
+
+pub returns-in_err-write-clause-err : goal.returns-in_err-write-clause-err
+returns-in_err-write-clause-err c = search rules

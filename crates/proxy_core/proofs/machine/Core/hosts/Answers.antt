@@ -38,3 +38,10 @@ returns-clause-few c =
     let found = ap (λ (k : Machine). length k.pipelines.states) c.deref.ensures in
     let same : c.len.result ≡ m.ejector.rules.hosts = c.len.ensures ∙ found ∙ asked_hosts m c.self.invariant in
     omega (arith, same, (in_range m.ejector.rules c.self.invariant.rules).few_hosts)
+
+pub returns-clause-some : goal.returns-clause-some
+returns-clause-some c =
+    let m = c.self.inside.machine.value in
+    let found = ap (λ (k : Machine). length k.pipelines.states) c.deref.ensures in
+    let same : c.len.result ≡ m.ejector.rules.hosts = c.len.ensures ∙ found ∙ asked_hosts m c.self.invariant in
+    omega (arith, same, (in_range m.ejector.rules c.self.invariant.rules).some_hosts)
