@@ -96,6 +96,15 @@ pub(crate) struct Fault {
     number: u64,
 }
 
+impl Fault {
+    // A scene that went otherwise than another one.
+    pub(crate) const OTHERWISE: Fault = Fault {
+        act: 0,
+        came: "another journal",
+        number: 0,
+    };
+}
+
 // What came, unless it is right.
 fn unless(is_right: bool, what: &'static str, number: u64) -> Result<(), Came> {
     if is_right {
@@ -116,13 +125,39 @@ fn made(outcome: Result<(), EngineError>) -> Result<(), Came> {
     }
 }
 
+// Acts of a scene's own, and lists of acts before and after them: so what is the same in many scenes is a constant.
+#[derive(Clone, Copy)]
+pub(crate) struct Scene<'a> {
+    pub(crate) before: &'static [&'static [Act]],
+    pub(crate) acts: &'a [Act],
+    pub(crate) after: &'static [Act],
+}
+
+impl Scene<'static> {
+    // A scene that is a constant.
+    pub(crate) fn of(acts: &'static [Act]) -> Scene<'static> {
+        Scene {
+            before: &[],
+            acts,
+            after: &[],
+        }
+    }
+}
+
+// A link to a stub for each of three hosts.
+pub(crate) const STUBS: &[&[Act]] = &[&[
+    Act::Links(Link::STUB),
+    Act::Links(Link::STUB),
+    Act::Links(Link::STUB),
+]];
+
 // Plays a scene before so many hosts, one or three.
 pub(crate) fn play<Rt: Wait + AllocGlobal>(
     rt: &Rt,
     hosts: usize,
-    acts: &[Act],
+    scene: Scene<'_>,
 ) -> Result<(), Fault> {
-    match record(rt, hosts, Ration::FREE, acts) {
+    match record(rt, hosts, Ration::FREE, scene) {
         Ok(core) => Ok(drop(core)),
         Err(fault) => Err(fault),
     }
@@ -133,11 +168,11 @@ pub(crate) fn record<Rt: Wait + AllocGlobal>(
     rt: &Rt,
     hosts: usize,
     ration: Ration,
-    acts: &[Act],
+    scene: Scene<'_>,
 ) -> Result<Core, Fault> {
     let stage = Stage::new(rt.alloc());
     match Rig::new(rt.alloc(), &stage, hosts, ration) {
-        Ok(rig) => rig.played(rt, acts),
+        Ok(rig) => rig.played(rt, scene),
         Err(_) => Err(Fault {
             act: 0,
             came: "no memory",
@@ -148,15 +183,32 @@ pub(crate) fn record<Rt: Wait + AllocGlobal>(
 
 impl<'a> Rig<'a> {
     // Plays acts in their order: the core, at the end, or the first act that fails.
-    fn played<Rt: Wait + AllocGlobal>(mut self, rt: &Rt, acts: &[Act]) -> Result<Core, Fault> {
-        match self.play(rt, acts) {
+    fn played<Rt: Wait + AllocGlobal>(mut self, rt: &Rt, scene: Scene<'_>) -> Result<Core, Fault> {
+        match self.play(rt, scene) {
             Ok(()) => Ok(self.into_core()),
             Err(fault) => Err(fault),
         }
     }
 
-    fn play<Rt: Wait + AllocGlobal>(&mut self, rt: &Rt, acts: &[Act]) -> Result<(), Fault> {
-        for (place, act) in acts.iter().enumerate() {
+    fn play<Rt: Wait + AllocGlobal>(&mut self, rt: &Rt, scene: Scene<'_>) -> Result<(), Fault> {
+        let mut place = 0usize;
+        for acts in scene.before {
+            place = self.play_acts(rt, acts, place)?;
+        }
+        place = self.play_acts(rt, scene.acts, place)?;
+        self.play_acts(rt, scene.after, place)?;
+        Ok(())
+    }
+
+    // Plays acts that stand from this place of the scene on: the place behind them.
+    fn play_acts<Rt: Wait + AllocGlobal>(
+        &mut self,
+        rt: &Rt,
+        acts: &[Act],
+        from: usize,
+    ) -> Result<usize, Fault> {
+        let mut place = from;
+        for act in acts {
             if let Err(Came { what, number }) = self.act(rt, *act) {
                 return Err(Fault {
                     act: place,
@@ -164,8 +216,9 @@ impl<'a> Rig<'a> {
                     number,
                 });
             }
+            place = place.saturating_add(1);
         }
-        Ok(())
+        Ok(place)
     }
 
     fn act<Rt: Wait + AllocGlobal>(&mut self, rt: &Rt, act: Act) -> Result<(), Came> {

@@ -1,10 +1,12 @@
 //! Clients whose readers and writers fail, whose writers take nothing, and who never read.
 
-use crate::acts::{Act, Fault, play};
+use crate::acts::{Act, Fault, STUBS, Scene, play};
 use crate::fake_devices::{Feed, Text};
 use crate::journal::Deed;
 use crate::rig::{Ends, Link, Told};
-use crate::texts::{Exchange, GET, NOTHING, OTHER_KEYS, PINGS, SET_AND_MGET};
+use crate::texts::{
+    BOTH_ANSWERS, Exchange, GET, NOTHING, OTHER_ANSWERS, OTHER_KEYS, PINGS, SET_AND_MGET,
+};
 use proxy_core::Refusal;
 use proxy_engines::{EngineError, Progress};
 use std::sync::Wait;
@@ -21,6 +23,14 @@ const READ_FAILED: Option<Told> = Some(Told {
     deed: Some(Deed::Closed),
 });
 
+// A client that is closed, since its writer failed.
+const WRITER_CUT: &[Act] = &[
+    Act::ClientTold(WRITE_FAILED),
+    Act::IsNumbered(EngineError::WriteFailed, 1403),
+    Act::Did(Deed::Closed, 1),
+    Act::Steps(Progress::Cut, 3),
+];
+
 // A client whose writer takes just `said`, and is closed.
 fn check_writer<Rt: Wait + AllocGlobal>(
     rt: &Rt,
@@ -28,19 +38,17 @@ fn check_writer<Rt: Wait + AllocGlobal>(
     ends: Ends,
     said: &'static [u8],
 ) -> Result<(), Fault> {
-    let scene = [
-        Act::Links(Link::STUB),
-        Act::Links(Link::STUB),
-        Act::Links(Link::STUB),
+    let visit = [
         Act::Opens(Feed::Whole(asked), ends),
         Act::Runs(0),
         Act::Took(Text::All(said)),
-        Act::ClientTold(WRITE_FAILED),
-        Act::IsNumbered(EngineError::WriteFailed, 1403),
-        Act::Did(Deed::Closed, 1),
-        Act::Steps(Progress::Cut, 3),
     ];
-    play(rt, 3, &scene)
+    let scene = Scene {
+        before: STUBS,
+        acts: &visit,
+        after: WRITER_CUT,
+    };
+    play(rt, 3, scene)
 }
 
 // After each byte of an output of so many bytes but the last, whatever it takes at a call: the client took the output's first
@@ -52,30 +60,37 @@ fn check_writers<Rt: Wait + AllocGlobal>(
 ) -> Result<(), Fault> {
     for len in 0..bytes.min(answers.len()) {
         for writing in [Ends::ALL, 1] {
-            let ends = Ends {
-                writes: len as u64,
-                writing,
-                ..Ends::FREE
-            };
-            check_writer(rt, asked, ends, answers.split_at(len).0)?;
+            check_writer(
+                rt,
+                asked,
+                Ends::writing(len, writing),
+                answers.split_at(len).0,
+            )?;
         }
     }
     Ok(())
 }
 
 // A write that takes nothing of what it is given is a failure too.
+fn check_all_writers<Rt: Wait + AllocGlobal>(rt: &Rt) -> Result<(), Fault> {
+    check_writers(rt, PINGS, 14)?;
+    check_writers(rt, SET_AND_MGET, 28)?;
+    check_writer(rt, SET_AND_MGET.0, Ends::writing(1_000, 0), b"")
+}
+
 #[test]
 fn failing_writers_cut(rt: HostRuntime) -> Result<(), Fail> {
-    check_writers(&rt, PINGS, 14)?;
-    check_writers(&rt, SET_AND_MGET, 28)?;
-    let ends = Ends {
-        writes: 1_000,
-        writing: 0,
-        ..Ends::FREE
-    };
-    check_writer(&rt, SET_AND_MGET.0, ends, b"")?;
+    check_all_writers(&rt)?;
     Ok(())
 }
+
+// A client that is closed, since its reader failed.
+const READER_CUT: &[Act] = &[
+    Act::ClientTold(READ_FAILED),
+    Act::IsNumbered(EngineError::ReadFailed, 1402),
+    Act::Did(Deed::Closed, 1),
+    Act::Steps(Progress::Cut, 3),
+];
 
 // A client whose reader fails: so many commands were accepted, and what is answered is a beginning of this.
 fn check_reader<Rt: Wait + AllocGlobal>(
@@ -84,20 +99,18 @@ fn check_reader<Rt: Wait + AllocGlobal>(
     ends: Ends,
     (whole, answers): (usize, &'static [u8]),
 ) -> Result<(), Fault> {
-    let scene = [
-        Act::Links(Link::STUB),
-        Act::Links(Link::STUB),
-        Act::Links(Link::STUB),
+    let visit = [
         Act::Opens(Feed::Whole(asked), ends),
         Act::Runs(0),
-        Act::ClientTold(READ_FAILED),
-        Act::IsNumbered(EngineError::ReadFailed, 1402),
-        Act::Did(Deed::Closed, 1),
-        Act::Steps(Progress::Cut, 3),
         Act::Took(Text::BeginningOf(answers)),
         Act::Did(Deed::Arrived, whole),
     ];
-    play(rt, 3, &scene)
+    let scene = Scene {
+        before: STUBS,
+        acts: &visit,
+        after: READER_CUT,
+    };
+    play(rt, 3, scene)
 }
 
 // After each byte of the input, whatever it gives at a call: what came whole before was accepted, and nothing is answered that
@@ -115,23 +128,21 @@ fn check_readers<Rt: Wait + AllocGlobal>(
         } else {
             (2, second.1)
         };
-        for reading in [Ends::ALL, 1] {
-            let ends = Ends {
-                reads: len as u64,
-                reading,
-                ..Ends::FREE
-            };
-            let answers = answers.split_at(said.min(answers.len())).0;
-            check_reader(rt, asked, ends, (whole, answers))?;
-        }
+        let answers = answers.split_at(said.min(answers.len())).0;
+        check_reader(rt, asked, Ends::reading(len, Ends::ALL), (whole, answers))?;
+        check_reader(rt, asked, Ends::reading(len, 1), (whole, answers))?;
     }
     Ok(())
 }
 
+fn check_all_readers<Rt: Wait + AllocGlobal>(rt: &Rt) -> Result<(), Fault> {
+    check_readers(rt, PINGS, [(14, 7), (28, 14)])?;
+    check_readers(rt, SET_AND_MGET, [(27, 5), (62, 28)])
+}
+
 #[test]
 fn failing_readers_cut(rt: HostRuntime) -> Result<(), Fail> {
-    check_readers(&rt, PINGS, [(14, 7), (28, 14)])?;
-    check_readers(&rt, SET_AND_MGET, [(27, 5), (62, 28)])?;
+    check_all_readers(&rt)?;
     Ok(())
 }
 
@@ -154,31 +165,34 @@ const PINGS_IN_TIME: &[Act] = &[
 
 #[test]
 fn ends_that_last_are_enough(rt: HostRuntime) -> Result<(), Fail> {
-    play(&rt, 1, PINGS_IN_TIME)?;
+    play(&rt, 1, Scene::of(PINGS_IN_TIME))?;
     Ok(())
 }
 
 // The first of two clients is cut: what it was answered stays, its later events are refused, no host is at fault, and the other
 // gets all answers.
 fn check_beside<Rt: Wait + AllocGlobal>(rt: &Rt, ends: Ends) -> Result<(), Fault> {
-    let scene = [
-        Act::Links(Link::STUB),
-        Act::Links(Link::STUB),
-        Act::Links(Link::STUB),
-        Act::Opens(Feed::Whole(SET_AND_MGET.0), ends),
-        Act::Opens(Feed::Whole(OTHER_KEYS.0), SLOW),
-        Act::Runs(0),
-        Act::Steps(Progress::Cut, 3),
-        Act::Took(Text::BeginningOf(SET_AND_MGET.1)),
-        Act::SecondTook(Text::All(OTHER_KEYS.1)),
-        Act::Did(Deed::Failed, 0),
-        Act::IsRefused(Deed::Arrived, Refusal::NoSuchConnection),
-        Act::IsRefused(Deed::Finished, Refusal::NoSuchConnection),
-        Act::IsRefused(Deed::Handed, Refusal::NoSuchConnection),
-        Act::IsRefused(Deed::Closed, Refusal::NoSuchConnection),
-    ];
-    play(rt, 3, &scene)
+    let opens = [Act::Opens(Feed::Whole(SET_AND_MGET.0), ends)];
+    let scene = Scene {
+        before: STUBS,
+        acts: &opens,
+        after: CUT_BESIDE,
+    };
+    play(rt, 3, scene)
 }
+
+const CUT_BESIDE: &[Act] = &[
+    Act::Opens(Feed::Whole(OTHER_KEYS), SLOW),
+    Act::Runs(0),
+    Act::Steps(Progress::Cut, 3),
+    Act::Took(Text::BeginningOf(BOTH_ANSWERS)),
+    Act::SecondTook(Text::All(OTHER_ANSWERS)),
+    Act::Did(Deed::Failed, 0),
+    Act::IsRefused(Deed::Arrived, Refusal::NoSuchConnection),
+    Act::IsRefused(Deed::Finished, Refusal::NoSuchConnection),
+    Act::IsRefused(Deed::Handed, Refusal::NoSuchConnection),
+    Act::IsRefused(Deed::Closed, Refusal::NoSuchConnection),
+];
 
 // The ends of a client that is read in pieces of 5 bytes and takes one byte at a time.
 const SLOW: Ends = Ends {
@@ -188,25 +202,20 @@ const SLOW: Ends = Ends {
     writing: 1,
 };
 
+fn check_all_beside<Rt: Wait + AllocGlobal>(rt: &Rt) -> Result<(), Fault> {
+    for reads in 0..=SET_AND_MGET.0.len() {
+        check_beside(rt, Ends::reading(reads, 3))?;
+    }
+    for writes in 0..SET_AND_MGET.1.len() {
+        check_beside(rt, Ends::writing(writes, 2))?;
+    }
+    Ok(())
+}
+
 // A client that is cut after each byte read and after each byte written disturbs nobody.
 #[test]
 fn cut_clients_leave_others(rt: HostRuntime) -> Result<(), Fail> {
-    for reads in 0..=SET_AND_MGET.0.len() {
-        let ends = Ends {
-            reads: reads as u64,
-            reading: 3,
-            ..Ends::FREE
-        };
-        check_beside(&rt, ends)?;
-    }
-    for writes in 0..SET_AND_MGET.1.len() {
-        let ends = Ends {
-            writes: writes as u64,
-            writing: 2,
-            ..Ends::FREE
-        };
-        check_beside(&rt, ends)?;
-    }
+    check_all_beside(&rt)?;
     Ok(())
 }
 
@@ -236,6 +245,6 @@ const NEVER_READS: &[Act] = &[
 
 #[test]
 fn clients_that_never_read_stop_all(rt: HostRuntime) -> Result<(), Fail> {
-    play(&rt, 1, NEVER_READS)?;
+    play(&rt, 1, Scene::of(NEVER_READS))?;
     Ok(())
 }

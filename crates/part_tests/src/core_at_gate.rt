@@ -2,7 +2,7 @@
 ghost use Rattle.std.specs.Prelude.{◌≡◌, [], IfOk};
 ghost use Rattle.ticket_gate.specs.Gate.{IsPassOf};
 
-use crate::gate::{enrol, open};
+use crate::gate::pair;
 use ketama::Ring;
 use proxy_core::{Core, Event, Settings};
 use std::alloc::Global;
@@ -29,11 +29,30 @@ fn sweep<R: Wait>(rt: &R, gate: &Gate<Core>, pass: Pass<Core>) -> (Pass<Core>, u
     let mut pass = pass;
     let mut answered = 0u64;
     for t in 0..SWEEPS {
-        if gate.take_turn(rt, &mut pass, Event::Swept { t }).is_ok() {
-            answered += 1;
-        }
+        let turned = gate.take_turn(rt, &mut pass, Event::Swept { t });
+        answered = answered.saturating_add(u64::from(turned.is_ok()));
+        drop(turned);
     }
     (pass, answered)
+}
+
+// How many steps and bytes a look tells.
+fn looked<R: Wait>(rt: &R, gate: &Gate<Core>, pass: &mut Pass<Core>) -> Option<(u64, u64)>
+    requires { IsPassOf gate.now pass.old }
+    ensures { IsPassOf gate.now pass.new }
+{
+    match gate.sight(rt, pass) {
+        Ok(handover) => Some((handover.steps(), handover.bytes())),
+        Err(_) => None,
+    }
+}
+
+// The moment of a sweep.
+pub(crate) fn swept_at(event: &Event) -> Option<u64> {
+    match event {
+        Event::Swept { t } => Some(*t),
+        _ => None,
+    }
 }
 
 // The sweeps of the pass stand in the order in which it made them: how many there are, if so.
@@ -42,23 +61,28 @@ fn sweeps_in_order(core: &Core, pass: u64) -> Option<u64> {
     let mut next = 0u64;
     for i in 0..journal.len() {
         let step = journal.get(i)?;
-        if step.pass != pass {
-            continue;
-        }
-        match step.event {
-            Event::Swept { t } if t == next => next = t.checked_add(1)?,
-            _ => return None,
+        if step.pass == pass {
+            if swept_at(&step.event) != Some(next) {
+                return None;
+            }
+            next = next.saturating_add(1);
         }
     }
     Some(next)
 }
 
+// How many steps there are, and how many sweeps of each pass, in their order.
+fn told(core: Option<Core>) -> Option<(usize, [Option<u64>; 2])> {
+    let core = core?;
+    let sweeps = [sweeps_in_order(&core, 0), sweeps_in_order(&core, 1)];
+    let len = core.journal().len();
+    drop(core);
+    Some((len, sweeps))
+}
+
 #[test]
 fn two_passes_sweep(rt: HostRuntime) -> Result<(), Fail> {
-    let (gate, spare) = open(rt.alloc(), core(rt.alloc())?)?;
-    let (one, other) = gate.split(spare);
-    let one = enrol(&rt, &gate, one)?;
-    let other = enrol(&rt, &gate, other)?;
+    let (gate, one, other) = pair(&rt, rt.alloc(), core(rt.alloc())?)?;
     let shared = &gate;
     let ((one, by_one), (other, by_other)) = thread::join(
         &rt,
@@ -71,14 +95,13 @@ fn two_passes_sweep(rt: HostRuntime) -> Result<(), Fail> {
             ensures { IsPassOf shared.entry.now result.0 }
         { sweep(&rt, shared, other) },
     );
-    assert!(rt; by_one == SWEEPS && by_other == SWEEPS);
     let (mut one, other) = gate.meet(one, other);
-    assert!(rt; one.number() == 0 && other.number() == 1);
-    let look = gate.sight(&rt, &mut one);
-    assert!(rt; look.is_ok_and(|handover| handover.steps() == 400 && handover.bytes() == 0));
-    let core = gate.close(one).expect(&rt, "all calls have returned");
-    assert!(rt; core.journal().len() == 400);
-    assert!(rt; sweeps_in_order(&core, 0) == Some(200));
-    assert!(rt; sweeps_in_order(&core, 1) == Some(200));
+    let numbers = [one.number(), other.number()];
+    drop(other);
+    let look = looked(&rt, &gate, &mut one);
+    let told = told(gate.close(one));
+    assert!(rt; ([by_one, by_other], numbers) == ([SWEEPS; 2], [0, 1]));
+    assert!(rt; look == Some((400, 0)));
+    assert!(rt; told == Some((400, [Some(200); 2])));
     Ok(())
 }

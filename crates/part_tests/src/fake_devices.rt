@@ -172,10 +172,9 @@ impl Read for Reader<'_> {
             Reader::Stub(stub) => stub.read(buffer),
             Reader::Text(source) => {
                 let given = source.give(source.most.min(buffer.len()))?;
-                for (place, byte) in buffer.iter_mut().zip(given) {
-                    *place = *byte;
-                }
-                Ok(given.len().min(buffer.len()))
+                let count = given.len().min(buffer.len());
+                buffer[..count].copy_from_slice(&given[..count]);
+                Ok(count)
             }
         }
     }

@@ -1,19 +1,16 @@
 //! The gate round a running total: one journal of several passes.
-ghost use Rattle.std.specs.Prelude.{◌≡◌, ◌≤◌, [], IfOk};
+ghost use Rattle.std.specs.Prelude.{◌≡◌, ◌≤◌, [], IfOk, sum_by};
 ghost use Rattle.ticket_gate.specs.Gate.{IsPassOf, IsSpareOf};
-ghost use Rattle.ticket_gate.specs.Totals.{AreTotals, amount_sum, totals_at_first, totals_before};
-ghost use Rattle.ticket_gate.specs.RunningTotal.{journal_of, limit_of};
 
+use crate::running_total::{AdditionRefusal, RunningTotal};
+use journal_core::Step;
 use std::alloc::Global;
 use std::sync::atomic::AtomicBool;
 use std::sync::atomic::Ordering::SeqCst;
 use std::sync::{Arc, Wait};
 use std::test::Fail;
 use std::thread;
-use ticket_gate::{
-    Addition, AdditionRefusal, Gate, Pass, Recorded, RunningTotal, Seated, Spare, TurnRefusal,
-    Turns,
-};
+use ticket_gate::{Gate, Pass, Recorded, Seated, Spare, TurnRefusal, Turns};
 
 const MOST_LOOKS: u32 = 1_000_000;
 
@@ -28,13 +25,7 @@ fn becomes(flag: &AtomicBool, wanted: bool) -> bool {
     false
 }
 
-#[derive(Debug, Drop)]
-enum HeldRefusal {
-    HeldTooLong,
-    Total(AdditionRefusal),
-}
-
-/// A running total whose turns wait inside while the flag `hold` is up.
+/// A running total whose turns wait inside while the flag `hold` is up. One that is held too long is refused without a cause.
 #[derive(Drop)]
 struct HeldTotal {
     total: RunningTotal,
@@ -47,40 +38,40 @@ impl Recorded for HeldTotal {
 
     type Answer = u64;
 
-    type Refusal = HeldRefusal;
+    type Refusal = Option<AdditionRefusal>;
 
     type Setting = u64;
 
     type Sight = u64;
 
-    ghost journal = { λ s. journal_of s.total };
+    ghost journal = { λ s. s.total.steps.items };
 
-    ghost setting = { λ s. limit_of s.total };
+    ghost setting = { λ s. s.total.limit };
 
-    ghost legal = { AreTotals };
+    ghost legal = { λ limit journal. Unit {0} };
 
     ghost cause = { λ limit refusal amount journal. Unit {0} };
 
-    ghost sight_of = { λ limit journal. amount_sum journal };
+    ghost sight_of = { λ limit journal. sum_by (λ step. step.event) journal };
 
     fn sight(&self) -> u64 {
         self.total.sight()
     }
 
-    fn turn(&mut self, pass: u64, event: u64) -> Result<u64, (HeldRefusal, u64)> {
+    fn turn(&mut self, pass: u64, event: u64) -> Result<u64, (Option<AdditionRefusal>, u64)> {
         self.entered.store(true, SeqCst);
         if !becomes(&self.hold, false) {
-            return Err((HeldRefusal::HeldTooLong, event));
+            return Err((None, event));
         }
         match self.total.turn(pass, event) {
             Ok(total) => Ok(total),
-            Err((refusal, event)) => Err((HeldRefusal::Total(refusal), event)),
+            Err((refusal, event)) => Err((Some(refusal), event)),
         }
     }
 
-    ghost legal_at_first = { totals_at_first };
+    ghost legal_at_first = { λ limit. tt };
 
-    ghost legal_before = { totals_before };
+    ghost legal_before = { λ limit journal more is_legal. tt };
 }
 
 pub(crate) fn open<S: Recorded + Drop>(alloc: Global, state: S) -> Result<(Gate<S>, Spare<S>), Fail>
@@ -89,7 +80,10 @@ pub(crate) fn open<S: Recorded + Drop>(alloc: Global, state: S) -> Result<(Gate<
 {
     match Gate::new(alloc, state) {
         Ok(made) => Ok(made),
-        Err(_) => Err(Fail::from("no memory for a gate")),
+        Err(refused) => {
+            drop(refused);
+            Err(Fail::from("no memory for a gate"))
+        }
     }
 }
 
@@ -103,7 +97,10 @@ pub(crate) fn enrol<S: Recorded + Drop, R: Wait>(
 {
     match gate.enrol(rt, spare) {
         Ok(pass) => Ok(pass),
-        Err(_) => Err(Fail::from("no place for a pass")),
+        Err(refused) => {
+            drop(refused);
+            Err(Fail::from("no place for a pass"))
+        }
     }
 }
 
@@ -117,31 +114,58 @@ pub(crate) fn pair<S: Recorded + Drop, R: Wait>(
     ensures { IfOk result (λ made. IsPassOf made.0 made.1 × IsPassOf made.0 made.2) }
 {
     let (gate, spare) = open(alloc, state)?;
-    let (one, other) = gate.split(spare);
-    let one = enrol(rt, &gate, one)?;
-    let other = enrol(rt, &gate, other)?;
-    Ok((gate, one, other))
+    match enrol_both(rt, &gate, spare) {
+        Ok((one, other)) => Ok((gate, one, other)),
+        Err(fail) => {
+            drop(gate);
+            Err(fail)
+        }
+    }
 }
 
-// The additions of each pass stand in the order in which it made them, and none is of another pass.
-fn are_in_order(additions: &[Addition], passes: usize) -> bool {
+// Two passes of a gate.
+pub(crate) fn enrol_both<S: Recorded + Drop, R: Wait>(
+    rt: &R,
+    gate: &Gate<S>,
+    spare: Spare<S>,
+) -> Result<(Pass<S>, Pass<S>), Fail>
+    requires { IsSpareOf gate.now spare }
+    ensures { IfOk result (λ made. IsPassOf gate.now made.0 × IsPassOf gate.now made.1) }
+{
+    let (one, other) = gate.split(spare);
+    let one = enrol(rt, gate, one)?;
+    match enrol(rt, gate, other) {
+        Ok(other) => Ok((one, other)),
+        Err(fail) => {
+            drop(one);
+            Err(fail)
+        }
+    }
+}
+
+// The steps of each pass stand in the order in which it made them, and none is of another pass.
+fn are_in_order(steps: &[Step<u64, u64>], passes: usize) -> bool {
     let mut next = [0u64; 4];
-    for addition in additions {
-        let pass = addition.pass as usize;
-        if pass >= passes || pass >= 4 || addition.amount < next[pass] || addition.amount >= 1000 {
+    for step in steps {
+        let pass = step.pass as usize;
+        if pass >= passes || pass >= 4 || step.event < next[pass] || step.event >= 1000 {
             return false;
         }
-        next[pass] = addition.amount + 1;
+        next[pass] = step.event + 1;
     }
     true
 }
 
-pub(crate) fn count_of(additions: &[Addition], pass: u64) -> usize {
-    additions.iter().filter(|a| a.pass == pass).count()
+pub(crate) fn count_of(steps: &[Step<u64, u64>], pass: u64) -> usize {
+    let mut count = 0usize;
+    for step in steps {
+        count = count.saturating_add(usize::from(step.pass == pass));
+    }
+    count
 }
 
 // What a turn, or a look, came to: a number, or a refusal and the amount that is handed back.
-#[derive(Clone, Copy, Debug, PartialEq)]
+#[derive(Clone, Copy, PartialEq)]
 pub(crate) enum Outcome {
     Answered(u64),
     PastLimit(u64),
@@ -162,14 +186,20 @@ pub(crate) fn outcome_of(turn: Result<u64, TurnRefusal<AdditionRefusal, u64>>) -
     }
 }
 
-// How many additions there are of each of four passes, and whether all are of so many passes and in their order.
-fn found(state: &RunningTotal, passes: usize) -> ([u64; 4], bool) {
-    let additions = state.additions();
+// What the steps of a total tell: how many there are of each of four passes, whether all are of so many passes and in their order,
+// how many there are, and their sum.
+type Found = ([u64; 4], bool, u64, u64);
+
+fn found(state: Option<RunningTotal>, passes: usize) -> Option<Found> {
+    let state = state?;
     let mut counts = [0u64; 4];
     for pass in 0..4usize {
-        counts[pass] = count_of(additions, pass as u64) as u64;
+        counts[pass] = count_of(state.steps(), pass as u64) as u64;
     }
-    (counts, are_in_order(additions, passes))
+    let is_in_order = are_in_order(state.steps(), passes);
+    let (len, total) = (state.steps().len() as u64, state.total());
+    drop(state);
+    Some((counts, is_in_order, len, total))
 }
 
 pub(crate) fn answered_turns<
@@ -232,11 +262,10 @@ fn fill_both<R: thread::Threads + Wait + Sync>(
 fn two_passes_fill_one_journal(rt: HostRuntime) -> Result<(), Fail> {
     let (gate, one, other) = pair(&rt, rt.alloc(), RunningTotal::new(rt.alloc(), u64::MAX))?;
     let (one, answered, numbers) = fill_both(&rt, &gate, one, other);
-    let state = gate.close(one).ok_or("a call has not returned")?;
-    assert_eq!(rt; (answered, numbers), ([1_000, 1_000], [0, 1]));
-    assert_eq!(rt; found(&state, 2), ([1_000, 1_000, 0, 0], true));
-    // Twice the sum of 0 to 999.
-    assert_eq!(rt; (state.additions().len(), state.total()), (2_000, 999_000));
+    let found = found(gate.close(one), 2);
+    assert!(rt; (answered, numbers) == ([1_000, 1_000], [0, 1]));
+    // (the total is twice the sum of 0 to 999)
+    assert!(rt; found == Some(([1_000, 1_000, 0, 0], true, 2_000, 999_000)));
     Ok(())
 }
 
@@ -317,30 +346,31 @@ fn mix_four<R: thread::Threads + Wait + Sync>(
     (a, [by_a, by_b, by_c, by_d])
 }
 
-fn sum_of(counts: &[u64]) -> u64 {
+// Whether the steps are those that were answered: the 250 of each pass that wait, and others.
+fn is_mixed(answered: [u64; 4], found: Option<Found>) -> bool {
+    let Some(found) = found else {
+        return false;
+    };
+    let counts = found.0;
     let mut sum = 0u64;
-    for count in counts {
-        sum = sum.saturating_add(*count);
+    for by_one in answered {
+        if by_one < 250 {
+            return false;
+        }
+        sum = sum.saturating_add(by_one);
     }
-    sum
+    found.1 && counts == answered && found.2 == sum
 }
 
 #[test]
 fn four_threads_mix_their_turns(rt: HostRuntime) -> Result<(), Fail> {
     let (gate, spare) = open(rt.alloc(), RunningTotal::new(rt.alloc(), u64::MAX))?;
     let (left, right) = gate.split(spare);
-    let (a, b) = gate.split(left);
-    let (c, d) = gate.split(right);
-    let a = enrol(&rt, &gate, a)?;
-    let b = enrol(&rt, &gate, b)?;
-    let c = enrol(&rt, &gate, c)?;
-    let d = enrol(&rt, &gate, d)?;
+    let (a, b) = enrol_both(&rt, &gate, left)?;
+    let (c, d) = enrol_both(&rt, &gate, right)?;
     let (a, answered) = mix_four(&rt, &gate, a, b, c, d);
-    let state = gate.close(a).ok_or("a call has not returned")?;
-    // The turns that wait are all answered.
-    assert!(rt; answered.iter().all(|by_one| *by_one >= 250));
-    assert_eq!(rt; found(&state, 4), (answered, true));
-    assert_eq!(rt; state.additions().len() as u64, sum_of(&answered));
+    let found = found(gate.close(a), 4);
+    assert!(rt; is_mixed(answered, found));
     Ok(())
 }
 
@@ -378,21 +408,10 @@ fn a_held_gate_is_busy(rt: HostRuntime) -> Result<(), Fail> {
                 )
         },
     );
+    drop(one);
+    drop(other);
+    drop(gate);
     assert!(rt; held, "the held turn is answered");
     assert!(rt; busy, "a turn meanwhile is refused as busy");
-    Ok(())
-}
-
-#[test]
-fn a_free_gate_answers_at_once(rt: HostRuntime) -> Result<(), Fail> {
-    let (gate, spare) = open(rt.alloc(), RunningTotal::new(rt.alloc(), 100))?;
-    let mut pass = enrol(&rt, &gate, spare)?;
-    let came = [
-        outcome_of(gate.try_turn(&mut pass, 4)),
-        outcome_of(gate.try_turn(&mut pass, 5)),
-    ];
-    let state = gate.close(pass).ok_or("a call has not returned")?;
-    assert_eq!(rt; came, [Outcome::Answered(4), Outcome::Answered(9)]);
-    assert_eq!(rt; state.total(), 9);
     Ok(())
 }

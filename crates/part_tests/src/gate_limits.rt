@@ -2,36 +2,148 @@
 ghost use Rattle.std.specs.Prelude.{IfSome};
 ghost use Rattle.ticket_gate.specs.Gate.{IsPassOf, IsSpareOf};
 
-use crate::gate::{Outcome, answered_turns, count_of, enrol, open, outcome_of, pair};
+use crate::gate::{Outcome, answered_turns, count_of, enrol, enrol_both, open, outcome_of};
+use crate::running_total::{AdditionRefusal, RunningTotal};
 use std::alloc::Global;
 use std::fmt::Display;
 use std::sync::Wait;
 use std::test::Fail;
-use ticket_gate::{
-    AdditionRefusal, Alone, Gate, GateRefusal, Pass, RunningTotal, Spare, TurnRefusal, Turns,
-};
+use ticket_gate::{Alone, Gate, GateRefusal, Pass, Spare, TurnRefusal, Turns};
 
-#[test]
-fn tickets_end_before_the_greatest_number(rt: HostRuntime) -> Result<(), Fail> {
-    let state = RunningTotal::new(rt.alloc(), 100);
-    let Ok((gate, spare)) = Gate::new_at(rt.alloc(), state, 18446744073709551614) else {
+// What two passes do, one act after the other, and what each act has to come to.
+#[derive(Clone, Copy)]
+enum Act {
+    // A turn of the first that waits.
+    Takes(u64, Outcome),
+    // One of the first, and of the second, that doesn't.
+    Tries(u64, Outcome),
+    OtherTries(u64, Outcome),
+    // A look of the first.
+    Looks(Outcome),
+}
+
+// What a look came to.
+fn look_of(look: Result<u64, TurnRefusal<AdditionRefusal, ()>>) -> Outcome {
+    match look {
+        Ok(total) => Outcome::Answered(total),
+        Err(TurnRefusal::Spent { .. }) => Outcome::Spent(0),
+        Err(_) => Outcome::Busy(0),
+    }
+}
+
+// Whether an act comes to what it has to.
+fn comes_so<R: Wait>(
+    rt: &R,
+    gate: &Gate<RunningTotal>,
+    one: &mut Pass<RunningTotal>,
+    other: &mut Pass<RunningTotal>,
+    act: Act,
+) -> bool
+    requires { IsPassOf gate.now one.old × IsPassOf gate.now other.old }
+    ensures { IsPassOf gate.now one.new × IsPassOf gate.now other.new }
+{
+    match act {
+        Act::Takes(amount, outcome) => outcome_of(gate.take_turn(rt, one, amount)) == outcome,
+        Act::Tries(amount, outcome) => outcome_of(gate.try_turn(one, amount)) == outcome,
+        Act::OtherTries(amount, outcome) => outcome_of(gate.try_turn(other, amount)) == outcome,
+        Act::Looks(outcome) => look_of(gate.sight(rt, one)) == outcome,
+    }
+}
+
+// The place of the first act that doesn't.
+fn first_fault<R: Wait>(
+    rt: &R,
+    gate: &Gate<RunningTotal>,
+    one: &mut Pass<RunningTotal>,
+    other: &mut Pass<RunningTotal>,
+    acts: &[Act],
+) -> Option<usize>
+    requires { IsPassOf gate.now one.old × IsPassOf gate.now other.old }
+    ensures { IsPassOf gate.now one.new × IsPassOf gate.now other.new }
+{
+    for place in 0..acts.len() {
+        if !comes_so(rt, gate, one, other, acts[place]) {
+            return Some(place);
+        }
+    }
+    None
+}
+
+// Whether the steps are these, each by its pass and its amount.
+fn has_steps(state: &RunningTotal, steps: &[(u64, u64)]) -> bool {
+    let mut total = 0u64;
+    for (step, (pass, amount)) in state.steps().iter().zip(steps) {
+        if step.pass != *pass || step.event != *amount {
+            return false;
+        }
+        total = total.saturating_add(*amount);
+    }
+    state.steps().len() == steps.len() && state.total() == total
+}
+
+// The same of a gate's state at its end.
+fn ends_with(state: Option<RunningTotal>, steps: &[(u64, u64)]) -> bool {
+    let Some(state) = state else {
+        return false;
+    };
+    let is_so = has_steps(&state, steps);
+    drop(state);
+    is_so
+}
+
+// Two passes act at a gate with this first ticket, round a total with this limit; in the end these steps were made.
+fn check<R: Wait + AllocGlobal>(
+    rt: &R,
+    (first, limit): (u64, u64),
+    acts: &[Act],
+    steps: &[(u64, u64)],
+) -> Result<(), Fail> {
+    let state = RunningTotal::new(rt.alloc(), limit);
+    let Ok((gate, spare)) = Gate::new_at(rt.alloc(), state, first) else {
         return Err(Fail::from("no memory for a gate"));
     };
-    let mut pass = enrol(&rt, &gate, spare)?;
-    let came = [
-        outcome_of(gate.try_turn(&mut pass, 4)),
-        outcome_of(gate.try_turn(&mut pass, 5)),
-        outcome_of(gate.take_turn(&rt, &mut pass, 6)),
+    let (mut one, mut other) = enrol_both(rt, &gate, spare)?;
+    let fault = first_fault(rt, &gate, &mut one, &mut other, acts);
+    drop(other);
+    let ends = ends_with(gate.close(one), steps);
+    match fault {
+        None if ends => Ok(()),
+        None => Err(Fail::from("other steps")),
+        Some(place) => Err(place.into()),
+    }
+}
+
+// One ticket is left, which the first turn draws.
+#[test]
+fn tickets_end_before_the_greatest_number(rt: HostRuntime) -> Result<(), Fail> {
+    let acts = &[
+        Act::Tries(4, Outcome::Answered(4)),
+        Act::Tries(5, Outcome::Spent(5)),
+        Act::Takes(6, Outcome::Spent(6)),
+        Act::Looks(Outcome::Spent(0)),
     ];
-    let look = gate.sight(&rt, &mut pass);
-    let state = gate.close(pass).ok_or("a call has not returned")?;
-    assert_eq!(rt;
-        came,
-        [Outcome::Answered(4), Outcome::Spent(5), Outcome::Spent(6)]
-    );
-    assert!(rt; matches!(look, Err(TurnRefusal::Spent { event: () })));
-    assert_eq!(rt; state.total(), 4);
-    Ok(())
+    check(&rt, (18446744073709551614, 100), acts, &[(0, 4)])
+}
+
+#[test]
+fn a_refused_turn_leaves_the_journal(rt: HostRuntime) -> Result<(), Fail> {
+    let acts = &[
+        Act::Takes(4, Outcome::Answered(4)),
+        Act::Takes(7, Outcome::PastLimit(7)),
+        Act::Tries(8, Outcome::PastLimit(8)),
+        Act::OtherTries(6, Outcome::Answered(10)),
+        Act::Looks(Outcome::Answered(10)),
+    ];
+    check(&rt, (0, 10), acts, &[(0, 4), (1, 6)])
+}
+
+#[test]
+fn a_free_gate_answers_at_once(rt: HostRuntime) -> Result<(), Fail> {
+    let acts = &[
+        Act::Tries(4, Outcome::Answered(4)),
+        Act::Tries(5, Outcome::Answered(9)),
+    ];
+    check(&rt, (0, 100), acts, &[(0, 4), (0, 5)])
 }
 
 // Enrols 256 passes, and gives the place that is left.
@@ -61,49 +173,17 @@ fn fill<R: Wait>(
 fn the_257th_pass_is_refused(rt: HostRuntime) -> Result<(), Fail> {
     let (gate, spare) = open(rt.alloc(), RunningTotal::new(rt.alloc(), 100))?;
     let spare = fill(&rt, &gate, spare).ok_or("a pass too few")?;
-    let Err((refusal, spare)) = gate.enrol(&rt, spare) else {
+    let Err((first, spare)) = gate.enrol(&rt, spare) else {
         return Err(Fail::from("a pass too many"));
     };
-    assert!(rt; refusal == GateRefusal::Crowded && refusal.number() == 1203);
-    let (one, _other) = gate.split(spare);
-    assert!(rt; matches!(gate.enrol(&rt, one), Err((GateRefusal::Crowded, _))));
+    let Err((second, spare)) = gate.enrol(&rt, gate.split(spare).0) else {
+        return Err(Fail::from("a pass too many"));
+    };
+    drop(spare);
+    drop(gate);
+    assert!(rt; first == GateRefusal::Crowded && first.number() == 1203);
+    assert!(rt; second == GateRefusal::Crowded);
     Ok(())
-}
-
-#[test]
-fn a_refused_turn_leaves_the_journal(rt: HostRuntime) -> Result<(), Fail> {
-    let (gate, one, other) = pair(&rt, rt.alloc(), RunningTotal::new(rt.alloc(), 10))?;
-    let (mut one, mut other) = (one, other);
-    let came = [
-        outcome_of(gate.take_turn(&rt, &mut one, 4)),
-        outcome_of(gate.take_turn(&rt, &mut one, 7)),
-        outcome_of(gate.try_turn(&mut one, 8)),
-        outcome_of(gate.try_turn(&mut other, 6)),
-    ];
-    let look = gate.sight(&rt, &mut one);
-    let state = gate.close(one).ok_or("a call has not returned")?;
-    assert_eq!(rt;
-        came,
-        [
-            Outcome::Answered(4),
-            Outcome::PastLimit(7),
-            Outcome::PastLimit(8),
-            Outcome::Answered(10),
-        ]
-    );
-    assert!(rt; matches!(look, Ok(10)));
-    assert_eq!(rt; (state.additions().len(), state.total()), (2, 10));
-    assert_eq!(rt;
-        [added(&state, 0), added(&state, 1)],
-        [Some((0, 4)), Some((1, 6))]
-    );
-    Ok(())
-}
-
-// The pass and the amount of an addition.
-fn added(state: &RunningTotal, place: usize) -> Option<(u64, u64)> {
-    let addition = state.additions().get(place)?;
-    Some((addition.pass, addition.amount))
 }
 
 // A turn, made again if there was no memory.
@@ -117,21 +197,30 @@ fn turn_again<R: Wait>(rt: &R, gate: &Gate<RunningTotal>, pass: &mut Pass<Runnin
     }
 }
 
+// Whether a gate that could be had answers a turn.
+fn answers<R: Wait>(
+    rt: &R,
+    gate: Gate<RunningTotal>,
+    spare: Spare<RunningTotal>,
+) -> Result<bool, Fail>
+    requires { IsSpareOf gate spare }
+{
+    let mut pass = enrol(rt, &gate, spare)?;
+    let came = turn_again(rt, &gate, &mut pass);
+    Ok(ends_with(gate.close(pass), &[(0, 4)]) && came == Outcome::Answered(4))
+}
+
 #[test]
 fn without_memory_nothing_is_lost(rt: HostRuntime) -> Result<(), Fail> {
-    match Gate::new(rt.alloc(), RunningTotal::new(rt.alloc(), 10)) {
-        Ok((gate, spare)) => {
-            let mut pass = enrol(&rt, &gate, spare)?;
-            let came = turn_again(&rt, &gate, &mut pass);
-            let state = gate.close(pass).ok_or("a call has not returned")?;
-            assert_eq!(rt; came, Outcome::Answered(4));
-            assert_eq!(rt; (state.total(), state.additions().len()), (4, 1));
-        }
+    let is_kept = match Gate::new(rt.alloc(), RunningTotal::new(rt.alloc(), 10)) {
+        Ok((gate, spare)) => answers(&rt, gate, spare)?,
         Err((refusal, state)) => {
-            assert!(rt; refusal == GateRefusal::NoMemory && refusal.number() == 1204);
-            assert!(rt; state.total() == 0 && state.additions().is_empty());
+            ends_with(Some(state), &[])
+                && refusal == GateRefusal::NoMemory
+                && refusal.number() == 1204
         }
-    }
+    };
+    assert!(rt; is_kept);
     Ok(())
 }
 
@@ -139,12 +228,14 @@ fn without_memory_nothing_is_lost(rt: HostRuntime) -> Result<(), Fail> {
 fn one_pass_alone(rt: HostRuntime) -> Result<(), Fail> {
     // 0 + 1 + 2 + 3 + 4 is 10, and 5 more are too many.
     let mut alone = Alone::new(RunningTotal::new(rt.alloc(), 14), 3);
-    assert!(rt; answered_turns(&rt, &mut alone, 9) == 5);
-    assert!(rt; alone.state().total() == 10);
-    let refused = alone.turn(&rt, 6);
-    assert!(rt; matches!(refused, Err(TurnRefusal::State { event: 6, .. })));
+    let answered = answered_turns(&rt, &mut alone, 9);
+    let total = alone.state().total();
+    let refused = outcome_of(alone.turn(&rt, 6));
     let state = alone.into_state();
-    assert!(rt; count_of(state.additions(), 3) == 5);
+    let steps = count_of(state.steps(), 3);
+    drop(state);
+    assert!(rt; (answered, total, steps) == (5, 10, 5));
+    assert!(rt; refused == Outcome::PastLimit(6));
     Ok(())
 }
 
@@ -167,7 +258,7 @@ fn refusals_say_why(rt: HostRuntime) -> Result<(), Fail> {
         event: 1u64,
     };
     let numbers = [busy.number(), spent.number(), state.number()];
-    assert_eq!(rt; numbers, [Some(1201), Some(1202), None]);
+    assert!(rt; numbers == [Some(1201), Some(1202), None]);
     let text = "the gate is busy: ticket 4 is served, and the next to be drawn is 6";
     assert!(rt; says(rt.alloc(), &busy, text)?);
     assert!(rt; says(rt.alloc(), &spent, "the gate has no ticket left")?);

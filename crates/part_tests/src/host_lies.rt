@@ -1,6 +1,6 @@
 //! Hosts that answer in part, too much, wrongly, late or never, over links that fail at any byte.
 
-use crate::acts::{Act, Fault, play};
+use crate::acts::{Act, Fault, Scene, play};
 use crate::fake_devices::{Feed, Text};
 use crate::journal::Deed;
 use crate::rig::{Ends, Link, Peer, REPLY_MS, Told};
@@ -13,26 +13,36 @@ use stub_server::Act as Serves;
 
 // A host that says so much of a reply, and then ends: the link is dropped and the part lost.
 fn check_half<Rt: Wait + AllocGlobal>(rt: &Rt, half: &'static [u8]) -> Result<(), Fault> {
-    let scene = [
-        Act::Opens(Feed::Whole(GET), Ends::FREE),
-        Act::HostSays(Feed::Whole(half)),
-        Act::Links(Link::TEXT),
-        Act::Runs(3),
-        Act::Took(Text::All(FAILURE)),
-        Act::Lost(Kind::Dropped, 1, 3),
-        Act::ClientTold(None),
-        Act::HostTold(None),
-    ];
-    play(rt, 1, &scene)
+    let says = [Act::HostSays(Feed::Whole(half))];
+    let scene = Scene {
+        before: &[],
+        acts: &says,
+        after: HALF,
+    };
+    play(rt, 1, scene)
 }
 
+const HALF: &[Act] = &[
+    Act::Opens(Feed::Whole(GET), Ends::FREE),
+    Act::Links(Link::TEXT),
+    Act::Runs(3),
+    Act::Took(Text::All(FAILURE)),
+    Act::Lost(Kind::Dropped, 1, 3),
+    Act::ClientTold(None),
+    Act::HostTold(None),
+];
+
 // After each byte of a reply but the last.
+fn check_halves<Rt: Wait + AllocGlobal>(rt: &Rt, reply: &'static [u8]) -> Result<(), Fault> {
+    for len in 0..reply.len() {
+        check_half(rt, reply.split_at(len).0)?;
+    }
+    Ok(())
+}
+
 #[test]
 fn half_replies_are_lost(rt: HostRuntime) -> Result<(), Fail> {
-    let reply = b"$1\r\nx\r\n";
-    for len in 0..reply.len() {
-        check_half(&rt, reply.split_at(len).0)?;
-    }
+    check_halves(&rt, b"$1\r\nx\r\n")?;
     Ok(())
 }
 
@@ -54,7 +64,7 @@ const SECOND_REPLY: &[Act] = &[
 
 #[test]
 fn second_replies_end_the_link(rt: HostRuntime) -> Result<(), Fail> {
-    play(&rt, 1, SECOND_REPLY)?;
+    play(&rt, 1, Scene::of(SECOND_REPLY))?;
     Ok(())
 }
 
@@ -79,7 +89,7 @@ const GARBLED_REPLY: &[Act] = &[
 
 #[test]
 fn garbled_replies_end_the_link(rt: HostRuntime) -> Result<(), Fail> {
-    play(&rt, 1, GARBLED_REPLY)?;
+    play(&rt, 1, Scene::of(GARBLED_REPLY))?;
     Ok(())
 }
 
@@ -126,21 +136,23 @@ const TOO_LONG: &[Act] = &[
     Act::Lost(Kind::Garbled, 1, 3),
 ];
 
+const EIGHT_OF_NINE: &[&[Act]] = &[NINE, BULK, BULK, BULK, BULK, BULK, BULK, BULK, BULK];
+
 // A reply of nine bulk strings, of which the last comes so.
-fn check_length<Rt: Wait + AllocGlobal>(rt: &Rt, last: &[Act]) -> Result<(), Fail> {
-    let mut scene = NINE.to_vec(rt.alloc())?;
-    for _ in 0..8 {
-        scene.extend_from_slice(BULK)?;
-    }
-    scene.extend_from_slice(last)?;
-    play(rt, 1, scene.as_slice())?;
-    Ok(())
+fn check_length<Rt: Wait + AllocGlobal>(rt: &Rt, last: &[Act]) -> Result<(), Fault> {
+    let scene = Scene {
+        before: EIGHT_OF_NINE,
+        acts: last,
+        after: &[],
+    };
+    play(rt, 1, scene)
 }
 
 #[test]
 fn replies_have_a_greatest_length(rt: HostRuntime) -> Result<(), Fail> {
     check_length(&rt, GREATEST)?;
-    check_length(&rt, TOO_LONG)
+    check_length(&rt, TOO_LONG)?;
+    Ok(())
 }
 
 // A part that was taken at the moment 10 is late at 5,010, and not a millisecond earlier. That is one step.
@@ -160,7 +172,7 @@ const LATE_REPLY: &[Act] = &[
 
 #[test]
 fn held_replies_are_late(rt: HostRuntime) -> Result<(), Fail> {
-    play(&rt, 1, LATE_REPLY)?;
+    play(&rt, 1, Scene::of(LATE_REPLY))?;
     Ok(())
 }
 
@@ -185,7 +197,7 @@ const HELD_COMMAND: &[Act] = &[
 
 #[test]
 fn held_commands_wait_for_room(rt: HostRuntime) -> Result<(), Fail> {
-    play(&rt, 1, HELD_COMMAND)?;
+    play(&rt, 1, Scene::of(HELD_COMMAND))?;
     Ok(())
 }
 
@@ -201,20 +213,28 @@ fn check_link<Rt: Wait + AllocGlobal>(
     (told, times): (Option<Told>, usize),
 ) -> Result<(), Fault> {
     let to = Peer::Stub(&[]);
-    let scene = [
+    let links = [
         Act::Opens(Feed::Whole(FOUR_PARTS), Ends::FREE),
         Act::Links(Link { to, reads, writes }),
         Act::Links(Link::STUB),
         Act::Runs(3),
         Act::HostTold(told),
         Act::Did(Deed::Failed, times),
-        Act::Did(Deed::Handed, 3),
-        Act::AnsweredOrLost(4),
-        Act::WroteSent,
-        Act::DidAtMost(Deed::Taken, 4),
     ];
-    play(rt, 1, &scene)
+    let scene = Scene {
+        before: &[],
+        acts: &links,
+        after: FOUR_ANSWERED,
+    };
+    play(rt, 1, scene)
 }
+
+const FOUR_ANSWERED: &[Act] = &[
+    Act::Did(Deed::Handed, 3),
+    Act::AnsweredOrLost(4),
+    Act::WroteSent,
+    Act::DidAtMost(Deed::Taken, 4),
+];
 
 // What is told of a host whose link failed, and how often.
 const READ_FAILED: (Option<Told>, usize) = (
@@ -234,15 +254,19 @@ const WRITE_FAILED: (Option<Told>, usize) = (
 );
 
 // Links that fail after each byte read and after each byte written.
-#[test]
-fn failing_links_are_dropped_once(rt: HostRuntime) -> Result<(), Fail> {
+fn check_links<Rt: Wait + AllocGlobal>(rt: &Rt) -> Result<(), Fault> {
     for reads in 0..27 {
-        check_link(&rt, (reads, u64::MAX), READ_FAILED)?;
+        check_link(rt, (reads, u64::MAX), READ_FAILED)?;
     }
     for writes in 0..87 {
-        check_link(&rt, (u64::MAX, writes), WRITE_FAILED)?;
+        check_link(rt, (u64::MAX, writes), WRITE_FAILED)?;
     }
-    check_link(&rt, (27, 87), (None, 0))?;
+    check_link(rt, (27, 87), (None, 0))
+}
+
+#[test]
+fn failing_links_are_dropped_once(rt: HostRuntime) -> Result<(), Fail> {
+    check_links(&rt)?;
     Ok(())
 }
 
@@ -277,6 +301,6 @@ const ASKS_FOR_LINKS: &[Act] = &[
 
 #[test]
 fn links_are_asked_for_where_bytes_wait(rt: HostRuntime) -> Result<(), Fail> {
-    play(&rt, 1, ASKS_FOR_LINKS)?;
+    play(&rt, 1, Scene::of(ASKS_FOR_LINKS))?;
     Ok(())
 }

@@ -29,6 +29,8 @@ mod refusal_tests;
 #[cfg(test)]
 mod rig;
 #[cfg(test)]
+mod running_total;
+#[cfg(test)]
 mod stage;
 #[cfg(test)]
 mod sweeps;

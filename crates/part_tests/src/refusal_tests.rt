@@ -1,14 +1,13 @@
 //! Turns that are refused for want of a ticket, and made again.
 
-use crate::acts::{Act, Fault, record};
+use crate::acts::{Act, Fault, STUBS, Scene, record};
 use crate::fake_devices::{Feed, Text};
 use crate::journal::go_alike;
-use crate::rig::{Ends, Link};
+use crate::rig::Ends;
 use crate::texts::{BOTH_ANSWERS, EXCHANGES, Exchange, SET_AND_MGET};
 use crate::turns::Ration;
 use proxy_core::Core;
 use proxy_engines::{EngineError, Progress};
-use std::process::Abort;
 use std::sync::Wait;
 use std::test::Fail;
 
@@ -29,43 +28,56 @@ fn run<Rt: Wait + AllocGlobal>(
     (text, answers): Exchange,
     ration: Ration,
 ) -> Result<Core, Fault> {
-    let scene = [
-        Act::Links(Link::STUB),
-        Act::Links(Link::STUB),
-        Act::Links(Link::STUB),
+    let visit = [
         Act::Opens(Feed::Whole(text), PIECES),
         Act::Runs(0),
         Act::Took(Text::All(answers)),
-        Act::Steps(Progress::Ended, 1),
-        Act::OnlyTold(SPENT),
     ];
-    record(rt, 3, ration, &scene)
+    let scene = Scene {
+        before: STUBS,
+        acts: &visit,
+        after: ENDED,
+    };
+    record(rt, 3, ration, scene)
 }
 
+const ENDED: &[Act] = &[Act::Steps(Progress::Ended, 1), Act::OnlyTold(SPENT)];
+
 // A run by turns of this ration goes as one without a refusal.
-fn check_alike<Rt: Wait + AllocGlobal + Abort>(
+fn check_alike<Rt: Wait + AllocGlobal>(
     rt: &Rt,
     exchange: Exchange,
     whole: &Core,
     ration: Ration,
 ) -> Result<(), Fault> {
     let core = run(rt, exchange, ration)?;
-    assert!(rt; go_alike(&core, whole));
-    Ok(())
+    let is_alike = go_alike(&core, whole);
+    drop(core);
+    if is_alike {
+        Ok(())
+    } else {
+        Err(Fault::OTHERWISE)
+    }
 }
 
 // Each turn but the first is refused once, and six in a row from it on.
-fn check_refused<Rt: Wait + AllocGlobal + Abort>(
+fn check_refused<Rt: Wait + AllocGlobal>(
     rt: &Rt,
     exchange: Exchange,
     whole: &Core,
 ) -> Result<(), Fault> {
     for turn in 2..90 {
-        for refused in [1, 6] {
-            check_alike(rt, exchange, whole, Ration::without(turn, refused))?;
-        }
+        check_alike(rt, exchange, whole, Ration::without(turn, 1))?;
+        check_alike(rt, exchange, whole, Ration::without(turn, 6))?;
     }
     Ok(())
+}
+
+fn check_exchange<Rt: Wait + AllocGlobal>(rt: &Rt, exchange: Exchange) -> Result<(), Fault> {
+    let whole = run(rt, exchange, Ration::FREE)?;
+    let checked = check_refused(rt, exchange, &whole);
+    drop(whole);
+    checked
 }
 
 // Each turn is refused once, and six in a row: the answers, and what becomes of the client and of each host, are those of a run
@@ -73,7 +85,7 @@ fn check_refused<Rt: Wait + AllocGlobal + Abort>(
 #[test]
 fn refused_turns_are_made_again(rt: HostRuntime) -> Result<(), Fail> {
     for exchange in EXCHANGES {
-        check_refused(&rt, *exchange, &run(&rt, *exchange, Ration::FREE)?)?;
+        check_exchange(&rt, *exchange)?;
     }
     Ok(())
 }
@@ -88,17 +100,21 @@ fn check_stopped<Rt: Wait + AllocGlobal>(rt: &Rt, turn: u64) -> Result<(), Fault
     } else {
         Act::CannotOpen(SPENT)
     };
-    let scene = [
-        Act::Links(Link::STUB),
-        Act::Links(Link::STUB),
-        Act::Links(Link::STUB),
+    let visit = [
         opens,
         Act::Runs(0),
         Act::TookHanded(HANDED),
         Act::RecordedBelow(turn as usize),
     ];
-    drop(record(rt, 3, Ration::without(turn, u64::MAX), &scene)?);
-    Ok(())
+    let scene = Scene {
+        before: STUBS,
+        acts: &visit,
+        after: &[],
+    };
+    match record(rt, 3, Ration::without(turn, u64::MAX), scene) {
+        Ok(core) => Ok(drop(core)),
+        Err(fault) => Err(fault),
+    }
 }
 
 #[test]

@@ -64,6 +64,24 @@ impl Ends {
         reading: Ends::ALL,
         writing: Ends::ALL,
     };
+
+    // The first fails after so many bytes, and gives so many at a call.
+    pub(crate) fn reading(reads: usize, reading: usize) -> Ends {
+        Ends {
+            reads: reads as u64,
+            reading,
+            ..Ends::FREE
+        }
+    }
+
+    // The second fails after so many bytes, and takes so many at a call.
+    pub(crate) fn writing(writes: usize, writing: usize) -> Ends {
+        Ends {
+            writes: writes as u64,
+            writing,
+            ..Ends::FREE
+        }
+    }
 }
 
 // A host at the other end of a link.
@@ -287,9 +305,10 @@ impl<'a> Rig<'a> {
         place: usize,
         moment: u64,
     ) -> Option<Result<Progress, EngineError>> {
-        match self.engines.get_mut(place)? {
-            Engine::Client(client) => Some(client.step(rt, &mut self.turns)),
-            Engine::Host(host) => Some(host.step(rt, &mut self.turns, moment)),
+        match self.engines.get_mut(place) {
+            Some(Engine::Client(client)) => Some(client.step(rt, &mut self.turns)),
+            Some(Engine::Host(host)) => Some(host.step(rt, &mut self.turns, moment)),
+            None => None,
         }
     }
 

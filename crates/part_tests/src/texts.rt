@@ -17,11 +17,11 @@ pub(crate) const PINGS: Exchange = (
     b"+PONG\r\n+PONG\r\n",
 );
 
-// Commands of keys that no other client has.
-pub(crate) const OTHER_KEYS: Exchange = (
-    b"*3\r\n$3\r\nSET\r\n$3\r\nabc\r\n$1\r\n1\r\n*4\r\n$4\r\nMGET\r\n$3\r\nabc\r\n$0\r\n\r\n$3\r\nabc\r\n",
-    b"+OK\r\n*3\r\n$1\r\n1\r\n$-1\r\n$1\r\n1\r\n",
-);
+// Commands of keys that no other client has, and the answers to them.
+pub(crate) const OTHER_KEYS: &[u8] =
+    b"*3\r\n$3\r\nSET\r\n$3\r\nabc\r\n$1\r\n1\r\n*4\r\n$4\r\nMGET\r\n$3\r\nabc\r\n$0\r\n\r\n$3\r\nabc\r\n";
+
+pub(crate) const OTHER_ANSWERS: &[u8] = b"+OK\r\n*3\r\n$1\r\n1\r\n$-1\r\n$1\r\n1\r\n";
 
 // Local answers, one of a reader that refuses its bytes, a last command, and commands of one host and of several.
 pub(crate) const EXCHANGES: &[Exchange] = &[
