@@ -207,7 +207,7 @@ impl<H: Drop> Generations<H> {
     /// this handover. An older one that still has connections stops, and the new one is due once it has none.
     ///
     /// Ignored, and the handover dropped, unless `by` is the newest one and none is wanted or being opened; while an older one
-    /// has connections and has given up for less than `GIVING_UP_MS` milliseconds; and where 2^64 generations were asked for.
+    /// has connections, unless it has been given up for `GIVING_UP_MS` milliseconds; and where 2^64 generations were asked for.
     pub fn full(&mut self, by: u64, now: u64, handover: H)
         ensures { Tells (Full by now handover) self.old self.new }
     {

@@ -12,11 +12,11 @@ use std::test::Fail;
 use std::thread;
 use ticket_gate::{Gate, Pass, Recorded, Seated, Spare, TurnRefusal, Turns};
 
-const MOST_LOOKS: u32 = 1_000_000;
+const MAX_LOOKS: u32 = 1_000_000;
 
 // Looks at the flag, with a yield after each look, until it is as wanted. False where it never was.
 fn becomes(flag: &AtomicBool, wanted: bool) -> bool {
-    for _ in 0..MOST_LOOKS {
+    for _ in 0..MAX_LOOKS {
         if flag.load(SeqCst) == wanted {
             return true;
         }

@@ -11,7 +11,7 @@ use std::test::Fail;
 use std::{io, thread};
 use ticket_gate::Alone;
 
-const MOST_LOOKS: u32 = 1_000_000;
+const MAX_LOOKS: u32 = 1_000_000;
 
 // How a reader goes on once its text was given.
 #[derive(Clone, Copy, Debug, PartialEq, Eq)]
@@ -40,7 +40,7 @@ impl Room {
 
 // Looks at the flag, with a yield after each look, until it is up. False where it never was.
 fn rises(flag: &AtomicBool) -> bool {
-    for _ in 0..MOST_LOOKS {
+    for _ in 0..MAX_LOOKS {
         if flag.load(SeqCst) {
             return true;
         }

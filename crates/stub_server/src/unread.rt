@@ -13,7 +13,7 @@ use std::marker::Model;
 pub const MAX_UNREAD: usize = 65_536;
 
 // Bytes of a buffer that is kept while no byte is unread.
-const MOST_IDLE: usize = 131_072;
+const MAX_IDLE: usize = 131_072;
 
 /// The bytes of replies that were not read yet, which contracts see as a list.
 #[derive(Drop)]
@@ -109,7 +109,7 @@ impl Unread {
         if self.given < self.texts.len() {
             return;
         }
-        if self.texts.capacity() > MOST_IDLE {
+        if self.texts.capacity() > MAX_IDLE {
             self.texts = Vec::new(self.alloc);
         } else {
             self.texts.clear();

@@ -10,7 +10,7 @@ use crate::steps::{HalveSpare, ReadEnrolled, TakeNumber};
 use std::sync::Wait;
 
 /// The most passes of one gate.
-const MOST_PASSES: u64 = 256;
+const MAX_PASSES: u64 = 256;
 
 impl<S: Recorded> Gate<S> {
     /// Makes two spare places of one. It takes no memory and never waits.
@@ -44,7 +44,7 @@ impl<S: Recorded> Gate<S> {
         let shared = &self.table.shared;
         for _ in rt.forever() {
             let number = shared.load::<ReadEnrolled>(&mut seat, ENROLLED);
-            if number >= MOST_PASSES {
+            if number >= MAX_PASSES {
                 return Err((GateRefusal::Crowded, Spare { seat }));
             }
             let found = shared.compare_exchange::<TakeNumber>(

@@ -11,7 +11,7 @@ use crossbeam_utils::Backoff;
 use std::sync::Wait;
 
 /// How often a turn tries to enter at once before it draws a ticket.
-pub const MOST_TRIES: u32 = 16;
+pub const MAX_TRIES: u32 = 16;
 
 /// Why a place didn't enter at once.
 #[derive(Clone, Copy)]
@@ -56,7 +56,7 @@ impl<S: Recorded> Gate<S> {
             × IsInside S.journal S.setting S.legal seat.old.me.0.own t seat.new) }
     {
         let backoff = Backoff::new();
-        for _ in 0..MOST_TRIES {
+        for _ in 0..MAX_TRIES {
             if let Ok(ticket) = self.enter_at_once(seat) {
                 return Some(ticket);
             }

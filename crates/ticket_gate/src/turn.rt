@@ -42,7 +42,7 @@ impl<S: Recorded> Gate<S> {
     }
 
     /// Makes one turn: it tries to enter at once, as `try_turn` does, up to
-    /// [`MOST_TRIES`](crate::MOST_TRIES) times, and else draws a ticket and waits until it is
+    /// [`MAX_TRIES`](crate::MAX_TRIES) times, and else draws a ticket and waits until it is
     /// served.
     ///
     /// Answered: what the pass sees now is legal, begins with what it saw before, and ends with

@@ -10,7 +10,7 @@ use std::sync::Wait;
 use ticket_gate::Alone;
 
 // More steps than any round has: a round that has so many doesn't come to its end.
-const MOST_STEPS: u64 = 1_000_000;
+const MAX_STEPS: u64 = 1_000_000;
 
 // No reply is late.
 const REPLY_MS: u64 = 1_000;
@@ -50,7 +50,7 @@ impl<'a> ClientSide<'a> {
 
     // Steps until there is nothing to do.
     fn run<R: Wait>(&mut self, rt: &R, turns: &mut Alone<Core>) -> Result<()> {
-        for _ in 0..MOST_STEPS {
+        for _ in 0..MAX_STEPS {
             self.steps = self.steps.saturating_add(1);
             match self.engine.step(rt, turns) {
                 Ok(Progress::Moved) => {}
@@ -87,7 +87,7 @@ impl<'a> HostSide<'a> {
 
     // Steps until there is nothing to do.
     fn run<R: Wait>(&mut self, rt: &R, turns: &mut Alone<Core>) -> Result<()> {
-        for _ in 0..MOST_STEPS {
+        for _ in 0..MAX_STEPS {
             self.steps = self.steps.saturating_add(1);
             match self.engine.step(rt, turns, MOMENT) {
                 Ok(Progress::Moved) => {}
@@ -133,7 +133,7 @@ impl<'a> Scene<'a> {
     /// Makes steps until the client has all its replies: its own while there are any to make, then the host's while there
     /// are, and those once more when the host has answered; and so on. Gives how many there were.
     pub(crate) fn serve<R: Wait>(&mut self, rt: &R, turns: &mut Alone<Core>) -> Result<Sides> {
-        for _ in 0..MOST_STEPS {
+        for _ in 0..MAX_STEPS {
             self.client.run(rt, turns)?;
             if self.peers.client.is_done() {
                 return Ok(self.steps());

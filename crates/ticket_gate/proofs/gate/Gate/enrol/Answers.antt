@@ -19,11 +19,11 @@ compare_exchange-found-requires g c =
 both : (n m : ℕ) → n ≤ m → m ≤ n → n ≡ m
 both n m less more = omega arith
 
-pub returns-then-number-ge-MOST_PASSES-clause-crowded : goal.returns-then-number-ge-MOST_PASSES-clause-crowded
-returns-then-number-ge-MOST_PASSES-clause-crowded g c =
+pub returns-then-number-ge-MAX_PASSES-clause-crowded : goal.returns-then-number-ge-MAX_PASSES-clause-crowded
+returns-then-number-ge-MAX_PASSES-clause-crowded g c =
     let (_, _, (h, few)) = c.load-number.ensures in
     let o = own_after c.loop.seat.me c.load-number.new.seat.me _ h in
-    (refl, search rules, ap (λ p. p.last_enrolled) o ∙ both _ _ few c.if-number-ge-MOST_PASSES.true)
+    (refl, search rules, ap (λ p. p.last_enrolled) o ∙ both _ _ few c.if-number-ge-MAX_PASSES.true)
 
 pub invariant_of-result-then-found-number : goal.invariant_of-result-then-found-number
 invariant_of-result-then-found-number g c =
