@@ -46,10 +46,12 @@ def constants():
     return found
 
 
-OPERATING = ("docs", "OPERATING.md")
+OPERATING, ARCHITECTURE = ("docs", "OPERATING.md"), ("docs", "ARCHITECTURE.md")
 # No sentence of these has more words.
-SHORT = (("README.md",), ("CONTRIBUTING.md",), ("CHANGELOG.md",), OPERATING, ("docs", "ERRORS.md"), ("docs", "ARCHITECTURE.md"))
+SHORT = (("README.md",), ("CONTRIBUTING.md",), ("CHANGELOG.md",), OPERATING, ("docs", "ERRORS.md"), ARCHITECTURE)
 MOST_WORDS = 40
+# The constants that pages cite by their names.
+CITED = r"`((?:MAX|LINGER|SIGNAL|TELL|STILL|GIVING|CONNECTING|VISIT)_\w+)`"
 
 
 def limits():
@@ -62,8 +64,8 @@ def differences_of_limits():
         names.add(name.split("::")[1])
         if code.get(name) != {value}:
             yield f"OPERATING: {name} is {value}, and the code has {sorted(code.get(name, []))}"
-    for page in (OPERATING, ("docs", "ERRORS.md"), ("docs", "ARCHITECTURE.md")):
-        for cited in sorted(set(re.findall(r"`((?:MAX|LINGER|SIGNAL|TELL|STILL|GIVING|CONNECTING|VISIT)_\w+)`", text_of(*page))) - names):
+    for page in (OPERATING, ("docs", "ERRORS.md"), ARCHITECTURE):
+        for cited in sorted(set(re.findall(CITED, text_of(*page))) - names):
             yield f"{page[-1]} cites {cited}, which the table of limits lacks"
 
 
@@ -126,7 +128,8 @@ def differences_of_lines():
 
 
 def differences_of_commands():
-    count = sum(len(re.findall(r'"[a-z]+"', text_of("crates", "command_table", "src", name))) for name in ("entries.rt", "names.rt"))
+    sources = [text_of("crates", "command_table", "src", name) for name in ("entries.rt", "names.rt")]
+    count = sum(len(re.findall(r'"[a-z]+"', source)) for source in sources)
     for page, title in ((OPERATING, "What is answered"), (("README.md",), "What differs from twemproxy and Envoy")):
         if f"{count} commands" not in section(page, title):
             yield f"{page[-1]}: there are {count} commands"
@@ -137,8 +140,21 @@ def differences_of_tests():
     for row in rows(OPERATING, "Hostile use"):
         for name in re.findall(r"[a-z_]+(?:/[a-z]+)?(?: [a-z0-9]+)?", row[2]) if row[0] != "Attack" else ():
             file, _, word = name.partition(" ") if name.startswith("tests/") else ("tests/with_redis", "", name)
-            if not os.path.exists(os.path.join(TOP, file)) or not re.search(rf"^def test_\w*{word}" if word else "", text_of(file), re.M):
+            pattern = rf"^def test_\w*{word}" if word else ""
+            if not os.path.exists(os.path.join(TOP, file)) or not re.search(pattern, text_of(file), re.M):
                 yield f"OPERATING names a test that isn't there: {name}"
+
+
+def differences_of_crates():
+    """The crates of ARCHITECTURE's table, and the sources that the page names."""
+    crates = {line.split(":")[0].split()[0] for line in text_of("crates.txt").split("\n") if ":" in line and line[0] != "#"}
+    told = {name for row in rows(ARCHITECTURE, "The crates") for name in re.findall(r"\w+", row[0])}
+    for name in sorted(crates - told):
+        yield f"ARCHITECTURE lacks the crate {name}"
+    files = [os.path.relpath(os.path.join(at, name), CRATES) for at, _, names in os.walk(CRATES) for name in names]
+    for name in sorted(set(re.findall(r"[\w/]+\.(?:rt|antt)\b", text_of(*ARCHITECTURE)))):
+        if "NAME" not in name and not any(f"/{file}".endswith(f"/{name}") for file in files):
+            yield f"ARCHITECTURE names a file that isn't there: {name}"
 
 
 def prose(*page):
@@ -181,6 +197,7 @@ CHECKS = (
     differences_of_lines,
     differences_of_commands,
     differences_of_tests,
+    differences_of_crates,
     differences_of_sentences,
     differences_of_links,
 )
