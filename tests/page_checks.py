@@ -1,0 +1,203 @@
+"""Compares tables of README.md and docs/OPERATING.md with the sources, and looks at links and sentences of pages.
+
+Each function yields a line for each difference. `tests/page_tables` runs them all.
+"""
+import json
+import os
+import re
+
+TOP = os.path.dirname(os.path.dirname(os.path.abspath(__file__)))
+CRATES = os.path.join(TOP, "crates")
+# Settings whose values aren't numbers.
+OTHERS = ("listen", "hosts", "weights", "tags")
+
+
+def text_of(*path):
+    with open(os.path.join(TOP, *path), encoding="utf-8") as it:
+        return it.read()
+
+
+def section(page, title):
+    """The text of a page below a heading of the second level."""
+    found = re.search(rf"^## {re.escape(title)}\n(.*?)(?=^## |\Z)", text_of(*page), re.S | re.M)
+    return found[1] if found else ""
+
+
+def rows(page, title):
+    """The cells of each row of the tables there, without code marks."""
+    for line in section(page, title).split("\n"):
+        if line.startswith("|") and not line.startswith("|--"):
+            yield [cell.strip().replace("`", "") for cell in line.strip().strip("|").split("|")]
+
+
+def plain(number):
+    return int(re.sub("[,_]", "", number))
+
+
+def constants():
+    """The values of each numeric constant, by its crate and name."""
+    found = {}
+    for crate in sorted(os.listdir(CRATES)):
+        for at, _, names in os.walk(os.path.join(CRATES, crate, "src")):
+            for name in names:
+                if name.endswith(".rt"):
+                    for one in re.finditer(r"\bconst (\w+): [ui]\w+ = ([\d_]+);", text_of(at, name)):
+                        found.setdefault(f"{crate}::{one[1]}", set()).add(plain(one[2]))
+    return found
+
+
+OPERATING, ARCHITECTURE = ("docs", "OPERATING.md"), ("docs", "ARCHITECTURE.md")
+# No sentence of these has more words.
+SHORT = (("README.md",), ("CONTRIBUTING.md",), ("CHANGELOG.md",), OPERATING, ("docs", "ERRORS.md"), ARCHITECTURE)
+MOST_WORDS = 40
+# The constants that pages cite by their names.
+CITED = r"`((?:MAX|LINGER|SIGNAL|TELL|STILL|GIVING|CONNECTING|VISIT)_\w+)`"
+
+
+def limits():
+    return {row[0]: plain(row[1]) for row in rows(OPERATING, "Limits") if "::" in row[0]}
+
+
+def differences_of_limits():
+    code, names = constants(), set()
+    for name, value in limits().items():
+        names.add(name.split("::")[1])
+        if code.get(name) != {value}:
+            yield f"OPERATING: {name} is {value}, and the code has {sorted(code.get(name, []))}"
+    for page in (OPERATING, ("docs", "ERRORS.md"), ARCHITECTURE):
+        for cited in sorted(set(re.findall(CITED, text_of(*page))) - names):
+            yield f"{page[-1]} cites {cited}, which the table of limits lacks"
+
+
+def differences_of_numbers():
+    """Each great number of README's limits is one of the table's, or the code's number of commands."""
+    known = set(limits().values())
+    for number in re.findall(r"\b\d[\d,]{2,}\b", section(("README.md",), "Limits")):
+        if plain(number) not in known and number != "110":
+            yield f"README: no limit is {number}"
+
+
+def settings_in_code():
+    """Least, most and default of each number, as texts."""
+    source = text_of("crates", "proxy_config", "src", "config.rt")
+    found = {}
+    for key, least, most, default in re.findall(r'number\(file, "(\w+)", ([\w.]+), ([\w.]+), ([\w.]+(?:\([\w.]+\))?)\)', source):
+        found[key] = (least.replace("_", "") if least[0].isdigit() else least, plain(most), default)
+    return found
+
+
+def differences_of_settings():
+    code, sample = settings_in_code(), json.loads(text_of("redproxy.json"))
+    manual = dict(re.findall(r'^\.BR (\w+) " \((.*?)\)"', text_of("packaging", "redproxy.json.5"), re.M))
+    table = {row[0]: row for row in rows(OPERATING, "Settings") if row[0] != "Key"}
+    if list(table) != list(sample):
+        yield f"OPERATING has the settings {list(table)}, and redproxy.json {list(sample)}"
+    for key in sample:
+        if key not in code and key not in OTHERS:
+            yield f"config.rt has no number {key}"
+        if key not in manual:
+            yield f"the manual page lacks {key}"
+    for key, (least, most, default) in code.items():
+        default = "300000" if default.startswith("base_ms") else default.replace("_", "")
+        wanted = f"{least} to {most}"
+        if table.get(key, ["", ""])[1].replace(",", "") != wanted:
+            yield f"OPERATING: {key} goes from {wanted}"
+        if not re.match(rf"{default}(?!\d)", table.get(key, ["", "", ""])[2].replace(",", "")) or sample.get(key) != int(default):
+            yield f"OPERATING or redproxy.json: the default of {key} is {default}"
+        if manual.get(key) != f"{wanted}, {default}":
+            yield f"the manual page: {key} has ({wanted}, {default})"
+
+
+def differences_of_metrics():
+    code = set(re.findall(r'name: "(redproxy_\w+)"', text_of("crates", "admin_pages", "src", "metric.rt")))
+    told = {row[0].split("{")[0] for row in rows(OPERATING, "Numbers while it runs") if row[0].startswith("redproxy_")}
+    for name in sorted(code - told):
+        yield f"OPERATING lacks the metric {name}"
+    for name in sorted(told - code):
+        yield f"OPERATING has the metric {name}, and the code hasn't"
+
+
+def differences_of_lines():
+    """Each line of `serve` on standard error, but for its last one."""
+    told = [re.sub(r"<.*?>", "<>", row[0]) for row in rows(OPERATING, "Serving")]
+    for name in sorted(os.listdir(os.path.join(CRATES, "proxy_serve", "src"))):
+        for line in re.findall(r'eprintln!\(rt;\s*"\{tag\}(redproxy: .*?)"', text_of("crates", "proxy_serve", "src", name)):
+            start = re.sub(r"\{.*?\}", "<>", line).removesuffix("SIGTERM <>")
+            if not any(row.startswith(start) for row in told):
+                yield f"OPERATING lacks the line: {line}"
+
+
+def differences_of_commands():
+    sources = [text_of("crates", "command_table", "src", name) for name in ("entries.rt", "names.rt")]
+    count = sum(len(re.findall(r'"[a-z]+"', source)) for source in sources)
+    for page, title in ((OPERATING, "What is answered"), (("README.md",), "What differs from twemproxy and Envoy")):
+        if f"{count} commands" not in section(page, title):
+            yield f"{page[-1]}: there are {count} commands"
+
+
+def differences_of_tests():
+    """Each test that the table of attacks names."""
+    for row in rows(OPERATING, "Hostile use"):
+        for name in re.findall(r"[a-z_]+(?:/[a-z]+)?(?: [a-z0-9]+)?", row[2]) if row[0] != "Attack" else ():
+            file, _, word = name.partition(" ") if name.startswith("tests/") else ("tests/with_redis", "", name)
+            pattern = rf"^def test_\w*{word}" if word else ""
+            if not os.path.exists(os.path.join(TOP, file)) or not re.search(pattern, text_of(file), re.M):
+                yield f"OPERATING names a test that isn't there: {name}"
+
+
+def differences_of_crates():
+    """The crates of ARCHITECTURE's table, and the sources that the page names."""
+    crates = {line.split(":")[0].split()[0] for line in text_of("crates.txt").split("\n") if ":" in line and line[0] != "#"}
+    told = {name for row in rows(ARCHITECTURE, "The crates") for name in re.findall(r"\w+", row[0])}
+    for name in sorted(crates - told):
+        yield f"ARCHITECTURE lacks the crate {name}"
+    files = [os.path.relpath(os.path.join(at, name), CRATES) for at, _, names in os.walk(CRATES) for name in names]
+    for name in sorted(set(re.findall(r"[\w/]+\.(?:rt|antt)\b", text_of(*ARCHITECTURE)))):
+        if "NAME" not in name and not any(f"/{file}".endswith(f"/{name}") for file in files):
+            yield f"ARCHITECTURE names a file that isn't there: {name}"
+
+
+def prose(*page):
+    """A page without code: its lines, and the cells of its tables."""
+    text = re.sub(r"^```.*?^```$", "", text_of(*page), flags=re.S | re.M)
+    for line in text.split("\n"):
+        if not line.startswith("    "):
+            yield from line.split("|") if line.startswith("|") else [re.sub(r"^ *(?:\d+\.|-|#+) ", "", line)]
+
+
+def differences_of_sentences():
+    for page in SHORT:
+        for line in prose(*page):
+            for sentence in re.split(r"(?<=[.!?])[*)]*\s+", line):
+                if len(sentence.split()) > MOST_WORDS:
+                    yield f"{page[-1]} has a sentence of {len(sentence.split())} words: {sentence[:60]}.."
+
+
+def headings(path):
+    """The anchors of a page's headings."""
+    for heading in re.findall(r"^#+ (.*)$", text_of(path), re.M):
+        yield re.sub(r"[^\w\- ]", "", heading.lower()).replace(" ", "-")
+
+
+def differences_of_links():
+    pages = ["README.md", "CONTRIBUTING.md", "CHANGELOG.md"]
+    pages += [os.path.join("docs", name) for name in sorted(os.listdir(os.path.join(TOP, "docs"))) if name.endswith(".md")]
+    for page in pages:
+        for link, anchor in re.findall(r"\]\(([^)#:]*)(?:#([^)]*))?\)", text_of(page)):
+            path = os.path.normpath(os.path.join(os.path.dirname(page), link)) if link else page
+            if not os.path.exists(os.path.join(TOP, path)) or (anchor and anchor not in headings(path)):
+                yield f"{page} links to what isn't there: {link}#{anchor}"
+
+
+CHECKS = (
+    differences_of_limits,
+    differences_of_numbers,
+    differences_of_settings,
+    differences_of_metrics,
+    differences_of_lines,
+    differences_of_commands,
+    differences_of_tests,
+    differences_of_crates,
+    differences_of_sentences,
+    differences_of_links,
+)
