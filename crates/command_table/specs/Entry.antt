@@ -2,6 +2,6 @@
 use Rattle.command_table.specs.declared.Entry.{Entry}
 use Rattle.command_table.specs.Table.{Row, row}
 
--- the row that an entry is
+-- what an `Entry` says, as a row
 abbrev pub row_of : Entry → Row
 row_of e = row e.kind e.name.now e.least e.key_at

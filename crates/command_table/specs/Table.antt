@@ -36,7 +36,7 @@ own_rows =
 abbrev pub one_key_row : List ℕ → Row
 one_key_row name = row One name 2 1
 
--- the table
+-- the table of commands: of each its kind, its name in lower case, its least number of words, and the word that is the key
 unfoldable pub rows : List Row
 rows = own_rows ++ map one_key_row one_key_names
 
@@ -48,6 +48,6 @@ is_name name other = bytes_eq (str_to_ascii_lowercase name) (str_to_ascii_lowerc
 abbrev pub row_in : List Row → List ℕ → Option Row
 row_in rs name = find (λ r. is_name name r.name) rs
 
--- the row of the command of this name
+-- the row of the command of a name, compared without ASCII case
 abbrev pub row_named : List ℕ → Option Row
 row_named name = row_in rows name

@@ -7,7 +7,7 @@ use Rattle.devices.specs.declared.tally.Told.{Told}
 abbrev pub with_failures : ℕ → Counts → Counts
 with_failures n counts = record { failed = min (counts.failed + n) (2 ^ 64 - 1); paused = counts.paused }
 
--- how many bytes moved
+-- how many bytes a call moved
 abbrev pub moved_count : Told → ℕ
 moved_count (Told.Moved n) = n
 moved_count told = 0

@@ -73,6 +73,6 @@ swept_of d = record { returned = length d.returned; ejected = length d.ejected; 
 abbrev pub trip : Rules → State → Mark → List Mark → Trip
 trip R O m before = trip_of (deed_after R (state R O before) m)
 
--- what a sweep tells behind some marks
+-- what a sweep answers after some marks
 abbrev pub sweep_answer : Rules → State → Mark → List Mark → Swept
 sweep_answer R O m before = swept_of (deed_after R (state R O before) m)

@@ -18,7 +18,7 @@ pub record BudgetState : Type 0 where
 abbrev pub capped : ℕ → ℕ
 capped n = min n (2 ^ 64 - 1)
 
--- nothing is lent and nothing spent
+-- the loan of which nothing is lent and nothing spent
 abbrev pub no_loan : LoanState
 no_loan = record { lent = 0; spent = 0; freed = 0 }
 
@@ -26,24 +26,24 @@ no_loan = record { lent = 0; spent = 0; freed = 0 }
 abbrev pub free_steps : LoanState → ℕ
 free_steps l = capped (l.lent + l.freed) - l.spent
 
--- once a step was made
+-- a loan once a step was made
 abbrev pub loan_after : StepKind → LoanState → LoanState
 loan_after k l = record { lent = l.lent; spent = capped (l.spent + capped (cost_of k)); freed = capped (l.freed + freed_of k) }
 
--- once so many steps more were lent to it
+-- a loan once so many steps more were lent to it
 abbrev pub borrowed : ℕ → LoanState → LoanState
 borrowed steps l = record l { lent = capped (l.lent + steps) }
 
--- nothing is spent for good and nothing lent
+-- the budget of which nothing is spent for good and nothing lent
 abbrev pub no_budget : BudgetState
 no_budget = record { spent = 0; lent = 0 }
 
--- once so many steps more were lent
+-- a budget once so many steps more were lent
 abbrev pub lent_more : ℕ → BudgetState → BudgetState
 lent_more steps b = record b { lent = b.lent + steps }
 
--- Once a worker has settled: what it was lent is given back, and what it spent more than it set free is spent for good, as far
--- as it fits. Where it set more free than it spent, that is free again.
+-- A budget once a worker has settled: what it was lent is given back, and what it spent more than it set free is spent for good,
+-- as far as it fits. Where it set more free than it spent, that is free again.
 abbrev pub settled : ℕ → LoanState → BudgetState → BudgetState
 settled most l b = record {
   spent = min (b.spent + (l.spent - l.freed) - (l.freed - l.spent)) (most - (b.lent - l.lent));

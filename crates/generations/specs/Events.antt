@@ -1,9 +1,9 @@
 -- What happens to generations, and what that says. The lists are of all that happened, the newest first.
 use Rattle.std.specs.Prelude.{ℕ, Bool, true, false, ◌==◌, ◌&&◌, ◌||◌, ◌+◌, not, if◌then◌else◌, Option, Some, None, unwrap_or, List, [], ◌∷◌}
 
--- what happens: a generation is given to be opened; it opens, at a moment; it could not be opened; it is near its marks, at a
--- moment; it is full, at a moment, and hands over; a host answers commands of it, at a moment; its last connection is gone; it
--- makes a sweep, at a moment
+-- What happens: a generation is given to be opened, opens, could not be opened, is near its marks, is full and hands over, has a
+-- command answered by a host, has lost its last connection, makes a sweep. Opening, being near or full, answers and sweeps have
+-- a moment.
 pub data Event (H : Type 0) : Type 0 where
   Taken : ℕ → Event H
   Opened : ℕ → ℕ → Event H
@@ -21,7 +21,7 @@ module _ {H : Type 0} where
   newest (Opened n t ∷ es) = Some n
   newest (_ ∷ es) = newest es
 
-  -- the number of the one that opened before, until its last connection is gone
+  -- the number of the one that opened before the newest, until its last connection is gone
   abbrev pub draining : List (Event H) → Option ℕ
   draining [] = None
   draining (Opened n t ∷ es) = newest es

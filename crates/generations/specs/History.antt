@@ -13,11 +13,11 @@ module _ {H : Type 0} where
   abbrev pub IsStill : List (Event H) → ℕ → Type 0
   IsStill es now = HavePassed (still_since es) STILL_MS now ⊎ HavePassed (drains_since es) MAX_DRAINING_MS now
 
-  -- A generation is given to be opened where it is the one asked for, once, and none drains. It opens or fails where it was
-  -- given. The newest one alone is near its marks or full. It is near them only where no older one drains or that one is still;
-  -- it is full only where none is asked for, there is a further number, and no older one drains or that one had its time for
-  -- giving up. Of the one that drains alone it counts that hosts answer, and that its last connection is gone. Those that have
-  -- connections make sweeps.
+  -- Which event may come next. A generation is given to be opened where it is the one asked for, once, and none drains. It opens
+  -- or fails where it was given. The newest one alone is near its marks or full. It is near them only where no older one drains
+  -- or that one is still; it is full only where none is asked for, there is a further number, and no older one drains or that
+  -- one had its time for giving up. Of the one that drains alone it counts that hosts answer, and that its last connection is
+  -- gone. Those that have connections make sweeps.
   abbrev pub MayHappen : Event H → List (Event H) → Type 0
   MayHappen (Taken n) es = (n ≡ last_number es) × (is_asked es ≡ true) × (opening es ≡ None) × (draining es ≡ None)
   MayHappen (Opened n t) es = opening es ≡ Some n

@@ -13,8 +13,9 @@ module _ {H : Type 0} where
   abbrev pub IsInTheWay : List (Event H) → ℕ → Type 0
   IsInTheWay es n = (draining es ≡ Some n) × (is_asked es ≡ true)
 
-  -- The newest one alone serves. The one that drains is given up where the newest one has said that it is near its marks, and
-  -- stops where a further one is asked for; one with no connections stops too.
+  -- What a generation is to do, each phase exactly where it is so. The newest one alone serves. The one that drains is given up
+  -- where the newest one has said that it is near its marks, and stops where a further one is asked for; one with no connections
+  -- stops too.
   pub record IsPhase (phase : Phase) (es : List (Event H)) (n : ℕ) : Type 0 where
     pub serves : (phase ≡ Serving) ↔ (newest es ≡ Some n)
     pub drains : (phase ≡ Draining) ↔ (IsLeft es n × (near_since es ≡ None))

@@ -24,7 +24,7 @@ done_by _ = 0
 abbrev pub cost_of : StepKind → ℕ
 cost_of k = if done_by k == 0 then 1 + owed_by k else 0
 
--- what it sets free: what it stands in place of, beside itself
+-- what a step sets free: what it stands in place of, beside itself
 abbrev pub freed_of : StepKind → ℕ
 freed_of k = done_by k - 1
 

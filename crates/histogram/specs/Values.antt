@@ -11,7 +11,7 @@ capped n = min n (2 ^ 64 - 1)
 abbrev pub number_at_most : ℕ → List ℕ → ℕ
 number_at_most bound values = count_by (λ v. nat_le v bound) values
 
--- Each number is that of the values, as far as it goes.
+-- For each bound it is counted how many values are at most it, and how many there are and their sum, as far as a `u64` goes.
 pub record IsOf (values : List ℕ) (h : Histogram) : Type 0 where
   pub at_most : (i : ℕ) → i < 12 → slice_index h.at_most i ≡ capped (number_at_most (slice_index BOUNDS_MS i) values)
   pub total : h.total ≡ capped (length values)

@@ -28,7 +28,7 @@ pub record IsKetamaPair (names : List (List ℕ)) (counts : List ℕ) (pair : �
   pub host : slice_get names pair.1 ≡ Some name
   pub point : IsPointOf name (slice_index counts pair.1) pair.0
 
--- the ring of these hosts, of these weights
+-- the ring of these hosts by their weights
 pub record IsKetamaRing (names : List (List ℕ)) (weights : List ℕ) (ring : Continuum) : Type 0 where
   pub hosts : ring.hosts ≡ length names
   pub digests : ring.digests ≡ sum (digest_counts weights)

@@ -41,6 +41,6 @@ hashed_part key tags = if tags then tag_or_key key else key
 abbrev pub point_of_bytes : List ℕ → ℕ
 point_of_bytes bytes = point_in (md5 bytes) 0
 
--- the key's point on the ring
+-- the key's point on the ring: of its tag, where tags count and it has one, or else of all of it
 abbrev pub point_of : List ℕ → Bool → ℕ
 point_of key tags = point_of_bytes (hashed_part key tags)

@@ -22,7 +22,7 @@ pub record Values : Type 0 where
   pub factor : ℕ
   pub panic_percent : ℕ
 
--- those of a `Config`
+-- the values of a `Config`
 abbrev pub values_of : Config → Values
 values_of c = record {
   listen = c.listen;

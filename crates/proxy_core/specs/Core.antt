@@ -51,7 +51,7 @@ pub record IsLeft (old new : Machine) (event : Event) (r : Refused) : Type 0 whe
   pub setting : setting_in new ≡ setting_in old
   pub is_kept : IsKept new
 
--- what outlier detection knows of the hosts
+-- what outlier detection knows of the hosts after a core's steps
 abbrev pub detector_state : Proxy → State
 detector_state k = state k.setting.rules k.setting.opening (past k.setting (Reference.history_in k)).marks
 

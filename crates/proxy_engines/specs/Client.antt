@@ -140,9 +140,9 @@ pub record IsHalted (e : Client) (H : History) : Type 0 where
 abbrev pub MayGoOn : Client → Type 0
 MayGoOn e = (e.stage ≡ Stage.Closed false) × (e.is_halted ≡ true)
 
--- Where the writer took these bytes, the reader gave the bytes b, and H is the steps of the engine's caller: what was taken
--- and what is pending is what was handed out; the requests accepted, and the one that waits, are those that were given; and it
--- finishes and was closed as its stage says.
+-- What the client's writer took and what is pending is what was handed out; the requests accepted, and the one that waits, are
+-- those that were given; and the connection finishes and was closed as its stage says. The writer took these bytes, the reader
+-- gave the bytes b, and H is the steps of the engine's caller.
 pub record Carries (e : Client) (H : History) (taken b : List ℕ) : Type 0 where
   pub given : List Request
   pub out_is : taken ++ e.outbox.pending ≡ transcript e.conn H

@@ -15,7 +15,7 @@ use Rattle.proxy_engines.specs.declared.client.Progress.{Progress}
 use Rattle.proxy_engines.specs.declared.client.Stage.{Stage}
 use Rattle.proxy_engines.specs.declared.error.EngineError.{EngineError}
 
--- Some turns were made, or none, from `before` to `after`. The engine made moves, whether any as was told; where it answers
+-- Some turns were made, or none, from `before` to `after`: the engine made moves, whether any as was told; where it answers
 -- neither device has failed, and where a turn was refused the error has its number.
 pub record MovesClient {Turns Setting Answered : Type 0} (pass_of : Turns → ℕ) (setting_of : Turns → Setting)
     (seen_of : Turns → List Step) (cause : Setting → Refusal → Event → List Step → Type 0) (before after : Turns)
@@ -32,7 +32,7 @@ pub record StaysHeld (cause : Refusal → Event → List Step → Type 0) (seen 
   pub waits : old.next ≡ Some request
   pub crowded : cause Refusal.Crowded (Event.Arrived old.conn request) seen
 
--- What the answer of a step tells: `Ended` that the connection was closed at its end, and `Idle` why nothing moved; and where a
+-- What a step's answer tells: `Ended` that the connection was closed at its end, and `Idle` why nothing moved; and where a
 -- device failed, it has failed in this step, and the connection was closed for it. No step needs a link.
 pub record TellsStep (cause : Refusal → Event → List Step → Type 0) (seen_before seen_after : List Step) (old new : Client)
     (result : Result Progress EngineError) : Type 0 where

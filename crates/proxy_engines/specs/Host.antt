@@ -53,9 +53,9 @@ abbrev pub IsOnLink : Option LinkState → List Tree → List ℕ → List ℕ �
 IsOnLink None came taken b = (came ≡ []) × (taken ≡ []) × (b ≡ [])
 IsOnLink (Some k) came taken b = HoldsLink k came b
 
--- Where the writer of the present link took these bytes, its reader gave the bytes b, and H is the steps of the engine's
--- caller: what was taken and what is pending is what was sent to the host in its epoch, and the values that came are the first
--- of what the bytes hold. Nothing was sent or came in a later epoch.
+-- What the link's writer took and what is pending is what was sent to the host in its epoch, and the values that came are the
+-- first of what the link's bytes hold. The writer of the present link took these bytes, its reader gave the bytes b, and H is
+-- the steps of the engine's caller. Nothing was sent or came in a later epoch.
 pub record CarriesHost (l : LineState) (k : Option LinkState) (H : History) (taken b : List ℕ) : Type 0 where
   pub out_is : taken ++ l.pending ≡ upstream l.host l.epoch H
   pub link_is : IsOnLink k (replies_from l.host l.epoch H) taken b

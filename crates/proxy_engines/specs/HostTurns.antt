@@ -31,8 +31,8 @@ module _ {Turns Setting : Type 0} (pass_of : Turns → ℕ) (setting_of : Turns 
         (own_history pass_of seen_of before) (own_history pass_of seen_of after) moment result
     pub number : IfErr result (IsNumberedOn (cause (setting_of before)) (seen_of after) new.line)
 
-  -- Some turns were made, or none, from `before` to `after`. A fault of this kind is recorded, and the link given up; or that turn
-  -- was refused, with its number, and the fault is left to the next step.
+  -- Some turns were made, or none, from `before` to `after`: a fault of this kind is recorded, and the link given up; or that
+  -- turn was refused, with its number, and the fault left to the next step.
   pub record MarksFault {Answered : Type 0} (old new : HostState) (kind : Kind) (moment : ℕ) (result : Result Answered EngineError) : Type 0 where
     pub turns : KeepsTurns pass_of setting_of seen_of before after
     pub records : OnOk result (Records old new (own_history pass_of seen_of before) (own_history pass_of seen_of after) kind moment)
@@ -41,8 +41,8 @@ module _ {Turns Setting : Type 0} (pass_of : Turns → ℕ) (setting_of : Turns 
     pub err : IfErr result (λ e. (n : ℕ) × (e ≡ EngineError.TurnRefused n))
     pub number : IfErr result (IsNumberedOn (cause (setting_of before)) (seen_of after) new.line)
 
--- What the answer of a step tells that began with this line and link: no fault is still to be recorded, no reply is late, and
--- the link, if it is the same, has not failed; and `Idle` why nothing moved.
+-- What the answer of a step tells that began with this line and link: no fault is still to be recorded, no reply is late, a link
+-- that stays has not failed, and `Idle` why nothing moved.
 pub record TellsHost (cause : Refusal → Event → List Step → Type 0) (seen_before seen_after : List Step) (line : LineState)
     (link : Option LinkState) (new : HostState) (moment : ℕ) (result : Result Progress EngineError) : Type 0 where
   pub recorded : OnOk result (new.fault ≡ None)

@@ -18,8 +18,8 @@ pub record IsRest (r : RestState) (b : List ℕ) : Type 0 where
   pub most_is : r.values.most ≡ CLIENT_MEMBERS
   pub holds : (left : Option (List ℕ)) (counts : Counts) → HoldsBehind (end_with left counts r) b (waiting_requests r.next)
 
--- A connection was closed with all answered. The bytes are the texts of what it asked, none of which finishes it, and then
--- this rest; and the writer took all that was handed out.
+-- A connection was closed with all answered, and left this rest. The bytes are the texts of what it asked, none of which
+-- finishes it, and then this rest; and the writer took all that was handed out.
 pub record IsLeft (c : ℕ) (H : History) (taken b : List ℕ) (r : RestState) : Type 0 where
   pub asked : List Tree
   pub rest : List ℕ
@@ -117,7 +117,8 @@ pub record IsSocketWhole (ps : List Past) (e : Client) (H : History) (taken : Li
   pub all_handed : handed_count e.conn H ≡ accepted_count e.conn H
   pub taken_is : taken ≡ said_before ps ++ transcript e.conn H
 
--- So it is wherever the last connection ended and was not halted for a drain.
+-- Where the last connection ended and was not halted for a drain, all requests up to and with the first that finishes were
+-- accepted, handed out and taken.
 abbrev pub SocketEndsWhole : Type 0
 SocketEndsWhole = (ps : List Past) (e : Client) (H : History) (taken b : List ℕ) → CarriesOn ps e H taken b → e.stage ≡ Stage.Closed false → e.is_halted ≡ false
     → (rs : List Request) → AreRequests b rs → IsSocketWhole ps e H taken rs

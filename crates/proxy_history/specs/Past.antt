@@ -25,7 +25,7 @@ abbrev mutual
   marks_in S (s ∷ before) =
       mark_by (record { steps = before; parts = parts_in S before; sent = sent_in S before; marks = marks_in S before }) s.event ++ marks_in S before
 
--- what definitions look at in a history
+-- what a history determines: its parts, those that were sent, its marks
 abbrev pub past : Setting → History → Past
 past S H = record { steps = H; parts = parts_in S H; sent = sent_in S H; marks = marks_in S H }
 

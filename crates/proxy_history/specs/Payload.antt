@@ -31,7 +31,7 @@ length_of_answer _ = 0
 abbrev pub payload_of : Event → Answer → ℕ
 payload_of event answer = length_of_event event + length_of_answer answer
 
--- the bytes of a history
+-- the bytes of payload that a history keeps
 abbrev pub payload : History → ℕ
 payload [] = 0
 payload (s ∷ before) = payload before + payload_of s.event s.answer

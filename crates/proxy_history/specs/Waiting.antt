@@ -19,7 +19,7 @@ waiting_parts h past = filter (waits h past) past.parts
 abbrev pub sent_to : ℕ → ℕ → Past → List Part
 sent_to h e past = filter (is_of h e) past.sent
 
--- how many of them have no reply in the present epoch
+-- how many of the parts sent to a host in its present epoch have no reply
 abbrev pub flying_count : ℕ → Past → ℕ
 flying_count h past = let e = epoch h past.steps in length (sent_to h e past) - length (replies_from h e past.steps)
 

@@ -27,6 +27,6 @@ pub record RunsWhole (b : List ℕ) (held holds : Option (List ℕ)) : Type 0 wh
   pub alone : (c : ℕ) → c ≢ 0 → connection_steps c history ≡ []
   pub written : Appends held holds (transcript 0 history)
 
--- where the reader's bytes are known
+-- all that a run of `local` promises (`RunsWhole`), where the reader's bytes are known
 abbrev pub RunsLocal : Option (List ℕ) → Option (List ℕ) → Option (List ℕ) → Type 0
 RunsLocal came held holds = IfSome came (λ b. RunsWhole b held holds)

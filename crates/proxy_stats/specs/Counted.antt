@@ -20,7 +20,7 @@ host_counts_of steps h = record {
   lost = sum_by (of_host h lost_parts) steps;
 }
 
--- the counts over the steps
+-- the counts that are the sums over the steps
 abbrev pub counts_of : List Step → Counts
 counts_of steps = record {
   accepted = sum_by arrivals steps;
@@ -54,7 +54,7 @@ pub record HasCounted (old : Counts) (step : Step) (new : Counts) : Type 0 where
   pub kinds : length new.local ≡ length old.local
   pub hosts : length new.hosts ≡ length old.hosts
 
--- what a look at a core that counts tells
+-- what a look at a core that counts tells: the handover, the counts and the load of a journal
 abbrev pub sight_of : Origin → List Step → Sight
 sight_of made journal = record {
   handover = handover_of made journal;

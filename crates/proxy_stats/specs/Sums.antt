@@ -44,7 +44,7 @@ pub record AreHostsJoined (a b c : HostCounts) : Type 0 where
   pub faults : c.faults ≡ capped_sum (a.faults + b.faults)
   pub lost : c.lost ≡ capped_sum (a.lost + b.lost)
 
--- each number is the sum of two, as far as it goes
+-- each number is the sum of two, or the greatest `u64` where that is more
 pub record AreJoined (a b c : Counts) : Type 0 where
   pub accepted : c.accepted ≡ capped_sum (a.accepted + b.accepted)
   pub handed : c.handed ≡ capped_sum (a.handed + b.handed)

@@ -5,8 +5,8 @@ use Rattle.resp_core.specs.Text.{text}
 use Rattle.resp_core.specs.Grammar.{max_text, max_depth}
 use Rattle.resp_core.specs.Within.{IsWithin}
 
--- the value keeps the limits, with lists of at most so many members, and it can be written so that such a reader gives it
--- again: it is plain, and its one spelling is no longer than a value's text may be
+-- what a reader can give: the value keeps the limits, with lists of at most so many members, it is plain, and its one spelling
+-- is no longer than a value's text may be
 pub record IsReadable (most : ℕ) (t : Tree) : Type 0 where
   pub within : IsWithin most max_depth t
   pub plain : is_plain_tree t ≡ true

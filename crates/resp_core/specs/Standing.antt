@@ -34,8 +34,8 @@ pub record Leaves (most : ℕ) (b : List ℕ) (ts : List Tree) (n : ℕ) : Type 
   pub splits : Splits most b ts rest
   pub length_is : n ≡ length rest
 
--- A reader that was fed these bytes and has given these values: behind the texts of the values stand those bytes of an
--- unfinished value in which it has come so far; or it has told of this stream what is refused in it.
+-- A reader that was fed these bytes and has given these values: behind their texts stand the bytes of an unfinished value in
+-- which it has come so far; or it has told what is refused there.
 pub record Stands (r : ReaderState) (b : List ℕ) (ts : List Tree) : Type 0 where
   pub rest : List ℕ
   pub splits : Splits r.most b ts rest

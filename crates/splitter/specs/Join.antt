@@ -73,7 +73,7 @@ told_sum n = if is_long n then whole n else upstream_protocol_error
 abbrev pub unless_failed : ℕ → Tree → Tree
 unless_failed failed t = if failed == 0 then t else finished_with failed
 
--- what the parts' values become
+-- the value that the parts' values become, by the join
 abbrev pub join_of : Join → List Tree → Tree
 join_of Same ts = first_of ts
 join_of Get ts = list (trees_of (map in_place ts))

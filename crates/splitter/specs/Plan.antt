@@ -64,7 +64,8 @@ abbrev pub plan_by_row : Option Row → Words → Plan
 plan_by_row None words = here Unsupported (fault (unsupported_text (word words 0)))
 plan_by_row (Some r) words = if takes r.kind r.least (length words) then plan_by r.kind r words else here WrongNumber (fault (wrong_number r))
 
--- the table of plans, its cases in their order
+-- the table of plans, its cases in their order: the proxy answers a request itself, or does and the connection finishes, or
+-- hosts answer parts whose values are joined
 abbrev pub plan_of : Request → Plan
 plan_of broken = leave Broken (fault (codes "downstream protocol error"))
 plan_of (read t) = if is_command t then plan_by_row (row_named (word (words_of t) 0)) (words_of t) else here Invalid (fault (codes "invalid request"))

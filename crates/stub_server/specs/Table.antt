@@ -84,7 +84,7 @@ outcome_of m t = if is_command t then outcome_of_words m (words_of t) else gives
 abbrev pub answer_of : Map → Tree → Tree
 answer_of m t = (outcome_of m t).answer
 
--- the map behind a request
+-- the map after a request
 abbrev pub map_after : Map → Tree → Map
 map_after m t = (outcome_of m t).map
 

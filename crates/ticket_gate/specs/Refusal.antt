@@ -13,7 +13,7 @@ abbrev pub gate_number : GateRefusal → ℕ
 gate_number Crowded = 1203
 gate_number NoMemory = 1204
 
--- a refusal by the state has no number of the gate's
+-- the number of a turn's refusal; one by the state has none of the gate's
 abbrev pub turn_number : {R E : Type 0} → TurnRefusal R E → Option ℕ
 turn_number (Busy served drawn event) = Some 1201
 turn_number (Spent event) = Some 1202

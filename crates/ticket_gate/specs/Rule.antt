@@ -58,7 +58,7 @@ module _ {S E A C : Type 0} (journal : S → List (StepOf E A)) (setting : S →
       (v : View E A C) × (homes ≡ maybe.none ∷ []) × (get_elem? views j ≡ maybe.some v)
       × (v.own.inside ≡ true)
 
--- the rule
+-- the rule: what holds of the words, the slot and all views between any two atomic steps, with witnesses
 pub record GateRule {S E A C : Type 0} (journal : S → List (StepOf E A)) (setting : S → C)
     (legal : C → List (StepOf E A) → Type 0) (c : C)
     (s : State (Option S) (View E A C)) : Type 0 where

@@ -10,7 +10,7 @@ use Rattle.ticket_gate.specs.Totals.{steps_in, amount_sum}
 abbrev pub journal_of : RunningTotal → List (StepOf ℕ ℕ)
 journal_of state = steps_in state.additions.items
 
--- its limit
+-- the limit of the running total
 abbrev pub limit_of : RunningTotal → ℕ
 limit_of state = state.limit
 

@@ -6,7 +6,7 @@ use Rattle.journal_core.specs.declared.step.Step.{Step as StepOf}
 use Rattle.journal_core.specs.Journal.{step_by}
 use Rattle.ticket_gate.specs.declared.running_total.Addition.{Addition}
 
--- the additions as steps
+-- the running total's additions, as steps
 abbrev pub steps_in : List Addition → List (StepOf ℕ ℕ)
 steps_in additions = map (λ a. step_by a.pass a.amount a.total) additions
 

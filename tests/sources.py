@@ -1,0 +1,30 @@
+"""What tests/pages and tests/definitions share: the sources of the crates."""
+import os
+
+TOP = os.path.dirname(os.path.dirname(os.path.abspath(__file__)))
+CRATES = os.path.join(TOP, "crates")
+# Crates without a public contract of their own.
+PLAIN = ("rows", "benches", "command_line", "proxy_main")
+
+
+def text_of(path):
+    with open(path, encoding="utf-8") as it:
+        return it.read()
+
+
+def files_of(crate, folder, suffix):
+    """The files of a crate's folder, those of its folders too, as pairs of a name and a text."""
+    found = []
+    for at, _, names in os.walk(os.path.join(CRATES, crate, folder)):
+        found += [os.path.join(at, name) for name in names if name.endswith(suffix)]
+    return [(os.path.basename(path)[: -len(suffix)], text_of(path)) for path in sorted(found)]
+
+
+def crates(but=()):
+    """The crates but these and test crates."""
+    return [name for name in sorted(os.listdir(CRATES)) if not name.endswith("_tests") and name not in but]
+
+
+def sources(but=PLAIN):
+    """The sources of each crate but these and test crates, as pairs of the crate's name and a text."""
+    return [(crate, text) for crate in crates(but) for _, text in files_of(crate, "src", ".rt")]
