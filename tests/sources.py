@@ -1,5 +1,6 @@
 """What tests/pages and tests/definitions share: the sources of the crates."""
 import os
+import re
 
 TOP = os.path.dirname(os.path.dirname(os.path.abspath(__file__)))
 CRATES = os.path.join(TOP, "crates")
@@ -28,3 +29,13 @@ def crates(but=()):
 def sources(but=PLAIN):
     """The sources of each crate but these and test crates, as pairs of the crate's name and a text."""
     return [(crate, text) for crate in crates(but) for _, text in files_of(crate, "src", ".rt")]
+
+
+def constants():
+    """The values of each numeric constant, by its name, and by its crate and its name: crates may have different ones of one name."""
+    found = {}
+    for crate, source in sources(but=()):
+        for name, value in re.findall(r"\bconst (\w+): [ui]\w+ = ([\d_]+);", source):
+            for key in (name, f"{crate}::{name}"):
+                found.setdefault(key, set()).add(int(value))
+    return found

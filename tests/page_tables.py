@@ -1,13 +1,13 @@
-"""Compares tables of README.md and docs/OPERATING.md with the sources, and looks at links and sentences of pages.
+"""Compares tables of README.md, docs/OPERATING.md and docs/ARCHITECTURE.md with the sources, for tests/pages.
 
-Each function yields a line for each difference. `tests/page_tables` runs them all.
+Each function of CHECKS yields a line for each difference.
 """
 import json
 import os
 import re
 
-TOP = os.path.dirname(os.path.dirname(os.path.abspath(__file__)))
-CRATES = os.path.join(TOP, "crates")
+from sources import CRATES, TOP, constants
+
 # Settings whose values aren't numbers.
 OTHERS = ("listen", "hosts", "weights", "tags")
 
@@ -34,22 +34,7 @@ def plain(number):
     return int(re.sub("[,_]", "", number))
 
 
-def constants():
-    """The values of each numeric constant, by its crate and name."""
-    found = {}
-    for crate in sorted(os.listdir(CRATES)):
-        for at, _, names in os.walk(os.path.join(CRATES, crate, "src")):
-            for name in names:
-                if name.endswith(".rt"):
-                    for one in re.finditer(r"\bconst (\w+): [ui]\w+ = ([\d_]+);", text_of(at, name)):
-                        found.setdefault(f"{crate}::{one[1]}", set()).add(plain(one[2]))
-    return found
-
-
 OPERATING, ARCHITECTURE = ("docs", "OPERATING.md"), ("docs", "ARCHITECTURE.md")
-# No sentence of these has more words.
-SHORT = (("README.md",), ("CONTRIBUTING.md",), ("CHANGELOG.md",), OPERATING, ("docs", "ERRORS.md"), ARCHITECTURE)
-MOST_WORDS = 40
 # The constants that pages cite by their names.
 CITED = r"`((?:MAX|LINGER|SIGNAL|TELL|STILL|GIVING|CONNECTING|VISIT)_\w+)`"
 
@@ -147,46 +132,14 @@ def differences_of_tests():
 
 def differences_of_crates():
     """The crates of ARCHITECTURE's table, and the sources that the page names."""
-    crates = {line.split(":")[0].split()[0] for line in text_of("crates.txt").split("\n") if ":" in line and line[0] != "#"}
+    listed = {line.split(":")[0].split()[0] for line in text_of("crates.txt").split("\n") if ":" in line and line[0] != "#"}
     told = {name for row in rows(ARCHITECTURE, "The crates") for name in re.findall(r"\w+", row[0])}
-    for name in sorted(crates - told):
+    for name in sorted(listed - told):
         yield f"ARCHITECTURE lacks the crate {name}"
     files = [os.path.relpath(os.path.join(at, name), CRATES) for at, _, names in os.walk(CRATES) for name in names]
     for name in sorted(set(re.findall(r"[\w/]+\.(?:rt|antt)\b", text_of(*ARCHITECTURE)))):
         if "NAME" not in name and not any(f"/{file}".endswith(f"/{name}") for file in files):
             yield f"ARCHITECTURE names a file that isn't there: {name}"
-
-
-def prose(*page):
-    """A page without code: its lines, and the cells of its tables."""
-    text = re.sub(r"^```.*?^```$", "", text_of(*page), flags=re.S | re.M)
-    for line in text.split("\n"):
-        if not line.startswith("    "):
-            yield from line.split("|") if line.startswith("|") else [re.sub(r"^ *(?:\d+\.|-|#+) ", "", line)]
-
-
-def differences_of_sentences():
-    for page in SHORT:
-        for line in prose(*page):
-            for sentence in re.split(r"(?<=[.!?])[*)]*\s+", line):
-                if len(sentence.split()) > MOST_WORDS:
-                    yield f"{page[-1]} has a sentence of {len(sentence.split())} words: {sentence[:60]}.."
-
-
-def headings(path):
-    """The anchors of a page's headings."""
-    for heading in re.findall(r"^#+ (.*)$", text_of(path), re.M):
-        yield re.sub(r"[^\w\- ]", "", heading.lower()).replace(" ", "-")
-
-
-def differences_of_links():
-    pages = ["README.md", "CONTRIBUTING.md", "CHANGELOG.md"]
-    pages += [os.path.join("docs", name) for name in sorted(os.listdir(os.path.join(TOP, "docs"))) if name.endswith(".md")]
-    for page in pages:
-        for link, anchor in re.findall(r"\]\(([^)#:]*)(?:#([^)]*))?\)", text_of(page)):
-            path = os.path.normpath(os.path.join(os.path.dirname(page), link)) if link else page
-            if not os.path.exists(os.path.join(TOP, path)) or (anchor and anchor not in headings(path)):
-                yield f"{page} links to what isn't there: {link}#{anchor}"
 
 
 CHECKS = (
@@ -198,6 +151,4 @@ CHECKS = (
     differences_of_commands,
     differences_of_tests,
     differences_of_crates,
-    differences_of_sentences,
-    differences_of_links,
 )
