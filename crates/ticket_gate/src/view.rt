@@ -1,4 +1,4 @@
-//! What the places at a gate know. The proofs alone speak of it: no value of these types is made.
+//! What the places at a gate know. Only the proofs use these types: no value of them is made.
 use journal_core::Step;
 use std::collections::LinkedList;
 
@@ -24,7 +24,7 @@ pub struct Knowledge<E, A, C> {
     pub setting: Option<C>,
 }
 
-/// What one seat of the table knows: a place, and while two passes meet the other pass too.
+/// What one seat of the table knows: a place, and while two passes meet the other one too.
 pub struct View<E, A, C> {
     pub own: Knowledge<E, A, C>,
     pub other: Option<Knowledge<E, A, C>>,
