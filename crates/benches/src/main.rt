@@ -1,4 +1,4 @@
-//! Measures parts of the proxy, each on its own.
+//! Measures parts of the proxy, each on its own. Begin with `turns.rt`; it stands on the core, the engines and the gate.
 //!
 //! `benches core run` prints the time of the cycle Arrived, Taken, Answered, Handed: for a GET with replies of several
 //! lengths, for an MGET of ten keys, for pipelines of 64 commands, and for a GET on cores dropped after 10 cycles each.

@@ -13,8 +13,7 @@ pub trait Tally {
     /// Its counts.
     ghost counts: { Self → Counts };
 
-    /// The number of calls that returned an error other than `WouldBlock` and `Interrupted`, and of writes that took
-    /// nothing.
+    /// The number of calls that returned an error other than `WouldBlock` and `Interrupted`, and of writes that took nothing.
     fn failures(&self) -> u64
         ensures { result ≡ (counts self.now).failed };
 

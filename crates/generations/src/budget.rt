@@ -119,8 +119,7 @@ impl Budget {
         self.spent
     }
 
-    /// Lends this many steps if they fit beside those spent and lent. Otherwise nothing changes, and the result is
-    /// `false`.
+    /// Lends this many steps if they fit beside those spent and lent. Otherwise nothing changes, and the result is `false`.
     pub fn lend(&mut self, steps: u64) -> bool
         ensures fits { IsTrue result ↔ (self.old.spent + self.old.lent + steps ≤ MAX_STEPS) }
         ensures lent { OnTrue result (self.new ≡ lent_more steps self.old) }

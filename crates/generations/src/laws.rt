@@ -8,8 +8,7 @@ ghost use Rattle.generations.specs.Laws.{AllOpenInTurn, GivenUpIfNear, NewestHan
 ///
 /// The older one is given up only if the newest one was near its marks while the older one had connections, and by then
 /// no host had answered its commands for `STILL_MS` milliseconds or it had drained for `MAX_DRAINING_MS`. It stops only
-/// if the newest one was full while the older one had connections, at least `GIVING_UP_MS` milliseconds after it was
-/// near.
+/// if the newest one was full while the older one had connections, at least `GIVING_UP_MS` milliseconds after it was near.
 pub fn generations_follow<H>()
     ensures two { TwoHaveConnections H }
     ensures apart { NewestIsAnother H }

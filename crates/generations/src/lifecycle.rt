@@ -204,8 +204,7 @@ impl<H: Drop> Generations<H> {
     }
 
     /// The newest generation has reached its marks at the moment `now`, or accepts nothing more: the next one is
-    /// wanted, from this handover. An older one that still has connections stops, and the next one is due once it has
-    /// none.
+    /// wanted, from this handover. An older one that still has connections stops, and the next one is due once it has none.
     ///
     /// Ignored, and the handover dropped, unless `by` is the newest one and none is wanted or being opened; while an
     /// older one has connections, unless it has been given up for `GIVING_UP_MS` milliseconds; and once 2^64

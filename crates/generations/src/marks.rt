@@ -17,16 +17,14 @@ impl Marks {
         bytes: 58_720_256,
     };
 
-    /// Whether a journal with this many steps or this many bytes of payload has reached either
-    /// mark.
+    /// Whether a journal with this many steps or this many bytes of payload has reached either mark.
     pub fn are_reached(&self, steps: u64, bytes: u64) -> bool
         ensures { IsTrue result ↔ ((self.now.steps ≤ steps) ⊎ (self.now.bytes ≤ bytes)) }
     {
         steps >= self.steps || bytes >= self.bytes
     }
 
-    /// Whether a journal with this many steps or bytes of payload has reached three quarters of either mark, rounded
-    /// down.
+    /// Whether a journal with this many steps or bytes of payload has reached three quarters of either mark, rounded down.
     pub fn are_near(&self, steps: u64, bytes: u64) -> bool
         ensures { IsTrue result
             ↔ ((self.now.steps * 3 / 4 ≤ steps) ⊎ (self.now.bytes * 3 / 4 ≤ bytes)) }

@@ -58,8 +58,7 @@ impl Payload {
     ghost use Rattle.generations.specs.Budget.{capped};
     ghost use Rattle.generations.specs.Payload.{average_of, kept_bytes, next_average_of, HasRoomForCommand, HasRoomForReply, IsFarFromFull};
 
-    /// Nothing was reported. `average` is the payload bytes a step of the last generation at its end, 0 for the first
-    /// one.
+    /// Nothing was reported. `average` is the payload bytes a step of the last generation at its end, 0 for the first one.
     pub fn new(average: u64) -> Payload
         ensures { result
             ≡ record { used = 0; came = 0; handed = 0; steps = 0; before = average } }

@@ -72,8 +72,7 @@ pub(crate) enum Act {
     RecordedBelow(usize),
     // This many parts were sent in this epoch.
     Sent(u64, usize),
-    // Parts were written as sent: over the first link those of epoch 0 or a beginning, over the second those of epoch
-    // 1.
+    // Parts were written as sent: over the first link those of epoch 0 or a beginning, over the second those of epoch 1.
     WroteSent,
     // This many replies were handed out before the newest command arrived.
     HandedBefore(usize),

@@ -91,8 +91,7 @@ fn ends_with(state: Option<RunningTotal>, steps: &[(u64, u64)]) -> bool {
     is_so
 }
 
-// Plays two passes' acts at a gate with this first ticket, around a total with this limit, and compares the steps at
-// the end.
+// Plays two passes' acts at a gate with this first ticket, around a total with this limit, and compares the steps at the end.
 fn check<R: Wait + AllocGlobal>(
     rt: &R,
     (first, limit): (u64, u64),

@@ -1,4 +1,4 @@
-//! The tests of library crates that can't be rows.
+//! The tests of library crates that can't be rows. It stands on all of these but those of `serve`.
 //!
 //! They are: the ticket gate in one thread and in several, around a running total and around the core; sweeps on a
 //! core; the engines over devices that stop short, pause, fail and lie, and over refused turns; works in several

@@ -1,4 +1,4 @@
-//! The ends of a link to a stub: requests in pieces and many at a time, scripts, and replies that nobody reads.
+//! The ends of a link to a stub: requests in pieces and many at a time, scripts, and unread replies.
 
 use crate::fake_devices::{Taken, Text};
 use crate::rig::stub;

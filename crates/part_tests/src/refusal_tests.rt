@@ -80,8 +80,7 @@ fn check_exchange<Rt: Wait + AllocGlobal>(rt: &Rt, exchange: Exchange) -> Result
     checked
 }
 
-// Refuses one turn, and six in a row, from each turn on: the answers and all steps are those of a run without a
-// refusal.
+// Refuses one turn, and six in a row, from each turn on: the answers and all steps are those of a run without a refusal.
 #[test]
 fn refused_turns_are_made_again(rt: HostRuntime) -> Result<(), Fail> {
     for exchange in EXCHANGES {

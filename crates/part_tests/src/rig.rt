@@ -148,8 +148,7 @@ pub(crate) struct Rig<'a> {
     pub(crate) seen: usize,
 }
 
-// Written out, since a drop is then one call wherever a rig ends. A derived one is expanded and proved at each of these
-// places.
+// Written out, since a drop is then one call wherever a rig ends. A derived one is expanded and proved at each of these places.
 impl Drop for Rig<'_> {
     fn drop(self) {
         let Rig {

@@ -175,8 +175,7 @@ impl Core {
         self.machine.turn(pass, event)
     }
 
-    /// Takes one event after another, each of its pass. Item `i` of the result is the answer to pair `i`, or its
-    /// refusal.
+    /// Takes one event after another, each of its pass. Item `i` of the result is the answer to pair `i`, or its refusal.
     ///
     /// Refused 1001 where there is no memory for the answers: no event was taken. A run of no events takes no memory
     /// and is Ok.
@@ -393,8 +392,7 @@ impl Machine {
         }
     }
 
-    // Adds an event's step, or returns the event with its refusal. Callers know the kind of the event, so little is
-    // moved.
+    // Adds an event's step, or returns the event with its refusal. Callers know the kind of the event, so little is moved.
     #[inline(always)]
     pub(crate) fn settle(
         &mut self,

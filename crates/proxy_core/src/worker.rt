@@ -19,8 +19,7 @@ pub trait CoreTurns: Turns<
     /// The steps that a pass sees, newest first, are a legal history.
     ghost are_histories: { AreHistories Self.legal };
 
-    /// Each event has an answer of its kind. The proxy's own answer to a request shows whether it finishes the
-    /// connection.
+    /// Each event has an answer of its kind. The proxy's own answer to a request shows whether it finishes the connection.
     ghost answers_fit: { AnswersFit Self.legal };
 
     /// No earlier step has the number of a newly opened connection.

@@ -160,8 +160,7 @@ impl<R: ReadTally, W: WriteTally> ClientEngine<R, W> {
         }
     }
 
-    // One Closed turn after a device's fault; the step then returns `answer`. Until it is answered no other turn is
-    // made.
+    // One Closed turn after a device's fault; the step then returns `answer`. Until it is answered no other turn is made.
     fn cut<Rt: Wait, T: CoreTurns>(
         &mut self,
         rt: &Rt,
@@ -410,8 +409,7 @@ impl<R: ReadTally, W: WriteTally> ClientEngine<R, W> {
         self.close(rt, turns)
     }
 
-    // Hands out a reply, if one is due. No turn is made if all accepted commands are handed out, since it would be
-    // refused.
+    // Hands out a reply, if one is due. No turn is made if all accepted commands are handed out, since it would be refused.
     fn has_handed<Rt: Wait, T: CoreTurns>(
         &mut self,
         rt: &Rt,

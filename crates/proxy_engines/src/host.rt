@@ -130,8 +130,7 @@ impl<R: ReadTally + Drop, W: WriteTally + Drop> HostEngine<R, W> {
         }
     }
 
-    /// Records that no link to the host could be made: one Failed turn of kind Refused. There must
-    /// be no link.
+    /// Records that no link to the host could be made: one Failed turn of kind Refused. There must be no link.
     ///
     /// Refused 1404: the next step makes that turn first.
     pub fn refused<Rt: Wait, T: CoreTurns>(

@@ -1,5 +1,4 @@
-//! Laws of engines, and the limit of one read. Each is the contract of a function that does
-//! nothing.
+//! Laws of engines, and the limit of one read. Each is the contract of a function that does nothing.
 ghost use Rattle.std.specs.Prelude.{◌≡◌};
 ghost use Rattle.proxy_engines.specs.Laws.{AcceptedAreFirst, ClientsLeaveOthers, EndedIsOver, EndedIsWhole, HostsLeaveOthers, OthersLeaveClients, OthersLeaveHosts};
 ghost use Rattle.proxy_engines.specs.Socket.{SocketAnswersInOrder, SocketAsksInOrder, SocketBegins, SocketEndsWhole, SocketGoesOver, SocketMoves, SocketStays};
@@ -17,8 +16,7 @@ pub fn accepted_are_first()
 {}
 
 /// A client that ended has accepted the requests of all its bytes, up to the first one that finishes. All replies were
-/// handed out, and the writer took them. Unless it was halted for a drain, its input has ended or a request finished
-/// it.
+/// handed out, and the writer took them. Unless it was halted for a drain, its input has ended or a request finished it.
 pub fn ended_is_whole()
     ensures whole { EndedIsWhole }
     ensures over { EndedIsOver }

@@ -114,8 +114,7 @@ fn begin<'s, E, Rt: Wait, K: Work<Rt>, F: FnOnce() -> WorkResult + Send + 's>(
     }
 }
 
-// Starts a thread for each work, with the call that `make` makes of it. There must be room for
-// them.
+// Starts a thread for each work, with the call that `make` makes of it. There must be room for them.
 fn begin_all<
     's,
     E,
@@ -227,8 +226,7 @@ fn run_one<Rt: Wait, K: Work<Rt> + Drop>(rt: &Rt, mut work: K) -> WorkResult
     work.run(rt)
 }
 
-// Runs the works, each by the call that `make` makes of it, and waits for their answers. Room is there, so it can't be
-// refused.
+// Runs the works, each by the call that `make` makes of it, and waits for their answers. Room is there, so it can't be refused.
 fn run_in<
     's,
     E,

@@ -30,8 +30,7 @@ impl Board {
         }
     }
 
-    /// Publishes what was decided. A generation that sees that it no longer serves finds its task
-    /// already here.
+    /// Publishes what was decided. A generation that sees that it no longer serves finds its task already here.
     pub(crate) fn show<H: Drop>(&self, generations: &Generations<H>) {
         let older = generations.older().unwrap_or(NONE);
         let phase = match generations.phase(older) {

@@ -60,8 +60,7 @@ pub(crate) enum Stepped {
     CarriedOver,
 }
 
-/// A socket on its way to the next generation, with its input that no command was made of and its output that isn't
-/// written.
+/// A socket on its way to the next generation, with its input that no command was made of and its output that isn't written.
 pub(crate) struct CarriedSocket {
     socket: Socket,
     rest: Rest,
@@ -437,8 +436,7 @@ impl Client {
         Ok(self.finish_closing(rt, generation, round.now))
     }
 
-    // The journal has no room for a further command: no client's commands are taken in from here
-    // on.
+    // The journal has no room for a further command: no client's commands are taken in from here on.
     fn close_up(&mut self, generation: &GenerationState<'_>) {
         generation.close_up();
         self.drain();

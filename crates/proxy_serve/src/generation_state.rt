@@ -110,7 +110,7 @@ impl WorkerStatus {
         }
     }
 
-    // Whether it hasn't looked at so many parts that clients must be held back.
+    // Whether clients must be held back for the parts that it hasn't looked at.
     fn is_behind(&self, parts: u64) -> bool {
         parts.saturating_sub(self.seen.load(Ordering::SeqCst)) >= MAX_UNSEEN
     }

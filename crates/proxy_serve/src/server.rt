@@ -31,8 +31,7 @@ pub(crate) struct Inherited {
     pub(crate) average: u64,
 }
 
-/// The new sockets and the carried-over sockets that wait for one worker, and the waker of the worker that takes them
-/// now.
+/// The new sockets and the carried-over sockets that wait for one worker, and the waker of the worker that takes them now.
 #[derive(Drop)]
 pub(crate) struct AcceptQueue {
     sockets: Mutex<VecDeque<TcpStream>>,
@@ -228,8 +227,7 @@ impl Server {
         }
     }
 
-    /// Queues a carried-over socket, and wakes the worker that takes it. Without memory the socket is closed and
-    /// counted.
+    /// Queues a carried-over socket, and wakes the worker that takes it. Without memory the socket is closed and counted.
     pub(crate) fn carry<R: Wait>(&self, rt: &R, place: usize, carried: CarriedSocket) {
         let Some(queue) = self.queues.get(place) else {
             return self.close(rt);

@@ -181,8 +181,7 @@ struct Signals {
 }
 
 impl Signals {
-    // What signals ask for now. The status is read once in `SIGNAL_MS` milliseconds; in between
-    // nothing is asked.
+    // What signals ask for now. The status is read once in `SIGNAL_MS` milliseconds; in between nothing is asked.
     fn asked(&mut self, now: u64) -> Asked {
         if now.saturating_sub(self.looked) < SIGNAL_MS {
             return Asked::Nothing;

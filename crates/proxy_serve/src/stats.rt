@@ -4,8 +4,7 @@ use admin_pages::Look;
 use histogram::Histogram;
 use proxy_stats::{Counts, Sight};
 
-// More than the generations that have a journal at a time: two with connections, one that closes its gate, and one that
-// opens.
+// More than the generations that have a journal at a time: two with connections, one that closes its gate, and one that opens.
 const MAX_LIVING: u64 = 4;
 
 // The last sight of a generation that has a journal.

@@ -292,8 +292,7 @@ impl<'a> Worker<'a> {
         Ok(())
     }
 
-    // Reports the worker's turns. It keeps a lent step for a fault of each of its links, because a fault must be
-    // recorded.
+    // Reports the worker's turns. It keeps a lent step for a fault of each of its links, because a fault must be recorded.
     fn settle<R: Wait>(&mut self, rt: &R) {
         let reserve = self.reserve();
         self.generation.settle(rt, &mut self.turns, reserve);
@@ -385,8 +384,7 @@ impl<'a> Worker<'a> {
         if self.has_news(before) { 0 } else { PAUSE_MS }
     }
 
-    // Whether parts or replies came since the round began, or clients needn't be held back any
-    // more.
+    // Whether parts or replies came since the round began, or clients needn't be held back any more.
     fn has_news(&self, before: (u64, u64)) -> bool {
         (!self.hosts.is_empty() && before.0 != self.generation.parts())
             || (self.awaiting > 0 && before.1 != self.generation.replies())
@@ -681,8 +679,7 @@ impl<'a> Worker<'a> {
         }
     }
 
-    // Steps each client, beginning where the last round stopped. In between, hosts take parts where these hold clients
-    // back.
+    // Steps each client, beginning where the last round stopped. In between, hosts take parts where these hold clients back.
     fn step_clients<R: Wait + Net + Eprint>(&mut self, rt: &R, now: u64) -> Result<bool, Stop> {
         let mut moves = false;
         self.is_held_back = false;

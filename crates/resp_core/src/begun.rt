@@ -15,8 +15,7 @@ pub(crate) struct Begun {
 }
 
 // Puts a value into the innermost list. A complete list goes into the next one, and so on. Returns the outermost value
-// if it is complete. Where memory is refused, lists may have been completed; the error's value is then the last
-// of them.
+// if it is complete. Where memory is refused, lists may have been completed; the error's value is then the last of them.
 pub(crate) fn put(opens: &mut Vec<Begun>, value: Value) -> Result<Option<Value>, AllocFailed<Value>>
     ensures due { IfOk result (λ o. IfNone o ((most left : ℕ) (rest : List ℕ)
         → length opens.old.items ≤ left

@@ -41,8 +41,7 @@ pub(crate) enum Halt {
 
 #[derive(Drop)]
 pub(crate) struct Progress {
-    // Bytes fed and not taken, from the next byte of a head on, or from the first one of a text or
-    // a payload.
+    // Bytes fed and not taken, from the next byte of a head on, or from the first one of a text or a payload.
     pub(crate) pending: BytesMut,
     // The most bytes for which there was room since nothing was pending.
     pub(crate) room: usize,
@@ -57,8 +56,7 @@ pub(crate) struct Progress {
     pub(crate) seen: usize,
     // The bytes of the value that were taken.
     pub(crate) came: usize,
-    // Nothing is read while fewer bytes are pending: the length of the payload that is due, 0 if
-    // none is known.
+    // Nothing is read while fewer bytes are pending: the length of the payload that is due, 0 if none is known.
     pub(crate) needed: usize,
 }
 

@@ -92,8 +92,7 @@ impl Proxies {
     /// - `random SEED EVENTS` makes this many random events;
     /// - `random_runs SEEDS EVENTS` makes this many on fresh proxies for each seed;
     /// - `refusals` lists all refusals;
-    /// - `hand_over ARGUMENTS` makes a core from this one's state on another setting, and `other` switches between the
-    /// two.
+    /// - `hand_over ARGUMENTS` makes a core from this one's state on another setting, and `other` switches between the two.
     pub(crate) fn act(&mut self, alloc: Global, line: &str) -> Result<String> {
         let (name, rest) = first_word(line);
         match name {

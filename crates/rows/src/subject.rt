@@ -15,8 +15,7 @@ use std::alloc::Global;
 use stub_server::Stub;
 use upstream_pipe::Pipe;
 
-/// The subject of a row's actions. Those with a state are boxed, so that a subject's size doesn't depend on the
-/// largest.
+/// The subject of a row's actions. Those with a state are boxed, so that a subject's size doesn't depend on the largest.
 #[derive(Drop)]
 pub enum Subject {
     /// The core, the plain program, or both.

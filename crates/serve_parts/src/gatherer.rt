@@ -10,8 +10,7 @@ use std::io::{ErrorKind, Write};
 use std::marker::Model;
 use std::{io, mem};
 
-/// Gathered bytes are written from this many on before more are gathered, and a text of this length isn't gathered at
-/// all.
+/// Gathered bytes are written from this many on before more are gathered, and a text of this length isn't gathered at all.
 pub const MAX_GATHERED: usize = 65_536;
 
 // A write interrupted this often in a row has failed.

@@ -41,7 +41,7 @@ fn add(cell: &Cell<usize>, bytes: usize) {
 struct Unread<'a>(&'a [u8]);
 
 impl Unread<'_> {
-    // Reads at most so many bytes.
+    // Reads at most `most` bytes.
     fn read(&mut self, most: usize, buffer: &mut [u8]) -> io::Result<usize>
         ensures given { IfOk result (λ n. n ≤ length buffer.new) }
     {

@@ -18,8 +18,7 @@ struct Tally {
     check: u32,
 }
 
-/// Gives the ejector the marks of the words `SEED MARKS MOMENT`, the first at that moment or later, and returns their
-/// sums.
+/// Gives the ejector the marks of the words `SEED MARKS MOMENT`, the first at that moment or later, and returns their sums.
 pub(crate) fn played(alloc: Global, ejector: &mut Ejector, words: &str) -> Result<String> {
     let (seed, rest) = first_word(words);
     let (marks, moment) = first_word(rest);

@@ -65,8 +65,7 @@ impl Model for Reference {
 impl Reference {
     /// A proxy to which nothing has happened.
     ///
-    /// Refused 1011 with the first setting out of its range, or `hosts` where the ring has none; 1001 only if all
-    /// are in range.
+    /// Refused 1011 with the first setting out of its range, or `hosts` where the ring has none; 1001 only if all are in range.
     pub(crate) fn new(alloc: Global, ring: Ring, settings: Settings) -> Result<Reference, Refusal>
         ensures made { IfOk result (λ r. (r.setting ≡ setting_of ring settings) × (r.steps ≡ [])) }
         ensures refused { MatchOption (first_fault (rules_of ring settings))

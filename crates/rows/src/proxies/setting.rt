@@ -71,8 +71,7 @@ impl Setting {
         Core::new(alloc, self.ring(alloc)?, self.settings)
     }
 
-    /// A core on this setting that starts from another's state, made again where there was no
-    /// memory.
+    /// A core on this setting that starts from another's state, made again where there was no memory.
     pub(crate) fn core_from(&self, alloc: Global, core: &Core) -> Result<Core, Refusal> {
         match self.one_core_from(alloc, core.hand_over()) {
             Err(Refusal::NoMemory) => self.one_core_from(alloc, core.hand_over()),
