@@ -1,18 +1,17 @@
 //! Measures parts of the proxy, each on its own. Begin with `turns.rt`; it stands on the core, the engines and the gate.
 //!
-//! `benches core run` prints the time of the cycle Arrived, Taken, Answered, Handed: for a GET with replies of several
-//! lengths, for an MGET of ten keys, for pipelines of 64 commands, and for a GET on cores dropped after 10 cycles each.
+//! `benches core run` prints the time of the cycle Arrived, Taken, Answered, Handed. It does so for a GET with replies
+//! of several lengths, an MGET of ten keys, pipelines of 64 commands, and a GET on cores dropped after 10 cycles each.
 //! The events are built before the clock starts. `benches core rings` prints the speed of rings, `benches core reader`
 //! that of the reader.
 //!
-//! `benches engine run` serves one client by one host over one core, with devices in memory. For GET and SET with
-//! values of 64 bytes, at pipelines of 1, 16 and 100, it prints for a command: nanoseconds, with the share of the
-//! journal's end; the steps, reads and writes of both engines; and the answered turns. It does so for rounds of 100
-//! commands on a fresh core each, and for rounds in which the core goes on until its journal has 20,000 steps.
+//! `benches engine run` serves one client by one host over one core, with devices in memory: GET and SET with values of
+//! 64 bytes, at pipelines of 1, 16 and 100. For a command it prints nanoseconds, with the share of the journal's end;
+//! the steps, reads and writes of both engines; and the answered turns. It does so for rounds of 100 commands on a
+//! fresh core each, and for rounds in which the core goes on until its journal has 20,000 steps.
 //!
 //! `benches gate time` prints the turns a second of 1, 2, 4 and 8 threads on one running total, at a ticket gate and
-//! under std's `Mutex`: for turns that only add, for turns of some 200 ns, and for such turns with some 400 ns of other
-//! work after each.
+//! under std's `Mutex`. The turns only add, or take some 200 ns, or take these and have some 400 ns of other work after each.
 //!
 //! Times are the least of several rounds, except those of rings, of the reader and of threads. Without words it prints
 //! its usage and the lengths of the journals of a few turns, so that this output is always the same.

@@ -18,7 +18,7 @@ pub struct Settings {
     pub max_ms: u32,
     /// The share of hosts that may be out, in percent: 0 to 100. One host always may.
     pub max_percent: u32,
-    /// Eject a host after this many consecutive bad results: 0 to 1,000,000; 0 turns this off.
+    /// A host trips after this many consecutive bad results: 0 to 1,000,000; 0 turns this off.
     pub consecutive: u32,
     /// Compare success rates only if at least this many hosts have one: 1 to 65.
     pub success_hosts: u32,

@@ -6,8 +6,8 @@ ghost use Rattle.generations.specs.Laws.{AllOpenInTurn, GivenUpIfNear, NewestHan
 /// on there is a newest one. The next one opens only once the older one has no connections. It starts from the handover
 /// of the newest one, which is still the newest.
 ///
-/// The older one is given up only if the newest one was near its marks while the older one had connections, and by then
-/// no host had answered its commands for `STILL_MS` milliseconds or it had drained for `MAX_DRAINING_MS`. It stops only
+/// The older one is given up only if the newest one was near its marks while the older one had connections. By then no
+/// host had answered its commands for `STILL_MS` milliseconds, or it had drained for `MAX_DRAINING_MS`. It stops only
 /// if the newest one was full while the older one had connections, at least `GIVING_UP_MS` milliseconds after it was near.
 pub fn generations_follow<H>()
     ensures two { TwoHaveConnections H }
@@ -22,8 +22,8 @@ pub fn generations_follow<H>()
 /// A command of at most 1,023 parts costs at most `MAX_COMMAND_STEPS` steps.
 ///
 /// The steps made and those still owed are together the cost of all steps, less the steps set free. So all owed steps
-/// fit the journal if no worker makes a step that costs more than it has free: with a new budget and new loans, and
-/// after each borrowing, step and settlement.
+/// fit the journal if no worker makes a step that costs more than it has free. This holds for a new budget and new
+/// loans, and stays true over each borrowing, step and settlement.
 pub fn owed_steps_fit()
     ensures command { CommandFits }
     ensures paid { OwedIsPaid }

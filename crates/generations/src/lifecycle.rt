@@ -185,8 +185,8 @@ impl<H: Drop> Generations<H> {
     /// The newest generation is near its marks at the moment `now`: an older one that still has connections is given
     /// up. Of several calls the first moment counts.
     ///
-    /// Ignored unless `by` is the newest one, and while hosts answer commands of an older one: within `STILL_MS`
-    /// milliseconds of the last answer, or of the moment when it began to drain, until it has drained for
+    /// Ignored unless `by` is the newest one. Ignored while hosts answer commands of an older one: within `STILL_MS`
+    /// milliseconds of the last answer, or of the moment when it began to drain. This holds until it has drained for
     /// `MAX_DRAINING_MS` milliseconds.
     pub fn near(&mut self, by: u64, now: u64)
         ensures { Tells (Near by now) self.old self.new }
@@ -206,9 +206,9 @@ impl<H: Drop> Generations<H> {
     /// The newest generation has reached its marks at the moment `now`, or accepts nothing more: the next one is
     /// wanted, from this handover. An older one that still has connections stops, and the next one is due once it has none.
     ///
-    /// Ignored, and the handover dropped, unless `by` is the newest one and none is wanted or being opened; while an
-    /// older one has connections, unless it has been given up for `GIVING_UP_MS` milliseconds; and once 2^64
-    /// generations were asked for.
+    /// Ignored, and the handover dropped, unless `by` is the newest one and none is wanted or being opened. The same
+    /// happens while an older one has connections, unless it has been given up for `GIVING_UP_MS` milliseconds, and
+    /// once 2^64 generations were asked for.
     pub fn full(&mut self, by: u64, now: u64, handover: H)
         ensures { Tells (Full by now handover) self.old self.new }
     {

@@ -73,8 +73,7 @@ impl Payload {
     }
 
     /// Adds a worker's report since its last one: payload bytes in the journal, bytes of hosts' replies, bytes handed
-    /// out to clients, and the steps that the average is taken over. Each sum stays at the greatest `u64` where it
-    /// would pass it.
+    /// out to clients, and the steps of the average. Each sum stays at the greatest `u64` where it would pass it.
     pub fn note(&mut self, used: u64, came: u64, handed: u64, steps: u64)
         ensures used { self.new.used ≡ capped (self.old.used + used) }
         ensures came { self.new.came ≡ capped (self.old.came + came) }
@@ -88,8 +87,8 @@ impl Payload {
         self.steps = self.steps.saturating_add(steps);
     }
 
-    /// The payload bytes a step, rounded down: the journal's own from 1,024 steps on; the greater of that and the last
-    /// generation's below; the last generation's where there are no steps.
+    /// The payload bytes a step, rounded down. From 1,024 steps on it is the journal's own average. Below, it is the
+    /// greater of that and the last generation's, or the last generation's where there are no steps.
     pub fn average(&self) -> u64
         ensures { result ≡ average_of self.now }
     {
@@ -128,8 +127,8 @@ impl Payload {
             <= MAX_BYTES
     }
 
-    /// Whether the journal has room for hosts' replies of which this many bytes have come: for these, for one more
-    /// read, for handing them out, and for the texts of errors.
+    /// Whether the journal has room for hosts' replies of which this many bytes have come. It needs room for these and
+    /// one more read, for handing them out, and for the texts of errors.
     pub fn takes_reply(&self, unfinished: u64) -> bool
         ensures { IsTrue result ↔ HasRoomForReply self.now unfinished }
     {

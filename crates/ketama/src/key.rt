@@ -8,8 +8,8 @@ use md5::{Digest, Md5};
 /// The point of a key on the ring: bytes 0 to 3 of its MD5, the least significant first.
 ///
 /// With `tags`, a key with a hash tag is hashed by the tag alone, so that keys with one tag have
-/// one owner. The tag is the text between the key's first `{` and the first `}` after it, if both
-/// exist and at least one byte is between them (the rule of the Redis Cluster specification). Takes
+/// one owner. The tag is the text between the key's first `{` and the first `}` after it. Both must
+/// exist, with at least one byte between them (the rule of the Redis Cluster specification). Takes
 /// no memory.
 pub fn point_of_key(key: &[u8], tags: bool) -> u32
     ensures value { result ≡ point_of key.now tags }

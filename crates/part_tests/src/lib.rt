@@ -1,8 +1,8 @@
 //! The tests of library crates that can't be rows. It stands on all of these but those of `serve`.
 //!
-//! They are: the ticket gate in one thread and in several, around a running total and around the core; sweeps on a
-//! core; the engines over devices that stop short, pause, fail and lie, and over refused turns; works in several
-//! threads; the ends of a link to a stub; and the laws of all crates. Begin with `acts.rt` and `rig.rt`.
+//! They test the ticket gate, in one thread and in several, around a running total and around the core. They test
+//! sweeps on a core, and the engines over refused turns and over devices that stop short, pause, fail and lie. Last
+//! come works in several threads, the ends of a link to a stub, and the laws of all crates. Begin with `acts.rt` and `rig.rt`.
 #![tactic(auto)]
 
 #[cfg(test)]

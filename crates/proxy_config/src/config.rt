@@ -64,7 +64,7 @@ pub struct Config {
     /// The share of hosts that may be ejected, 0 to 100 percent; one host always may. By default 10.
     pub max_percent: u32,
 
-    /// Eject a host after this many consecutive bad results, 0 to 1,000,000; 0 turns this off. By default 5.
+    /// A host trips after this many consecutive bad results, 0 to 1,000,000; 0 turns this off. By default 5.
     pub consecutive: u32,
 
     /// Compare success rates only if at least this many hosts have one, 1 to 65; more than there
@@ -86,9 +86,9 @@ impl Config {
     /// The settings in the bytes of a file.
     ///
     /// Refused with `Fault` and its words: `json` if the bytes are no JSON object, else `unknown key` if it has a key
-    /// that isn't in the table, else the first key of the table, in its order, whose value is out of its range or of
-    /// another type. Of a repeated key the last one counts. Refused with `Memory`, in place of any other result, where
-    /// memory is refused.
+    /// that isn't in the table. Else they are the first key of the table, in its order, whose value is out of its range
+    /// or of another type. Of a repeated key the last one counts. Refused with `Memory`, in place of any other result,
+    /// where memory is refused.
     pub fn read(alloc: Global, bytes: &[u8]) -> Result<Config, ConfigError>
         ensures ok { IfOk result (λ config. IsSettings bytes.now (values_of config)) }
         ensures parts { IfOk result

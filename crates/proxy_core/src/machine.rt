@@ -159,8 +159,8 @@ impl Core {
     ///
     /// Refused by the first cause of the event's own that holds (1003 to 1010, 1012, 1013), else with 1002 where the
     /// journal would be full. It may be refused 1001, for want of memory, only where it has no cause of its own and its
-    /// step fits the journal (`Handed` also where its step doesn't: its text takes memory before its length is known).
-    /// The event comes back, and nothing has changed.
+    /// step fits the journal. (`Handed` may also where its step doesn't fit: its text takes memory before its length is
+    /// known.) The event comes back, and nothing has changed.
     #[inline(always)]
     pub fn turn(&mut self, pass: u64, event: Event) -> Result<Answer, Refused>
         ensures step { IfOk result

@@ -58,8 +58,8 @@ pub enum Stage {
 
 /// A client's engine: turns input into requests, and writes the replies that are handed out.
 ///
-/// Contracts see the connection's number, both ends, the request that waits, the numbers of accepted requests and
-/// handed out replies, the stage, whether the engine is drained, and whether reading stopped for that.
+/// Contracts see the connection's number, both ends, the waiting request, and the numbers of accepted requests and
+/// handed out replies. They also see the stage, whether the engine is drained, and whether reading stopped for that.
 #[derive(Drop)]
 pub struct ClientEngine<R: ReadTally, W: WriteTally> {
     conn: u64,
@@ -459,12 +459,12 @@ impl<R: ReadTally, W: WriteTally> ClientEngine<R, W> {
     }
 
     /// Does the first of these that applies: writes pending bytes once; hands out one reply; accepts the waiting
-    /// request or the next complete one; reads at most 16,384 bytes once; closes the connection, once nothing more
+    /// request or the next complete one; reads at most 16,384 bytes once. It closes the connection once nothing more
     /// arrives and all is handed out and written. After [`drain`](ClientEngine::drain) no request is accepted and
     /// nothing is read. A step of a closed connection does nothing.
     ///
-    /// Refused 1402 or 1403 where the reader or the writer failed in this call, and the connection was closed; 1401 for
-    /// want of memory, and 1404 where a turn was refused: the next step continues at the same place.
+    /// Refused 1402 or 1403 where the reader or the writer failed in this call; the connection was then closed. Refused
+    /// 1401 for want of memory and 1404 where a turn was refused; the next step then continues at the same place.
     pub fn step<Rt: Wait, T: CoreTurns>(
         &mut self,
         rt: &Rt,

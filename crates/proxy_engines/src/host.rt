@@ -299,15 +299,15 @@ impl<R: ReadTally + Drop, W: WriteTally + Drop> HostEngine<R, W> {
         }
     }
 
-    /// Makes a step at this moment, in milliseconds. It records an earlier fault; writes pending bytes once, or takes
-    /// one part; then, on a link, makes a reply of each value read, reads once, and makes a reply of each value that
+    /// Makes a step at this moment, in milliseconds. It records an earlier fault. It writes pending bytes once, or
+    /// takes one part. On a link it makes a reply of each value read, reads once, and makes a reply of each value that
     /// came. Last, a late reply is a fault.
     ///
-    /// A fault is recorded and the link dropped: Dropped at the end of the input or where a device failed, Garbled for
-    /// a refused byte or an unasked value, Late. `NeedsLink`: bytes are pending and there is no link.
+    /// A fault is recorded and the link dropped. It is Dropped at the end of the input or where a device failed,
+    /// Garbled for a refused byte or an unasked value, or Late. `NeedsLink`: bytes are pending and there is no link.
     ///
-    /// Refused 1402 or 1403 where the reader or the writer failed in this call, and the fault was recorded; 1401 for
-    /// want of memory, and 1404 where a turn was refused: the next step continues at the same place.
+    /// Refused 1402 or 1403 where the reader or the writer failed in this call; the fault was then recorded. Refused
+    /// 1401 for want of memory and 1404 where a turn was refused; the next step then continues at the same place.
     pub fn step<Rt: Wait, T: CoreTurns>(
         &mut self,
         rt: &Rt,

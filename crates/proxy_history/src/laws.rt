@@ -34,8 +34,8 @@ pub fn unopened_have_no_steps()
     ensures { UnopenedHaveNoSteps }
 {}
 
-/// The meaning of a refusal with its cause: the connection was never opened or is closed, it finishes, it has the most
-/// unwritten commands, no part waits for the host or flies, the host has this epoch, and so on.
+/// The meaning of a refusal with its cause. For instance, the connection was never opened or is closed, it finishes, it
+/// has the most unwritten commands, no part waits for the host or flies, or the host has this epoch.
 pub fn refusals_mean()
     ensures { RefusalsMean }
 {}
@@ -89,8 +89,8 @@ pub fn closed_gets_nothing()
 {}
 
 /// Each part is the part of its number of a command that arrived. It has for good the host that owned its key at that
-/// time, or `no upstream host` if there was none; and `proxy busy` exactly if 1,024 parts waited for that host when its
-/// turn within its command came.
+/// time, or `no upstream host` if there was none. It has `proxy busy` exactly if 1,024 parts waited for that host when
+/// its turn within its command came.
 pub fn parts_have_arrived()
     ensures { PartsHaveArrived }
 {}

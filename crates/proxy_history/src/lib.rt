@@ -1,9 +1,9 @@
 //! The definition of a legal history of the proxy.
 //!
 //! A history is the list of all steps of the proxy: each event with its answer. This crate has the types of events,
-//! answers and refusals. `specs/` defines what a history determines: the parts of commands and their hosts, the parts
-//! that wait and that were sent, which reply belongs to which part, each command's outcome, and with it each event's
-//! answer or refusal.
+//! answers and refusals. `specs/` defines what a history determines: the parts of commands and their hosts, and the
+//! parts that wait and that were sent. It also defines which reply belongs to which part, each command's outcome, and
+//! each event's answer or refusal.
 //!
 //! The rules are this project's own profile of Envoy's documentation pages "Redis" and "Outlier detection". A host's
 //! replies come in the order of its requests, as RESP2 says. It stands on `splitter`, `ketama`, `ejector` and the

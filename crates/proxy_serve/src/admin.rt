@@ -154,7 +154,7 @@ impl Drop for AdminListener {
 }
 
 impl AdminListener {
-    /// Opens it where an operator's address is given. Stops with `Socket` where the poll fails.
+    /// Opens the operator's end, if an address is given. Stops with `Socket` where the poll fails.
     pub(crate) fn open<R: Net>(
         rt: &R,
         alloc: Global,

@@ -476,7 +476,7 @@ impl Client {
         reserve: u64,
     ) -> Result<(), StepError> {
         let most_parts = generation.parts_per_worker();
-        // (one command more may come before room is checked again)
+        // (the number of accepted commands at which there was room for one more)
         let mut room_for = None;
         for _ in 0..MAX_STEPS {
             if turns.counts().parts >= most_parts {

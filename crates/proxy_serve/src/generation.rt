@@ -163,7 +163,7 @@ struct Polls {
 }
 
 impl Polls {
-    // Adds a worker's.
+    // Adds those of one more worker.
     fn add<R: Net>(&mut self, rt: &R, has_hosts: bool) -> Result<(), Stop> {
         let poll = match Poll::new(rt) {
             Ok(poll) => poll,

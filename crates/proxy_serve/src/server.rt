@@ -145,7 +145,7 @@ impl Server {
         self.end_if_done(sockets);
     }
 
-    /// Counts a closed connection. The server may be done with it.
+    /// Counts a closed connection; ends the server after `connections` of them, as its options say.
     pub(crate) fn count_closed<R: Wait>(&self, rt: &R) {
         let mut sockets = self.sockets.lock(rt);
         sockets.close();

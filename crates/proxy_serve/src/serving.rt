@@ -29,7 +29,7 @@ const LISTENER: Token = Token(0);
 
 const WAKER: Token = Token(1);
 
-// The most sockets accepted in one go.
+// The most sockets accepted at once.
 const MAX_TAKEN: u32 = 1_024;
 
 // Pending signals are looked for once in this many milliseconds.
@@ -256,11 +256,11 @@ pub struct Options {
 /// It drains when SIGTERM or SIGINT waits for the process, by `status`: no further client is accepted, what has come is
 /// answered, and then each connection is closed. If both wait it ends at once.
 ///
-/// The next journal opens when one has reached the marks. At most two are kept at a time.
+/// The next journal opens when one has reached the marks. At most two have connections at a time, and three are kept.
 ///
-/// Stops with `Socket` (5), and what failed, where the listener, a poll or the writer fails; with `Memory` (6) where
-/// memory was refused at the start or 1,000 times in a row to one thing; with `Spent` (7) where a gate has no ticket
-/// left. All threads have ended then.
+/// Stops with `Socket` (5), and what failed, where the listener, a poll or the writer fails. Stops with `Memory` (6)
+/// where memory was refused at the start or 1,000 times in a row to one thing, and with `Spent` (7) where a gate has no
+/// ticket left. All threads have ended then.
 pub fn serve<
     R: Threads
         + Wait

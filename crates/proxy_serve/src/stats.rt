@@ -4,7 +4,7 @@ use admin_pages::Look;
 use histogram::Histogram;
 use proxy_stats::{Counts, Sight};
 
-// More than the generations that have a journal at a time: two with connections, one that closes its gate, and one that opens.
+// More than the generations with a journal at a time, at most three: with connections, closing the gate, or opening.
 const MAX_LIVING: u64 = 4;
 
 // The last sight of a generation that has a journal.

@@ -743,7 +743,7 @@ impl<'a> Worker<'a> {
         self.heed(rt, key, stepped)
     }
 
-    // Counts the clients that wait for replies, by one client before and after its round.
+    // Updates the number of waiting clients by one client, before and after its round.
     fn count_awaiting(&mut self, did_await: bool, awaits: bool) {
         if did_await && !awaits {
             self.awaiting = self.awaiting.saturating_sub(1);

@@ -5,8 +5,8 @@ ghost use Rattle.resp_core.specs.Reading.{of_length, of_integer, digits_at};
 
 use crate::error::Refusal;
 
-// How digits are read: the greatest number, the most digits, and the refusals of a byte that is no digit, of a digit
-// too many, of a digit that makes the number too great, and of one that does both.
+// How digits are read: the greatest number, and the most digits. Then the refusals of a byte that is no digit, of a
+// digit too many, of a digit that makes the number too great, and of one that does both.
 #[derive(Clone, Copy, Drop)]
 pub(crate) struct Digits {
     pub(crate) limit: u64,

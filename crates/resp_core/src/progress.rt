@@ -18,7 +18,7 @@ use std::alloc::{AllocError, Global};
 use std::mem;
 
 // Shorter payloads and texts are copied, and so are those of less than one in `MAX_KEPT` bytes of
-// the buffer: a shared one keeps at most `MAX_KEPT` times its bytes.
+// the buffer. So a shared one keeps at most `MAX_KEPT` times its bytes.
 const LEAST_SHARED: usize = 4_096;
 
 // The most bytes of a block for copies of short texts. An idle connection can keep this many.

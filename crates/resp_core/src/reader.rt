@@ -16,9 +16,9 @@ use std::marker::Model;
 
 /// The most members of an array.
 ///
-/// The other limits are the same for all streams: 1,048,576 bytes in a bulk string, 65,536 bytes in the line of a simple
-/// string, an error or an integer, arrays at most eight deep (a null array counts as one), and 8,388,608 bytes in the
-/// text of one outermost value.
+/// The other limits are the same for all streams. A bulk string has at most 1,048,576 bytes, the line of a simple
+/// string, an error or an integer 65,536, and the text of one outermost value 8,388,608. Arrays are at most eight deep;
+/// a null array counts as one.
 #[derive(Clone, Copy, Debug, PartialEq, Eq, Drop)]
 pub struct Limits {
     /// The most members of an array.

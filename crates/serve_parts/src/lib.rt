@@ -1,6 +1,6 @@
-//! The parts of `redproxy serve` that need no socket: a buffered writer, the assignment of clients and hosts to
-//! workers, refusals of memory in a row, which sockets are accepted and when all is done, and what signals ask for. It
-//! stands on no other crate. Begin with `gatherer.rt`.
+//! The parts of `redproxy serve` that need no socket. They are a buffered writer, the assignment of clients and hosts
+//! to workers, refusals of memory in a row, the choice of sockets and of the end, and the reading of signals. It stands
+//! on no other crate. Begin with `gatherer.rt`.
 #![tactic(auto)]
 
 mod dealing;

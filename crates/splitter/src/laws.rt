@@ -46,7 +46,7 @@ pub fn streams_ask_one_list()
 {}
 
 /// A client's stream that is cut behind some of its values gives these, and then the requests of the rest with whatever
-/// follows: no request is lost at a cut, and none comes twice.
+/// follows. So no request is lost at a cut, and none comes twice.
 pub fn requests_go_on()
     ensures { RequestsGoOn }
 {}

@@ -35,8 +35,8 @@ pub enum Join {
     Get,
     /// Simple `OK` if each value is that, else the error `finished with <n> error(s)`, where n is the number of others.
     Set,
-    /// The sum of the values. The error `finished with <n> error(s)`, where n is the number of values that aren't
-    /// integers, if there are any; `upstream protocol error` if the sum is outside the signed 64-bit range.
+    /// The sum of the values. If any aren't integers, the error `finished with <n> error(s)`, where n is their number.
+    /// If the sum is outside the signed 64-bit range, the error `upstream protocol error`.
     Sum,
 }
 

@@ -48,9 +48,9 @@ impl StubLink {
 
     /// The two ends of the link. A call of one during a call of the other, in another thread, returns `WouldBlock`.
     ///
-    /// They hold the stub, at most `MAX_TAKEN` bytes of requests behind an unfinished one of at most 8,388,608, and
-    /// less than `MAX_UNREAD` unread bytes of replies with one reply behind them. Refused 1501 (no memory): the link
-    /// comes back.
+    /// They hold the stub, and at most `MAX_TAKEN` bytes of requests behind an unfinished one of at most 8,388,608.
+    /// They also hold less than `MAX_UNREAD` unread bytes of replies, with one reply behind them. Refused 1501 (no
+    /// memory): the link comes back.
     pub fn ends(self, alloc: Global) -> Result<(StubReader, StubWriter), (StubError, StubLink)>
         ensures err { IfErr result (λ e. (e.0 ≡ StubError.NoMemory) × (e.1 ≡ self)) }
     {

@@ -42,7 +42,7 @@ impl SweepRefusal {
 /// returned, ejected, and let stay though they tripped.
 ///
 /// Answered: the pass now sees a legal journal, which begins with what it saw before and ends with
-/// this sweep and this answer; of its own steps only that one is new. Refused `NoMemory` (1001) or
+/// this sweep and this answer. Of its own steps only that one is new. Refused `NoMemory` (1001) or
 /// `JournalFull` (1002) by the core: that has its cause over what the pass now sees, which has no
 /// further step of the pass. Refused `Spent` (1202) where no ticket is left: the pass has seen
 /// nothing new.

@@ -75,7 +75,7 @@ impl<S: Recorded> Gate<S> {
     /// Makes one turn if nothing holds or awaits the gate. It never waits.
     ///
     /// Answered and refused like `take_turn`, and `Busy` (1201) if more tickets were drawn than
-    /// served: it returns the two numbers that it found, and the pass has seen nothing new.
+    /// served. `Busy` has the two numbers that it found, and the pass has seen nothing new.
     pub fn try_turn(
         &self,
         pass: &mut Pass<S>,

@@ -49,9 +49,9 @@ fn settings_of(fields: &str) -> Result<Settings> {
     Ok(settings)
 }
 
-// The ejector's answer to `good HOSTS MOMENT`, `bad HOSTS MOMENT` (`HOSTS` is one, or the first and the last), `mixed
-// HOST MOMENT` (a good and a bad result), `sweep MOMENT`, `marks SEED MARKS MOMENT`, `go_on` (replaces it by an ejector
-// that starts from its state), or an action of `seen`.
+// The ejector's answer to `good HOSTS MOMENT`, `bad HOSTS MOMENT`, `mixed HOST MOMENT` (a good and a bad result),
+// `sweep MOMENT`, `marks SEED MARKS MOMENT`, `go_on`, or an action of `seen`. `HOSTS` is one, or the first and the
+// last. `go_on` replaces it by an ejector that starts from its state.
 fn told(alloc: Global, ejector: &mut Ejector, verb: &str, words: &str) -> Result<String> {
     match verb {
         "good" => results(alloc, ejector, true, words),

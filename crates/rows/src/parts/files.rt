@@ -8,9 +8,9 @@ use anyhow::{Result, bail};
 use proxy_config::{ConfigError, check_line};
 use std::alloc::Global;
 
-/// Makes one action: `check TEXT`, `values KEY TEXT TEXT ..` (for each value a file with one host and the value at this
-/// key), `cuts TEXT` (each proper beginning of the text), `nested N` (N nested arrays at a key), or `long N` (a text of
-/// N bytes at a key).
+/// Makes one action: `check TEXT`, `values KEY TEXT TEXT ..`, `cuts TEXT`, `nested N` or `long N`. `values` makes for
+/// each value a file with one host and the value at this key. `cuts` takes each proper beginning of the text. `nested`
+/// has N nested arrays at a key, and `long` a text of N bytes.
 pub(crate) fn act(alloc: Global, line: &str) -> Result<String> {
     again!(told(alloc, line))
 }
