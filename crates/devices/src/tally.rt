@@ -22,7 +22,7 @@ pub trait Tally {
         ensures { result ≡ (counts self.now).paused };
 }
 
-/// What one call of a device did.
+/// The result of one call of a device.
 #[derive(Clone, Copy, Debug, PartialEq, Eq, Drop)]
 pub enum Told {
     /// At least one byte was read or taken: this many.

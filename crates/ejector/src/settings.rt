@@ -24,7 +24,7 @@ pub struct Settings {
     pub success_hosts: u32,
     /// The results in an interval that give a host a success rate: 1 to 1,000,000.
     pub request_volume: u32,
-    /// A rate is an outlier this far below the mean, in thousandths of the standard deviation: 0 to 100,000.
+    /// A rate is an outlier if more than this far below the mean, in thousandths of the standard deviation: 0 to 100,000.
     pub factor: u32,
     /// Use all hosts if fewer than this share is available, in percent: 0 to 100.
     pub panic_percent: u32,

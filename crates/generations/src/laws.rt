@@ -1,4 +1,4 @@
-//! What follows from the contracts.
+//! Laws that follow from the contracts.
 ghost use Rattle.generations.specs.BudgetLaws.{CommandFits, OwedFits, OwedIsPaid, PaysAtFirst, PaysOnceLent, PaysOnceNoted, PaysOnceSettled};
 ghost use Rattle.generations.specs.Laws.{AllOpenInTurn, GivenUpIfNear, NewestHandsOver, NewestIsAnother, OneIsOpen, StopsIfFull, TwoHaveConnections};
 

@@ -38,13 +38,13 @@ pub(crate) enum Act {
     // An event of this kind for the first connection is refused.
     IsRefused(Deed, Refusal),
 
-    // What the first client took.
+    // The first client took this.
     Took(Text),
-    // What the second client took.
+    // The second client took this.
     SecondTook(Text),
-    // What was written over the first link.
+    // This was written over the first link.
     Asked(Text),
-    // What was written over the later links.
+    // This was written over the later links.
     AskedLater(Text),
     // The first client took the text at the index of the number of handed replies.
     TookHanded(&'static [&'static [u8]]),

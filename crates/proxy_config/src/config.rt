@@ -74,7 +74,7 @@ pub struct Config {
     /// The results in an interval that give a host a success rate, 1 to 1,000,000. By default 100.
     pub request_volume: u32,
 
-    /// A rate is an outlier this far below the mean, in thousandths of the standard deviation, 0 to
+    /// A rate is an outlier if more than this far below the mean, in thousandths of the standard deviation, 0 to
     /// 100,000. By default 1,900.
     pub factor: u32,
 

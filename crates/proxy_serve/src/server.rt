@@ -238,7 +238,7 @@ impl Server {
         self.wake(rt, queue);
     }
 
-    /// Puts a carried-over socket that can't be opened yet back at the front, as `carry` does.
+    /// Puts a carried-over socket that can't be opened yet back at the front. Without memory it is closed and counted.
     pub(crate) fn carry_back<R: Wait>(&self, rt: &R, place: usize, carried: CarriedSocket) {
         let Some(queue) = self.queues.get(place) else {
             return self.close(rt);

@@ -1,4 +1,4 @@
-//! How far a reader has come in an unfinished value.
+//! The state of a reader within an unfinished value.
 ghost use Rattle.std.specs.Prelude.{true, false, ◌≡◌, ◌≢◌, ◌⊎◌, ◌≤◌, ◌<◌, ◌-◌, ◌+◌, ◌++◌, List, ℕ, [], length, take, drop, Some, None, IfOk, IfErr, IfSome, IfNone, OnOk, OnErr, IsOk};
 ghost use Rattle.resp_core.specs.Progress.{Reads, IsGood, IsFresh, LeadsTo, LeadsToValue, IsShort, HaltsIn, Gave, HasStopped, shown_progress, to_read};
 ghost use Rattle.resp_core.specs.Front.{IsUnfinished};

@@ -12,7 +12,7 @@ pub struct Knowledge<E, A, C> {
     pub inside: bool,
     /// The number that it last found in, or stored in, the word `serving`.
     pub last_served: u64,
-    /// How often it has looked at the word `serving`.
+    /// The number of its looks at the word `serving`.
     pub looks: u64,
     /// The number that it last found in the word `drawn`.
     pub last_drawn: u64,

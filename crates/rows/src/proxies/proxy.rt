@@ -1,4 +1,4 @@
-//! What the core and the plain program have in common.
+//! The common interface of the core and the plain program.
 
 use crate::plain::Reference;
 use proxy_core::{Answer, Core, Event, Refusal, Refused, Step};
