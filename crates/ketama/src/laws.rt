@@ -26,7 +26,7 @@ pub fn owners_go_by_members()
     ensures { OwnersGoByMembers }
 {}
 
-/// Hosts of equal weight have 40 digests each.
+/// If all hosts weigh the same, each has 40 digests, whatever the weight.
 pub fn equal_weights_give_forty()
     ensures { EqualWeightsGiveForty }
 {}

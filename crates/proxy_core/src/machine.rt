@@ -78,8 +78,8 @@ impl Core {
         }
     }
 
-    /// A core that starts from another's handover. Its journal is empty. Its hosts are ejected, with streaks, tallies
-    /// and multipliers, as they were. Epochs and connection numbers begin at 0.
+    /// A core that starts from another's handover. Its journal is empty. Its hosts keep their ejections, streaks,
+    /// tallies and multipliers. Epochs and connection numbers begin at 0.
     ///
     /// Refused 1011 with the first field in which ring and settings differ from the handover's: `hosts`, then the
     /// settings in their order. If none differs, it is refused only 1001, for want of memory.

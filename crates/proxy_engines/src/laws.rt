@@ -15,8 +15,9 @@ pub fn accepted_are_first()
     ensures { AcceptedAreFirst }
 {}
 
-/// A client that ended has accepted the requests of all its bytes, up to the first one that finishes. All replies were
-/// handed out, and the writer took them. Unless it was halted for a drain, its input has ended or a request finished it.
+/// A client that ended has accepted the requests of all its bytes, up to and with the first one that finishes. All
+/// replies were handed out, and the writer took them. Unless it was halted for a drain, its input has ended or a request
+/// finished it.
 pub fn ended_is_whole()
     ensures whole { EndedIsWhole }
     ensures over { EndedIsOver }
@@ -34,9 +35,9 @@ pub fn engines_leave_others()
     ensures hosts { HostsLeaveOthers }
 {}
 
-/// A socket has one connection after another, each in its own generation. The requests that they accept, in this order,
-/// are the first ones that all bytes read from the socket give. What its writer took, with pending bytes, is what was
-/// handed out to them, in this order.
+/// A socket has one connection after another, each in its own generation. The requests that the connections accept, one
+/// after another, are the first ones that all bytes read from the socket give. What its writer took, with pending bytes,
+/// is what was handed out to the connections, one after another.
 ///
 /// This holds at the first connection. It stays true over each move of an engine, over other callers' steps, and where
 /// an engine is opened with the rest of another.

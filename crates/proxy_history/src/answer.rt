@@ -31,7 +31,7 @@ pub enum Answer {
     Sent {
         /// The host's epoch: the number of its faults.
         epoch: u64,
-        /// The number of parts taken before from that host in that epoch.
+        /// The number of parts taken before for that host in that epoch.
         place: u64,
         /// The part's text.
         text: Bytes,

@@ -111,7 +111,7 @@ pub fn each_taken_sends()
     ensures { EachTakenSends }
 {}
 
-/// Only a `Taken` changes what was sent, and only one of this host and epoch what was sent to a host in an epoch.
+/// Only a `Taken` changes what was sent; to a host in an epoch, only one of this host in this epoch.
 pub fn nothing_else_is_sent()
     ensures { NothingElseIsSent }
 {}

@@ -69,8 +69,8 @@ impl Counted {
         }
     }
 
-    /// The counts so far: each number is a sum over the steps of the core's journal. Neither memory
-    /// nor time depend on its length.
+    /// The counts so far: each number is a sum over the steps of the core's journal. It takes no
+    /// memory, and its time doesn't depend on the journal's length.
     pub fn counts(&self) -> &Counts
         ensures sums { AreCounts self.now.steps result.now }
         ensures value { result.now ≡ counts_of self.now.steps }

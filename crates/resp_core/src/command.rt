@@ -47,7 +47,7 @@ impl Values {
     }
 
     /// The bytes of word `at`; word 0 is the command's name. The values must be the words of a command, as
-    /// `Value::words` returns them, and more than `at`.
+    /// `Value::words` returns them, and `at` must be below their number.
     pub fn word(&self, at: usize) -> &Bytes
         requires words { are_words self.now ≡ true }
         requires inside { at < length self.now }

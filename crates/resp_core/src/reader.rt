@@ -144,7 +144,7 @@ impl Reader {
     /// The next complete value, or `None` if it hasn't come completely.
     ///
     /// Refused 101 (no memory): bytes and values are as before, and the next call continues. Refused 102 to 107 at the
-    /// first byte with which the unfinished value begins no text, or at byte 8,388,609 of it, after all complete values
+    /// first byte with which the unfinished value is no beginning of a text, or at its byte 8,388,609, after all values
     /// before it. Where two of these numbers fit at that byte, the lower one is returned. From then on the reader holds
     /// no bytes, and `feed` and `next_value` return the same refusal.
     pub fn next_value(&mut self) -> Result<Option<Value>, RespError>

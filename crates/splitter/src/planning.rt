@@ -42,7 +42,7 @@ pub fn plan(alloc: Global, request: &Request) -> Result<Plan, SplitError>
     }
 }
 
-/// The same, faster for many requests: the parts' texts are written to `texts`, and a command that stays whole lends
+/// The same, for one request of many: the parts' texts are written to `texts`, and a command that stays whole lends
 /// its key. `text_len` is `Request::text_len`; a wrong number doesn't change the plan. Refused 701 (no memory).
 pub fn plan_with<'a>(
     alloc: Global,

@@ -70,8 +70,7 @@ impl Session {
         Ok(taken)
     }
 
-    // Serves waiting requests, and returns bytes of replies. Returns their number, 0 only at the
-    // end.
+    // Serves waiting requests, and moves bytes of replies. Returns their number, 0 only at the end.
     pub(crate) fn read(&mut self, buffer: &mut [u8]) -> Result<usize, ErrorKind>
         ensures given { IfOk result (λ n. n ≤ length buffer.new) }
         ensures kinds { IfErr result (λ kind. kind ≡ ErrorKind.WouldBlock) }

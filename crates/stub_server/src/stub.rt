@@ -71,7 +71,7 @@ impl Stub {
         self.script = Script::new(acts);
     }
 
-    /// Handles a request by the script's next act: with the answer of `answer`, or without one; the map then stays.
+    /// Handles a request by the script's next act: as `answer` does, or without an answer and a change of the map.
     ///
     /// `Act::Hold` is also the act of all later requests. Refused 1501 (no memory): nothing has changed.
     pub fn serve(&mut self, request: &Value) -> Result<Response, StubError>

@@ -103,8 +103,7 @@ impl<S: Recorded> Pass<S> {
 }
 
 impl<S: Recorded> Gate<S> {
-    /// A gate around a state with an empty journal, and its first spare place. The first ticket is
-    /// 0.
+    /// A gate around a state with an empty journal, and its first spare place. Tickets begin at 0.
     ///
     /// Where memory is refused it returns `NoMemory` (1204) with the state unchanged.
     pub fn new(alloc: Global, state: S) -> Result<(Gate<S>, Spare<S>), (GateRefusal, S)>

@@ -1,5 +1,4 @@
-//! A ticket lock around a state that keeps a journal of its turns: one legal journal for all
-//! threads.
+//! A ticket lock around a state with a journal of its turns: one legal journal for all threads.
 //!
 //! A thread's [`Pass`] enters at once if nothing holds or awaits the gate. Otherwise it draws a
 //! ticket and waits until it is served. It makes one turn of the state and serves the next ticket.
