@@ -1,4 +1,4 @@
-//! Who answers requests of an operator.
+//! Answers an operator's requests.
 ghost use Rattle.std.specs.Prelude.{◌≡◌, ◌++◌, None, OnOk};
 ghost use Rattle.http_server.specs.Response.{IsBlank};
 ghost use Rattle.admin_pages.specs.Replies.{IsReply, body_of, field_of, field_text, page_text, status_of};
@@ -11,7 +11,7 @@ use http::{HeaderName, HeaderValue, Request, StatusCode, header};
 use http_server::{Response, Service};
 use std::alloc::{AllocError, Global};
 
-/// Answers requests by a snapshot, and keeps the order that was sent last.
+/// Answers requests by a snapshot, and keeps the latest order.
 #[derive(Drop)]
 pub struct Admin<'a> {
     alloc: Global,
@@ -35,14 +35,14 @@ impl<'a> Admin<'a> {
         }
     }
 
-    /// What was ordered last, if anything was.
+    /// The latest order, if there was one.
     pub fn order(&self) -> Option<Order>
         ensures { result ≡ self.now.order }
     {
         self.order
     }
 
-    // What is replied. Refused for want of memory alone.
+    // Writes a reply. Refused for want of memory alone.
     fn write(&self, reply: Reply, response: &mut Response) -> Result<(), AllocError>
         requires { IsBlank response.old }
         ensures { OnOk result
@@ -103,7 +103,7 @@ fn status(reply: Reply, is_ready: bool) -> StatusCode
     }
 }
 
-// The one field that a reply has.
+// The one field of a reply.
 fn field(reply: Reply) -> (HeaderName, HeaderValue)
     ensures { field_text result ≡ field_of reply }
 {

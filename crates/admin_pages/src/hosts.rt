@@ -1,4 +1,4 @@
-//! The page of hosts, a line for each.
+//! The page of hosts, one line each.
 ghost use Rattle.std.specs.Prelude.{◌≡◌, ◌++◌, ◌<◌, IfOk, OnOk};
 ghost use Rattle.admin_pages.specs.Pages.{host_count, host_line, hosts_text};
 

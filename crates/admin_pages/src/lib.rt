@@ -1,8 +1,9 @@
-//! The pages by which an operator sees what a proxy does, and the orders that it takes, over HTTP.
+//! The operator's pages about a running proxy, and the orders that it takes, over HTTP.
 //!
-//! `GET /metrics` is Prometheus's text, `GET /hosts` has a line for each host, `GET /ready` and
-//! `GET /live` are what balancers and supervisors ask. `POST /drain` and `POST /quit` are orders to end.
-//! No sockets, no threads, no clocks: an [`Admin`] answers for a [`Snapshot`] of one moment.
+//! `GET /metrics` is Prometheus's text, `GET /hosts` has a line for each host, and `GET /ready` and `GET /live` are for
+//! balancers and supervisors. `POST /drain` and `POST /quit` are orders to end. No sockets, threads or clocks: an
+//! [`Admin`] answers by a [`Snapshot`] of one moment. It stands on `proxy_stats` and the HTTP crates. Begin with
+//! `reply.rt`, then `metric.rt`.
 #![tactic(auto)]
 
 mod admin;

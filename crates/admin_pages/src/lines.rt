@@ -6,7 +6,7 @@ ghost use Rattle.admin_pages.specs.Lines.{plain_text, labelled_text, host_text, 
 use itoa::Buffer;
 use std::alloc::AllocError;
 
-/// Appends the parts, one behind the other.
+/// Appends these parts.
 pub(crate) fn push_all(page: &mut Vec<u8>, parts: &[&str]) -> Result<(), AllocError>
     ensures { OnOk result (page.new.items
         ≡ page.old.items ++ concat (map (λ part. part.now) parts.now)) }
@@ -17,7 +17,7 @@ pub(crate) fn push_all(page: &mut Vec<u8>, parts: &[&str]) -> Result<(), AllocEr
     Ok(())
 }
 
-/// A number with no label.
+/// Appends a number without a label.
 pub(crate) fn push_plain(
     page: &mut Vec<u8>,
     name: &str,
@@ -31,7 +31,7 @@ pub(crate) fn push_plain(
     push_all(page, &[name, suffix, " ", digits.format(number), "\n"])
 }
 
-/// A number with one label, whose value needs no escape.
+/// Appends a number with one label, whose value needs no escape.
 pub(crate) fn push_labelled<'a>(
     page: &mut Vec<u8>,
     name: &'a str,
@@ -60,7 +60,7 @@ pub(crate) fn push_labelled<'a>(
     )
 }
 
-/// A number of a host.
+/// Appends a number of a host.
 pub(crate) fn push_of_host(
     page: &mut Vec<u8>,
     name: &str,
@@ -76,7 +76,7 @@ pub(crate) fn push_of_host(
     push_all(page, &["\"} ", digits.format(number), "\n"])
 }
 
-/// The version and the kit.
+/// Appends the version and the kit.
 pub(crate) fn push_build(
     page: &mut Vec<u8>,
     name: &str,
@@ -93,7 +93,7 @@ pub(crate) fn push_build(
     push_all(page, &["\"} 1\n"])
 }
 
-/// How many values were at most so many milliseconds.
+/// Appends the number of values of at most this many milliseconds.
 pub(crate) fn push_bound(
     page: &mut Vec<u8>,
     name: &str,
@@ -109,7 +109,7 @@ pub(crate) fn push_bound(
     push_all(page, &["\"} ", digits.format(number), "\n"])
 }
 
-/// Milliseconds as seconds, with three decimals.
+/// Appends milliseconds as seconds with three decimals.
 pub(crate) fn push_seconds(page: &mut Vec<u8>, ms: u64) -> Result<(), AllocError>
     ensures { OnOk result (page.new.items ≡ page.old.items ++ seconds_text ms) }
 {
@@ -131,7 +131,7 @@ pub(crate) fn push_seconds(page: &mut Vec<u8>, ms: u64) -> Result<(), AllocError
     )
 }
 
-// A label's value: a backslash stands before each quote and each backslash.
+// Appends a label's value: a backslash stands before each quote and each backslash.
 fn push_escaped(page: &mut Vec<u8>, value: &[u8]) -> Result<(), AllocError>
     ensures { OnOk result (page.new.items ≡ page.old.items ++ escaped value.now) }
 {

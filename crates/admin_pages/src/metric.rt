@@ -1,4 +1,4 @@
-//! The table of metrics: what each is called, and which numbers it has.
+//! The table of metrics: their names and numbers.
 ghost use Rattle.std.specs.Prelude.{◌≡◌, ◌<◌};
 ghost use Rattle.admin_pages.specs.Pages.{answer_word, kind_word};
 
@@ -52,7 +52,7 @@ pub(crate) enum JournalNumber {
     Bytes,
 }
 
-/// Which numbers a metric has.
+/// The numbers of a metric.
 #[derive(Clone, Copy)]
 pub(crate) enum Numbers {
     /// 1, with version and kit as labels.
@@ -61,10 +61,10 @@ pub(crate) enum Numbers {
     /// One number.
     One(Number),
 
-    /// Commands that the proxy answered itself, by the kind of the answer.
+    /// One for each kind of the proxy's own answers.
     ByAnswer,
 
-    /// Parts that got an error of the proxy's own, by its cause.
+    /// One for each cause of the proxy's own errors for parts.
     ByCause,
 
     /// One for each host.
@@ -73,7 +73,7 @@ pub(crate) enum Numbers {
     /// One for each journal.
     ByJournal(JournalNumber),
 
-    /// The histogram of how long commands took.
+    /// The histogram of the durations of commands.
     Durations,
 }
 
@@ -86,7 +86,7 @@ pub(crate) struct Metric {
     /// Its type.
     pub kind: Kind,
 
-    /// What it tells, in one sentence.
+    /// Its meaning, in one sentence.
     pub help: &'static str,
 
     /// Its numbers.
@@ -94,7 +94,7 @@ pub(crate) struct Metric {
 }
 
 impl Kind {
-    /// Its word in the text format.
+    /// The word for this type in the text format.
     pub(crate) fn word(self) -> &'static str
         ensures { result.now ≡ kind_word self }
     {
@@ -106,7 +106,7 @@ impl Kind {
     }
 }
 
-/// The word for an answer of the proxy's own, by the place at which it is counted.
+/// The word for an answer of the proxy's own, by its index in the counts.
 pub(crate) fn answer_word(answer: usize) -> &'static str
     requires { answer < LOCAL_KINDS }
     ensures { result.now ≡ answer_word answer }
@@ -122,10 +122,10 @@ pub(crate) fn answer_word(answer: usize) -> &'static str
     }
 }
 
-/// How many metrics there are.
+/// The number of metrics.
 pub(crate) const METRIC_COUNT: usize = 24;
 
-/// All metrics, in the order in which the page has them.
+/// All metrics, in the order of the page.
 pub(crate) const METRICS: [Metric; METRIC_COUNT] = [
     Metric {
         name: "redproxy_build_info",

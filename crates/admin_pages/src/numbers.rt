@@ -1,4 +1,4 @@
-//! Which number of a snapshot each metric tells.
+//! Reads each metric's numbers from a snapshot.
 ghost use Rattle.std.specs.Prelude.{◌≡◌, ◌<◌};
 ghost use Rattle.admin_pages.specs.Numbers.{number_of, host_number, journal_number};
 

@@ -1,18 +1,18 @@
-//! What is replied to a request, by its method and its path.
+//! Chooses the reply to a request by its method and path.
 ghost use Rattle.std.specs.Prelude.{◌≡◌};
 ghost use Rattle.admin_pages.specs.Routes.{order_at, page_at, reply_to, reply_to_order};
 
-/// What somebody asked the proxy to do.
+/// An operator's order.
 #[derive(Clone, Copy, Debug, PartialEq, Eq)]
 pub enum Order {
-    /// Take no new connection, answer what was asked, and end.
+    /// Accept no new connection, answer accepted commands, and end.
     Drain,
 
     /// End at once.
     Quit,
 }
 
-/// What there is to be read.
+/// The pages.
 #[derive(Clone, Copy, Debug, PartialEq, Eq)]
 pub(crate) enum Page {
     Metrics,
@@ -21,30 +21,29 @@ pub(crate) enum Page {
     Live,
 }
 
-/// What is replied.
+/// The reply to a request.
 #[derive(Clone, Copy, Debug, PartialEq, Eq)]
 pub(crate) enum Reply {
     /// The page.
     Page(Page),
 
-    /// The order was taken.
+    /// The order was accepted.
     Taken(Order),
 
-    /// An order that a page of a browser sent.
+    /// The order came from a web page.
     Forbidden,
 
-    /// A page is read by GET and HEAD alone.
+    /// Pages allow GET and HEAD alone.
     OnlyRead,
 
-    /// An order is sent by POST alone.
+    /// Orders allow POST alone.
     OnlySent,
 
-    /// Nothing has this path.
+    /// Nothing is at this path.
     NotFound,
 }
 
-/// What is replied to a request of this method and path, which a page of a browser sent where it has an
-/// origin.
+/// The reply to a request with this method and path. A request with an origin comes from a web page.
 pub(crate) fn reply_to(method: &str, path: &str, has_origin: bool) -> Reply
     ensures { result ≡ reply_to method.now path.now has_origin }
 {

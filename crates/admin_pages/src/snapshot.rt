@@ -1,4 +1,4 @@
-//! What the pages tell.
+//! The numbers behind the pages.
 ghost use Rattle.std.specs.Prelude.{◌≡◌, ◌<◌};
 
 use histogram::Histogram;
@@ -6,7 +6,7 @@ use ketama::MAX_HOSTS;
 use proxy_config::Host;
 use proxy_stats::{Counts, Load};
 
-/// What stays the same as long as the proxy runs.
+/// Facts that stay the same while the proxy runs.
 #[derive(Clone, Copy)]
 pub struct About<'a> {
     /// The version of the program.
@@ -15,14 +15,14 @@ pub struct About<'a> {
     /// The kit that it was proved and built with.
     pub kit: &'a str,
 
-    /// The hosts, in the order of the settings. Those after the first 64 aren't told of.
+    /// The hosts, in the order of the settings; those after the first 64 aren't shown.
     pub hosts: &'a [Host],
 }
 
 impl<'a> About<'a> {
     ghost use Rattle.admin_pages.specs.Pages.{host_count, host_name};
 
-    /// How many hosts are told of.
+    /// The number of hosts shown.
     pub(crate) fn host_count(&self) -> usize
         ensures { result ≡ host_count self.now }
     {
@@ -38,16 +38,16 @@ impl<'a> About<'a> {
     }
 }
 
-/// What the last look at the journal of a generation told.
+/// The last sight of a generation's journal.
 #[derive(Clone, Copy, Debug, PartialEq, Eq)]
 pub struct Look {
-    /// How many steps it has.
+    /// The number of its steps.
     pub steps: u64,
 
-    /// How many bytes of payload its steps keep.
+    /// The bytes of payload of its steps.
     pub bytes: u64,
 
-    /// How the core stands.
+    /// The load of its core.
     pub load: Load,
 }
 
@@ -60,13 +60,13 @@ impl Look {
     };
 }
 
-/// What a proxy did until now, and how it stands.
+/// What a proxy has done, and its present state.
 #[derive(Clone, Copy, Debug, PartialEq, Eq)]
 pub struct Snapshot {
-    /// What happened in all generations, those that are gone and those that live.
+    /// The counts of all generations, gone and living.
     pub counts: Counts,
 
-    /// How many generations were opened.
+    /// The number of generations opened.
     pub generations: u64,
 
     /// The steps of the journals of generations that are gone.
@@ -78,13 +78,13 @@ pub struct Snapshot {
     /// The one before it, until its last connection is gone.
     pub draining: Look,
 
-    /// Connections of clients that were closed.
+    /// The number of closed client connections.
     pub closed: u64,
 
-    /// How long commands took, from their acceptance to their answer.
+    /// The durations of commands, from acceptance to answer.
     pub durations: Histogram,
 
-    /// Whether new connections are taken.
+    /// Whether new connections are accepted.
     pub is_ready: bool,
 
     /// Whether the proxy was ordered to end.

@@ -1,4 +1,4 @@
-//! What a command costs in the engines.
+//! The cost of a command in the engines.
 
 mod figures;
 mod peers;
@@ -12,22 +12,22 @@ use std::alloc::Global;
 use std::rt::Clock;
 use std::sync::Wait;
 
-/// How many commands a client sends before it waits for their replies.
+/// The number of commands that a client sends before it waits for their replies.
 const PIPELINES: [u64; 3] = [1, 16, 100];
 
-/// How many commands a round has where each round has a core of its own.
+/// The commands of a round in which each round has a core of its own.
 const FEW_COMMANDS: u64 = 100;
 
-/// How many commands a round has where the core goes on: four steps each make a journal of 20,000.
+/// The commands of a round in which the core goes on: four steps each make a journal of 20,000.
 const MANY_COMMANDS: u64 = 5_000;
 
-/// Prints the figures of rounds of few commands, and of rounds of many.
+/// Prints the figures of rounds of few commands and of many.
 pub(crate) fn print<R: Wait + Clock + Print>(rt: &R, alloc: Global) -> Result<()> {
     print_set(rt, alloc, FEW_COMMANDS, 300)?;
     print_set(rt, alloc, MANY_COMMANDS, 20)
 }
 
-// Prints the figures of rounds of so many commands.
+// Prints the figures of rounds of this many commands.
 fn print_set<R: Wait + Clock + Print>(
     rt: &R,
     alloc: Global,

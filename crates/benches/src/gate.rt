@@ -1,4 +1,4 @@
-//! Turns by 1, 2, 4 and 8 threads on one running total: at a ticket gate, and beside it under std's `Mutex`.
+//! Turns of 1, 2, 4 and 8 threads on one running total, at a ticket gate and under std's `Mutex`.
 ghost use Rattle.std.specs.Prelude.{◌≡◌, [], IfOk};
 ghost use Rattle.ticket_gate.specs.Gate.{IsSpareOf};
 
@@ -12,16 +12,16 @@ use std::thread::Threads;
 use std::time::{Duration, Instant};
 use ticket_gate::{AdditionRefusal, Gate, Recorded, Seated, Spare, Turns};
 
-/// How many threads there are.
+/// The numbers of threads.
 const THREADS: [usize; 4] = [1, 2, 4, 8];
 
-/// Turns of all threads together, where nothing is timed.
+/// The turns of all threads together if nothing is timed.
 const FEW_TURNS: u64 = 20_000;
 
-/// Turns of all threads together, where they are timed.
+/// The turns of all threads together if they are timed.
 const MANY_TURNS: u64 = 400_000;
 
-/// Rounds of work that take some 200 ns.
+/// The rounds of work of some 200 ns.
 const ROUNDS: u32 = 80;
 
 /// The work of a thread: the rounds in each turn, and the rounds after it.
@@ -36,7 +36,7 @@ const NO_WORK: Work = Work {
     outside: 0,
 };
 
-/// What is timed, by its name.
+/// The timed work, by name.
 const TIMED: [(&str, Work); 3] = [
     ("no work", NO_WORK),
     (
@@ -55,7 +55,7 @@ const TIMED: [(&str, Work); 3] = [
     ),
 ];
 
-/// So many turns, shared out among so many threads.
+/// Turns shared among threads.
 #[derive(Clone, Copy)]
 struct Trial {
     threads: usize,
@@ -63,7 +63,7 @@ struct Trial {
     work: Work,
 }
 
-// Adds 1 so many times, and works after each. Gives what the work came to.
+// Adds 1 `times` times, and works after each turn. Returns the result of the work.
 fn make_turns<T: Turns<Event = u64, Answer = u64, Refusal = AdditionRefusal>, R: Wait>(
     rt: &R,
     turns: &mut T,
@@ -78,7 +78,7 @@ fn make_turns<T: Turns<Event = u64, Answer = u64, Refusal = AdditionRefusal>, R:
     seed
 }
 
-// A gate round a state without a step, and its first spare place.
+// A gate around a new state, and its first spare place.
 fn open<S: Recorded + Drop>(alloc: Global, state: S) -> Result<(Gate<S>, Spare<S>)>
     requires { S.journal state ≡ [] }
     ensures { IfOk result (λ made. IsSpareOf made.0 made.1) }
@@ -92,7 +92,7 @@ fn open<S: Recorded + Drop>(alloc: Global, state: S) -> Result<(Gate<S>, Spare<S
     }
 }
 
-/// Seats so many passes at the gate.
+/// Enrols this many passes, and seats each at the gate.
 fn seat_passes<'a, R: Wait>(
     rt: &R,
     alloc: Global,
@@ -120,8 +120,7 @@ impl Trial {
         self.turns / (self.threads as u64).max(1)
     }
 
-    /// Makes the turns at a gate, each thread with a pass of its own, and gives the journal's
-    /// length.
+    /// Makes the turns at a gate, each thread with its own pass. Returns the journal's length.
     fn at_a_gate<R: Threads + Wait + Sync>(&self, rt: &R, alloc: Global) -> Result<usize> {
         let (gate, spare) = open(alloc, Laden::new(alloc, self.work.inside))?;
         let (mine, spare) = gate.split(spare);
@@ -145,7 +144,7 @@ impl Trial {
         }
     }
 
-    /// Makes the turns under a mutex, and gives the journal's length.
+    /// Makes the turns under a mutex. Returns the journal's length.
     fn under_a_mutex<R: Threads + Wait + Sync>(&self, rt: &R, alloc: Global) -> Result<usize> {
         let state = Mutex::new(Laden::new(alloc, self.work.inside));
         let mut passes = Vec::new(alloc);
@@ -170,21 +169,21 @@ impl Trial {
         Ok(state.into_inner().turns())
     }
 
-    // How many turns were made in a second at a gate.
+    // Turns a second at a gate.
     fn gate_speed<R: Threads + Wait + Sync + Clock>(&self, rt: &R, alloc: Global) -> Result<u128> {
         let start = Instant::now(rt)?;
         let turns = self.at_a_gate(rt, alloc)?;
         Ok(per_second(turns, start.elapsed(rt)?))
     }
 
-    // How many under a mutex.
+    // Turns a second under a mutex.
     fn mutex_speed<R: Threads + Wait + Sync + Clock>(&self, rt: &R, alloc: Global) -> Result<u128> {
         let start = Instant::now(rt)?;
         let turns = self.under_a_mutex(rt, alloc)?;
         Ok(per_second(turns, start.elapsed(rt)?))
     }
 
-    /// Makes the turns in both ways, and prints how many were made in a second.
+    /// Makes the turns both ways, and prints the turns a second.
     fn print_speeds<R: Threads + Wait + Sync + Clock + Print>(
         &self,
         rt: &R,
@@ -205,7 +204,7 @@ fn per_second(turns: usize, time: Duration) -> u128 {
     turns as u128 * 1_000_000_000 / time.as_nanos().max(1)
 }
 
-/// Makes few turns by 1, 2, 4 and 8 threads in both ways, and prints how many the journals have.
+/// Makes few turns by 1, 2, 4 and 8 threads both ways, and prints the lengths of the journals.
 pub(crate) fn print_few<R: Threads + Wait + Sync + Print>(rt: &R, alloc: Global) -> Result<()> {
     for threads in THREADS {
         let few = Trial {
@@ -220,7 +219,7 @@ pub(crate) fn print_few<R: Threads + Wait + Sync + Print>(rt: &R, alloc: Global)
     Ok(())
 }
 
-/// Makes many turns by 1, 2, 4 and 8 threads in both ways, and prints how many were made in a second.
+/// Makes many turns by 1, 2, 4 and 8 threads both ways, and prints the turns a second.
 pub(crate) fn print_speeds<R: Threads + Wait + Sync + Clock + Print>(
     rt: &R,
     alloc: Global,

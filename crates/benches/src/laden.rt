@@ -1,10 +1,10 @@
-//! A running total whose turns take longer.
+//! A running total with slower turns.
 ghost use Rattle.std.specs.Prelude.{◌≡◌, []};
 
 use std::alloc::Global;
 use ticket_gate::{AdditionRefusal, Recorded, RunningTotal};
 
-/// A running total that makes so many rounds of work before each addition.
+/// A running total that does this many rounds of work before each addition.
 #[derive(Drop)]
 pub struct Laden {
     total: RunningTotal,
@@ -15,7 +15,7 @@ pub struct Laden {
 impl Laden {
     ghost use Rattle.ticket_gate.specs.RunningTotal.{journal_of};
 
-    /// A total of 0 without a limit, whose turns make so many rounds of work.
+    /// A total of 0 without a limit, whose turns do this many rounds of work.
     pub(crate) fn new(alloc: Global, rounds: u32) -> Laden
         ensures { journal_of result.total ≡ [] }
     {
@@ -26,13 +26,13 @@ impl Laden {
         }
     }
 
-    /// How many turns were answered.
+    /// The number of answered turns.
     pub(crate) fn turns(&self) -> usize {
         self.total.additions().len()
     }
 }
 
-/// Each round waits for the one before it: six shifts and sums, some 2.5 ns.
+/// Each round depends on the one before: six shifts and sums, some 2.5 ns.
 pub(crate) fn stirred(seed: u64, rounds: u32) -> u64 {
     let mut stirred = seed;
     for _ in 0..rounds {

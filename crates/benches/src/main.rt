@@ -1,21 +1,20 @@
-//! Prints how fast parts of the proxy are, each on its own.
+//! Measures parts of the proxy, each on its own. Begin with `turns.rt`; it stands on the core, the engines and the gate.
 //!
-//! `benches core run` prints how long the cycle Arrived, Taken, Answered, Handed takes for a GET with replies of several
-//! lengths, for an MGET of ten keys, for pipelines of 64 commands, and for a GET on cores that are each thrown away after 10
-//! cycles. The events are built before the time is taken. `benches core rings` prints how fast rings are, `benches core
-//! reader` how fast the reader of values is.
+//! `benches core run` prints the time of the cycle Arrived, Taken, Answered, Handed. It does so for a GET with replies
+//! of several lengths, an MGET of ten keys, pipelines of 64 commands, and a GET on cores dropped after 10 cycles each.
+//! The events are built before the clock starts. `benches core rings` prints the speed of rings, `benches core reader`
+//! that of the reader.
 //!
-//! `benches engine run` serves one client by one host over one core, with devices in memory. For GET and SET with values of 64
-//! bytes, at pipelines of 1, 16 and 100, it prints what a command takes: nanoseconds, and its share of the journal's end;
-//! steps, reads and writes of the client's engine and the host's; and turns that were answered. It does so for rounds of 100
-//! commands on a fresh core each, and for rounds in which the core goes on until its journal has 20,000 steps.
+//! `benches engine run` serves one client by one host over one core, with devices in memory: GET and SET with values of
+//! 64 bytes, at pipelines of 1, 16 and 100. For a command it prints nanoseconds, with the share of the journal's end;
+//! the steps, reads and writes of both engines; and the answered turns. It does so for rounds of 100 commands on a
+//! fresh core each, and for rounds in which the core goes on until its journal has 20,000 steps.
 //!
-//! `benches gate time` prints how many turns 1, 2, 4 and 8 threads make in a second on one running total, at a ticket gate and
-//! under std's `Mutex`: of turns that only add, of turns that take some 200 ns, and of such turns with some 400 ns of other work
-//! after each.
+//! `benches gate time` prints the turns a second of 1, 2, 4 and 8 threads on one running total, at a ticket gate and
+//! under std's `Mutex`. The turns only add, or take some 200 ns, or take these and have some 400 ns of other work after each.
 //!
-//! Times are the least of several rounds, but for those of rings, of the reader and of threads. With no words it prints how to
-//! run it, and how many turns the journals have where few are made, so that its output is always the same.
+//! Times are the least of several rounds, except those of rings, of the reader and of threads. Without words it prints
+//! its usage and the lengths of the journals of a few turns, so that this output is always the same.
 #![tactic(auto)]
 
 mod engine;
@@ -35,7 +34,7 @@ benches core reader: prints bytes a second of a reader, and of a plain copy
 benches engine run: prints what a command costs in the engines
 benches gate time: prints turns a second at a gate, and under a mutex";
 
-// What is asked for.
+// The chosen measurement.
 #[derive(Clone, Copy)]
 enum Asked {
     Turns,
@@ -47,7 +46,7 @@ enum Asked {
 }
 
 impl Asked {
-    // By the first two words.
+    // Chooses by the first two words.
     fn of(part: Option<String>, figure: Option<String>) -> Asked {
         let part = part.as_ref().map_or("", |word| word.as_str());
         let figure = figure.as_ref().map_or("", |word| word.as_str());

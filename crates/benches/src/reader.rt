@@ -1,4 +1,4 @@
-//! How fast values are read from a stream.
+//! The speed of reading values from a stream.
 
 use crate::timing::micros;
 use anyhow::Result;
@@ -7,13 +7,13 @@ use std::alloc::Global;
 use std::rt::Clock;
 use std::time::{Duration, Instant};
 
-// The lengths of the pieces.
+// The lengths of pieces.
 const PIECES: [usize; 2] = [16_384, 1];
 
-// A text that is repeated: each of these so many times.
+// Texts, each repeated this many times.
 type Repeated = &'static [(&'static [u8], usize)];
 
-/// A stream: its head, and a text so many times.
+/// A stream: its head, and a repeated text.
 #[derive(Clone, Copy)]
 struct Stream {
     name: &'static str,
@@ -34,7 +34,7 @@ const BULK: Repeated = &[(b"$1048576\r\n", 1), (b"x", 1_048_576), (b"\r\n", 1)];
 
 const INTEGERS: Repeated = &[(b"*1000\r\n", 1), (b":7\r\n", 1_000)];
 
-// Some 4 MB each, but for the third.
+// Some 4 MB each, except for the third one.
 const STREAMS: [Stream; 4] = [
     Stream {
         name: "commands of three words, two of 64 bytes",
@@ -62,8 +62,8 @@ const STREAMS: [Stream; 4] = [
     },
 ];
 
-/// Prints, for each stream and for each length of the pieces in which it comes, the bytes that are read a second, and beside
-/// them those of a plain copy of the same pieces into one buffer.
+/// Prints for each stream and each length of pieces the bytes a second that are read, and those that are copied into
+/// one buffer in the same pieces.
 pub(crate) fn print<R: Clock + Print>(rt: &R, alloc: Global) -> Result<()> {
     for stream in &STREAMS {
         let bytes = stream.bytes(alloc)?;
@@ -81,7 +81,7 @@ fn print_pieces<R: Clock + Print>(rt: &R, alloc: Global, name: &str, bytes: &[u8
     Ok(())
 }
 
-// Prints how fast so many bytes in pieces of this length were read, and copied.
+// Prints the speeds of reading and copying this many bytes in pieces of this length.
 fn print_speeds<R: Print>(
     rt: &R,
     name: &str,
@@ -116,14 +116,14 @@ fn put(bytes: &mut Vec<u8>, text: Repeated) -> Result<()> {
     Ok(())
 }
 
-// How long it takes to read the values of the stream in pieces of this length.
+// The time to read the stream's values in pieces of this length.
 fn time_read<R: Clock>(rt: &R, alloc: Global, bytes: &[u8], piece: usize) -> Result<Duration> {
     let start = Instant::now(rt)?;
     read(alloc, bytes, piece)?;
     Ok(start.elapsed(rt)?)
 }
 
-// Reads the values of the stream in pieces of this length.
+// Reads the stream's values in pieces of this length.
 fn read(alloc: Global, bytes: &[u8], piece: usize) -> std::result::Result<(), RespError> {
     let mut reader = Reader::new(alloc, Limits::CLIENT);
     let was_read = read_with(&mut reader, bytes, piece);
@@ -143,7 +143,7 @@ fn read_with(
     Ok(())
 }
 
-// Takes the values that a piece of so many bytes brought.
+// Takes the values that a piece of this length has completed.
 fn take_values(reader: &mut Reader, most: usize) -> std::result::Result<(), RespError> {
     for _ in 0..=most {
         let value = reader.next_value()?;
@@ -156,7 +156,7 @@ fn take_values(reader: &mut Reader, most: usize) -> std::result::Result<(), Resp
     Ok(())
 }
 
-// How long it takes to copy the stream in pieces of this length.
+// The time to copy the stream in pieces of this length.
 fn time_copied<R: Clock>(rt: &R, alloc: Global, bytes: &[u8], piece: usize) -> Result<Duration> {
     let start = Instant::now(rt)?;
     let mut copy = Vec::new(alloc);

@@ -1,4 +1,4 @@
-//! How many owners a second a ring tells.
+//! Owners a second of a ring.
 ghost use Rattle.std.specs.Prelude.{◌≡◌, length};
 
 use crate::timing::micros;
@@ -8,10 +8,10 @@ use std::alloc::Global;
 use std::rt::Clock;
 use std::time::Instant;
 
-// How many owners are asked for in one measurement.
+// The number of owners looked up in one measurement.
 const ASKED: u32 = 20_000_000;
 
-/// Prints it for rings of 3 and of 64 hosts.
+/// Prints owners a second for rings of 3 and of 64 hosts.
 pub(crate) fn print<R: Clock + Print>(rt: &R, alloc: Global) -> Result<()> {
     print_rate(rt, alloc, 3)?;
     print_rate(rt, alloc, 64)
@@ -34,7 +34,7 @@ fn owners_a_second<R: Clock>(rt: &R, alloc: Global, ring: &Ring) -> Result<u64> 
     Ok(u64::from(owned) * 1_000_000 / micros.max(1))
 }
 
-// How many of some points all over the ring have an owner.
+// The number of points with an owner, among some points all over the ring.
 fn count_owned(ring: &Ring, usable: &[bool]) -> u32
     requires { length usable.now ≡ ring.now.hosts }
 {
@@ -49,7 +49,7 @@ fn count_owned(ring: &Ring, usable: &[bool]) -> u32
     owned
 }
 
-// A ring of so many hosts of one weight.
+// A ring of this many hosts of one weight.
 fn ring_of(alloc: Global, hosts: usize) -> Result<Ring> {
     let mut names = Vec::new(alloc);
     for host in 0..hosts {

@@ -1,32 +1,32 @@
-//! How long something took.
+//! Times of work.
 
 use anyhow::Result;
 use std::rt::Clock;
 use std::time::{Duration, Instant};
 
-/// How long a command took, in nanoseconds.
+/// The times of a command, in nanoseconds.
 #[derive(Clone, Copy, Drop)]
 pub(crate) struct Times {
-    /// In what was measured.
+    /// The time of the measured work.
     pub(crate) work_ns: u128,
-    /// In the end of the journal.
+    /// The time of dropping the journal.
     pub(crate) end_ns: u128,
 }
 
 impl Times {
-    /// No time at all.
+    /// No time.
     pub(crate) const NONE: Times = Times {
         work_ns: 0,
         end_ns: 0,
     };
 
-    /// More than anything takes.
+    /// More than any time.
     pub(crate) const LONGEST: Times = Times {
         work_ns: u128::MAX,
         end_ns: u128::MAX,
     };
 
-    /// The shorter of both, each for itself.
+    /// The shorter of both, for each time.
     pub(crate) fn least(self, other: Times) -> Times {
         Times {
             work_ns: self.work_ns.min(other.work_ns),
@@ -34,7 +34,7 @@ impl Times {
         }
     }
 
-    /// Both together, each for itself.
+    /// The sum of both, for each time.
     pub(crate) fn plus(self, other: Times) -> Times {
         Times {
             work_ns: self.work_ns.saturating_add(other.work_ns),
@@ -42,7 +42,7 @@ impl Times {
         }
     }
 
-    /// What comes on each of so many commands.
+    /// The time for each of this many commands.
     pub(crate) fn each(self, commands: u64) -> Times {
         let commands = u128::from(commands.max(1));
         Times {
@@ -52,7 +52,7 @@ impl Times {
     }
 }
 
-/// How long it takes to drop a value, in nanoseconds.
+/// The time to drop a value, in nanoseconds.
 pub(crate) fn dropping_ns<C: Clock, T: Drop>(rt: &C, value: T) -> Result<u128> {
     let start = Instant::now(rt);
     drop(value);

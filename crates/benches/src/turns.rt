@@ -1,4 +1,4 @@
-//! How long the turns of a core take.
+//! The time of a core's turns.
 
 use crate::timing::{Times, dropping_ns};
 use anyhow::{Result, bail};
@@ -12,7 +12,7 @@ use std::time::Instant;
 
 const ROUNDS: usize = 16;
 
-/// Commands of one kind: groups of so many arrive, are sent, answered and handed out, before one host.
+/// Commands of one kind, in groups: each group arrives, is sent, answered and handed out, before one host.
 #[derive(Clone, Copy)]
 struct Load {
     title: &'static str,
@@ -20,13 +20,13 @@ struct Load {
     keys: usize,
     group: usize,
     reply_bytes: usize,
-    // How many groups come between two looks at the clock, how often on a core, and on how many cores.
+    // The number of groups between two looks at the clock, of looks on a core, and of cores.
     groups: usize,
     looks: usize,
     cores: usize,
 }
 
-// A GET with a reply of 64 bytes, on a core whose journal comes to 20,000 steps.
+// A GET with a reply of 64 bytes, on a core whose journal reaches 20,000 steps.
 const GET: Load = Load {
     title: "GET, reply of 64 bytes",
     name: b"GET",
@@ -38,7 +38,7 @@ const GET: Load = Load {
     cores: 1,
 };
 
-// The journals come to 20,000 steps or to 60,000,000 bytes, but for the last load's.
+// The journals reach 20,000 steps or 60,000,000 bytes, except for the last load's.
 const LOADS: [Load; 6] = [
     GET,
     Load {
@@ -77,7 +77,7 @@ const LOADS: [Load; 6] = [
     },
 ];
 
-/// Prints how long a command of each load takes, in the best of several rounds.
+/// Prints the time of a command of each load, the best of several rounds.
 pub(crate) fn print<R: Clock + Print>(rt: &R, alloc: Global) -> Result<()> {
     for load in &LOADS {
         print_times(rt, load.title, load.least(rt, alloc)?)?;
@@ -94,7 +94,7 @@ fn print_times<R: Print>(rt: &R, title: &str, times: Times) -> Result<()> {
 }
 
 impl Load {
-    // How long a command takes, in the best of several rounds.
+    // The time of a command, the best of several rounds.
     fn least<R: Clock>(&self, rt: &R, alloc: Global) -> Result<Times> {
         let mut least = Times::LONGEST;
         for _ in 0..ROUNDS {
@@ -103,7 +103,7 @@ impl Load {
         Ok(least.each(self.commands()))
     }
 
-    // How many commands a round has.
+    // The number of commands in a round.
     fn commands(&self) -> u64 {
         (self.group as u64)
             .saturating_mul(self.groups as u64)
@@ -111,7 +111,7 @@ impl Load {
             .saturating_mul(self.cores as u64)
     }
 
-    // How long all commands take on the cores, one after the other.
+    // The time of all commands on the cores, one after another.
     fn round<R: Clock>(&self, rt: &R, alloc: Global) -> Result<Times> {
         let mut times = Times::NONE;
         for _ in 0..self.cores {
@@ -126,7 +126,7 @@ impl Load {
         Ok(times)
     }
 
-    // How long the turns of a core take, in nanoseconds.
+    // The time of a core's turns, in nanoseconds.
     fn turns_ns<R: Clock>(&self, rt: &R, alloc: Global, core: &mut Core) -> Result<u128> {
         let mut turns_ns = 0u128;
         for _ in 0..self.looks {
@@ -158,7 +158,7 @@ impl Load {
         Ok(())
     }
 
-    // A command arrives, whose words have blocks of their own as a reader gives them.
+    // A command arrives, whose words are in blocks of their own, as a reader returns them.
     fn arrival(&self, alloc: Global) -> Result<Event> {
         let mut words = Vec::new(alloc);
         put(&mut words, word(alloc, self.name)?)?;
@@ -170,7 +170,7 @@ impl Load {
     }
 }
 
-// So many parts are sent, and then answered.
+// This many parts are sent and then answered.
 fn add_replies(events: &mut Vec<Event>, parts: usize, reply: &Bytes) -> Result<()> {
     for _ in 0..parts {
         put(events, Event::Taken { host: 0 })?;
@@ -212,7 +212,7 @@ fn fresh_core(alloc: Global) -> Result<Core> {
     }
 }
 
-// Makes a turn of each event: how long that takes, in nanoseconds.
+// Makes a turn of each event. Returns the nanoseconds.
 fn made_in_ns<R: Clock>(rt: &R, core: &mut Core, events: Vec<Event>) -> Result<u128> {
     let start = Instant::now(rt)?;
     for event in events {

@@ -1,4 +1,4 @@
-//! The command line of `redproxy`: its words, and what they ask for.
+//! The command line of `redproxy`: its words, and the request that they make. It stands on `clap`; begin with `read`.
 #![tactic(auto)]
 
 use clap::error::ErrorKind;
@@ -13,15 +13,15 @@ pub const VERSION: &str = "0.3.0";
 /// The kit that proved and built it.
 pub const KIT: &str = "rattle-kit-13f logic dac8208d650f15bf";
 
-// What `--version` prints behind the program's name.
+// The text of `--version` behind the program's name.
 const VERSION_AND_KIT: &str = "0.3.0 (rattle-kit-13f logic dac8208d650f15bf)";
 
-/// What the program is to do.
+/// The request of the command line.
 #[derive(Drop)]
 pub enum Asked {
     /// Serve one client on standard input and output.
     Local,
-    /// Tell what a settings file says.
+    /// Check a settings file.
     Check {
         /// The file's path.
         config: String,
@@ -30,37 +30,37 @@ pub enum Asked {
     Serve {
         /// The settings file's path.
         config: String,
-        /// After how many closed connections to end; 0 is never.
+        /// The number of closed connections after which it ends; 0 is never.
         connections: u64,
-        /// At which address to tell by HTTP how the serving stands; `None`: nowhere.
+        /// The operator's address for HTTP; `None`: none.
         metrics: Option<SocketAddr>,
     },
 }
 
-/// Why the words of the command line ask for nothing that can be done.
+/// Why the words make no request.
 #[derive(Drop)]
 pub enum Refused {
     /// There was no memory to read them.
     Memory,
-    /// What `--metrics` names is no address with a port.
+    /// The value of `--metrics` is no address with a port.
     NoAddress,
-    /// What is to be told instead.
+    /// The parser's text is to be printed.
     Told(Told),
 }
 
-/// The parser's text for words that ask for nothing: what is wrong with them, or the help that was asked for.
+/// The parser's text: an error of the words, or the help.
 #[derive(Drop)]
 pub struct Told {
     error: Error,
 }
 
 impl Told {
-    /// Prints the text: help on standard output, what is wrong on standard error. An error of that stream is given back.
+    /// Prints the text: help on standard output, errors on standard error. Returns an error of that stream.
     pub fn print<R: Print + Eprint>(&self, rt: &R) -> io::Result<()> {
         self.error.print(rt)
     }
 
-    /// Whether help was asked for, and nothing is wrong.
+    /// Whether it is the help, and no error.
     pub fn is_help(&self) -> bool {
         self.error.exit_code() == 0
     }
@@ -151,7 +151,7 @@ fn command<'a>(alloc: Global) -> Result<Command<'a>, AllocError> {
         .subcommand(serve(alloc)?)
 }
 
-/// Reads the words of the command line, of which the first is the program's name.
+/// Reads the words of the command line, the first of which is the program's name.
 pub fn read(alloc: Global, words: &[String]) -> Result<Asked, Refused> {
     let matches = command(alloc)?.try_get_matches_from(words)?;
     match matches.subcommand() {

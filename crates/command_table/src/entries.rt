@@ -75,8 +75,7 @@ const ENTRIES: [Entry; 11] = [
     },
 ];
 
-/// The entry of this name among the commands with numbers of their own, compared without ASCII case, or `None` where none
-/// of them has it.
+/// The entry of this name among these commands, compared without ASCII case, or `None`.
 pub(crate) fn own_entry(name: &[u8]) -> Option<Entry>
     ensures { option_map row_of result ≡ row_in own_rows name.now }
 {
@@ -90,7 +89,7 @@ fn entries() -> &'static [Entry]
     &ENTRIES
 }
 
-// The first of the entries that has this name.
+// The first of the entries with this name.
 fn find_entry(entries: &[Entry], name: &[u8]) -> Option<Entry>
     ensures { option_map row_of result ≡ row_in (map row_of entries.now) name.now }
 {

@@ -1,7 +1,7 @@
 //! The commands that the proxy knows, by name.
 //!
-//! Names and meanings are those of the Redis commands; which of them the table has, how many words each takes and where
-//! its key stands is this project's own profile.
+//! Names and meanings are those of Redis. Which commands the table has, the number of their words, and the place of
+//! their key are this project's own profile. It stands on no other crate. Begin with `look`.
 #![tactic(auto)]
 
 ghost use Rattle.std.specs.Prelude.{◌≡◌, ◌≢◌, IfSome, IfNone, Contains, All};
@@ -20,7 +20,7 @@ pub use laws::{
 };
 use names::one_key_entry;
 
-/// How the proxy treats a command.
+/// How the proxy handles a command.
 #[derive(Clone, Copy, Debug, PartialEq, Eq, Hash)]
 pub enum Kind {
     /// PING: answered by the proxy. It takes one word.
@@ -29,7 +29,7 @@ pub enum Kind {
     Echo,
     /// QUIT: answered by the proxy, which then takes no further command of the connection.
     Quit,
-    /// A command that goes whole to the host that owns its key, which answers it.
+    /// A command that its key's host answers as a whole.
     One,
     /// MGET: split into a GET for each key.
     SplitGet,
@@ -39,20 +39,20 @@ pub enum Kind {
     SplitSum,
 }
 
-/// What the table knows of a command.
+/// An entry of the table.
 #[derive(Clone, Copy, Debug, PartialEq, Eq)]
 pub struct Entry {
-    /// How the proxy treats the command.
+    /// How the proxy handles the command.
     pub kind: Kind,
     /// The command's name, in lower case.
     pub name: &'static str,
-    /// The least number of words that the command takes, its name among them.
+    /// The least number of words, with the name.
     pub least: usize,
-    /// Which word is the command's key, its name being word 0. It is 0 where the command has no key.
+    /// The index of the word that is the key; the name is word 0. 0 for a command without a key.
     pub key_at: usize,
 }
 
-/// The entry of the command of this name, compared without ASCII case, or `None` where the table has none.
+/// The entry of the command of this name, compared without ASCII case, or `None` if the table has none.
 ///
 /// It takes no memory.
 pub fn look(name: &[u8]) -> Option<Entry>

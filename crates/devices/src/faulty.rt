@@ -1,4 +1,4 @@
-//! Readers and writers that fail for good once so many bytes have passed.
+//! Readers and writers that fail for good after a number of bytes.
 ghost use Rattle.std.specs.Prelude.{◌≡◌, ◌≢◌, [], ◌<◌, ◌≤◌, ◌+◌, ◌-◌, ◌^◌, min, length, take, IfErr, IfOk, IsErr, OnErr};
 ghost use Rattle.std.specs.Io.{ReadsAtMost, WritesAtMost};
 ghost use Rattle.std.specs.Io.KnownBytes.{Keeps, ReadConsumes, WriteAppends};
@@ -11,10 +11,10 @@ use crate::tally::{ReadTally, Tally, Told, WriteTally};
 use std::io;
 use std::io::{ErrorKind, Read, Write};
 
-/// A reader or a writer that passes so many bytes of another, and then fails at each call: for tests of what becomes of a
-/// connection or a link that fails at any byte.
+/// Passes a number of bytes of another reader or writer, and then fails at each call. It is for tests in which a
+/// connection or link fails at any byte.
 ///
-/// Its counts are those of the other one, and its own failures.
+/// Its counts are the other's, with its own failures.
 #[derive(Drop)]
 pub struct Faulty<S> {
     inner: S,
@@ -23,7 +23,7 @@ pub struct Faulty<S> {
 }
 
 impl<S> Faulty<S> {
-    /// With `after` bytes to pass before the first failure, and no failure yet.
+    /// `after` bytes pass before the first failure.
     pub fn new(inner: S, after: u64) -> Faulty<S>
         ensures inner { result.inner ≡ inner }
         ensures left { result.left ≡ after }
@@ -36,14 +36,14 @@ impl<S> Faulty<S> {
         }
     }
 
-    /// How many bytes it passes yet.
+    /// The number of bytes that still pass.
     pub fn left(&self) -> u64
         ensures { result ≡ self.now.left }
     {
         self.left
     }
 
-    // How many of so many bytes one call may pass.
+    // The number of bytes, of these, that one call may pass.
     fn most(&self, bytes: usize) -> usize
         ensures { result ≡ min bytes self.now.left }
     {
@@ -58,7 +58,7 @@ impl<S> Faulty<S> {
         self.failures = self.failures.saturating_add(1);
     }
 
-    // How many of so many bytes one call may pass. Where none is left it counts a failure.
+    // Like `most`, but fails and counts the failure where no byte is left.
     fn passes(&mut self, bytes: usize) -> io::Result<usize>
         ensures ok { IfOk result (λ n. (n ≡ min bytes self.old.left) × (0 < self.old.left)
             × (self.new ≡ self.old)) }
@@ -73,7 +73,7 @@ impl<S> Faulty<S> {
         Ok(self.most(bytes))
     }
 
-    // Takes note of what the other one told.
+    // Records the other's result.
     fn pass(&mut self, told: Told)
         requires { moved_count told ≤ self.old.left }
         ensures { self.new ≡ record self.old { left = self.old.left - moved_count told } }
@@ -97,8 +97,8 @@ impl<S: Tally> Tally for Faulty<S> {
 }
 
 impl<S: ReadTally> Faulty<S> {
-    /// One read of the other one, of at most as many bytes as are left, into a buffer that isn't empty. Where none is left it
-    /// fails, and the other one isn't asked.
+    /// Reads once from the other one, at most the bytes left, into a buffer that isn't empty. Where none are left it
+    /// fails, and the other one isn't called.
     pub fn read_passed(&mut self, buffer: &mut [u8]) -> Told
         requires room { 0 < length buffer.old }
         ensures passes { 0 < self.old.left → IsRead (S.remaining self.old.inner)
@@ -121,8 +121,8 @@ impl<S: ReadTally> Faulty<S> {
 }
 
 impl<S: WriteTally> Faulty<S> {
-    /// One write to the other one, of at most as many bytes as are left, of which there is one at least. Where none is left it
-    /// fails, and the other one isn't given anything.
+    /// Writes once to the other one, at most the bytes left, of at least one byte. Where none are left it fails, and
+    /// the other one isn't called.
     pub fn write_passed(&mut self, bytes: &[u8]) -> Told
         requires some { bytes.now ≢ [] }
         ensures passes { 0 < self.old.left → IsWritten (S.contents self.old.inner)
@@ -147,8 +147,8 @@ impl<S: WriteTally> Faulty<S> {
 impl<S: Read> Read for Faulty<S> {
     ghost remaining = { λ f. S.remaining f.inner };
 
-    /// One read of the other one, of at most as many bytes as are left. Where none is left it fails with `ConnectionReset`,
-    /// and the other one isn't asked.
+    /// Reads once from the other one, at most the bytes left. Where none are left it fails with `ConnectionReset`, and
+    /// the other one isn't called.
     fn read(&mut self, buffer: &mut [u8]) -> io::Result<usize>
         ensures bound { ReadsAtMost result buffer.new }
         ensures bytes { ReadConsumes (S.remaining self.old.inner) (S.remaining self.new.inner)
@@ -171,8 +171,8 @@ impl<S: Read> Read for Faulty<S> {
 impl<S: Write> Write for Faulty<S> {
     ghost contents = { λ f. S.contents f.inner };
 
-    /// One write to the other one, of at most as many bytes as are left. Where none is left it fails with `ConnectionReset`,
-    /// and the other one isn't given anything.
+    /// Writes once to the other one, at most the bytes left. Where none are left it fails with `ConnectionReset`, and
+    /// the other one isn't called.
     fn write(&mut self, bytes: &[u8]) -> io::Result<usize>
         ensures bound { WritesAtMost result bytes.now }
         ensures bytes { WriteAppends (S.contents self.old.inner) (S.contents self.new.inner)
@@ -191,7 +191,7 @@ impl<S: Write> Write for Faulty<S> {
         Ok(n)
     }
 
-    /// Has the other one pass on what it gathered. It isn't counted, and never fails of itself.
+    /// Flushes the other one. It isn't counted, and has no failure of its own.
     fn flush(&mut self) -> io::Result<()>
         ensures bytes { Keeps (S.contents self.old.inner) (S.contents self.new.inner) }
         ensures same { (self.new.left ≡ self.old.left) × (self.new.failures ≡ self.old.failures) }

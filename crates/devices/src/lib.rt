@@ -1,7 +1,8 @@
-//! Readers and writers that count their faults and pauses.
+//! Readers and writers that count their failures and pauses.
 //!
-//! A [`Tally`] tells its counts; [`ReadTally`] and [`WriteTally`] tell what each call did. [`Tallied`] counts for any
-//! socket. A [`Faulty`] passes so many bytes of another device and then fails: for tests.
+//! A [`Tally`] has the counts; [`ReadTally`] and [`WriteTally`] return what each call did. [`Tallied`] counts for any
+//! socket. A [`Faulty`] passes a number of bytes of another device and then fails, for tests. It stands on no other
+//! crate. Begin with `tally.rt`.
 #![tactic(auto)]
 
 mod faulty;

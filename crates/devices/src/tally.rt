@@ -1,4 +1,4 @@
-//! Readers and writers that count their faults and pauses.
+//! Readers and writers that count their failures and pauses.
 ghost use Rattle.std.specs.Prelude.{◌≡◌, ◌≢◌, ◌<◌, ◌⊎◌, ◌↔◌, [], ℕ, length};
 ghost use Rattle.std.specs.Io.{ReadsAtMost, WritesAtMost};
 ghost use Rattle.std.specs.Io.KnownBytes.{Keeps, ReadConsumes, WriteAppends};
@@ -8,27 +8,26 @@ ghost use Rattle.devices.specs.Device.{Counts, CountsError, CountsRead, CountsWr
 use std::io;
 use std::io::{ErrorKind, Read, Write};
 
-/// The counts of a reader or a writer. At the greatest `u64` each stays, and nothing is promised of it.
+/// The counts of a reader or a writer. Each stays at the greatest `u64`; nothing is promised of it then.
 pub trait Tally {
     /// Its counts.
     ghost counts: { Self → Counts };
 
-    /// How many calls answered an error other than `WouldBlock` and `Interrupted`, and how many writes took nothing of what
-    /// they were given.
+    /// The number of calls that returned an error other than `WouldBlock` and `Interrupted`, and of writes that took nothing.
     fn failures(&self) -> u64
         ensures { result ≡ (counts self.now).failed };
 
-    /// How many calls answered `WouldBlock` or `Interrupted`.
+    /// The number of calls that returned `WouldBlock` or `Interrupted`.
     fn pauses(&self) -> u64
         ensures { result ≡ (counts self.now).paused };
 }
 
-/// What one call of a device did.
+/// The result of one call of a device.
 #[derive(Clone, Copy, Debug, PartialEq, Eq, Drop)]
 pub enum Told {
-    /// So many bytes were read or taken, at least one.
+    /// At least one byte was read or taken: this many.
     Moved(usize),
-    /// A read found the end of the input; a write took nothing of what it was given.
+    /// A read found the end of the input, or a write took nothing.
     End,
     /// Nothing for now: `WouldBlock` or `Interrupted`.
     Paused,
@@ -36,18 +35,18 @@ pub enum Told {
     Failed,
 }
 
-/// A reader that tells what each read did, and counts.
+/// A reader that returns what each read did, and counts.
 pub trait ReadTally: Read + Tally {
-    /// One read into a buffer that isn't empty.
+    /// Reads once into a buffer that isn't empty.
     fn read_told(&mut self, buffer: &mut [u8]) -> Told
         requires room { 0 < length buffer.old }
         ensures told { IsRead (Self.remaining self.old) (Self.remaining self.new)
             (Self.counts self.old) (Self.counts self.new) buffer.new result };
 }
 
-/// A writer that tells what each write did, and counts.
+/// A writer that returns what each write did, and counts.
 pub trait WriteTally: Write + Tally {
-    /// One write of bytes, of which there is one at least.
+    /// Writes once, at least one byte.
     fn write_told(&mut self, bytes: &[u8]) -> Told
         requires some { bytes.now ≢ [] }
         ensures told { IsWritten (Self.contents self.old) (Self.contents self.new)
@@ -63,7 +62,7 @@ pub struct Tallied<S> {
 }
 
 impl<S> Tallied<S> {
-    /// With no count yet.
+    /// With no counts yet.
     pub fn new(inner: S) -> Tallied<S>
         ensures inner { result.inner ≡ inner }
         ensures failures { result.failures ≡ 0 }
@@ -92,7 +91,7 @@ impl<S> Tallied<S> {
         self.failures = self.failures.saturating_add(1);
     }
 
-    // Counts an error, as what it is.
+    // Counts an error by its kind.
     fn told(&mut self, kind: ErrorKind) -> Told
         ensures inner { self.new.inner ≡ self.old.inner }
         ensures told { ((result ≡ Told.Paused)
@@ -129,7 +128,7 @@ impl<S> Tally for Tallied<S> {
 impl<S: Read> Read for Tallied<S> {
     ghost remaining = { λ t. S.remaining t.inner };
 
-    /// One read, counted as what it was.
+    /// Reads once, and counts the result.
     fn read(&mut self, buffer: &mut [u8]) -> io::Result<usize>
         ensures bound { ReadsAtMost result buffer.new }
         ensures bytes { ReadConsumes (S.remaining self.old.inner) (S.remaining self.new.inner)
@@ -149,7 +148,7 @@ impl<S: Read> Read for Tallied<S> {
 impl<S: Write> Write for Tallied<S> {
     ghost contents = { λ t. S.contents t.inner };
 
-    /// One write, counted as what it was.
+    /// Writes once, and counts the result.
     fn write(&mut self, bytes: &[u8]) -> io::Result<usize>
         ensures bound { WritesAtMost result bytes.now }
         ensures bytes { WriteAppends (S.contents self.old.inner) (S.contents self.new.inner)
@@ -170,7 +169,7 @@ impl<S: Write> Write for Tallied<S> {
         }
     }
 
-    /// Has the writer pass on what it gathered. It isn't counted.
+    /// Flushes the writer. It isn't counted.
     fn flush(&mut self) -> io::Result<()>
         ensures bytes { Keeps (S.contents self.old.inner) (S.contents self.new.inner) }
         ensures counts { counts_of self.new ≡ counts_of self.old }

@@ -1,17 +1,17 @@
-//! What a result and a sweep did.
+//! The effects of a result and of a sweep.
 
-/// What a result did to its host.
+/// The effect of a result on its host.
 #[derive(Clone, Copy, Debug, PartialEq, Eq)]
 pub enum Trip {
     /// It didn't trip.
     None,
-    /// It tripped and was put aside.
+    /// It tripped and was ejected.
     Ejected,
-    /// It tripped and stayed, because the limit lets no further host out.
+    /// It tripped and stayed, since the limit allows no further host out.
     Kept,
 }
 
-/// How many hosts a sweep returned, and how many tripped in it: those put aside, and those that stayed.
+/// The numbers of hosts that a sweep returned, that tripped and were ejected, and that tripped and stayed.
 #[derive(Clone, Copy, Debug, PartialEq, Eq)]
 pub struct Swept {
     pub returned: u32,

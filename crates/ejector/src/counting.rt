@@ -1,4 +1,4 @@
-//! How a host's counters go on.
+//! Updates a host's counters.
 ghost use Rattle.std.specs.Prelude.{◌≡◌, ◌+◌, ◌-◌, ◌*◌, ◌/◌, ◌<◌, ◌≤◌, ◌==◌, ◌&&◌, length, map, replicate, slice_index_or, nat_lt, true};
 ghost use Rattle.ejector.specs.Settings.{IsInRange};
 ghost use Rattle.ejector.specs.Counted.{max_multiplier};
@@ -11,7 +11,7 @@ use crate::answer::Trip;
 use crate::host::HostState;
 use crate::settings::Rules;
 
-/// One result more in the interval, while it still counts.
+/// Adds a result in the interval, as long as the count can rise.
 fn counted(host: HostState, ok: bool) -> HostState
     requires { host.good_results ≤ host.results }
     ensures { result ≡ host_with_result ok host }
@@ -26,7 +26,7 @@ fn counted(host: HostState, ok: bool) -> HostState
     }
 }
 
-/// The most that a multiplier can be.
+/// The greatest multiplier.
 fn max_multiplier(rules: &Rules) -> u32
     requires { IsInRange rules.now }
     ensures { result ≡ max_multiplier rules.now }
@@ -35,14 +35,14 @@ fn max_multiplier(rules: &Rules) -> u32
     (settings.max_ms + settings.base_ms - 1) / settings.base_ms
 }
 
-/// The host with its streak at an end.
+/// The host without a streak.
 fn without_streak(host: HostState) -> HostState
     ensures { result ≡ kept_host host }
 {
     HostState { streak: 0, ..host }
 }
 
-/// The host put aside from now on, for longer than the last time.
+/// The host ejected now, for longer than the last time.
 fn ejected(rules: &Rules, now: u64, host: HostState) -> HostState
     requires { IsInRange rules.now }
     ensures { result ≡ ejected_host rules.now now host }
@@ -57,7 +57,7 @@ fn ejected(rules: &Rules, now: u64, host: HostState) -> HostState
     }
 }
 
-/// The host after a trip, where `may` says whether one more host may be out.
+/// The host after a trip; `may` says whether one more host may be out.
 pub(crate) fn tripped(rules: &Rules, now: u64, may: bool, host: HostState) -> HostState
     requires { IsInRange rules.now }
     ensures { result ≡ tripped_host rules.now now may host }
@@ -69,7 +69,7 @@ pub(crate) fn tripped(rules: &Rules, now: u64, may: bool, host: HostState) -> Ho
     }
 }
 
-/// Whether one more host may be put aside where `out` hosts are out.
+/// Whether one more host may be ejected while `out` hosts are out.
 pub(crate) fn may_eject(rules: &Rules, out: usize) -> bool
     requires range { IsInRange rules.now }
     requires few { out ≤ 128 }
@@ -78,7 +78,7 @@ pub(crate) fn may_eject(rules: &Rules, out: usize) -> bool
     out == 0 || 100 * out < rules.settings.max_percent as usize * rules.hosts
 }
 
-/// Whether all hosts are used where `out` of them are out.
+/// Whether all hosts are used while `out` of them are out.
 pub(crate) fn is_panic(rules: &Rules, out: usize) -> bool
     requires range { IsInRange rules.now }
     requires within { out ≤ rules.now.hosts }
@@ -88,7 +88,7 @@ pub(crate) fn is_panic(rules: &Rules, out: usize) -> bool
     100 * (rules.hosts - out) < rules.settings.panic_percent as usize * rules.hosts
 }
 
-/// Writes for each host, in its place, whether it isn't out, and says how many are out.
+/// Writes whether each host isn't out, in its place, and returns the number of hosts that are out.
 pub(crate) fn set_in(hosts: &[HostState], places: &mut [bool]) -> usize
     requires { length places.old ≡ length hosts.now }
     ensures places { places.new ≡ map is_in hosts.now }
@@ -114,7 +114,7 @@ pub(crate) fn set_all(places: &mut [bool])
     }
 }
 
-/// How many hosts are out.
+/// The number of hosts that are out.
 pub(crate) fn out_count(hosts: &[HostState]) -> usize
     ensures count { result ≡ outs hosts.now }
     ensures within { result ≤ length hosts.now }
@@ -132,7 +132,7 @@ fn trips(rules: &Rules, host: HostState) -> bool
     !host.is_out && 0 < consecutive && host.streak + 1 == consecutive
 }
 
-/// The host after a bad result that makes it trip nowhere.
+/// The host after a bad result that doesn't make it trip.
 fn with_bad(rules: &Rules, host: HostState) -> HostState
     requires range { IsInRange rules.now }
     requires sound { IsSound rules.now host }
@@ -160,7 +160,7 @@ pub(crate) fn take_good(hosts: &mut [HostState], host: usize)
     hosts[host] = without_streak(after);
 }
 
-/// Counts a bad result of a host at the clock `now`, and says whether the host trips.
+/// Counts a bad result of a host at the clock `now`, and returns whether the host trips.
 pub(crate) fn take_bad(rules: &Rules, now: u64, hosts: &mut [HostState], host: usize) -> Trip
     requires range { IsInRange rules.now }
     requires all { length hosts.old ≡ rules.now.hosts }

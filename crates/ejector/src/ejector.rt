@@ -1,4 +1,4 @@
-//! Outlier detection: which hosts are put aside, and until when.
+//! Outlier detection: which hosts are ejected, and until when.
 ghost use Rattle.std.specs.Prelude.{◌≡◌, List, ◌∷◌, ◌<◌, ◌≤◌, IfOk, IfErr, IsOk, IsErrOf, MatchOption, None, length, map};
 ghost use Rattle.ejector.specs.Settings.{first_fault};
 ghost use Rattle.ejector.specs.declared.mark.Mark.{Mark};
@@ -23,13 +23,13 @@ use std::marker::Model;
 
 /// Outlier detection over the hosts 0 to `n - 1`.
 ///
-/// It is told results and sweeps, its marks, and tells which hosts are out. Its state is that of the list of its
-/// marks, from the state on with which it began. It keeps that state and no marks.
+/// It takes results and sweeps, its marks, and knows which hosts are out. Its state follows from its opening state and
+/// the list of its marks. It keeps that state and no marks.
 #[derive(Drop)]
 pub struct Ejector {
     rules: Rules,
     clock: u64,
-    // By their numbers, one for each host.
+    // One for each host, by their numbers.
     hosts: Vec<HostState>,
 }
 
@@ -51,10 +51,10 @@ impl Model for Ejector {
 }
 
 impl Ejector {
-    /// An ejector of `n` hosts to which nothing was told yet.
+    /// An ejector of `n` hosts without a mark.
     ///
-    /// Refused 502 exactly where a field is out of its range, with the first that is: `hosts` where `n` is 0 or over
-    /// 64, and then the settings in their order. Where none is, it is refused only 501, for want of memory.
+    /// Refused 502 exactly if a field is out of its range, with the first such: `hosts` if `n` is 0 or over 64, then
+    /// the settings in their order. If none is, it is refused only 501, for want of memory.
     pub fn new(alloc: Global, n: usize, settings: Settings) -> Result<Ejector, EjectError>
         ensures made { IfOk result (λ e. (e.rules ≡ record { hosts = n; settings = settings })
             × (e.state ≡ fresh_state e.rules)) }
@@ -74,8 +74,8 @@ impl Ejector {
         })
     }
 
-    /// An ejector that goes on from a state that was handed on: with its hosts and settings, its clock, the hosts that
-    /// are out and until when, their multipliers, streaks and tallies.
+    /// An ejector that starts from another's state: its hosts and settings, its clock, which hosts are out and until
+    /// when, and multipliers, streaks and tallies.
     ///
     /// Refused only 501, for want of memory.
     pub fn new_from(alloc: Global, from: EjectState) -> Result<Ejector, EjectError>
@@ -89,15 +89,14 @@ impl Ejector {
         })
     }
 
-    /// The state, to be handed on: an ejector that is made from it goes on as this one would. It takes no memory.
+    /// The state: an ejector made from it goes on as this one would. It takes no memory.
     pub fn snapshot(&self) -> EjectState
         ensures { result ≡ self.now }
     {
         EjectState::new(self.rules, self.clock, &self.hosts)
     }
 
-    /// The number of hosts and the settings, of which no field is out of its range, and which allow the state to be
-    /// handed on. It takes no memory.
+    /// The number of hosts and the settings. All fields are in range, and allow the state. It takes no memory.
     pub fn rules(&self) -> &Rules
         ensures rules { result.now ≡ self.now.rules }
         ensures range { first_fault self.now.rules ≡ None }
@@ -106,11 +105,11 @@ impl Ejector {
         &self.rules
     }
 
-    /// Takes a result of a host at moment `t`, and tells whether the host tripped by it.
+    /// Takes a result of a host at moment `t`, and returns whether the host tripped.
     ///
-    /// For every opening and list of marks that has the ejector's state, it then has the state of that list with this
-    /// mark, and the answer is what the mark did. It takes no memory, and is always Ok. It costs the same however many
-    /// marks came before, and looks at all hosts only where the host trips.
+    /// For every opening and list of marks with the ejector's state, the new state is that of the list with this mark,
+    /// and the answer is this mark's effect. It takes no memory, and is always Ok. Its cost doesn't depend on earlier
+    /// marks; it looks at all hosts only if the host trips.
     pub fn result(&mut self, host: usize, ok: bool, t: u64) -> Result<Trip, EjectError>
         requires { host < self.old.rules.hosts }
         ensures state { (O : State) (marks : List Mark)
@@ -131,10 +130,10 @@ impl Ejector {
         Ok(take_bad(&self.rules, self.clock, &mut self.hosts, host))
     }
 
-    /// Takes a sweep at moment `t`, and tells how many hosts came back, went out, and tripped and stayed.
+    /// Takes a sweep at moment `t`, and returns the numbers of hosts that came back, went out, and tripped and stayed.
     ///
-    /// For every opening and list of marks that has the ejector's state, it then has the state of that list with this
-    /// mark, and the answer is what the mark did. It takes no memory, and is always Ok.
+    /// For every opening and list of marks with the ejector's state, the new state is that of the list with this mark,
+    /// and the answer is this mark's effect. It takes no memory, and is always Ok.
     pub fn sweep(&mut self, t: u64) -> Result<Swept, EjectError>
         ensures state { (O : State) (marks : List Mark)
             → state self.old.rules O marks ≡ self.old.state
@@ -158,8 +157,8 @@ impl Ejector {
         self.in_panic() || !self.is_out(host)
     }
 
-    /// Writes for each host, in its place, whether it may be used, as `usable` tells it. There has to be a place for each
-    /// host. It looks at each host once, and takes no memory.
+    /// Writes whether each host may be used, in its place, as `usable` returns it. There must be a place for each host.
+    /// It looks at each host once, and takes no memory.
     pub fn all_usable(&self, usable: &mut [bool])
         requires { length usable.old ≡ self.now.rules.hosts }
         ensures { usable.new ≡ map (is_usable self.now.rules self.now.state)
@@ -171,7 +170,7 @@ impl Ejector {
         }
     }
 
-    /// Whether the host is put aside.
+    /// Whether the host is ejected.
     pub fn is_out(&self, host: usize) -> bool
         requires { host < self.now.rules.hosts }
         ensures { result ≡ is_out self.now.state host }
@@ -179,7 +178,8 @@ impl Ejector {
         self.hosts[host].is_out
     }
 
-    /// The host's multiplier: how many times `base_ms` its last ejection lasts, less one for each sweep that found it not out.
+    /// The host's multiplier: its last ejection lasts this many times `base_ms`. Each sweep that finds it not out
+    /// lowers it by one.
     pub fn multiplier(&self, host: usize) -> u32
         requires { host < self.now.rules.hosts }
         ensures { result ≡ (host_of self.now.state host).multiplier }

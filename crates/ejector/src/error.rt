@@ -10,7 +10,7 @@ use thiserror::Error;
 /// Why an ejector refused a call.
 #[derive(Clone, Copy, Debug, PartialEq, Eq, Error)]
 pub enum EjectError {
-    /// 501: memory that was asked for was refused.
+    /// 501: memory was refused.
     #[error("out of memory")]
     NoMemory,
     /// 502: this field is out of its range, and none before it is.

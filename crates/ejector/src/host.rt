@@ -1,9 +1,9 @@
-//! What is counted of a host.
+//! The counters of a host.
 
-/// What is counted of one host.
+/// The counters of one host.
 #[derive(Clone, Copy, Debug, PartialEq, Eq)]
 pub struct HostState {
-    /// Whether it is put aside.
+    /// Whether it is ejected.
     pub is_out: bool,
     /// The clock at its last ejection, 0 without one.
     pub start: u64,
@@ -13,11 +13,11 @@ pub struct HostState {
     pub good_results: u32,
     /// All its results in this interval.
     pub results: u32,
-    /// How many times `base_ms` an ejection lasts.
+    /// An ejection lasts this many times `base_ms`.
     pub multiplier: u32,
 }
 
-/// A host of which nothing was told.
+/// A host without a mark.
 pub const FRESH: HostState = HostState {
     is_out: false,
     start: 0,

@@ -1,6 +1,6 @@
-//! What holds of every list of marks.
+//! Laws of every list of marks.
 
-// What holds of every list of marks, from every opening state on.
+// Laws of every list of marks, from every opening state.
 ghost use Rattle.ejector.specs.Laws.{BackOnceTimeIsOver, FewAreOut, GoodEndsStreak, OpeningComesFirst, OpeningsStay, OthersChangeNothing, OthersMatterByLimitAndRates, OutUntilTimeIsOver, StateDecidesNext, StateGoesOn};
 
 /// Before the first mark the state is the opening state.
@@ -8,50 +8,49 @@ pub fn opening_comes_first()
     ensures { OpeningComesFirst }
 {}
 
-/// What marks lead to from an opening state can be an opening state itself.
+/// The state after marks can be an opening state itself.
 pub fn openings_stay()
     ensures { OpeningsStay }
 {}
 
-/// A state may be handed on at any mark: from it later marks lead where they lead from the first opening state after the
-/// marks before.
+/// The state may be handed on at any mark: later marks lead to the same states from it as behind the earlier marks.
 pub fn state_goes_on()
     ensures { StateGoesOn }
 {}
 
-/// At every beginning of every list of marks no more hosts are out than the limit allows:
-/// `max_percent` of them, rounded up, but at least one.
+/// After every beginning of every list of marks, at most as many hosts are out as the limit allows:
+/// `max_percent` of them, rounded up, and at least one.
 pub fn few_are_out()
     ensures { FewAreOut }
 {}
 
-/// The state before a mark decides the state after it: nothing else of the list of marks or of the opening matters.
+/// The state before a mark determines the state after it; nothing else of marks or opening matters.
 pub fn state_decides_next()
     ensures { StateDecidesNext }
 {}
 
-/// A host that is out comes back only at a sweep at which its time is over.
+/// A host that is out comes back only at a sweep after its time.
 pub fn out_until_time_is_over()
     ensures { OutUntilTimeIsOver }
 {}
 
-/// A sweep at which the time of a host that is out is over brings it back. The host is out after
-/// that sweep exactly if the same sweep ejected it again.
+/// A sweep after the time of an ejected host brings it back. The host is out after that sweep
+/// exactly if the sweep ejected it again.
 pub fn back_once_time_is_over()
     ensures { BackOnceTimeIsOver }
 {}
 
-/// One good result puts a host's streak to 0.
+/// One good result sets a host's streak to 0.
 pub fn good_ends_streak()
     ensures { GoodEndsStreak }
 {}
 
-/// The results of other hosts change nothing of a host.
+/// The results of other hosts don't change a host.
 pub fn others_change_nothing()
     ensures { OthersChangeNothing }
 {}
 
-/// Other hosts matter to a host through the limit and the rates of a sweep alone.
+/// Other hosts affect a host only through the limit and the rates of a sweep.
 pub fn others_matter_by_limit_and_rates()
     ensures { OthersMatterByLimitAndRates }
 {}

@@ -1,8 +1,8 @@
-//! Outlier detection: which hosts are put aside because they fail, and when they come back.
+//! Outlier detection: which hosts are ejected because they fail, and when they come back.
 //!
-//! After Envoy's outlier detection, in this project's own profile: consecutive failures and success rates
-//! trip a host, a limit says how many may be out, and an ejected host is out until a sweep at which its time
-//! is over. The ejector keeps what is counted of each host, and hands it on where another ejector is to go on.
+//! It follows Envoy's, in this project's own profile. Consecutive failures and success rates trip a host, and a limit
+//! bounds the hosts that are out. An ejected host stays out until a sweep after its time. Another ejector can start
+//! from the state. It stands on `rate_core`. Begin with `ejector.rt`.
 #![tactic(auto)]
 
 mod answer;

@@ -1,6 +1,6 @@
-//! What outlier detection is told.
+//! The input of outlier detection.
 
-/// What an ejector is told: a host's good or bad result, or a sweep, each with its moment in milliseconds.
+/// An input of an ejector: a host's good or bad result, or a sweep, each with its moment in milliseconds.
 #[derive(Clone, Copy, Debug, PartialEq, Eq)]
 pub enum Mark {
     /// A good result of a host.

@@ -1,39 +1,39 @@
-//! Settings, and the rules that they are with a number of hosts.
+//! The settings, and the rules that they form with a number of hosts.
 ghost use Rattle.std.specs.Prelude.{◌≡◌};
 ghost use Rattle.ejector.specs.Settings.{default_settings, is_within, first_failing, first_fault, first_difference, settings_tests, settings_comparisons};
 
 use rate_core::MAX_HOSTS;
 use std::fmt;
 
-/// The settings of outlier detection, as a settings file has them.
+/// The settings of outlier detection, as in a settings file.
 #[derive(Clone, Copy, Debug, PartialEq, Eq)]
 pub struct Settings {
-    /// Whether keys are hashed by their tag. It changes nothing in an ejector.
+    /// Whether keys are hashed by their tag. It doesn't affect an ejector.
     pub tags: bool,
-    /// The time from one sweep to the next, in milliseconds: 1 to 3,600,000. Whoever calls `sweep` keeps it.
+    /// The time from one sweep to the next, in milliseconds: 1 to 3,600,000. The caller of `sweep` keeps it.
     pub interval_ms: u32,
-    /// How long the first ejection of a host lasts, in milliseconds: 1 to 3,600,000.
+    /// The duration of a host's first ejection, in milliseconds: 1 to 3,600,000.
     pub base_ms: u32,
-    /// The longest that an ejection lasts, in milliseconds: `base_ms` to 86,400,000.
+    /// The longest ejection, in milliseconds: `base_ms` to 86,400,000.
     pub max_ms: u32,
-    /// How many of the hosts may be out, in percent: 0 to 100. One host may always be.
+    /// The share of hosts that may be out, in percent: 0 to 100. One host always may.
     pub max_percent: u32,
-    /// How many bad results in a row make a host trip: 0 to 1,000,000. With 0 no bad result does.
+    /// A host trips after this many consecutive bad results: 0 to 1,000,000; 0 turns this off.
     pub consecutive: u32,
-    /// How many hosts must have a success rate before any is an outlier: 1 to 65.
+    /// Compare success rates only if at least this many hosts have one: 1 to 65.
     pub success_hosts: u32,
-    /// How many results in an interval give a host a success rate: 1 to 1,000,000.
+    /// The results in an interval that give a host a success rate: 1 to 1,000,000.
     pub request_volume: u32,
-    /// How far below the mean an outlier is, in thousandths of the standard deviation: 0 to 100,000.
+    /// A rate is an outlier if more than this far below the mean, in thousandths of the standard deviation: 0 to 100,000.
     pub factor: u32,
-    /// Below how many available hosts, in percent, all are used: 0 to 100.
+    /// Use all hosts if fewer than this share is available, in percent: 0 to 100.
     pub panic_percent: u32,
 }
 
-/// What stays the same as long as an ejector lives.
+/// The rules of an ejector, which never change.
 #[derive(Clone, Copy, Debug, PartialEq, Eq)]
 pub struct Rules {
-    /// How many hosts there are, numbered from 0.
+    /// The number of hosts; they are numbered from 0.
     pub hosts: usize,
     /// The settings of outlier detection.
     pub settings: Settings,
@@ -58,7 +58,7 @@ impl Default for Settings {
     }
 }
 
-/// A field that a refusal names, in the order in which they are looked at.
+/// A field that a refusal names, in the order of checking.
 #[derive(Clone, Copy, Debug, PartialEq, Eq)]
 pub enum Field {
     /// The number of hosts: 1 to 64.
@@ -102,7 +102,7 @@ fn is_within(low: u32, high: u32, n: u32) -> bool
 }
 
 impl Rules {
-    /// The first field that is out of its range: `hosts`, and then the settings in their order.
+    /// The first field out of its range: `hosts`, then the settings in their order.
     pub fn first_fault(&self) -> Option<Field>
         ensures { result ≡ first_fault self.now }
     {
@@ -112,7 +112,7 @@ impl Rules {
         self.settings.first_fault()
     }
 
-    /// The first field in which these rules and others differ: `hosts`, and then the settings in their order.
+    /// The first field that differs from other rules: `hosts`, then the settings in their order.
     pub fn first_difference(&self, other: &Rules) -> Option<Field>
         ensures { result ≡ first_difference self.now other.now }
     {

@@ -1,4 +1,4 @@
-//! Where outlier detection stands, to go on from.
+//! A state of outlier detection, to start from.
 ghost use Rattle.std.specs.Prelude.{◌≡◌, ◌<◌, length, None};
 ghost use Rattle.ejector.specs.Settings.{first_fault};
 ghost use Rattle.ejector.specs.Opening.{IsOpening};
@@ -9,14 +9,14 @@ use crate::settings::Rules;
 use rate_core::MAX_HOSTS;
 use std::marker::Model;
 
-/// An ejector's state, to be handed on to another, with its number of hosts and its settings.
+/// An ejector's state for another one, with its number of hosts and its settings.
 ///
-/// It comes from `Ejector::snapshot` alone. No more hosts are out in it than its settings allow.
+/// Only `Ejector::snapshot` makes one. At most as many hosts are out in it as its settings allow.
 #[derive(Drop)]
 pub struct EjectState {
     rules: Rules,
     clock: u64,
-    // By their numbers, and fresh ones behind the last host.
+    // By their numbers, with fresh ones behind the last host.
     hosts: [HostState; MAX_HOSTS],
 }
 
@@ -54,8 +54,8 @@ impl EjectState {
         }
     }
 
-    /// The number of hosts and the settings, of which no field is out of its range. They allow this state: it has so
-    /// many hosts, each with counters in range, and no more are out than the limit allows.
+    /// The number of hosts and the settings, all in range. They allow this state: it has this many hosts, each counter
+    /// is in range, and the limit is kept.
     pub fn rules(&self) -> &Rules
         ensures rules { result.now ≡ self.now.rules }
         ensures range { first_fault self.now.rules ≡ None }
@@ -64,7 +64,7 @@ impl EjectState {
         &self.rules
     }
 
-    /// Whether the host is put aside.
+    /// Whether the host is ejected.
     pub fn is_out(&self, host: usize) -> bool
         requires { host < self.now.rules.hosts }
         ensures { result ≡ is_out self.now.state host }
@@ -80,7 +80,7 @@ impl EjectState {
         self.clock
     }
 
-    /// What is counted of each host, by their numbers.
+    /// The counters of each host, by their numbers.
     pub(crate) fn hosts(&self) -> &[HostState]
         ensures { result.now ≡ self.now.state.hosts }
     {

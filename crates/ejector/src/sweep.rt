@@ -48,7 +48,7 @@ fn with_return(rules: &Rules, now: u64, host: HostState) -> HostState
     }
 }
 
-/// Takes back the hosts whose time is over, and says how many.
+/// Returns the hosts whose time is over, and their number.
 fn return_hosts(rules: &Rules, now: u64, hosts: &mut [HostState]) -> u32
     requires few { length hosts.old ≤ MAX_HOSTS }
     ensures hosts { hosts.new ≡ map (with_return rules.now now) hosts.old }
@@ -89,21 +89,21 @@ fn set_rates(rules: &Rules, hosts: &[HostState], rates: &mut [Option<u32>])
     }
 }
 
-/// How many rates there are.
+/// The number of known rates.
 fn known_count(rates: &[Option<u32>]) -> usize
     ensures { result ≡ count_by is_some rates.now }
 {
     rates.iter().filter(|rate| rate.is_some()).count()
 }
 
-/// How many hosts tripped and were put aside, and how many tripped and stayed.
+/// The number of hosts that tripped and were ejected, and of those that tripped and stayed.
 #[derive(Clone, Copy)]
 struct TripCounts {
     ejected: u32,
     kept: u32,
 }
 
-/// Whether a host trips by these rates, where `enough` says whether there are enough of them.
+/// Whether a host trips by these rates; `enough` says whether there are enough of them.
 fn trips(rules: &Rules, enough: bool, rates: &[Option<u32>], host: usize) -> bool
     requires range { IsInRange rules.now }
     requires same { length rates.now ≡ rules.now.hosts }
@@ -116,7 +116,7 @@ fn trips(rules: &Rules, enough: bool, rates: &[Option<u32>], host: usize) -> boo
     enough && is_outlier(rates, host, rules.settings.factor)
 }
 
-/// Trips the outliers by these rates, one after the other by rising number, at the clock `now`.
+/// Trips the outliers by these rates, by rising number, at the clock `now`.
 fn trip_outliers(
     rules: &Rules,
     now: u64,

@@ -1,4 +1,4 @@
-//! How the program ends where it can't go on.
+//! How the program ends when it can't go on.
 ghost use Rattle.exit_status.specs.Ending.{ending_of};
 ghost use Rattle.std.specs.Prelude.{◌≡◌};
 ghost use Rattle.exit_status.specs.declared.ending.Ending.TheVariants.{Memory};
@@ -7,10 +7,10 @@ use proxy_engines::EngineError;
 use std::alloc::{AllocError, AllocFailed};
 use thiserror::Error;
 
-/// Why the program ended before its work was done. Its text is what is told on standard error.
+/// Why the program ended before its work was done. Its text goes to standard error.
 #[derive(Clone, Copy, Debug, PartialEq, Eq, Drop, Error)]
 pub enum Ending {
-    /// Status 4: the journal holds no further step.
+    /// Status 4: the journal has no room for another step.
     #[error("journal full")]
     JournalFull,
     /// Status 5: a standard stream or a socket failed.
@@ -19,12 +19,12 @@ pub enum Ending {
     /// Status 6: memory was refused.
     #[error("memory")]
     Memory,
-    /// Status 7: the numbers of the gate's tickets are spent.
+    /// Status 7: the gate's tickets are spent.
     #[error("gate spent")]
     Spent,
 }
 
-// The numbers of a turn that is refused for want of memory, because the journal is full, and because no ticket is left.
+// The numbers of a turn refused for want of memory, of room in the journal, and of a ticket.
 const NO_MEMORY: u16 = 1001;
 
 const JOURNAL_FULL: u16 = 1002;

@@ -1,4 +1,5 @@
-//! How the program ends where it can't go on: what is told, and the exit status. `local` and `serve` have the same endings.
+//! How the program ends when it can't go on: the text and the exit status, for `local` and `serve` alike. It stands on
+//! the numbers of `proxy_engines`; begin with `ending.rt`.
 #![tactic(auto)]
 
 mod ending;

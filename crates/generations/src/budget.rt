@@ -1,20 +1,20 @@
-//! The steps of one journal: a generation takes in no command that it can't finish.
+//! The steps of one journal: a generation accepts no command that it can't finish.
 ghost use Rattle.std.specs.Prelude.{◌≡◌, ◌↔◌, ◌≤◌, ◌+◌, ◌-◌, IsTrue};
 ghost use Rattle.std.specs.Bool.{OnTrue, OnFalse};
 
 use crate::step_kind::StepKind;
 use std::marker::Model;
 
-/// The most steps that a journal has.
+/// The most steps of a journal.
 pub const MAX_STEPS: u64 = 262_144;
 
-/// The most bytes of payload that a journal has.
+/// The most bytes of payload of a journal.
 pub const MAX_BYTES: u64 = 67_108_864;
 
-/// The most steps that one command costs: accepting a command of 1,023 parts, sending and answering each, and handing out.
+/// The most steps of one command: accepting 1,023 parts, sending and answering each, and handing out.
 pub const MAX_COMMAND_STEPS: u64 = 2_048;
 
-/// Steps that a worker has been lent by the budget of its generation, and what it spent of them.
+/// The steps lent to a worker by its generation's budget, and those it spent.
 #[derive(Debug, Drop)]
 pub struct Loan {
     lent: u64,
@@ -44,7 +44,7 @@ impl Loan {
         }
     }
 
-    /// How many steps may still be spent: those lent and those set free, less those spent; 0 where more was spent.
+    /// The steps that may still be spent: those lent and those set free, less those spent; 0 where more was spent.
     #[inline(always)]
     pub fn free(&self) -> u64
         ensures { result ≡ free_steps self.now }
@@ -54,23 +54,23 @@ impl Loan {
             .saturating_sub(self.spent)
     }
 
-    /// Whether the greatest command may still be accepted: `MAX_COMMAND_STEPS` steps are free.
+    /// Whether any command may still be accepted: `MAX_COMMAND_STEPS` steps are free.
     pub fn has_room_for_a_command(&self) -> bool
         ensures { IsTrue result ↔ (MAX_COMMAND_STEPS ≤ free_steps self.now) }
     {
         self.free() >= MAX_COMMAND_STEPS
     }
 
-    /// So many steps more are lent; call it once `Budget::lend` has said yes to as many.
+    /// Adds lent steps; to be called once `Budget::lend` has lent them.
     pub fn borrow(&mut self, steps: u64)
         ensures { self.new ≡ borrowed steps self.old }
     {
         self.lent = self.lent.saturating_add(steps);
     }
 
-    /// A step was made: what it costs is spent, and what it sets free is free again.
+    /// Records a step: its cost is spent, and the steps that it sets free may be spent again.
     ///
-    /// What is spent counts on where more is spent than is free, so that what is set free later makes up for it first.
+    /// Spending goes on past what is free; steps set free later make up for that first.
     #[inline(always)]
     pub fn note(&mut self, kind: StepKind)
         ensures { self.new ≡ loan_after kind self.old }
@@ -80,9 +80,9 @@ impl Loan {
     }
 }
 
-/// The steps of one journal: those that are spent for good, and those that are lent to workers.
+/// The steps of one journal: those spent for good, and those lent to workers.
 ///
-/// Together they are never more than `MAX_STEPS`.
+/// Their sum is at most `MAX_STEPS`.
 #[derive(Debug, Drop)]
 pub struct Budget {
     spent: u64,
@@ -111,7 +111,7 @@ impl Budget {
         Budget { spent: 0, lent: 0 }
     }
 
-    /// How many steps are spent for good.
+    /// The steps spent for good.
     pub fn spent(&self) -> u64
         ensures spent { result ≡ self.now.spent }
         ensures fits { self.now.spent + self.now.lent ≤ MAX_STEPS }
@@ -119,8 +119,7 @@ impl Budget {
         self.spent
     }
 
-    /// Lends so many steps where they fit, beside those that are spent and those that are lent. Where they don't, nothing
-    /// changes and the answer is `false`.
+    /// Lends this many steps if they fit beside those spent and lent. Otherwise nothing changes, and the result is `false`.
     pub fn lend(&mut self, steps: u64) -> bool
         ensures fits { IsTrue result ↔ (self.old.spent + self.old.lent + steps ≤ MAX_STEPS) }
         ensures lent { OnTrue result (self.new ≡ lent_more steps self.old) }
@@ -133,10 +132,10 @@ impl Budget {
         true
     }
 
-    /// A worker settles: what it spent, less what it set free, is spent for good, and what was lent to it is given back. Where
-    /// it set free more than it spent, that much less is spent for good. The loan is empty afterwards.
+    /// Settles a worker's loan: its spent steps, less those it set free, are spent for good, and its lent steps are
+    /// returned. If it set free more than it spent, that much less is spent for good. The loan is empty afterwards.
     ///
-    /// Of a loan that isn't of this budget no more is spent than fits, and no more is given back than is lent.
+    /// A loan of another budget spends no more than fits, and returns no more than is lent.
     pub fn settle(&mut self, loan: &mut Loan)
         ensures settled { self.new ≡ settled MAX_STEPS loan.old self.old }
         ensures empty { loan.new ≡ no_loan }

@@ -1,13 +1,14 @@
-//! What follows from the contracts.
+//! Laws that follow from the contracts.
 ghost use Rattle.generations.specs.BudgetLaws.{CommandFits, OwedFits, OwedIsPaid, PaysAtFirst, PaysOnceLent, PaysOnceNoted, PaysOnceSettled};
 ghost use Rattle.generations.specs.Laws.{AllOpenInTurn, GivenUpIfNear, NewestHandsOver, NewestIsAnother, OneIsOpen, StopsIfFull, TwoHaveConnections};
 
-/// Of what happens to generations: at most two have connections, the newest one and the one that opened before it. From the
-/// first opening on there is a newest one. A further one opens only once the older one has no connections, and goes on from
-/// what the newest one handed over, which is the newest one still. The older one is given up only where the newest one said
-/// that it is near its marks, while the older one had connections, and no host had answered commands of it for `STILL_MS`
-/// milliseconds or it had drained for `MAX_DRAINING_MS`. It stops only where the newest one was full while the older one had
-/// connections, at least `GIVING_UP_MS` milliseconds after it said so.
+/// At most two generations have connections: the newest one, and the one that opened before it. From the first opening
+/// on there is a newest one. The next one opens only once the older one has no connections. It starts from the handover
+/// of the newest one, which is still the newest.
+///
+/// The older one is given up only if the newest one was near its marks while the older one had connections. By then no
+/// host had answered its commands for `STILL_MS` milliseconds, or it had drained for `MAX_DRAINING_MS`. It stops only
+/// if the newest one was full while the older one had connections, at least `GIVING_UP_MS` milliseconds after it was near.
 pub fn generations_follow<H>()
     ensures two { TwoHaveConnections H }
     ensures apart { NewestIsAnother H }
@@ -20,9 +21,9 @@ pub fn generations_follow<H>()
 
 /// A command of at most 1,023 parts costs at most `MAX_COMMAND_STEPS` steps.
 ///
-/// The steps made of a journal and those still owed are together what the steps cost, less what they set free. So where each
-/// worker makes no step that costs more than it has free, every step that is owed fits the journal: so it is with a new budget
-/// and new loans, and so it stays where a worker borrows, makes a step, or settles.
+/// The steps made and those still owed are together the cost of all steps, less the steps set free. So all owed steps
+/// fit the journal if no worker makes a step that costs more than it has free. This holds for a new budget and new
+/// loans, and stays true over each borrowing, step and settlement.
 pub fn owed_steps_fit()
     ensures command { CommandFits }
     ensures paid { OwedIsPaid }

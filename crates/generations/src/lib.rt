@@ -1,5 +1,8 @@
-//! What decides how `redproxy serve` goes on where a journal is nearly full: which generation does what, how full a journal
-//! is, and which commands and replies it still has room for. No threads, no sockets, no clocks.
+//! Decides how `redproxy serve` goes on when a journal is nearly full.
+//!
+//! That is: the task of each generation, how full a journal is, and which commands and replies it still has room for.
+//! No threads, sockets or clocks; it stands on no other crate. Begin with `lifecycle.rt`; `budget.rt` counts steps,
+//! `payload.rt` bytes.
 #![tactic(auto)]
 
 mod budget;

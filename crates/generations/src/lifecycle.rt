@@ -1,4 +1,4 @@
-//! Which generation does what.
+//! The task of each generation.
 ghost use Rattle.std.specs.Prelude.{◌≡◌, ◌↔◌, true, [], List, IsTrue};
 ghost use Rattle.std.specs.Option.{SomeIff};
 ghost use Rattle.generations.specs.Events.{Event, Opened, Failed, Near, Full, Progressed, Drained, Swept, newest, draining, has_connections, last_sweep};
@@ -8,73 +8,73 @@ ghost use Rattle.generations.specs.Moments.{HavePassed};
 use crate::opened::Open;
 use std::mem;
 
-/// So long an older generation has for giving up before the newest one is full, in milliseconds: its clients are answered by
-/// name, and their sockets go over.
+/// An older generation is given up for at least this many milliseconds before it is stopped: its clients are answered
+/// by name, and their sockets go over.
 pub const GIVING_UP_MS: u64 = 100;
 
-/// So long no host has answered commands of an older generation that is given up, in milliseconds, unless it has drained for
-/// `MAX_DRAINING_MS`.
+/// An older generation is given up only if no host has answered its commands for this many milliseconds, or it has
+/// drained for `MAX_DRAINING_MS`.
 pub const STILL_MS: u64 = 100;
 
-/// So long an older generation may drain while hosts answer its commands, in milliseconds, where the newest one is near its
-/// marks.
+/// An older generation may drain for this many milliseconds while hosts answer its commands and the newest one is near
+/// its marks.
 pub const MAX_DRAINING_MS: u64 = 1_000;
 
-/// What a generation is to do.
+/// The task of a generation.
 #[derive(Clone, Copy, Debug, PartialEq, Eq)]
 pub enum Phase {
-    /// It is the newest open one, and takes sockets.
+    /// It is the newest open one, and accepts sockets.
     Serving,
     /// It takes in nothing more, and answers what it accepted.
     Draining,
-    /// As `Draining`, and what still waits for hosts is given up: its links are closed.
+    /// As `Draining`, and the parts that wait for hosts are given up: its links are closed.
     GivingUp,
     /// Its connections are closed at once.
     Stopped,
 }
 
-/// A generation that is to be opened.
+/// A generation to open.
 #[derive(Debug, Drop)]
 pub struct Due<H> {
-    /// Its number. No other one has it, whether it opens or not.
+    /// Its number. No other one has it, even if it doesn't open.
     pub number: u64,
-    /// From what it goes on; `None`: from nothing.
+    /// The handover that it starts from; `None` for the first one.
     pub from: Option<H>,
 }
 
-// The further one.
+// The state of the next generation.
 #[derive(Drop)]
 enum Next<H> {
     // None was asked for since the last one opened or failed.
     Unasked,
-    // It goes on from there.
+    // It starts from this handover.
     Wanted(Option<H>),
-    // It was given to be opened.
+    // It is being opened.
     Opening,
 }
 
-/// The generations of one run of `redproxy serve`: which are open, which one is to be opened, and what each one does.
+/// The generations of one run of `redproxy serve`: the open ones, the one to open, and the task of each.
 ///
-/// `H` is what one generation hands to the next. Moments are milliseconds of one clock.
+/// `H` is the handover from one generation to the next. Moments are milliseconds of one clock.
 #[derive(Drop)]
 pub struct Generations<H> {
     interval_ms: u64,
     max_failures: u32,
-    // Failures that are still borne.
+    // The number of failures left before the server ends.
     tries_left: u32,
     newest: Option<Open>,
-    // The one before, as long as it has connections.
+    // The one before, while it has connections.
     older: Option<Open>,
-    // Since when the newest one is near its marks.
+    // The moment since which the newest one is near its marks.
     near_since: Option<u64>,
-    // When a host last answered commands of the older one, or when it began to drain.
+    // The moment when a host last answered commands of the older one, or when that began to drain.
     still_since: Option<u64>,
-    // When the newest one opened.
+    // The moment when the newest one opened.
     drains_since: Option<u64>,
     next: Next<H>,
-    // How many were asked for, beside the first one: the number of the further one.
+    // The number of generations asked for, beside the first; it is the next one's number.
     asked: u64,
-    // The moment of the last sweep that the last one that was full knew then.
+    // The last sweep known to the newest one when it was full.
     handed_sweep: Option<u64>,
 }
 
@@ -83,8 +83,8 @@ impl<H: Drop> Generations<H> {
     ghost use Rattle.generations.specs.Kept.{HadTime, MayBeLeft};
     ghost use Rattle.generations.specs.Stands.{Settings, Stands, Tells, Gives, EndsServing, IsSweepDue};
 
-    /// None is open, and the first generation, number 0, is due, from nothing. A sweep is due every `interval_ms` milliseconds,
-    /// and `max_failures` failures in a row end the serving.
+    /// No generation is open, and the first one, number 0, is due without a handover. A sweep is due every
+    /// `interval_ms` milliseconds; `max_failures` failures in a row end the server.
     pub fn new(interval_ms: u64, max_failures: u32) -> Generations<H>
         ensures { Stands result
             (record { interval_ms = interval_ms; max_failures = max_failures }) [] }
@@ -104,8 +104,8 @@ impl<H: Drop> Generations<H> {
         }
     }
 
-    /// The generation that is to be opened, given once: one is wanted, and the older one has no connections. It's being opened
-    /// from then on, until `opened` or `failed`.
+    /// The generation to open, returned once: one is wanted, and the older one has no connections. It is being opened
+    /// until `opened` or `failed`.
     pub fn take_due(&mut self) -> Option<Due<H>>
         ensures { Gives result self.old self.new }
     {
@@ -137,8 +137,8 @@ impl<H: Drop> Generations<H> {
         }
     }
 
-    /// All threads of the generation have come, at the moment `now`: it is the newest one from here on, and the one before
-    /// drains. Ignored unless it is the one being opened.
+    /// All threads of the generation have come at the moment `now`: it is the newest one from here on, and the one
+    /// before drains. Ignored unless it is the one being opened.
     pub fn opened(&mut self, number: u64, now: u64)
         ensures { Tells (Opened number now) self.old self.new }
     {
@@ -156,9 +156,9 @@ impl<H: Drop> Generations<H> {
         }
     }
 
-    /// The generation could not be opened. `true` says that the serving is to end: it was the `max_failures`-th failure in a
-    /// row, or none is open. Otherwise the newest one asks again, by `full`. Ignored, and `false`, unless it is the one being
-    /// opened.
+    /// The generation could not be opened. `true`: the server must end, since it was failure `max_failures` in a row,
+    /// or no generation is open. Otherwise the newest one asks again, by `full`. Ignored, and `false`, unless it is the
+    /// one being opened.
     pub fn failed(&mut self, number: u64) -> bool
         ensures tells { Tells (Failed number) self.old self.new }
         ensures ends { (s : Settings) (es : List (Event H)) → Stands self.old s es
@@ -172,8 +172,8 @@ impl<H: Drop> Generations<H> {
         self.tries_left == 0 || self.newest.is_none()
     }
 
-    // Whether nothing keeps an older one from being given up at this moment: there is none, no host has answered it for long
-    // enough, or it has drained too long.
+    // Whether an older one may be given up at this moment: there is none, no host has answered it for long enough, or
+    // it has drained too long.
     fn may_be_left(&self, now: u64) -> bool
         ensures { IsTrue result ↔ MayBeLeft self.now now }
     {
@@ -182,11 +182,12 @@ impl<H: Drop> Generations<H> {
             || have_passed(self.drains_since, MAX_DRAINING_MS, now)
     }
 
-    /// The newest generation is near its marks at the moment `now`: an older one that still has connections is given up. Told
-    /// again, the first moment counts.
+    /// The newest generation is near its marks at the moment `now`: an older one that still has connections is given
+    /// up. Of several calls the first moment counts.
     ///
-    /// Ignored unless `by` is the newest one, and while hosts answer commands of an older one: within `STILL_MS` milliseconds of
-    /// the last answer, or of the moment when it began to drain, until it has drained for `MAX_DRAINING_MS` milliseconds.
+    /// Ignored unless `by` is the newest one. Ignored while hosts answer commands of an older one: within `STILL_MS`
+    /// milliseconds of the last answer, or of the moment when it began to drain. This holds until it has drained for
+    /// `MAX_DRAINING_MS` milliseconds.
     pub fn near(&mut self, by: u64, now: u64)
         ensures { Tells (Near by now) self.old self.new }
     {
@@ -195,19 +196,19 @@ impl<H: Drop> Generations<H> {
         }
     }
 
-    // Whether nothing keeps a further one from being asked for at this moment: there is no older one, or it had its time for
-    // giving up.
+    // Whether the next one may be asked for at this moment: there is no older one, or it has been given up long enough.
     fn has_given_up(&self, now: u64) -> bool
         ensures { IsTrue result ↔ HadTime self.now now }
     {
         self.older.is_none() || have_passed(self.near_since, GIVING_UP_MS, now)
     }
 
-    /// The newest generation has reached its marks at the moment `now`, or takes in nothing more: another one is wanted, from
-    /// this handover. An older one that still has connections stops, and the new one is due once it has none.
+    /// The newest generation has reached its marks at the moment `now`, or accepts nothing more: the next one is
+    /// wanted, from this handover. An older one that still has connections stops, and the next one is due once it has none.
     ///
-    /// Ignored, and the handover dropped, unless `by` is the newest one and none is wanted or being opened; while an older one
-    /// has connections, unless it has been given up for `GIVING_UP_MS` milliseconds; and where 2^64 generations were asked for.
+    /// Ignored, and the handover dropped, unless `by` is the newest one and none is wanted or being opened. The same
+    /// happens while an older one has connections, unless it has been given up for `GIVING_UP_MS` milliseconds, and
+    /// once 2^64 generations were asked for.
     pub fn full(&mut self, by: u64, now: u64, handover: H)
         ensures { Tells (Full by now handover) self.old self.new }
     {
@@ -227,7 +228,7 @@ impl<H: Drop> Generations<H> {
         }
     }
 
-    /// A host answered commands of the draining generation, by the moment `now`. Ignored unless it is the older one.
+    /// A host has answered commands of the draining generation by the moment `now`. Ignored unless it is the older one.
     pub fn progressed(&mut self, number: u64, now: u64)
         ensures { Tells (Progressed number now) self.old self.new }
     {
@@ -245,8 +246,8 @@ impl<H: Drop> Generations<H> {
         }
     }
 
-    /// What a generation is to do. One that is not open, that isn't open yet, or that has drained is `Stopped`: so a generation asks
-    /// only once `opened` was called.
+    /// The task of a generation. One that isn't open yet, or that has drained, is `Stopped`: so a generation asks only
+    /// after `opened`.
     pub fn phase(&self, number: u64) -> Phase
         ensures { (s : Settings) (es : List (Event H)) → Stands self.now s es
             → IsPhase result es number }
@@ -274,7 +275,7 @@ impl<H: Drop> Generations<H> {
         }
     }
 
-    // The moment of the last sweep that a generation knows, where it has connections.
+    // The last sweep that a generation with connections knows.
     fn last_sweep(&self, number: u64) -> Option<u64>
         ensures { (s : Settings) (es : List (Event H)) → Stands self.now s es
             → SomeIff result (has_connections number es ≡ true) (last_sweep number es) }
@@ -285,7 +286,7 @@ impl<H: Drop> Generations<H> {
         }
     }
 
-    /// The number of the one that drains: that which opened before the newest, as long as it has connections.
+    /// The number of the draining one: it opened before the newest, and has connections.
     pub fn older(&self) -> Option<u64>
         ensures { (s : Settings) (es : List (Event H)) → Stands self.now s es
             → result ≡ draining es }
@@ -296,10 +297,10 @@ impl<H: Drop> Generations<H> {
         }
     }
 
-    /// Whether a sweep of the generation is due at the moment `now`: the interval has passed since the last sweep that it
-    /// knows. That is its own last one, or else the last one that the generation from which it goes on knew when its handover
-    /// was taken, and for the first generation the moment when it opened. None is due where the clock went back, nor of a
-    /// generation that isn't open or has drained.
+    /// Whether a sweep of the generation is due at the moment `now`: the interval has passed since the last sweep that
+    /// it knows. That is its own last one, or else the last one that the generation before it knew when its handover
+    /// was taken; for the first generation, the moment when it opened. None is due if the clock went back, or if the
+    /// generation isn't open or has drained.
     pub fn is_sweep_due(&self, number: u64, now: u64) -> bool
         ensures { (s : Settings) (es : List (Event H)) → Stands self.now s es
             → IsTrue result ↔ IsSweepDue s es number now }
@@ -319,7 +320,7 @@ impl<H: Drop> Generations<H> {
     }
 }
 
-// Whether so many milliseconds have passed by now since a moment, where there is one.
+// Whether this many milliseconds have passed since a moment, if there is one.
 fn have_passed(since: Option<u64>, span: u64, now: u64) -> bool
     ensures { IsTrue result ↔ HavePassed since span now }
 {

@@ -1,30 +1,30 @@
-//! How long a journal may be before another generation is opened.
+//! The length of a journal at which the next generation opens.
 ghost use Rattle.std.specs.Prelude.{◌≡◌, ◌↔◌, ◌≤◌, ◌*◌, ◌/◌, ◌⊎◌, IsTrue};
 
-/// How long a journal may be before another generation is opened.
+/// The length of a journal at which the next generation opens.
 #[derive(Clone, Copy, Debug, PartialEq, Eq)]
 pub struct Marks {
-    /// Steps of the journal.
+    /// The journal's steps.
     pub steps: u64,
-    /// Bytes of payload in it.
+    /// The journal's bytes of payload.
     pub bytes: u64,
 }
 
 impl Marks {
-    /// Seven eighths of what a journal holds: 229,376 steps, 58,720,256 bytes.
+    /// Seven eighths of a full journal: 229,376 steps, 58,720,256 bytes.
     pub const FULL: Marks = Marks {
         steps: 229_376,
         bytes: 58_720_256,
     };
 
-    /// Whether a journal of so many steps and so many bytes of payload is as long: one of the two is.
+    /// Whether a journal with this many steps or this many bytes of payload has reached either mark.
     pub fn are_reached(&self, steps: u64, bytes: u64) -> bool
         ensures { IsTrue result ↔ ((self.now.steps ≤ steps) ⊎ (self.now.bytes ≤ bytes)) }
     {
         steps >= self.steps || bytes >= self.bytes
     }
 
-    /// Whether a journal of so many steps and so many bytes of payload has come to three quarters of either mark, rounded down.
+    /// Whether a journal with this many steps or bytes of payload has reached three quarters of either mark, rounded down.
     pub fn are_near(&self, steps: u64, bytes: u64) -> bool
         ensures { IsTrue result
             ↔ ((self.now.steps * 3 / 4 ≤ steps) ⊎ (self.now.bytes * 3 / 4 ≤ bytes)) }

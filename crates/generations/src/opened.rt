@@ -1,7 +1,7 @@
-//! A generation that is open, as it is kept.
+//! An open generation, as it is kept.
 ghost use Rattle.std.specs.Prelude.{◌≡◌, ◌↔◌, Some, IsTrue, IfSome, IsNone};
 
-/// A generation that is open: its number, and the moment of the last sweep that it knows.
+/// An open generation: its number, and the last sweep that it knows.
 #[derive(Clone, Copy)]
 pub(crate) struct Open {
     pub(crate) number: u64,
@@ -11,7 +11,7 @@ pub(crate) struct Open {
 impl Open {
     ghost use Rattle.generations.specs.Kept.{IsNumber};
 
-    /// Whether it is one of this number.
+    /// Whether there is one, with this number.
     pub(crate) fn has_number(kept: Option<Open>, number: u64) -> bool
         ensures { IsTrue result ↔ IsNumber kept number }
     {
@@ -21,7 +21,7 @@ impl Open {
         }
     }
 
-    /// It, once the one of this number has made a sweep at the moment `now`.
+    /// The generation, once the one of this number has swept at the moment `now`.
     pub(crate) fn swept_at(kept: Option<Open>, number: u64, now: u64) -> Option<Open>
         ensures same { IsNumber kept number
             → result ≡ Some (record { number = number; swept = now }) }
@@ -33,7 +33,7 @@ impl Open {
         }
     }
 
-    /// The last sweep that it knows, where it is one of this number.
+    /// The last sweep that it knows, if it has this number.
     pub(crate) fn sweep_of(kept: Option<Open>, number: u64) -> Option<u64>
         ensures some { IfSome result
             (λ t. kept ≡ Some (record { number = number; swept = t })) }

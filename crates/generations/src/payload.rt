@@ -1,28 +1,28 @@
-//! The payload of one journal: which commands and which replies it has room for.
+//! The payload of one journal: the commands and replies that it has room for.
 ghost use Rattle.std.specs.Prelude.{◌≡◌, ◌↔◌, ◌≤◌, ◌+◌, ◌-◌, ◌*◌, IsTrue};
 
 use crate::budget::MAX_BYTES;
 use std::marker::Model;
 
-/// The most bytes that a host's reply has.
+/// The most bytes of a host's reply.
 pub const MAX_REPLY_BYTES: u64 = 8_388_608;
 
-/// The most bytes that are read of a host at once.
+/// The most bytes of one read from a host.
 pub const MAX_READ_BYTES: u64 = 16_384;
 
-/// So many bytes of a journal are kept for the texts of errors, where replies have no room.
+/// This many bytes of a journal are kept for the texts of errors once replies have no room.
 pub const MAX_ERROR_BYTES: u64 = 4_194_304;
 
-/// To a journal that is far from full so many bytes of payload may come before its room is looked at again.
+/// A journal that is far from full may get this many bytes of payload before its room is looked at again.
 pub const FAR_BYTES: u64 = 1_048_576;
 
-/// And so many steps may be owed more.
+/// And it may owe this many more steps.
 pub const FAR_STEPS: u64 = 16_384;
 
-/// An average is of the journal itself once it has so many steps.
+/// An average is the journal's own from this many steps on.
 const FIRST_STEPS: u64 = 1_024;
 
-/// Bytes of payload of one journal, as far as its workers have told.
+/// The bytes of payload of one journal, as its workers have reported.
 #[derive(Clone, Copy, Debug, PartialEq, Eq)]
 pub struct Payload {
     used: u64,
@@ -58,7 +58,7 @@ impl Payload {
     ghost use Rattle.generations.specs.Budget.{capped};
     ghost use Rattle.generations.specs.Payload.{average_of, kept_bytes, next_average_of, HasRoomForCommand, HasRoomForReply, IsFarFromFull};
 
-    /// Nothing was told yet. `average` is how many bytes a step the generation before had when it ended, 0 for the first one.
+    /// Nothing was reported. `average` is the payload bytes a step of the last generation at its end, 0 for the first one.
     pub fn new(average: u64) -> Payload
         ensures { result
             ≡ record { used = 0; came = 0; handed = 0; steps = 0; before = average } }
@@ -72,9 +72,8 @@ impl Payload {
         }
     }
 
-    /// A worker tells what came since it told last: bytes of payload in the journal, bytes of hosts' replies that came, bytes
-    /// handed out to clients, and the steps over which they are reckoned. Each sum stays at the greatest `u64` where it is more
-    /// than that.
+    /// Adds a worker's report since its last one: payload bytes in the journal, bytes of hosts' replies, bytes handed
+    /// out to clients, and the steps of the average. Each sum stays at the greatest `u64` where it would pass it.
     pub fn note(&mut self, used: u64, came: u64, handed: u64, steps: u64)
         ensures used { self.new.used ≡ capped (self.old.used + used) }
         ensures came { self.new.came ≡ capped (self.old.came + came) }
@@ -88,8 +87,8 @@ impl Payload {
         self.steps = self.steps.saturating_add(steps);
     }
 
-    /// How many bytes of payload a step has, rounded down: the journal's own once 1,024 steps were made, the greater of that
-    /// and the one before while there are fewer, the one before while there is none.
+    /// The payload bytes a step, rounded down. From 1,024 steps on it is the journal's own average. Below, it is the
+    /// greater of that and the last generation's, or the last generation's where there are no steps.
     pub fn average(&self) -> u64
         ensures { result ≡ average_of self.now }
     {
@@ -101,8 +100,8 @@ impl Payload {
         }
     }
 
-    /// The average with which the next generation is to begin: this journal's own, and half of what it began with at least. So
-    /// what large values taught isn't forgotten at once, and is after some generations without any.
+    /// The average that the next generation starts with: this journal's own, and at least half of what it started with.
+    /// So large values are remembered for some generations, and then forgotten.
     pub fn next_average(&self) -> u64
         ensures { result ≡ next_average_of self.now }
     {
@@ -110,10 +109,10 @@ impl Payload {
         own.max(self.before / 2)
     }
 
-    /// Whether the journal has room for a further command of a client of which so many bytes are unfinished, where so many
+    /// Whether the journal has room for a further command of a client with this many unfinished bytes, while this many
     /// steps are owed.
     ///
-    /// So that there always is progress, it has where nothing is owed and no payload is in it.
+    /// It has if nothing is owed and it has no payload, so that there is always progress.
     pub fn takes_in(&self, owed: u64, unfinished: u64) -> bool
         ensures { IsTrue result ↔ HasRoomForCommand self.now owed unfinished }
     {
@@ -128,8 +127,8 @@ impl Payload {
             <= MAX_BYTES
     }
 
-    /// Whether the journal has room for hosts' replies of which so many bytes have come, with what one read may bring, for their
-    /// handing out, and for the texts of errors.
+    /// Whether the journal has room for hosts' replies of which this many bytes have come. It needs room for these and
+    /// one more read, for handing them out, and for the texts of errors.
     pub fn takes_reply(&self, unfinished: u64) -> bool
         ensures { IsTrue result ↔ HasRoomForReply self.now unfinished }
     {
@@ -140,9 +139,9 @@ impl Payload {
             <= MAX_BYTES
     }
 
-    /// Whether the journal is so far from full, where so many steps are owed, that its room needn't be looked at for each command
-    /// and reply: once `FAR_BYTES` bytes more have come, and `FAR_STEPS` steps more are owed, it still has room for one of which
-    /// `FAR_BYTES` bytes are unfinished.
+    /// Whether the journal, while this many steps are owed, is so far from full that room needn't be checked for each
+    /// command and reply. Even with `FAR_BYTES` more bytes and `FAR_STEPS` more owed steps, it then has room for one
+    /// with `FAR_BYTES` unfinished bytes.
     pub fn is_far_from_full(&self, owed: u64) -> bool
         ensures { IsTrue result → IsFarFromFull self.now owed }
     {
@@ -153,7 +152,7 @@ impl Payload {
         self.steps >= FIRST_STEPS && grown.takes_in(owed.saturating_add(FAR_STEPS), FAR_BYTES)
     }
 
-    // The bytes of payload there, and those of replies that are still to be handed out.
+    // The payload bytes in the journal, and those of replies that are still to be handed out.
     fn kept(&self) -> u64
         ensures { result ≡ capped (kept_bytes self.now) }
     {

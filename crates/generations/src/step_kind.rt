@@ -1,23 +1,23 @@
-//! What a step of the journal is, and what it costs.
+//! The kinds of a journal's steps, and their costs.
 ghost use Rattle.std.specs.Prelude.{◌≡◌};
 
-/// What a step of the journal is.
+/// The kind of a step.
 #[derive(Clone, Copy, Debug, PartialEq, Eq)]
 pub enum StepKind {
     /// A connection was opened.
     Opened,
-    /// A command of so many parts was accepted.
+    /// A command was accepted.
     Accepted {
-        /// How many hosts' answers it waits for.
+        /// The number of its parts that wait for hosts.
         parts: u64,
     },
     /// A part was sent to its host.
     Sent,
     /// A host's answer was matched to its part.
     Matched,
-    /// A host's link was lost, and with it the answers of so many parts.
+    /// A host's link was lost, with the replies that its parts waited for.
     Lost {
-        /// How many parts wait for no answer any more.
+        /// The number of these parts.
         parts: u64,
     },
     /// A reply was handed out to its client.
@@ -34,8 +34,8 @@ impl StepKind {
     ghost use Rattle.generations.specs.Budget.{capped};
     ghost use Rattle.generations.specs.Steps.{cost_of, freed_of};
 
-    /// How many steps of the journal the step costs: itself and those that it owes, and none where it was owed itself. The
-    /// greatest `u64` where it is more than that.
+    /// The steps that it costs: itself and those that it owes; none if it was owed itself. The greatest `u64` stands
+    /// for any more.
     #[inline(always)]
     pub fn cost(self) -> u64
         ensures { result ≡ capped (cost_of self) }
@@ -49,7 +49,7 @@ impl StepKind {
         }
     }
 
-    /// How many steps of the journal the step sets free: those that it stands in place of, beside itself.
+    /// The steps that it sets free: owed ones that it replaces, beside itself.
     #[inline(always)]
     pub fn freed(self) -> u64
         ensures { result ≡ freed_of self }

@@ -2,23 +2,22 @@
 ghost use Rattle.std.specs.Prelude.{◌≡◌, ◌<◌, ◌+◌, ◌++◌, ◌∷◌, [], ℕ, List, replicate, slice_index};
 ghost use Rattle.histogram.specs.Values.{IsOf, capped, with_times};
 
-/// How many bounds there are.
+/// The number of bounds.
 pub const BOUNDS: usize = 12;
 
-/// The bounds, in milliseconds: Prometheus's usual ones from 1 to 5,000, with 2 in the place of 2.5, so
-/// that each is whole. Above the last there is no bound.
+/// The bounds in milliseconds: Prometheus's usual ones from 1 to 5,000, with 2 in place of 2.5, so that all are whole.
+/// Values above the last one have no bound.
 pub const BOUNDS_MS: [u64; BOUNDS] = [1, 2, 5, 10, 25, 50, 100, 250, 500, 1000, 2500, 5000];
 
 /// A histogram of milliseconds.
 ///
-/// It takes no memory beside its own 14 numbers. A number that would be more than the greatest `u64`
-/// is that.
+/// It takes no memory beside its own 14 numbers. The greatest `u64` stands for any greater number.
 #[derive(Clone, Copy, Debug, PartialEq, Eq)]
 pub struct Histogram {
-    /// How many values were at most each of [`BOUNDS_MS`].
+    /// The number of values up to each of [`BOUNDS_MS`].
     pub at_most: [u64; BOUNDS],
 
-    /// How many values there were.
+    /// The number of values.
     pub total: u64,
 
     /// Their sum, in milliseconds.
@@ -37,14 +36,14 @@ impl Histogram {
         }
     }
 
-    /// Adds a value: of what values it was the histogram before, of these and this one it is now.
+    /// Adds a value.
     pub fn record(&mut self, ms: u64)
         ensures { (values : List ℕ) → IsOf values self.old → IsOf (values ++ ms ∷ []) self.new }
     {
         self.record_times(ms, 1);
     }
 
-    /// Adds a value so many times: of what values it was the histogram before, of these and that many of this one it is now.
+    /// Adds a value `times` times.
     pub fn record_times(&mut self, ms: u64, times: u64)
         ensures { (values : List ℕ) → IsOf values self.old
             → IsOf (values ++ replicate times ms) self.new }
@@ -67,7 +66,7 @@ impl Histogram {
     }
 }
 
-// So many more for each bound that isn't below the value.
+// Adds `times` to each bound that isn't below the value.
 fn recorded(at_most: &[u64; BOUNDS], ms: u64, times: u64) -> [u64; BOUNDS]
     ensures { (i : ℕ) → i < BOUNDS → slice_index result i
         ≡ with_times ms times (slice_index BOUNDS_MS i) (slice_index at_most.now i) }

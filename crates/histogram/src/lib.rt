@@ -1,4 +1,5 @@
-//! How many values were at most so large: a histogram with fixed bounds, as Prometheus reads it.
+//! A histogram with fixed bounds, as Prometheus reads it, and the durations of commands. It stands
+//! on no other crate; begin with `histogram.rt`.
 #![tactic(auto)]
 
 mod histogram;

@@ -1,10 +1,10 @@
-//! When the commands of a connection were accepted that are unanswered.
+//! The moments when a connection's unanswered commands were accepted.
 
 use crate::histogram::Histogram;
 use std::alloc::Global;
 use std::collections::VecDeque;
 
-// So many commands were accepted at one moment.
+// This many commands were accepted at one moment.
 #[derive(Clone, Copy, Drop)]
 struct Run {
     since: u64,
@@ -13,17 +13,17 @@ struct Run {
 
 const NONE: Run = Run { since: 0, count: 0 };
 
-/// The moments, in milliseconds of one clock, at which the unanswered commands of one connection were accepted. Answers leave
-/// in the order of commands.
+/// The moments, in milliseconds of one clock, when a connection's unanswered commands were accepted. Answers leave in
+/// the order of the commands.
 #[derive(Drop)]
 pub struct Unanswered {
-    // Those that were accepted first, and those after them in their order; none of these is empty.
+    // The earliest commands, and the later ones in their order; none of these runs is empty.
     first: Run,
     later: VecDeque<Run>,
 }
 
 impl Unanswered {
-    /// None is unanswered.
+    /// No command is unanswered.
     pub fn new(alloc: Global) -> Unanswered {
         Unanswered {
             first: NONE,
@@ -31,8 +31,7 @@ impl Unanswered {
         }
     }
 
-    /// So many commands were accepted at this moment. Where there is no memory for a further moment they are told as accepted
-    /// with those before them.
+    /// Adds commands accepted at this moment. Without memory for another moment they count as accepted with those before.
     pub fn accepted(&mut self, now: u64, count: u64) {
         if count == 0 {
             return;
@@ -47,7 +46,7 @@ impl Unanswered {
         }
     }
 
-    // When the last of them were accepted.
+    // When the latest were accepted.
     fn last_since(&self) -> u64 {
         match self.later.back() {
             Some(last) => last.since,
@@ -55,7 +54,7 @@ impl Unanswered {
         }
     }
 
-    // So many more were accepted with the last of them.
+    // Adds commands to the latest ones.
     fn join_last(&mut self, count: u64) {
         if let Some(last) = self.later.back_mut() {
             last.count = last.count.saturating_add(count);
@@ -64,7 +63,7 @@ impl Unanswered {
         self.first.count = self.first.count.saturating_add(count);
     }
 
-    /// So many were answered at this moment: how long each took is recorded.
+    /// This many commands were answered at this moment: records the duration of each.
     pub fn answered(&mut self, now: u64, count: u64, durations: &mut Histogram) {
         let mut left = count;
         for _ in 0..count {

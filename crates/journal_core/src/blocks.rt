@@ -6,19 +6,18 @@ use std::alloc::{AllocError, Global};
 use std::marker::Model;
 use std::mem;
 
-/// How many elements a block holds.
+/// The elements of a block.
 pub(crate) const BLOCK: usize = 64;
 
-/// A list that grows at its end, in blocks of memory that it keeps: each has room for 64 elements from the first on, so that
-/// none is ever moved.
+/// A list that grows at its end, in blocks of memory with room for 64 elements each, so that no element is ever moved.
 ///
-/// Contracts see the elements, and whether there is a place for one more.
+/// Contracts see the elements, and whether there is room for one more.
 #[derive(Drop)]
 pub(crate) struct Blocks<T> {
     alloc: Global,
     // Blocks that are full.
     full: Vec<Vec<T>>,
-    // The elements behind those.
+    // The elements behind the full blocks.
     last: Vec<T>,
     len: usize,
 }
@@ -40,7 +39,7 @@ impl<T> Model for Blocks<T> {
 }
 
 impl<T> Blocks<T> {
-    /// No element, and no place yet.
+    /// No element, and no room yet.
     pub(crate) fn new(alloc: Global) -> Blocks<T>
         ensures { result.items ≡ [] }
     {
@@ -52,7 +51,7 @@ impl<T> Blocks<T> {
         }
     }
 
-    /// Makes a place for one more, if there is none. Refused for want of memory it leaves all as it was.
+    /// Makes room for one more element, if there is none. Refused for want of memory; nothing changes then.
     #[inline(always)]
     pub(crate) fn reserve_one(&mut self) -> Result<(), AllocError>
         ensures items { self.new.items ≡ self.old.items }
@@ -70,7 +69,7 @@ impl<T> Blocks<T> {
         Ok(())
     }
 
-    /// Adds an element behind all others, for which there is a place.
+    /// Adds an element, for which there must be room.
     pub(crate) fn push_reserved(&mut self, value: T)
         requires room { self.old.has_room ≡ true }
         requires few { length self.old.items < 2 ^ 64 - 1 }
@@ -91,7 +90,7 @@ impl<T> Blocks<T> {
         }
     }
 
-    /// How many elements there are.
+    /// The number of elements.
     pub(crate) fn len(&self) -> usize
         ensures { result ≡ length self.now.items }
     {

@@ -11,7 +11,7 @@ pub enum JournalError {
     /// 901: memory was refused.
     #[error("out of memory")]
     NoMemory,
-    /// 902: 262,144 steps stand, or with the step the bytes of payload would be more than 67,108,864.
+    /// 902: there are 262,144 steps, or the step would raise the payload above 67,108,864 bytes.
     #[error("the journal is full")]
     JournalFull,
 }

@@ -9,15 +9,15 @@ use crate::step::Step;
 use std::alloc::Global;
 use std::marker::Model;
 
-/// How many steps a journal may have.
+/// The most steps of a journal.
 pub const MAX_STEPS: usize = 262_144;
 
-/// How many bytes of payload the steps of a journal may hold.
+/// The most bytes of payload of a journal's steps.
 pub const MAX_BYTES: u64 = 67_108_864;
 
-/// Steps in the order in which they were made, with their bytes of payload. None is ever changed or taken out.
+/// Steps in the order in which they were made, with their bytes of payload. None is ever changed or removed.
 ///
-/// Contracts see the steps, the oldest first, their bytes, and what room was made for.
+/// Contracts see the steps, the oldest first, their bytes, and the room made.
 #[derive(Drop)]
 pub struct Journal<E, A> {
     steps: Blocks<Step<E, A>>,
@@ -39,7 +39,7 @@ impl<E, A> Model for Journal<E, A> {
 }
 
 impl<E, A> Journal<E, A> {
-    /// A journal with no step, which has no room yet.
+    /// A journal without steps or room.
     pub fn new(alloc: Global) -> Journal<E, A>
         ensures steps { result.steps ≡ [] }
         ensures bytes { result.bytes ≡ 0 }
@@ -52,18 +52,18 @@ impl<E, A> Journal<E, A> {
         }
     }
 
-    /// Makes room for one step with this many bytes of payload, so that the next call may be `add` with as many. Room
-    /// that was made before and not used is given up for it.
+    /// Makes room for one step with this many bytes of payload; the next call may be `add` with the same number. It
+    /// replaces room that wasn't used.
     ///
-    /// Refused 902 (journal full) exactly if 262,144 steps stand or the bytes would be more than 67,108,864, else 901 (no
-    /// memory). After a refusal the journal is unchanged, and so is the room made before.
+    /// Refused 902 (journal full) exactly if there are 262,144 steps or the bytes would pass 67,108,864, else 901 (no
+    /// memory). After a refusal the journal and its earlier room are unchanged.
     #[inline(always)]
     pub fn room(&mut self, bytes: u64) -> Result<(), JournalError>
         ensures room { OnOk result (self.new.room ≡ Some bytes) }
         ensures full { IsErrOf result JournalError.JournalFull ↔ IsFull self.old bytes }
         ensures accepted { OnOk result ((length self.old.steps < MAX_STEPS)
             × (self.old.bytes + bytes ≤ MAX_BYTES)) }
-        // Where there is room already, no memory is asked for.
+        // If there is room already, no memory is taken.
         ensures reserved { IsSome self.old.room → IfErr result (λ e. e ≡ JournalError.JournalFull) }
         ensures steps { self.new.steps ≡ self.old.steps }
         ensures bytes { self.new.bytes ≡ self.old.bytes }
@@ -77,7 +77,7 @@ impl<E, A> Journal<E, A> {
         Ok(())
     }
 
-    /// Adds a step with this many bytes of payload behind all others, for which room was made. It takes no memory.
+    /// Adds a step with this many bytes of payload, for which room was made. It takes no memory.
     pub fn add(&mut self, step: Step<E, A>, bytes: u64)
         requires { self.old.room ≡ Some bytes }
         ensures steps { self.new.steps ≡ self.old.steps ++ step ∷ [] }
@@ -89,7 +89,7 @@ impl<E, A> Journal<E, A> {
         self.room = None;
     }
 
-    /// How many steps there are, at most 262,144. It takes no memory.
+    /// The number of steps, at most 262,144. It takes no memory.
     pub fn len(&self) -> usize
         ensures steps { result ≡ length self.now.steps }
         ensures limit { result ≤ MAX_STEPS }
@@ -97,7 +97,7 @@ impl<E, A> Journal<E, A> {
         self.steps.len()
     }
 
-    /// How many bytes of payload the steps hold, at most 67,108,864. It takes no memory.
+    /// The bytes of payload of the steps, at most 67,108,864. It takes no memory.
     pub fn bytes(&self) -> u64
         ensures bytes { result ≡ self.now.bytes }
         ensures limit { result ≤ MAX_BYTES }
@@ -105,7 +105,7 @@ impl<E, A> Journal<E, A> {
         self.bytes
     }
 
-    /// Step `i`, counted from 0 at the oldest, or `None` where there are no more than `i`. It takes no memory.
+    /// Step `i`, counted from 0 at the oldest, or `None` if there are at most `i`. It takes no memory.
     pub fn get(&self, i: usize) -> Option<&Step<E, A>>
         ensures { option_copied result ≡ slice_get self.now.steps i }
     {

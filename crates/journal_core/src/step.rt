@@ -1,12 +1,12 @@
 //! One step of a history.
 
-/// One step: who made it, what happened, and what was answered.
+/// One step: the pass that made it, the event, and the answer.
 #[derive(Clone, Copy, Debug, PartialEq, Eq, Drop)]
 pub struct Step<E, A> {
     /// The number of the pass that made the step.
     pub pass: u64,
-    /// What happened.
+    /// The event.
     pub event: E,
-    /// What was answered.
+    /// The answer.
     pub answer: A,
 }

@@ -9,7 +9,7 @@ use thiserror::Error;
 /// Why a ring or a host's name was refused.
 #[derive(Clone, Copy, Debug, PartialEq, Eq, Hash, Error)]
 pub enum RingError {
-    /// 301: no memory was left.
+    /// 301: memory was refused.
     #[error("out of memory")]
     NoMemory,
 
@@ -21,15 +21,15 @@ pub enum RingError {
     #[error("there are more than 64 hosts")]
     TooManyHosts,
 
-    /// 304: the weights are not as many as the hosts, or one is not from 1 to 100.
+    /// 304: there aren't as many weights as hosts, or one is not from 1 to 100.
     #[error("the weights do not fit the hosts")]
     BadWeights,
 
-    /// 305: a host's name is empty, too long, or has a byte that no name has.
+    /// 305: a host's name is empty, too long, or has a forbidden byte.
     #[error("a host's name has 1 to 255 visible ASCII characters")]
     BadName,
 
-    /// 306: a point is given to a host that there is not.
+    /// 306: a point is of a host that doesn't exist.
     #[error("a point belongs to no host")]
     BadPoint,
 }

@@ -7,10 +7,10 @@ use md5::{Digest, Md5};
 
 /// The point of a key on the ring: bytes 0 to 3 of its MD5, the least significant first.
 ///
-/// With `tags`, a key that has a hash tag is hashed by the tag alone, so that keys with one tag have
-/// one owner: the tag is what stands between the key's first `{` and the first `}` after it, where
-/// both are there and at least one byte is between them (the rule of the Redis Cluster
-/// specification). Takes no memory.
+/// With `tags`, a key with a hash tag is hashed by the tag alone, so that keys with one tag have
+/// one owner. The tag is the text between the key's first `{` and the first `}` after it. Both must
+/// exist, with at least one byte between them (the rule of the Redis Cluster specification). Takes
+/// no memory.
 pub fn point_of_key(key: &[u8], tags: bool) -> u32
     ensures value { result ≡ point_of key.now tags }
 
@@ -44,7 +44,7 @@ fn tag_of(key: &[u8]) -> Option<&[u8]>
     if tag.is_empty() { None } else { Some(tag) }
 }
 
-// What stands before the first such byte and what stands after it.
+// The parts before and after the first such byte.
 fn split_once(bytes: &[u8], byte: u8) -> Option<(&[u8], &[u8])>
     ensures split { IfSome result (λ parts. IsSplitAt byte bytes.now parts.0.now parts.1.now) }
     ensures absent { IfNone result (¬ Contains bytes.now byte) }

@@ -1,5 +1,5 @@
-//! What holds of owners on every ring, and of how digests are shared out, for the proofs of callers:
-//! each function has a law as its contract, and does nothing.
+//! Laws of owners on every ring and of the shares of digests. Each is the contract of a function
+//! that does nothing; proofs of callers call it.
 
 ghost use Rattle.std.specs.Prelude.{List, ℕ, Bool};
 ghost use Rattle.ketama.specs.OwnerLaws.{OwnerIsOne, OthersKeepTheirPoints, FirstChoiceStands, OwnersGoByMembers};
@@ -11,22 +11,22 @@ pub fn owner_is_one()
         → OwnerIsOne pairs point usable }
 {}
 
-/// Where a host goes out, each point that it does not own keeps its owner.
+/// When a host goes out, points that it doesn't own keep their owners.
 pub fn others_keep_their_points()
     ensures { OthersKeepTheirPoints }
 {}
 
-/// A point whose owner among all hosts is usable goes to that owner, whichever others are out.
+/// A point goes to its owner among all hosts if that is usable, whichever others are out.
 pub fn first_choice_stands()
     ensures { FirstChoiceStands }
 {}
 
-/// Owners depend on which pairs a ring has, and not on their order or number.
+/// Owners depend only on a ring's pairs, and not on their order or number.
 pub fn owners_go_by_members()
     ensures { OwnersGoByMembers }
 {}
 
-/// Hosts that all weigh the same have 40 digests each, whatever they weigh.
+/// If all hosts weigh the same, each has 40 digests, whatever the weight.
 pub fn equal_weights_give_forty()
     ensures { EqualWeightsGiveForty }
 {}
@@ -36,7 +36,7 @@ pub fn digests_are_few()
     ensures { DigestsAreFew }
 {}
 
-/// A host than which none weighs more has at least 40 digests, and so a point.
+/// A host of the greatest weight has at least 40 digests, and so a point.
 pub fn heaviest_has_forty()
     ensures { HeaviestHasForty }
 {}

@@ -18,13 +18,13 @@ pub(crate) fn owner(pairs: &[Pair], point: u32, usable: &[bool]) -> Option<usize
         return Some(host);
     }
 
-    // Past the last point the ring goes on with its first.
+    // (past the last point the ring goes on with its first)
     let (_, host) = first_usable(pairs, usable)?;
     Some(host)
 }
 
-// How many of the pairs are below the point: they are the first ones. Each turn halves those of which
-// it isn't known. No jump depends on a point, since none could be foreseen.
+// The number of pairs below the point; these are the first ones. Each turn halves the unknown ones.
+// No jump depends on a point, since it couldn't be predicted.
 fn count_below(pairs: &[Pair], point: u32) -> usize
     requires { AllPairs IsBefore pairs.now }
     ensures bound { result ≤ length pairs.now }
@@ -49,7 +49,7 @@ fn one_of(first: usize, second: usize, wants_second: bool) -> usize
     [first, second][usize::from(wants_second)]
 }
 
-// The first of some pairs, in their order, whose host is usable.
+// The first of these pairs whose host is usable.
 fn first_usable(pairs: &[Pair], usable: &[bool]) -> Option<Pair>
     requires in_range { All (λ pair. pair.1 < length usable.now) pairs.now }
     requires in_order { AllPairs IsBefore pairs.now }

@@ -12,7 +12,7 @@ use itoa::Buffer;
 use md5::{DIGEST_LEN, Digest, Md5};
 use std::alloc::{AllocError, Global};
 
-/// How many points each digest gives.
+/// The number of points of a digest.
 const POINTS_OF_DIGEST: usize = 4;
 
 /// Point `index` of an MD5 digest, from its bytes `4 * index` on, the least significant first.
@@ -29,8 +29,8 @@ pub(crate) fn point_at(digest: &[u8; DIGEST_LEN], index: usize) -> u32
     ])
 }
 
-/// The points of all hosts, which have so many digests each, with the numbers of their hosts: in
-/// ascending order, each once.
+/// The points of all hosts, by their numbers of digests, with the hosts' numbers: in ascending
+/// order, each once.
 pub(crate) fn pairs_of(
     alloc: Global,
     names: &[HostName],
@@ -47,7 +47,7 @@ pub(crate) fn pairs_of(
     Ok(pairs)
 }
 
-/// Puts pairs in ascending order, by point and then by host, each once.
+/// Sorts pairs by point and then by host, each once.
 pub(crate) fn put_in_order(pairs: &mut Vec<Pair>)
     ensures in_order { AllPairs IsBefore pairs.new.items }
     ensures members { (pair : ℕ × ℕ) → Contains pairs.new.items pair

@@ -13,10 +13,9 @@ use rate_core::MAX_HOSTS;
 use std::alloc::Global;
 use std::marker::Model;
 
-/// A ring: the points of some hosts, which are numbered from 0.
+/// A ring: the points of hosts, which are numbered from 0.
 ///
-/// Contracts see the number of hosts, the number of digests, and the pairs of a point and a host, of
-/// which only the membership counts.
+/// Contracts see the number of hosts, the number of digests, and the set of pairs of a point and a host.
 #[derive(Debug, Drop)]
 pub struct Ring {
     hosts: usize,
@@ -39,17 +38,15 @@ impl Model for Ring {
 }
 
 impl Ring {
-    /// The ring of libketama of the hosts with these names and weights.
+    /// The ring of libketama for the hosts with these names and weights.
     ///
-    /// Of `n` hosts with weights of the sum `W` one of weight `w` has `40 * n * w / W` digests, rounded
-    /// down: 40 where all weigh the same. Digest `k`, from 0, of the host whose name is `s` is the MD5
-    /// of the text `s-k`, and gives four points of four bytes, the least significant first. A host
-    /// that weighs little beside the others may have no point, and counts among the hosts all the
-    /// same. A ring of no hosts has no points.
+    /// With `n` hosts and the sum of weights `W`, a host of weight `w` has `40 * n * w / W` digests, rounded down: 40
+    /// where all weights are equal. Digest `k`, from 0, of the host with name `s` is the MD5 of the text `s-k`. It
+    /// gives four points of four bytes, the least significant first. A host of little weight may have no point, and
+    /// still counts among the hosts. A ring of no hosts has no points.
     ///
-    /// Refused, and told in this order: `TooManyHosts` (303) with more than 64 names, `BadWeights`
-    /// (304) unless each name has a weight, each from 1 to 100, `SameName` (302) if two names are the
-    /// same, and `NoMemory` (301).
+    /// Refused, in this order: `TooManyHosts` (303) with more than 64 names, `BadWeights` (304) unless each name has a
+    /// weight from 1 to 100, `SameName` (302) if two names are equal, and `NoMemory` (301).
     pub fn build(alloc: Global, names: &[HostName], weights: &[u32]) -> Result<Ring, RingError>
         ensures ok { IfOk result (IsKetamaRing names.now weights.now) }
 
@@ -81,10 +78,10 @@ impl Ring {
         })
     }
 
-    /// The ring of the points given, each with the number of its host, of `hosts` hosts.
+    /// The ring of these points, each with the number of its host, of `hosts` hosts.
     ///
-    /// Refused, and told in this order: `TooManyHosts` (303) with more than 64 hosts, `BadPoint` (306)
-    /// if a host's number is not below `hosts`, and `NoMemory` (301).
+    /// Refused, in this order: `TooManyHosts` (303) with more than 64 hosts, `BadPoint` (306) if a host's number isn't
+    /// below `hosts`, and `NoMemory` (301).
     pub fn of_points(
         alloc: Global,
         hosts: usize,
@@ -114,7 +111,7 @@ impl Ring {
         })
     }
 
-    /// How many hosts the ring has, 64 at most. Takes no memory.
+    /// The number of hosts, at most 64. Takes no memory.
     pub fn hosts(&self) -> usize
         ensures value { result ≡ self.now.hosts }
         ensures few { result ≤ MAX_HOSTS }
@@ -122,17 +119,17 @@ impl Ring {
         self.hosts
     }
 
-    /// From how many digests the ring was made: after `build` those of all its hosts, 40 a host at most,
-    /// and 0 after `of_points`. Takes no memory.
+    /// The number of digests of the ring: after `build` those of all its hosts, at most 40 a host; 0 after `of_points`.
+    /// Takes no memory.
     pub fn digests(&self) -> u32
         ensures { result ≡ self.now.digests }
     {
         self.digests
     }
 
-    /// The usable host that owns the point: the one of the least point at `point` or above, or, past
-    /// the last point, of the least of all. Of equal points the lower host's counts. `usable` says of
-    /// each host whether it is usable. None exactly if no usable host has a point. Takes no memory.
+    /// The usable host that owns the point: the host of the least point at or above it, or past the
+    /// last point of the least of all. Of equal points the lower host's counts. `usable` says
+    /// whether each host is usable. `None` exactly if no usable host has a point. Takes no memory.
     pub fn owner(&self, point: u32, usable: &[bool]) -> Option<usize>
         requires { length usable.now ≡ self.now.hosts }
         ensures owner { IsOwner self.now.pairs point usable.now result }

@@ -1,17 +1,17 @@
-//! How many digests a host has, by its weight.
+//! The number of a host's digests, by its weight.
 ghost use Rattle.std.specs.Prelude.{◌≡◌, ◌<◌, ◌≤◌, ◌^◌, All, IfOk, length, sum};
 ghost use Rattle.ketama.specs.Ketama.{AreWeights, digest_counts};
 
 use rate_core::MAX_HOSTS;
 use std::alloc::{AllocError, Global};
 
-/// How many digests a ring has for each of its hosts, before they are shared out by weight.
+/// A ring has this many digests for each of its hosts, shared out by weight.
 pub const DIGESTS_OF_HOST: u32 = 40;
 
 /// The greatest weight of a host.
 pub const MAX_WEIGHT: u32 = 100;
 
-/// How many digests each host has, by the weights of all.
+/// The number of digests of each host, by all weights.
 pub(crate) fn digest_counts(alloc: Global, weights: &[u32]) -> Result<Vec<u32>, AllocError>
     requires few { length weights.now ≤ MAX_HOSTS }
     requires weights { AreWeights (length weights.now) weights.now }

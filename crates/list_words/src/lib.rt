@@ -1,5 +1,5 @@
-//! Words and lemmas on lists that belong to no crate above: no code.
+//! Words and lemmas on lists that belong to no other crate: no code.
 //!
-//! The words stand in `specs/Lists`, the lemmas in the files of `proofs/`, each named for what it is
-//! about, and `proofs/CallerLemmas` passes on what crates above may cite.
+//! The words are in `specs/Lists`, the lemmas in the files of `proofs/`, each named for its
+//! subject. `proofs/CallerLemmas` has those for other crates.
 #![tactic(auto)]

@@ -1,4 +1,4 @@
-//! Scenes: lists of acts that one rig plays.
+//! Scenes: lists of acts for one rig.
 
 use crate::fake_devices::{Feed, Taken, Text};
 use crate::journal::{
@@ -12,83 +12,83 @@ use proxy_core::{Core, Event, Kind, Refusal, Request, Trip};
 use proxy_engines::{EngineError, Progress};
 use std::sync::Wait;
 
-// What somebody does, or what has to be seen then.
+// An act of a client, a host or the test, or a fact that must hold then.
 #[derive(Clone, Copy)]
 pub(crate) enum Act {
-    // The next of two clients connects, and says this over such ends.
+    // The next of two clients connects over these ends and sends this.
     Opens(Feed, Ends),
-    // No connection can be opened.
+    // Opening a connection fails with this error.
     CannotOpen(EngineError),
-    // The first client says this from now on.
+    // The first client sends this from now on.
     Says(Feed),
-    // The first client takes nothing, or all again.
+    // The first client takes nothing, or takes bytes again.
     IsShut(bool),
-    // A host that asks for a link gets this one, once those before it are given.
+    // The next host that asks for a link gets this one, after those added before it.
     Links(Link),
-    // A host that is no stub says this from now on.
+    // Hosts that are no stubs send this from now on.
     HostSays(Feed),
-    // All are stepped in turn at this moment, until nothing moves.
+    // All engines are stepped at this moment, until nothing moves.
     Runs(u64),
-    // The first client makes so many steps: each says this, and nothing is recorded.
+    // The first client makes this many steps: each returns this, and nothing is recorded.
     Steps(Progress, u32),
-    // The first host makes one step at this moment, which says this.
+    // The first host makes one step at this moment, which returns this.
     HostSteps(u64, Progress),
-    // The only host's link of this epoch is refused, which does this to it.
+    // The only host's link of this epoch is refused, which has this effect on the host.
     LinkRefused(u64, Trip),
-    // The first connection's event of this deed is refused.
+    // An event of this kind for the first connection is refused.
     IsRefused(Deed, Refusal),
 
-    // What the first client took.
+    // The first client took this.
     Took(Text),
-    // What the second client took.
+    // The second client took this.
     SecondTook(Text),
-    // What was written over the first link.
+    // This was written over the first link.
     Asked(Text),
-    // What was written over the later links.
+    // This was written over the later links.
     AskedLater(Text),
-    // The first client took the text that stands at the number of handed replies.
+    // The first client took the text at the index of the number of handed replies.
     TookHanded(&'static [&'static [u8]]),
-    // So many repetitions of what the first client says weren't read yet.
+    // This many repetitions of the first client's text are unread.
     Unread(u32),
 
-    // The newest error that a client's step told.
+    // The newest error of a client's step.
     ClientTold(Option<Told>),
-    // The newest error that a host's step told.
+    // The newest error of a host's step.
     HostTold(Option<Told>),
-    // No step told an error but this one.
+    // No step returned another error than this one.
     OnlyTold(EngineError),
 
-    // So many steps are such a deed.
+    // The number of steps of this kind.
     Did(Deed, usize),
-    // So many are, at most.
+    // The number of steps of this kind is at most this.
     DidAtMost(Deed, usize),
-    // The only fault is this one, of epoch 0: its kind, how many parts it lost, and its moment.
+    // The only fault is of epoch 0: its kind, the number of its parts, and its moment.
     Lost(Kind, u64, u64),
-    // So many parts were answered or lost.
+    // This many parts were answered or lost.
     AnsweredOrLost(usize),
-    // So many steps were recorded since this was last seen.
+    // This many steps were recorded since the journal was last looked at.
     Recorded(usize),
-    // Fewer steps than that were recorded.
+    // Fewer steps than this were recorded.
     RecordedBelow(usize),
-    // So many parts were sent in this epoch.
+    // This many parts were sent in this epoch.
     Sent(u64, usize),
-    // Parts were written as they were sent: over the first link in epoch 0, if not all, and over the second in epoch 1.
+    // Parts were written as sent: over the first link those of epoch 0 or a beginning, over the second those of epoch 1.
     WroteSent,
-    // So many replies were handed out before the newest command arrived.
+    // This many replies were handed out before the newest command arrived.
     HandedBefore(usize),
 
     // The number of an error.
     IsNumbered(EngineError, u16),
 }
 
-// What came in place of what an act expects, and how many, or the number of an error.
+// The result in place of the expected one, and its number, or an error's number.
 #[derive(Clone, Copy)]
 pub(crate) struct Came {
     what: &'static str,
     number: u64,
 }
 
-// An act that failed, counted from 0, and what came.
+// The index of the act that failed, and its result.
 #[derive(Clone, Copy, Debug)]
 pub(crate) struct Fault {
     act: usize,
@@ -97,7 +97,7 @@ pub(crate) struct Fault {
 }
 
 impl Fault {
-    // A scene that went otherwise than another one.
+    // A scene whose journal differs from another one's.
     pub(crate) const OTHERWISE: Fault = Fault {
         act: 0,
         came: "another journal",
@@ -105,7 +105,7 @@ impl Fault {
     };
 }
 
-// What came, unless it is right.
+// The result, unless it is right.
 fn unless(is_right: bool, what: &'static str, number: u64) -> Result<(), Came> {
     if is_right {
         Ok(())
@@ -114,7 +114,7 @@ fn unless(is_right: bool, what: &'static str, number: u64) -> Result<(), Came> {
     }
 }
 
-// What an engine's error is to an act.
+// An engine's error as an act's result.
 fn made(outcome: Result<(), EngineError>) -> Result<(), Came> {
     match outcome {
         Ok(()) => Ok(()),
@@ -125,7 +125,7 @@ fn made(outcome: Result<(), EngineError>) -> Result<(), Came> {
     }
 }
 
-// Acts of a scene's own, and lists of acts before and after them: so what is the same in many scenes is a constant.
+// A scene's own acts between shared lists of acts, which are constants.
 #[derive(Clone, Copy)]
 pub(crate) struct Scene<'a> {
     pub(crate) before: &'static [&'static [Act]],
@@ -151,7 +151,7 @@ pub(crate) const STUBS: &[&[Act]] = &[&[
     Act::Links(Link::STUB),
 ]];
 
-// Plays a scene before so many hosts, one or three.
+// Plays a scene before one or three hosts.
 pub(crate) fn play<Rt: Wait + AllocGlobal>(
     rt: &Rt,
     hosts: usize,
@@ -163,7 +163,7 @@ pub(crate) fn play<Rt: Wait + AllocGlobal>(
     }
 }
 
-// The same by turns of this ration: the core, at the end.
+// The same with turns of this ration; returns the core at the end.
 pub(crate) fn record<Rt: Wait + AllocGlobal>(
     rt: &Rt,
     hosts: usize,
@@ -182,7 +182,7 @@ pub(crate) fn record<Rt: Wait + AllocGlobal>(
 }
 
 impl<'a> Rig<'a> {
-    // Plays acts in their order: the core, at the end, or the first act that fails.
+    // Plays acts in their order; returns the core at the end, or the first act that fails.
     fn played<Rt: Wait + AllocGlobal>(mut self, rt: &Rt, scene: Scene<'_>) -> Result<Core, Fault> {
         match self.play(rt, scene) {
             Ok(()) => Ok(self.into_core()),
@@ -200,7 +200,7 @@ impl<'a> Rig<'a> {
         Ok(())
     }
 
-    // Plays acts that stand from this place of the scene on: the place behind them.
+    // Plays acts from this index of the scene on; returns the next index.
     fn play_acts<Rt: Wait + AllocGlobal>(
         &mut self,
         rt: &Rt,
@@ -269,7 +269,7 @@ impl<'a> Rig<'a> {
     }
 }
 
-// What needs no step: devices are told how to go on, and what was said and done is seen.
+// Acts without a step: change what devices do, or check what was sent and taken.
 fn on_stage(stage: &Stage, core: &Core, act: Act) -> Result<(), Came> {
     match act {
         Act::Says(feed) => Ok(stage.first.says.set(feed)),
@@ -286,7 +286,7 @@ fn on_stage(stage: &Stage, core: &Core, act: Act) -> Result<(), Came> {
     }
 }
 
-// Sees what the journal has.
+// Checks the journal.
 fn see_journal(core: &Core, act: Act) -> Result<(), Came> {
     match act {
         Act::Did(deed, times) => see_count(count(core, deed), times),
@@ -371,7 +371,7 @@ fn see_text(taken: &Taken, text: Text) -> Result<(), Came> {
     )
 }
 
-// The first client took the text that stands at the number of handed replies.
+// The first client took the text at the index of the number of handed replies.
 fn see_handed(taken: &Taken, core: &Core, texts: &[&'static [u8]]) -> Result<(), Came> {
     let handed = count(core, Deed::Handed);
     match texts.get(handed) {
@@ -397,7 +397,7 @@ fn see_ends(core: &Core, parts: usize) -> Result<(), Came> {
     see_count(count(core, Deed::Answered).saturating_add(lost), parts)
 }
 
-// Each part was written once at most, as it was sent: over the second link whole.
+// Each part was written at most once, as sent; over the second link completely.
 fn see_sent(stage: &Stage, core: &Core) -> Result<(), Came> {
     let len = stage.asked_later.len();
     let is_right = is_sent(&stage.asked, core, 0)
@@ -410,7 +410,7 @@ fn see_sent(stage: &Stage, core: &Core) -> Result<(), Came> {
     )
 }
 
-// Whether a beginning of the parts that were sent in this epoch was taken.
+// Whether the bytes taken begin the parts sent in this epoch.
 fn is_sent(taken: &Taken, core: &Core, epoch: u64) -> bool {
     match taken.bytes.try_borrow() {
         Ok(bytes) => begins_sent(core, epoch, bytes.as_slice()),
@@ -418,7 +418,7 @@ fn is_sent(taken: &Taken, core: &Core, epoch: u64) -> bool {
     }
 }
 
-// The first connection's event that is such a deed.
+// The first connection's event of this kind.
 fn event_of(deed: Deed) -> Event {
     match deed {
         Deed::Arrived => {

@@ -1,4 +1,4 @@
-//! Clients whose readers and writers fail, whose writers take nothing, and who never read.
+//! Clients whose readers and writers fail, whose writers take nothing, or that never read.
 
 use crate::acts::{Act, Fault, STUBS, Scene, play};
 use crate::fake_devices::{Feed, Text};
@@ -12,7 +12,7 @@ use proxy_engines::{EngineError, Progress};
 use std::sync::Wait;
 use std::test::Fail;
 
-// What is told of a client whose writer failed, and of one whose reader failed.
+// The result of a client whose writer failed, and of one whose reader failed.
 const WRITE_FAILED: Option<Told> = Some(Told {
     error: EngineError::WriteFailed,
     deed: Some(Deed::Closed),
@@ -23,7 +23,7 @@ const READ_FAILED: Option<Told> = Some(Told {
     deed: Some(Deed::Closed),
 });
 
-// A client that is closed, since its writer failed.
+// A client closed because its writer failed.
 const WRITER_CUT: &[Act] = &[
     Act::ClientTold(WRITE_FAILED),
     Act::IsNumbered(EngineError::WriteFailed, 1403),
@@ -31,7 +31,7 @@ const WRITER_CUT: &[Act] = &[
     Act::Steps(Progress::Cut, 3),
 ];
 
-// A client whose writer takes just `said`, and is closed.
+// A client whose writer takes exactly `said`, and which is closed.
 fn check_writer<Rt: Wait + AllocGlobal>(
     rt: &Rt,
     asked: &'static [u8],
@@ -51,8 +51,8 @@ fn check_writer<Rt: Wait + AllocGlobal>(
     play(rt, 3, scene)
 }
 
-// After each byte of an output of so many bytes but the last, whatever it takes at a call: the client took the output's first
-// bytes, and no more.
+// The writer fails after each number of bytes below `bytes`, with long and short writes: the client took the output's
+// first bytes and no more.
 fn check_writers<Rt: Wait + AllocGlobal>(
     rt: &Rt,
     (asked, answers): Exchange,
@@ -71,7 +71,7 @@ fn check_writers<Rt: Wait + AllocGlobal>(
     Ok(())
 }
 
-// A write that takes nothing of what it is given is a failure too.
+// A write that takes nothing is a failure too.
 fn check_all_writers<Rt: Wait + AllocGlobal>(rt: &Rt) -> Result<(), Fault> {
     check_writers(rt, PINGS, 14)?;
     check_writers(rt, SET_AND_MGET, 28)?;
@@ -84,7 +84,7 @@ fn failing_writers_cut(rt: HostRuntime) -> Result<(), Fail> {
     Ok(())
 }
 
-// A client that is closed, since its reader failed.
+// A client closed because its reader failed.
 const READER_CUT: &[Act] = &[
     Act::ClientTold(READ_FAILED),
     Act::IsNumbered(EngineError::ReadFailed, 1402),
@@ -92,7 +92,7 @@ const READER_CUT: &[Act] = &[
     Act::Steps(Progress::Cut, 3),
 ];
 
-// A client whose reader fails: so many commands were accepted, and what is answered is a beginning of this.
+// A client whose reader fails: `whole` commands were accepted, and the client took a beginning of `answers`.
 fn check_reader<Rt: Wait + AllocGlobal>(
     rt: &Rt,
     asked: &'static [u8],
@@ -113,8 +113,8 @@ fn check_reader<Rt: Wait + AllocGlobal>(
     play(rt, 3, scene)
 }
 
-// After each byte of the input, whatever it gives at a call: what came whole before was accepted, and nothing is answered that
-// wasn't asked. The places are those behind each command and its answer.
+// The reader fails after each byte of the input, with long and short reads: commands that came completely were
+// accepted, and only these are answered. `first` and `second` are the ends of each command and of its answer.
 fn check_readers<Rt: Wait + AllocGlobal>(
     rt: &Rt,
     (asked, answers): Exchange,
@@ -146,7 +146,7 @@ fn failing_readers_cut(rt: HostRuntime) -> Result<(), Fail> {
     Ok(())
 }
 
-// Ends that fail behind the last byte don't fail.
+// Ends that fail after the last byte do no harm.
 const PINGS_IN_TIME: &[Act] = &[
     Act::Opens(
         Feed::Whole(b"*1\r\n$4\r\nPING\r\n*1\r\n$4\r\nPING\r\n"),
@@ -169,8 +169,8 @@ fn ends_that_last_are_enough(rt: HostRuntime) -> Result<(), Fail> {
     Ok(())
 }
 
-// The first of two clients is cut: what it was answered stays, its later events are refused, no host is at fault, and the other
-// gets all answers.
+// The first of two clients is cut: its answers so far stay, its later events are refused, no host has a fault, and the
+// other client gets all answers.
 fn check_beside<Rt: Wait + AllocGlobal>(rt: &Rt, ends: Ends) -> Result<(), Fault> {
     let opens = [Act::Opens(Feed::Whole(SET_AND_MGET.0), ends)];
     let scene = Scene {
@@ -194,7 +194,7 @@ const CUT_BESIDE: &[Act] = &[
     Act::IsRefused(Deed::Closed, Refusal::NoSuchConnection),
 ];
 
-// The ends of a client that is read in pieces of 5 bytes and takes one byte at a time.
+// A client's ends that read 5 bytes and write one byte at a time.
 const SLOW: Ends = Ends {
     reads: u64::MAX,
     writes: u64::MAX,
@@ -212,16 +212,16 @@ fn check_all_beside<Rt: Wait + AllocGlobal>(rt: &Rt) -> Result<(), Fault> {
     Ok(())
 }
 
-// A client that is cut after each byte read and after each byte written disturbs nobody.
+// Cutting a client after each byte read and after each byte written disturbs no other.
 #[test]
 fn cut_clients_leave_others(rt: HostRuntime) -> Result<(), Fail> {
     check_all_beside(&rt)?;
     Ok(())
 }
 
-// A client that takes nothing while it asks 1,030 times. At first the host has no link: 1,024 commands are accepted, one is held
-// back, and no more is read. Then the host has one: all accepted commands are answered, and no more is read. Once the client
-// takes all again nothing is lost.
+// A client that takes nothing while it asks 1,030 times. While the host has no link, 1,024 commands are accepted, one
+// is held back, and no more is read. With a link all accepted commands are answered, and no more is read. Once the
+// client takes bytes again, nothing is lost.
 const NEVER_READS: &[Act] = &[
     Act::IsShut(true),
     Act::Opens(Feed::Then(b"", GET, 1_030), Ends::FREE),

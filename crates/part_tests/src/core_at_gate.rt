@@ -21,7 +21,7 @@ pub(crate) fn core(alloc: Global) -> Result<Core, Fail>
     Ok(Core::new(alloc, ring, Settings::default())?)
 }
 
-// Sweeps at 0, 1, 2 and so on milliseconds. Counts the answered turns.
+// Sweeps at 0, 1, 2 and so on milliseconds. Returns the number of answered turns.
 fn sweep<R: Wait>(rt: &R, gate: &Gate<Core>, pass: Pass<Core>) -> (Pass<Core>, u64)
     requires { IsPassOf gate.now pass }
     ensures { IsPassOf gate.now result.0 }
@@ -36,7 +36,7 @@ fn sweep<R: Wait>(rt: &R, gate: &Gate<Core>, pass: Pass<Core>) -> (Pass<Core>, u
     (pass, answered)
 }
 
-// How many steps and bytes a look tells.
+// The steps and bytes of a sight.
 fn looked<R: Wait>(rt: &R, gate: &Gate<Core>, pass: &mut Pass<Core>) -> Option<(u64, u64)>
     requires { IsPassOf gate.now pass.old }
     ensures { IsPassOf gate.now pass.new }
@@ -55,7 +55,7 @@ pub(crate) fn swept_at(event: &Event) -> Option<u64> {
     }
 }
 
-// The sweeps of the pass stand in the order in which it made them: how many there are, if so.
+// The number of the pass's sweeps, if they stand in the order in which it made them.
 fn sweeps_in_order(core: &Core, pass: u64) -> Option<u64> {
     let journal = core.journal();
     let mut next = 0u64;
@@ -71,7 +71,7 @@ fn sweeps_in_order(core: &Core, pass: u64) -> Option<u64> {
     Some(next)
 }
 
-// How many steps there are, and how many sweeps of each pass, in their order.
+// The number of steps, and of each pass's sweeps if they are in order.
 fn told(core: Option<Core>) -> Option<(usize, [Option<u64>; 2])> {
     let core = core?;
     let sweeps = [sweeps_in_order(&core, 0), sweeps_in_order(&core, 1)];

@@ -1,4 +1,5 @@
-//! Readers and writers that stop short and pause, of clients and of hosts, and what a writer took.
+//! Readers and writers of clients and hosts that stop short and pause, and the bytes that a writer
+//! took.
 
 use std::alloc::Global;
 use std::cell::{Cell, RefCell};
@@ -6,19 +7,19 @@ use std::io;
 use std::io::{ErrorKind, Read, Write};
 use stub_server::{StubReader, StubWriter};
 
-// What a reader gives.
+// The bytes of a reader.
 #[derive(Clone, Copy)]
 pub(crate) enum Feed {
     // A text, and then the end.
     Whole(&'static [u8]),
     // A text, and then pauses.
     Open(&'static [u8]),
-    // A text; another one so many times, each after a pause; and then pauses.
+    // A text; another one this many times, each after a pause; and then pauses.
     Then(&'static [u8], &'static [u8], u32),
 }
 
 impl Feed {
-    // How many times the other text is still to come.
+    // How many times the other text still comes.
     pub(crate) fn times(self) -> u32 {
         match self {
             Feed::Then(_, _, times) => times,
@@ -26,7 +27,7 @@ impl Feed {
         }
     }
 
-    // What comes next without a pause: nothing is the end.
+    // The bytes until the next pause; none at the end.
     fn now(self) -> io::Result<&'static [u8]> {
         match self {
             Feed::Whole(text) => Ok(text),
@@ -35,7 +36,7 @@ impl Feed {
         }
     }
 
-    // The same once so much of what came next is left.
+    // The same with these bytes left until the next pause.
     fn with(self, left: &'static [u8]) -> Feed {
         match self {
             Feed::Whole(_) => Feed::Whole(left),
@@ -53,7 +54,7 @@ impl Feed {
     }
 }
 
-// Gives what stands in a cell, so many bytes a call at most.
+// Reads from the feed in a cell, at most `most` bytes a call.
 #[derive(Drop)]
 pub(crate) struct Source<'a> {
     pub(crate) feed: &'a Cell<Feed>,
@@ -61,7 +62,7 @@ pub(crate) struct Source<'a> {
 }
 
 impl Source<'_> {
-    // At most so many of the bytes that come next, which are given by that, or a pause.
+    // Takes at most this many of the next bytes, or pauses.
     fn give(&self, most: usize) -> io::Result<&'static [u8]> {
         let feed = self.feed.get();
         match feed.now() {
@@ -78,16 +79,16 @@ impl Source<'_> {
     }
 }
 
-// A text that a writer has to have taken.
+// The text that a writer must have taken.
 #[derive(Clone, Copy)]
 pub(crate) enum Text {
-    // Just this.
+    // Exactly this.
     All(&'static [u8]),
     // A beginning of this.
     BeginningOf(&'static [u8]),
-    // This one so many times, then another one, and nothing else.
+    // The first text this many times, then the other one, and nothing else.
     Times(&'static [u8], usize, &'static [u8]),
-    // So many bytes, of which the first and the last are these.
+    // This many bytes, with these first and last ones.
     Long(usize, &'static [u8], &'static [u8]),
 }
 
@@ -104,7 +105,7 @@ impl Text {
     }
 }
 
-// Whether these bytes are a text so many times and then another one.
+// Whether these bytes are a text `times` times and then another one.
 fn is_repeated(bytes: &[u8], text: &[u8], times: usize, last: &[u8]) -> bool {
     let (front, behind) = bytes.split_at(text.len().saturating_mul(times).min(bytes.len()));
     front.len() == text.len().saturating_mul(times)
@@ -112,7 +113,7 @@ fn is_repeated(bytes: &[u8], text: &[u8], times: usize, last: &[u8]) -> bool {
         && behind == last
 }
 
-// What a writer took, and whether it takes nothing for now.
+// The bytes that a writer took, and whether it takes none for now.
 #[derive(Drop)]
 pub(crate) struct Taken {
     pub(crate) bytes: RefCell<Vec<u8>>,
@@ -150,13 +151,13 @@ impl Taken {
     }
 }
 
-// What a client or a host says: what a stub answers, or a text whatever it is asked.
+// The input of a client or host engine: a stub's replies, or a text whatever is asked.
 pub(crate) enum Reader<'a> {
     Stub(StubReader),
     Text(Source<'a>),
 }
 
-// Written out, as that of a rig.
+// Written out, as in `rig.rt`.
 impl Drop for Reader<'_> {
     fn drop(self) {
         match self {
@@ -180,14 +181,14 @@ impl Read for Reader<'_> {
     }
 }
 
-// Keeps what a client or a host is told, so many bytes a call at most, or what its stub took, if it has one.
+// The output of a client or host engine: kept, at most this many bytes a call, or taken by a stub.
 pub(crate) struct Writer<'a> {
     pub(crate) stub: Option<StubWriter>,
     pub(crate) taken: &'a Taken,
     pub(crate) most: usize,
 }
 
-// Written out, as that of a rig.
+// Written out, as in `rig.rt`.
 impl Drop for Writer<'_> {
     fn drop(self) {
         let Writer {

@@ -1,4 +1,4 @@
-//! The gate round a running total: one journal of several passes.
+//! The gate around a running total: several passes write one journal.
 ghost use Rattle.std.specs.Prelude.{◌≡◌, ◌≤◌, [], IfOk, sum_by};
 ghost use Rattle.ticket_gate.specs.Gate.{IsPassOf, IsSpareOf};
 
@@ -14,7 +14,7 @@ use ticket_gate::{Gate, Pass, Recorded, Seated, Spare, TurnRefusal, Turns};
 
 const MAX_LOOKS: u32 = 1_000_000;
 
-// Looks at the flag, with a yield after each look, until it is as wanted. False where it never was.
+// Waits until the flag is as wanted, with a yield after each look. False: it never was.
 fn becomes(flag: &AtomicBool, wanted: bool) -> bool {
     for _ in 0..MAX_LOOKS {
         if flag.load(SeqCst) == wanted {
@@ -25,7 +25,7 @@ fn becomes(flag: &AtomicBool, wanted: bool) -> bool {
     false
 }
 
-/// A running total whose turns wait inside while the flag `hold` is up. One that is held too long is refused without a cause.
+/// A running total whose turns wait while the flag `hold` is up. One that is held too long is refused without a cause.
 #[derive(Drop)]
 struct HeldTotal {
     total: RunningTotal,
@@ -104,7 +104,7 @@ pub(crate) fn enrol<S: Recorded + Drop, R: Wait>(
     }
 }
 
-// A gate round a state without a step, and two passes.
+// A gate around a new state, and two passes.
 pub(crate) fn pair<S: Recorded + Drop, R: Wait>(
     rt: &R,
     alloc: Global,
@@ -143,7 +143,7 @@ pub(crate) fn enrol_both<S: Recorded + Drop, R: Wait>(
     }
 }
 
-// The steps of each pass stand in the order in which it made them, and none is of another pass.
+// Whether each pass's steps stand in the order in which it made them, and none is of another pass.
 fn are_in_order(steps: &[Step<u64, u64>], passes: usize) -> bool {
     let mut next = [0u64; 4];
     for step in steps {
@@ -164,7 +164,7 @@ pub(crate) fn count_of(steps: &[Step<u64, u64>], pass: u64) -> usize {
     count
 }
 
-// What a turn, or a look, came to: a number, or a refusal and the amount that is handed back.
+// The result of a turn or a sight: a number, or a refusal with the amount that came back.
 #[derive(Clone, Copy, PartialEq)]
 pub(crate) enum Outcome {
     Answered(u64),
@@ -186,8 +186,8 @@ pub(crate) fn outcome_of(turn: Result<u64, TurnRefusal<AdditionRefusal, u64>>) -
     }
 }
 
-// What the steps of a total tell: how many there are of each of four passes, whether all are of so many passes and in their order,
-// how many there are, and their sum.
+// Facts about a total's steps: the number for each of four passes, whether all are of these passes and in order, their
+// number, and their sum.
 type Found = ([u64; 4], bool, u64, u64);
 
 fn found(state: Option<RunningTotal>, passes: usize) -> Option<Found> {
@@ -231,8 +231,8 @@ fn make_turns<R: Wait>(
     (turns.into_pass(), answered)
 }
 
-// Both passes make their turns in threads of their own, and meet: the first of them, how many turns of each were answered, and
-// the numbers of both.
+// Both passes make turns in their own threads at the same time. Returns the first pass, the numbers of answered turns,
+// and the numbers of the passes.
 fn fill_both<R: thread::Threads + Wait + Sync>(
     rt: &R,
     gate: &Gate<RunningTotal>,
@@ -269,7 +269,7 @@ fn two_passes_fill_one_journal(rt: HostRuntime) -> Result<(), Fail> {
     Ok(())
 }
 
-// Every other turn waits. Counts the answered turns.
+// Makes every other turn as one that waits. Returns the number of answered turns.
 fn mix_turns<R: Wait>(
     rt: &R,
     gate: &Gate<RunningTotal>,
@@ -318,7 +318,7 @@ fn mix_two<R: thread::Threads + Wait + Sync>(
     )
 }
 
-// Four passes mix their turns in threads of their own: the first of them, and how many turns of each were answered.
+// Four passes make turns in their own threads. Returns the first one, and the numbers of answered turns.
 fn mix_four<R: thread::Threads + Wait + Sync>(
     rt: &R,
     gate: &Gate<RunningTotal>,
@@ -346,7 +346,7 @@ fn mix_four<R: thread::Threads + Wait + Sync>(
     (a, [by_a, by_b, by_c, by_d])
 }
 
-// Whether the steps are those that were answered: the 250 of each pass that wait, and others.
+// Whether the steps are those answered: each pass's 250 waiting ones, and others.
 fn is_mixed(answered: [u64; 4], found: Option<Found>) -> bool {
     let Some(found) = found else {
         return false;

@@ -1,4 +1,4 @@
-//! The gate round a running total: its last tickets, its most passes, what it refuses, and want of memory.
+//! The gate around a running total: its last tickets, its most passes, its refusals, and want of memory.
 ghost use Rattle.std.specs.Prelude.{IfSome};
 ghost use Rattle.ticket_gate.specs.Gate.{IsPassOf, IsSpareOf};
 
@@ -10,19 +10,19 @@ use std::sync::Wait;
 use std::test::Fail;
 use ticket_gate::{Alone, Gate, GateRefusal, Pass, Spare, TurnRefusal, Turns};
 
-// What two passes do, one act after the other, and what each act has to come to.
+// An act of two passes, with the expected outcome.
 #[derive(Clone, Copy)]
 enum Act {
-    // A turn of the first that waits.
+    // A turn of the first pass that waits.
     Takes(u64, Outcome),
-    // One of the first, and of the second, that doesn't.
+    // A turn of the first pass, and of the second, that doesn't wait.
     Tries(u64, Outcome),
     OtherTries(u64, Outcome),
-    // A look of the first.
+    // A sight of the first pass.
     Looks(Outcome),
 }
 
-// What a look came to.
+// The outcome of a sight.
 fn look_of(look: Result<u64, TurnRefusal<AdditionRefusal, ()>>) -> Outcome {
     match look {
         Ok(total) => Outcome::Answered(total),
@@ -31,7 +31,7 @@ fn look_of(look: Result<u64, TurnRefusal<AdditionRefusal, ()>>) -> Outcome {
     }
 }
 
-// Whether an act comes to what it has to.
+// Whether an act has its expected outcome.
 fn comes_so<R: Wait>(
     rt: &R,
     gate: &Gate<RunningTotal>,
@@ -50,7 +50,7 @@ fn comes_so<R: Wait>(
     }
 }
 
-// The place of the first act that doesn't.
+// The index of the first act without it.
 fn first_fault<R: Wait>(
     rt: &R,
     gate: &Gate<RunningTotal>,
@@ -69,7 +69,7 @@ fn first_fault<R: Wait>(
     None
 }
 
-// Whether the steps are these, each by its pass and its amount.
+// Whether these are the steps, each by its pass and amount.
 fn has_steps(state: &RunningTotal, steps: &[(u64, u64)]) -> bool {
     let mut total = 0u64;
     for (step, (pass, amount)) in state.steps().iter().zip(steps) {
@@ -81,7 +81,7 @@ fn has_steps(state: &RunningTotal, steps: &[(u64, u64)]) -> bool {
     state.steps().len() == steps.len() && state.total() == total
 }
 
-// The same of a gate's state at its end.
+// The same, of a gate's last state.
 fn ends_with(state: Option<RunningTotal>, steps: &[(u64, u64)]) -> bool {
     let Some(state) = state else {
         return false;
@@ -91,7 +91,7 @@ fn ends_with(state: Option<RunningTotal>, steps: &[(u64, u64)]) -> bool {
     is_so
 }
 
-// Two passes act at a gate with this first ticket, round a total with this limit; in the end these steps were made.
+// Plays two passes' acts at a gate with this first ticket, around a total with this limit, and compares the steps at the end.
 fn check<R: Wait + AllocGlobal>(
     rt: &R,
     (first, limit): (u64, u64),
@@ -113,7 +113,7 @@ fn check<R: Wait + AllocGlobal>(
     }
 }
 
-// One ticket is left, which the first turn draws.
+// One ticket is left, and the first turn draws it.
 #[test]
 fn tickets_end_before_the_greatest_number(rt: HostRuntime) -> Result<(), Fail> {
     let acts = &[
@@ -146,7 +146,7 @@ fn a_free_gate_answers_at_once(rt: HostRuntime) -> Result<(), Fail> {
     check(&rt, (0, 100), acts, &[(0, 4), (0, 5)])
 }
 
-// Enrols 256 passes, and gives the place that is left.
+// Enrols 256 passes, and returns the remaining spare place.
 fn fill<R: Wait>(
     rt: &R,
     gate: &Gate<RunningTotal>,
@@ -186,7 +186,7 @@ fn the_257th_pass_is_refused(rt: HostRuntime) -> Result<(), Fail> {
     Ok(())
 }
 
-// A turn, made again if there was no memory.
+// Makes a turn, again if there was no memory.
 fn turn_again<R: Wait>(rt: &R, gate: &Gate<RunningTotal>, pass: &mut Pass<RunningTotal>) -> Outcome
     requires { IsPassOf gate.now pass.old }
     ensures { IsPassOf gate.now pass.new }
@@ -197,7 +197,7 @@ fn turn_again<R: Wait>(rt: &R, gate: &Gate<RunningTotal>, pass: &mut Pass<Runnin
     }
 }
 
-// Whether a gate that could be had answers a turn.
+// Whether the gate answers a turn.
 fn answers<R: Wait>(
     rt: &R,
     gate: Gate<RunningTotal>,
@@ -226,7 +226,7 @@ fn without_memory_nothing_is_lost(rt: HostRuntime) -> Result<(), Fail> {
 
 #[test]
 fn one_pass_alone(rt: HostRuntime) -> Result<(), Fail> {
-    // 0 + 1 + 2 + 3 + 4 is 10, and 5 more are too many.
+    // 0 + 1 + 2 + 3 + 4 is 10; 5 more pass the limit.
     let mut alone = Alone::new(RunningTotal::new(rt.alloc(), 14), 3);
     let answered = answered_turns(&rt, &mut alone, 9);
     let total = alone.state().total();

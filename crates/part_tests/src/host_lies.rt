@@ -1,4 +1,4 @@
-//! Hosts that answer in part, too much, wrongly, late or never, over links that fail at any byte.
+//! Hosts that answer partly, too much, wrongly, late or never, over links that fail at any byte.
 
 use crate::acts::{Act, Fault, Scene, play};
 use crate::fake_devices::{Feed, Text};
@@ -11,7 +11,7 @@ use std::sync::Wait;
 use std::test::Fail;
 use stub_server::Act as Serves;
 
-// A host that says so much of a reply, and then ends: the link is dropped and the part lost.
+// A host that sends this part of a reply and then ends: the link is dropped, and the part is lost.
 fn check_half<Rt: Wait + AllocGlobal>(rt: &Rt, half: &'static [u8]) -> Result<(), Fault> {
     let says = [Act::HostSays(Feed::Whole(half))];
     let scene = Scene {
@@ -32,7 +32,7 @@ const HALF: &[Act] = &[
     Act::HostTold(None),
 ];
 
-// After each byte of a reply but the last.
+// Every proper beginning of the reply.
 fn check_halves<Rt: Wait + AllocGlobal>(rt: &Rt, reply: &'static [u8]) -> Result<(), Fault> {
     for len in 0..reply.len() {
         check_half(rt, reply.split_at(len).0)?;
@@ -46,8 +46,8 @@ fn half_replies_are_lost(rt: HostRuntime) -> Result<(), Fail> {
     Ok(())
 }
 
-// Two replies to one request: the first is its answer, and nobody asked for the second. That is one bad result: the host is put
-// aside at the fourth that follows.
+// Two replies to one request: the first answers it, and the second is one bad result. The host is ejected at the fourth
+// fault after it.
 const SECOND_REPLY: &[Act] = &[
     Act::Opens(Feed::Whole(SET), Ends::FREE),
     Act::HostSays(Feed::Open(b"+OK\r\n+OK\r\n")),
@@ -68,7 +68,7 @@ fn second_replies_end_the_link(rt: HostRuntime) -> Result<(), Fail> {
     Ok(())
 }
 
-// A garbled reply loses its part, and the next command goes over a new link.
+// A garbled reply loses its part; the next command goes over a new link.
 const GARBLED_REPLY: &[Act] = &[
     Act::Opens(Feed::Open(GET), Ends::FREE),
     Act::Links(Link {
@@ -104,7 +104,7 @@ const NINE: &[Act] = &[
     Act::Runs(3),
 ];
 
-// One of 1,040,384 bytes: 127 times 8,192.
+// One bulk string of 1,040,384 bytes: 127 times 8,192.
 const BULK: &[Act] = &[
     Act::HostSays(Feed::Then(b"$1040384\r\n", ZEROS, 127)),
     Act::Runs(3),
@@ -112,7 +112,7 @@ const BULK: &[Act] = &[
     Act::Runs(3),
 ];
 
-// The last has 65,426 bytes: 7 times 8,192, and 8,082. The reply has 8,388,608 then, and goes out as it came.
+// The last one has 65,426 bytes: 7 times 8,192, and 8,082. The reply then has 8,388,608, and goes out unchanged.
 const GREATEST: &[Act] = &[
     Act::HostSays(Feed::Then(b"$65426\r\n", ZEROS, 7)),
     Act::Runs(3),
@@ -124,7 +124,7 @@ const GREATEST: &[Act] = &[
     Act::Did(Deed::Failed, 0),
 ];
 
-// The last has a byte more, and the reply is refused.
+// The last one has one byte more, and the reply is refused.
 const TOO_LONG: &[Act] = &[
     Act::HostSays(Feed::Then(b"$65427\r\n", ZEROS, 7)),
     Act::Runs(3),
@@ -138,7 +138,7 @@ const TOO_LONG: &[Act] = &[
 
 const EIGHT_OF_NINE: &[&[Act]] = &[NINE, BULK, BULK, BULK, BULK, BULK, BULK, BULK, BULK];
 
-// A reply of nine bulk strings, of which the last comes so.
+// A reply of nine bulk strings, the last of which comes by these acts.
 fn check_length<Rt: Wait + AllocGlobal>(rt: &Rt, last: &[Act]) -> Result<(), Fault> {
     let scene = Scene {
         before: EIGHT_OF_NINE,
@@ -155,7 +155,7 @@ fn replies_have_a_greatest_length(rt: HostRuntime) -> Result<(), Fail> {
     Ok(())
 }
 
-// A part that was taken at the moment 10 is late at 5,010, and not a millisecond earlier. That is one step.
+// A part taken at the moment 10 is late at 5,010, and not a millisecond earlier. That is one step.
 const LATE_REPLY: &[Act] = &[
     Act::Opens(Feed::Open(GET), Ends::FREE),
     Act::Links(Link::TEXT),
@@ -176,8 +176,8 @@ fn held_replies_are_late(rt: HostRuntime) -> Result<(), Fail> {
     Ok(())
 }
 
-// Of 1,025 commands that wait for one host the last is held back. The others are lost and answered before it is asked, over the
-// next link.
+// Of 1,025 commands that wait for one host the last one is held back. The others are lost and answered before it is
+// sent over the next link.
 const HELD_COMMAND: &[Act] = &[
     Act::Opens(Feed::Then(b"", GET, 1_025), Ends::FREE),
     Act::Links(Link::TEXT),
@@ -201,12 +201,12 @@ fn held_commands_wait_for_room(rt: HostRuntime) -> Result<(), Fail> {
     Ok(())
 }
 
-// Four parts: their texts have 87 bytes, and the replies of an empty stub 26.
+// Four parts of 87 bytes together; an empty stub's replies have 26.
 const FOUR_PARTS: &[u8] =
     b"*3\r\n$3\r\nSET\r\n$1\r\na\r\n$1\r\n1\r\n*2\r\n$3\r\nGET\r\n$1\r\na\r\n*3\r\n$4\r\nMGET\r\n$1\r\na\r\n$1\r\na\r\n";
 
-// The first of two links fails after so many bytes, if they come to pass: that is told once, and each part is answered or lost,
-// and sent once at most.
+// The first of two links fails after this many bytes. The error is returned once; each part is answered or lost, and
+// sent at most once.
 fn check_link<Rt: Wait + AllocGlobal>(
     rt: &Rt,
     (reads, writes): (u64, u64),
@@ -236,7 +236,7 @@ const FOUR_ANSWERED: &[Act] = &[
     Act::DidAtMost(Deed::Taken, 4),
 ];
 
-// What is told of a host whose link failed, and how often.
+// The error of a host whose link failed, and the number of faults.
 const READ_FAILED: (Option<Told>, usize) = (
     Some(Told {
         error: EngineError::ReadFailed,
@@ -253,7 +253,7 @@ const WRITE_FAILED: (Option<Told>, usize) = (
     1,
 );
 
-// Links that fail after each byte read and after each byte written.
+// Fails links after each byte read and after each byte written.
 fn check_links<Rt: Wait + AllocGlobal>(rt: &Rt) -> Result<(), Fault> {
     for reads in 0..27 {
         check_link(rt, (reads, u64::MAX), READ_FAILED)?;
@@ -270,7 +270,7 @@ fn failing_links_are_dropped_once(rt: HostRuntime) -> Result<(), Fail> {
     Ok(())
 }
 
-// A host asks for a link exactly where it has bytes for it and none.
+// A host asks for a link exactly when it has bytes to send and no link.
 const ASKS_FOR_LINKS: &[Act] = &[
     Act::Opens(Feed::Open(b""), Ends::FREE),
     Act::Says(Feed::Open(b"*1\r\n$4\r\nPING\r\n")),

@@ -1,8 +1,8 @@
-//! What a core's journal tells of a run.
+//! Facts about a run from a core's journal.
 
 use proxy_core::{Answer, Core, Event, Kind, Step, Trip};
 
-// What a step was, without what it carries.
+// The kind of a step.
 #[derive(Clone, Copy, PartialEq)]
 pub(crate) enum Deed {
     Opened,
@@ -32,7 +32,7 @@ impl Deed {
     }
 }
 
-// A fault of a link, as the journal has it.
+// A fault of a link in the journal.
 #[derive(Clone, Copy, PartialEq)]
 pub(crate) struct Loss {
     pub(crate) kind: Kind,
@@ -55,7 +55,7 @@ impl Loss {
     }
 }
 
-// How many steps are such a deed.
+// The number of steps of this kind.
 pub(crate) fn count(core: &Core, deed: Deed) -> usize {
     let journal = core.journal();
     let mut found = 0usize;
@@ -69,7 +69,7 @@ pub(crate) fn count(core: &Core, deed: Deed) -> usize {
     found
 }
 
-// The newest step.
+// The kind of the newest step.
 pub(crate) fn last_deed(core: &Core) -> Option<Deed> {
     let journal = core.journal();
     match journal.get(journal.len().saturating_sub(1)) {
@@ -90,7 +90,7 @@ pub(crate) fn last_loss(core: &Core) -> Option<Loss> {
     found
 }
 
-// What the newest fault did to its host, and the epoch that it ended.
+// The newest fault's effect on its host, and the epoch that it ended.
 pub(crate) fn last_trip(core: &Core) -> Option<(u64, Trip)> {
     let journal = core.journal();
     match journal.get(journal.len().saturating_sub(1)) {
@@ -105,7 +105,7 @@ pub(crate) fn last_trip(core: &Core) -> Option<(u64, Trip)> {
     }
 }
 
-// How many parts were sent in this epoch.
+// The number of parts sent in this epoch.
 pub(crate) fn sent_in(core: &Core, epoch: u64) -> usize {
     let journal = core.journal();
     let mut found = 0usize;
@@ -123,7 +123,7 @@ pub(crate) fn sent_in(core: &Core, epoch: u64) -> usize {
     found
 }
 
-// The text of the part that was sent at this step of the journal in this epoch, if one was.
+// The text of the part sent at this step in this epoch, if there is one.
 fn sent_at(core: &Core, place: usize, epoch: u64) -> Option<&[u8]> {
     match &core.journal().get(place)?.answer {
         Answer::Sent {
@@ -135,7 +135,7 @@ fn sent_at(core: &Core, place: usize, epoch: u64) -> Option<&[u8]> {
     }
 }
 
-// How many bytes the parts that were sent in this epoch have.
+// The bytes of the parts sent in this epoch.
 pub(crate) fn sent_len(core: &Core, epoch: u64) -> usize {
     let mut len = 0usize;
     for place in 0..core.journal().len() {
@@ -144,7 +144,7 @@ pub(crate) fn sent_len(core: &Core, epoch: u64) -> usize {
     len
 }
 
-// Whether these bytes are a beginning of the parts that were sent in this epoch.
+// Whether these bytes begin the parts sent in this epoch.
 pub(crate) fn begins_sent(core: &Core, epoch: u64, bytes: &[u8]) -> bool {
     let mut left = bytes;
     for place in 0..core.journal().len() {
@@ -158,7 +158,7 @@ pub(crate) fn begins_sent(core: &Core, epoch: u64, bytes: &[u8]) -> bool {
     left.is_empty()
 }
 
-// How many replies were handed out before the newest command arrived.
+// The number of replies handed out before the newest command arrived.
 pub(crate) fn handed_before_last_arrival(core: &Core) -> usize {
     let journal = core.journal();
     let mut handed = 0usize;
@@ -183,7 +183,7 @@ pub(crate) fn handed_before_last_arrival(core: &Core) -> usize {
     before
 }
 
-// Steps that come in the same order whoever comes first: those of one deed, and of one host if it is a host's.
+// Steps whose order doesn't depend on timing: those of one kind, and of one host if it is a host's.
 #[derive(Clone, Copy)]
 struct Kin {
     deed: Deed,
@@ -201,7 +201,7 @@ impl Kin {
         Deed::of(event) == self.deed && host == self.host
     }
 
-    // The answer to the first of these steps from a place on, and the place behind it.
+    // The answer to the first of these steps from an index on, and the next index.
     fn next(self, core: &Core, from: usize) -> Option<(&Answer, usize)> {
         let journal = core.journal();
         for i in from..journal.len() {
@@ -214,7 +214,7 @@ impl Kin {
         None
     }
 
-    // Whether these steps have the same answers in both journals, in the same order.
+    // Whether these steps have the same answers in the same order in both journals.
     fn goes_alike(self, one: &Core, other: &Core) -> bool {
         let (mut i, mut j) = (0, 0);
         for _ in 0..=one.journal().len() {
@@ -234,7 +234,7 @@ impl Kin {
     }
 }
 
-// Whether one client and three hosts without faults did the same in both journals, whoever came first.
+// Whether one client and three hosts without faults did the same in both journals, whatever the timing.
 pub(crate) fn go_alike(one: &Core, other: &Core) -> bool {
     let clients = [
         Deed::Opened,

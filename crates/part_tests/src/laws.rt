@@ -1,4 +1,4 @@
-//! Each law is the contract of a function that does nothing, called once.
+//! Calls each law once. A law is the contract of a function that does nothing.
 
 #[test]
 fn laws_of_texts() {

@@ -1,7 +1,8 @@
-//! The tests of the parts below the program that can't be rows: the ticket gate in one thread and in several, round a running
-//! total and round the core; sweeps, on a core alone; the engines of clients and hosts over devices that stop short, pause,
-//! fail and lie, and over turns that are refused; works that run at the same time; the ends of a link to a host in memory; and
-//! the laws of all crates, each called once.
+//! The tests of library crates that can't be rows. It stands on all of these but those of `serve`.
+//!
+//! They test the ticket gate, in one thread and in several, around a running total and around the core. They test
+//! sweeps on a core, and the engines over refused turns and over devices that stop short, pause, fail and lie. Last
+//! come works in several threads, the ends of a link to a stub, and the laws of all crates. Begin with `acts.rt` and `rig.rt`.
 #![tactic(auto)]
 
 #[cfg(test)]

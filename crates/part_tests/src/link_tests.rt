@@ -1,4 +1,4 @@
-//! The ends of a link to a stub: requests in pieces and many at a time, its scripts, and replies that nobody reads.
+//! The ends of a link to a stub: requests in pieces and many at a time, scripts, and unread replies.
 
 use crate::fake_devices::{Taken, Text};
 use crate::rig::stub;
@@ -10,7 +10,7 @@ use std::io::{ErrorKind, Read, Write};
 use std::test::Fail;
 use stub_server::{Act, MAX_TAKEN, MAX_UNREAD, StubReader, StubWriter};
 
-// The two ends of a link to an empty stub that serves by these acts, made again if memory was refused.
+// The two ends of a link to an empty stub with these acts, made again if memory was refused.
 fn link(alloc: Global, acts: &[Act]) -> Result<(StubReader, StubWriter), EngineError> {
     match stub(alloc, acts) {
         Ok(ends) => Ok(ends),
@@ -18,7 +18,7 @@ fn link(alloc: Global, acts: &[Act]) -> Result<(StubReader, StubWriter), EngineE
     }
 }
 
-// Reads what is there, up to the second time that there is nothing: whether the link has ended.
+// Reads until nothing came twice. True: the link has ended.
 fn listen(reader: &mut StubReader, said: &Taken) -> io::Result<bool> {
     let mut buffer = [0; 64];
     let mut pauses: u8 = 0;
@@ -33,7 +33,7 @@ fn listen(reader: &mut StubReader, said: &Taken) -> io::Result<bool> {
     Ok(false)
 }
 
-// Keeps the bytes, at the second try if memory was refused at the first.
+// Keeps the bytes, in a second try if memory was refused.
 fn keep(said: &Taken, bytes: &[u8]) -> io::Result<()> {
     if said.keep(bytes).is_ok() {
         return Ok(());
@@ -41,7 +41,7 @@ fn keep(said: &Taken, bytes: &[u8]) -> io::Result<()> {
     said.keep(bytes)
 }
 
-// Writes one piece, a second time if nothing was taken at the first: how many bytes were taken.
+// Writes one piece, in a second try if nothing was taken. Returns the number of bytes taken.
 fn say(writer: &mut StubWriter, piece: &[u8]) -> usize {
     for _ in 0..2 {
         if let Ok(count) = writer.write(piece) {
@@ -51,7 +51,7 @@ fn say(writer: &mut StubWriter, piece: &[u8]) -> usize {
     0
 }
 
-// Whether a write of this is refused so.
+// Whether a write is refused with this kind of error.
 fn refuses(writer: &mut StubWriter, kind: ErrorKind) -> bool {
     match writer.write(INCR) {
         Ok(_) => false,
@@ -59,12 +59,12 @@ fn refuses(writer: &mut StubWriter, kind: ErrorKind) -> bool {
     }
 }
 
-// Whether a link that has ended takes nothing and says nothing.
+// Whether an ended link takes nothing and sends nothing.
 fn is_over(reader: &mut StubReader, writer: &mut StubWriter) -> bool {
     refuses(writer, ErrorKind::BrokenPipe) && matches!(reader.read(&mut [0; 8]), Ok(0))
 }
 
-// A link to an empty stub: by which acts it serves, what is asked, what it says, and whether it has ended then.
+// A link to an empty stub: its acts, the requests, the replies, and whether it has ended then.
 type Talk = (&'static [Act], &'static [u8], &'static [u8], bool);
 
 const INCR: &[u8] =
@@ -78,7 +78,7 @@ const TALKS: &[Talk] = &[
         false,
     ),
     (&[], INCR, b":1\r\n:2\r\n:3\r\n", false),
-    // What isn't answered isn't done.
+    // What isn't answered isn't carried out.
     (&[Act::Garble], INCR, b"?\r\n:1\r\n:2\r\n", false),
     (
         &[Act::Reply, Act::Garble],
@@ -89,7 +89,7 @@ const TALKS: &[Talk] = &[
     (&[Act::Reply, Act::Hold, Act::Reply], INCR, b":1\r\n", false),
     (&[Act::Reply, Act::Drop, Act::Reply], INCR, b":1\r\n", true),
     (&[Act::Drop], INCR, b"", true),
-    // A byte that fits no text ends the link behind the answers to what came before.
+    // A byte that fits no text ends the link after the earlier answers.
     (
         &[],
         b"*2\r\n$4\r\nINCR\r\n$1\r\nn\r\nINCR n\r\n*2\r\n$4\r\nINCR\r\n$1\r\nn\r\n",
@@ -99,7 +99,7 @@ const TALKS: &[Talk] = &[
     (&[Act::Hold], b"*2\r\n$4\r\nINCR\r\n$1\r\nn\r\n?", b"", true),
 ];
 
-// Writes what is asked in pieces of this length, and reads after each: whether all goes as it has to.
+// Writes the requests in pieces of this length, and reads after each. True: all is as expected.
 fn goes(alloc: Global, talk: &Talk, step: usize) -> Result<bool, Fail> {
     let (acts, asked, answers, ends) = *talk;
     let (mut reader, mut writer) = link(alloc, acts)?;
@@ -114,8 +114,8 @@ fn goes(alloc: Global, talk: &Talk, step: usize) -> Result<bool, Fail> {
     Ok(is_right && stays)
 }
 
-// Passes also where one allocation is refused (`rt try --test --fail-alloc N`): the ends pause then, and go on. What fails is
-// told as the talk's place in the list and the length of the pieces.
+// Passes also where one allocation is refused (`rt try --test --fail-alloc N`): the ends pause then, and go on. A
+// failure names the talk's index in the list and the length of the pieces.
 #[test]
 fn links_serve_by_their_scripts(rt: HostRuntime) -> Result<(), Fail> {
     for (place, talk) in TALKS.iter().enumerate() {
@@ -140,10 +140,10 @@ fn burst(alloc: Global) -> Result<Vec<u8>, Fail> {
     Ok(texts)
 }
 
-// What is answered to it: so many bytes, of which these are the first and the last.
+// The answer to it: this many bytes, with these first and last ones.
 const BURST_ANSWERS: Text = Text::Long(5 + 1_000 * 40_010, b"+OK\r\n$40000\r\nv", b"v\r\n");
 
-// Whether all is taken, a further request only once replies are read, and all is answered.
+// Whether further requests are taken only as replies are read, and all are answered.
 fn holds_back(alloc: Global, asked: &[u8]) -> Result<bool, Fail> {
     let (mut reader, mut writer) = link(alloc, &[])?;
     let said = Taken::new(alloc);

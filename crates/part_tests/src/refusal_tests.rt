@@ -1,4 +1,4 @@
-//! Turns that are refused for want of a ticket, and made again.
+//! Turns refused for want of a ticket, and made again.
 
 use crate::acts::{Act, Fault, STUBS, Scene, record};
 use crate::fake_devices::{Feed, Text};
@@ -13,7 +13,7 @@ use std::test::Fail;
 
 const SPENT: EngineError = EngineError::TurnRefused { number: 1_202 };
 
-// The ends of a client that is read in pieces of 20 bytes.
+// A client's ends that read 20 bytes at a time.
 const PIECES: Ends = Ends {
     reads: u64::MAX,
     writes: u64::MAX,
@@ -21,8 +21,8 @@ const PIECES: Ends = Ends {
     writing: Ends::ALL,
 };
 
-// One client before three stubs, by turns of this ration, each refused step made again: the client has all answers, and no error
-// was told but that of refused turns. The core, once all is answered.
+// One client before three stubs, with turns of this ration, each refused step made again. The client gets all answers,
+// and only refused turns return errors. Returns the core at the end.
 fn run<Rt: Wait + AllocGlobal>(
     rt: &Rt,
     (text, answers): Exchange,
@@ -43,7 +43,7 @@ fn run<Rt: Wait + AllocGlobal>(
 
 const ENDED: &[Act] = &[Act::Steps(Progress::Ended, 1), Act::OnlyTold(SPENT)];
 
-// A run by turns of this ration goes as one without a refusal.
+// A run with turns of this ration equals one without a refusal.
 fn check_alike<Rt: Wait + AllocGlobal>(
     rt: &Rt,
     exchange: Exchange,
@@ -60,7 +60,7 @@ fn check_alike<Rt: Wait + AllocGlobal>(
     }
 }
 
-// Each turn but the first is refused once, and six in a row from it on.
+// From each turn but the first, one turn is refused, and then six.
 fn check_refused<Rt: Wait + AllocGlobal>(
     rt: &Rt,
     exchange: Exchange,
@@ -80,8 +80,7 @@ fn check_exchange<Rt: Wait + AllocGlobal>(rt: &Rt, exchange: Exchange) -> Result
     checked
 }
 
-// Each turn is refused once, and six in a row: the answers, and what becomes of the client and of each host, are those of a run
-// without a refusal.
+// Refuses one turn, and six in a row, from each turn on: the answers and all steps are those of a run without a refusal.
 #[test]
 fn refused_turns_are_made_again(rt: HostRuntime) -> Result<(), Fail> {
     for exchange in EXCHANGES {
@@ -90,10 +89,10 @@ fn refused_turns_are_made_again(rt: HostRuntime) -> Result<(), Fail> {
     Ok(())
 }
 
-// What the client took once so many replies were handed out.
+// The first client's bytes, by the number of replies handed out.
 const HANDED: &[&[u8]] = &[b"", b"+OK\r\n", BOTH_ANSWERS];
 
-// Where all turns from one on are refused, the journal stands still there, and nothing is written but what was handed out.
+// Where all turns from one on are refused, the journal stays, and only handed replies are written.
 fn check_stopped<Rt: Wait + AllocGlobal>(rt: &Rt, turn: u64) -> Result<(), Fault> {
     let opens = if turn > 1 {
         Act::Opens(Feed::Whole(SET_AND_MGET.0), PIECES)

@@ -1,4 +1,4 @@
-//! Clients and hosts over one core, stepped in turn until nothing moves.
+//! Clients and hosts over one core, all stepped until nothing moves.
 ghost use Rattle.std.specs.Prelude.{◌≡◌, [], IfOk, None};
 
 use crate::fake_devices::{Feed, Reader, Source, Taken, Writer};
@@ -25,7 +25,7 @@ enum Engine<'a> {
     Host(Host<'a>),
 }
 
-// Written out, as that of a rig.
+// Written out, as below.
 impl Drop for Engine<'_> {
     fn drop(self) {
         match self {
@@ -35,16 +35,16 @@ impl Drop for Engine<'_> {
     }
 }
 
-// After how many milliseconds a reply is late.
+// A reply is late after this many milliseconds.
 pub(crate) const REPLY_MS: u64 = 5_000;
 
-// After how many rounds without a move a run is over: a piece comes after a pause.
+// A run ends after this many rounds without a move: a piece comes after a pause.
 const QUIET_ROUNDS: u32 = 4;
 
 // The points of three hosts: `abc` belongs to host 0, `a` to host 1, and the empty key and `b` to host 2 and host 0.
 const POINTS: [(u32, usize); 3] = [(2_555_380_112, 0), (3_111_502_092, 1), (3_649_838_548, 2)];
 
-// The two ends of a client: how many bytes pass by each before it fails, and how many at a call, at most.
+// The ends of a client: the bytes until each fails, and the most bytes a call.
 #[derive(Clone, Copy)]
 pub(crate) struct Ends {
     pub(crate) reads: u64,
@@ -54,10 +54,10 @@ pub(crate) struct Ends {
 }
 
 impl Ends {
-    // More bytes than a call passes.
+    // More bytes than any call has.
     pub(crate) const ALL: usize = 100_000;
 
-    // They never fail, nor stop short.
+    // Ends that never fail and never stop short.
     pub(crate) const FREE: Ends = Ends {
         reads: u64::MAX,
         writes: u64::MAX,
@@ -65,7 +65,7 @@ impl Ends {
         writing: Ends::ALL,
     };
 
-    // The first fails after so many bytes, and gives so many at a call.
+    // The reader fails after `reads` bytes, and returns at most `reading` a call.
     pub(crate) fn reading(reads: usize, reading: usize) -> Ends {
         Ends {
             reads: reads as u64,
@@ -74,7 +74,7 @@ impl Ends {
         }
     }
 
-    // The second fails after so many bytes, and takes so many at a call.
+    // The writer fails after `writes` bytes, and takes at most `writing` a call.
     pub(crate) fn writing(writes: usize, writing: usize) -> Ends {
         Ends {
             writes: writes as u64,
@@ -89,11 +89,11 @@ impl Ends {
 pub(crate) enum Peer {
     // A stub that is empty at first, and serves by these acts.
     Stub(&'static [Serves]),
-    // It says what stands on the stage, whatever it is asked.
+    // It sends the stage's text, whatever it is asked.
     Text,
 }
 
-// A link to a host, and how many bytes pass by each end before it fails.
+// A link to a host, and the bytes until each end fails.
 #[derive(Clone, Copy)]
 pub(crate) struct Link {
     pub(crate) to: Peer,
@@ -109,7 +109,7 @@ impl Link {
         writes: u64::MAX,
     };
 
-    // One that never fails, to a host that says what stands on the stage.
+    // One that never fails, to a host that sends the stage's text.
     pub(crate) const TEXT: Link = Link {
         to: Peer::Text,
         reads: u64::MAX,
@@ -117,7 +117,7 @@ impl Link {
     };
 }
 
-// An error that an engine's step answered, and the newest step of the journal right after it.
+// An error of an engine's step, and the newest step of the journal right after it.
 #[derive(Clone, Copy, PartialEq)]
 pub(crate) struct Told {
     pub(crate) error: EngineError,
@@ -131,25 +131,24 @@ impl Told {
     }
 }
 
-// The engines over their turns, links that hosts are still to get, and what was told on the way.
+// The engines over their turns, the links for hosts, and the errors on the way.
 pub(crate) struct Rig<'a> {
     pub(crate) stage: &'a Stage,
     turns: Rationed,
-    // So many hosts, and behind them the clients.
+    // The hosts, and behind them the clients.
     engines: Vec<Engine<'a>>,
     hosts: usize,
-    // The links that hosts get, in this order, and how many they got.
+    // The links for hosts, in this order, and the number given.
     links: Vec<Link>,
     given: usize,
     // The newest error of a client, and of a host.
     pub(crate) of_client: Option<Told>,
     pub(crate) of_host: Option<Told>,
-    // How long the journal was when it was looked at.
+    // The length of the journal when it was last looked at.
     pub(crate) seen: usize,
 }
 
-// Written out, since the drop is then one call wherever a rig ends. A derived one stands whole at each of these places, and is
-// proved there.
+// Written out, since a drop is then one call wherever a rig ends. A derived one is expanded and proved at each of these places.
 impl Drop for Rig<'_> {
     fn drop(self) {
         let Rig {
@@ -169,7 +168,7 @@ impl Drop for Rig<'_> {
     }
 }
 
-// A core for so many hosts, three at most, with the points above.
+// A core for at most three hosts, with the points above.
 fn core(alloc: Global, hosts: usize) -> Result<Core, EngineError>
     ensures { IfOk result (λ core. core.steps ≡ []) }
 {
@@ -181,7 +180,7 @@ fn core(alloc: Global, hosts: usize) -> Result<Core, EngineError>
 }
 
 impl<'a> Rig<'a> {
-    // Hosts without links and no client, over turns that are refused by this ration.
+    // Hosts without links and no client, over turns of this ration.
     pub(crate) fn new(
         alloc: Global,
         stage: &'a Stage,
@@ -241,7 +240,7 @@ impl<'a> Rig<'a> {
         }
     }
 
-    // Opens the connection of the next of two clients, who says this. If that is refused it is made again, once.
+    // Opens the connection of the next of two clients, which sends this. A refused turn is made again, once.
     pub(crate) fn open<Rt: Wait + AllocGlobal>(
         &mut self,
         rt: &Rt,
@@ -261,7 +260,7 @@ impl<'a> Rig<'a> {
         }
     }
 
-    // Keeps a link for the host that asks for one once those that were kept before are given.
+    // Keeps a link for a host that asks for one, after those kept before.
     pub(crate) fn add_link(&mut self, link: Link) -> Result<(), EngineError> {
         self.links.push(link).or(Err(EngineError::NoMemory))
     }
@@ -287,7 +286,7 @@ impl<'a> Rig<'a> {
         turns.into_core()
     }
 
-    // Why a turn of the test's own is refused.
+    // The refusal of an event made by the test itself.
     pub(crate) fn refusal<Rt: Wait>(&mut self, rt: &Rt, event: Event) -> Option<Refusal> {
         let result = self.turns.turn(rt, event);
         let cause = match &result {
@@ -298,7 +297,7 @@ impl<'a> Rig<'a> {
         cause
     }
 
-    // One step of the engine at this place, at this moment, if there is one.
+    // Steps the engine at this index once at this moment, if there is one.
     fn step_at<Rt: Wait>(
         &mut self,
         rt: &Rt,
@@ -312,7 +311,7 @@ impl<'a> Rig<'a> {
         }
     }
 
-    // One step of the first client, if there is one.
+    // Steps the first client once, if there is one.
     pub(crate) fn step_client<Rt: Wait>(
         &mut self,
         rt: &Rt,
@@ -320,7 +319,7 @@ impl<'a> Rig<'a> {
         self.step_at(rt, self.hosts, 0)
     }
 
-    // One step of the first host at this moment, if there is one.
+    // Steps the first host once at this moment, if there is one.
     pub(crate) fn step_host<Rt: Wait>(
         &mut self,
         rt: &Rt,
@@ -329,8 +328,8 @@ impl<'a> Rig<'a> {
         self.step_at(rt, 0, moment)
     }
 
-    // One step of each host and of each client at this moment. Where a host needs a link it gets the next of those that are
-    // left. False says that none moved; a step that is refused is no move.
+    // Steps each host and client once at this moment, and gives a host that needs a link the next one. False: none
+    // moved; a refused step is no move.
     fn step<Rt: Wait + AllocGlobal>(&mut self, rt: &Rt, moment: u64) -> Result<bool, EngineError> {
         let mut has_moved = false;
         for engine in self.engines.iter_mut() {
@@ -355,7 +354,7 @@ impl<'a> Rig<'a> {
         Ok(has_moved)
     }
 
-    // Steps all in turn until nothing moves. False says that there is no end.
+    // Steps all until nothing moves. False: there was no end.
     pub(crate) fn run<Rt: Wait + AllocGlobal>(
         &mut self,
         rt: &Rt,
@@ -405,7 +404,7 @@ fn attach<'a>(
     }
 }
 
-// The two ends of a link. What the host is asked is kept.
+// The two ends of a link. Keeps the requests.
 fn link_ends<'a>(
     alloc: Global,
     stage: &'a Stage,
@@ -430,7 +429,7 @@ fn link_ends<'a>(
     }
 }
 
-// The two ends of a link to an empty stub that serves by these acts.
+// The two ends of a link to an empty stub with these acts.
 pub(crate) fn stub(
     alloc: Global,
     acts: &[Serves],

@@ -1,4 +1,4 @@
-//! A small state that keeps a journal: a total that is added to.
+//! A small state with a journal: a total with additions.
 ghost use Rattle.std.specs.Prelude.{◌≡◌, ◌≤◌, [], sum_by};
 
 use journal_core::Step;
@@ -6,7 +6,7 @@ use std::alloc::Global;
 use std::fmt;
 use ticket_gate::Recorded;
 
-// Why an amount was not added.
+// Why an amount wasn't added.
 #[derive(Clone, Copy)]
 pub(crate) enum AdditionRefusal {
     PastLimit,
@@ -22,7 +22,7 @@ impl fmt::Display for AdditionRefusal {
     }
 }
 
-// A total of amounts that stays within a limit. An event is an amount, and its answer is the total that it came to.
+// A total of amounts within a limit. An event is an amount, and its answer is the new total.
 #[derive(Drop)]
 pub(crate) struct RunningTotal {
     limit: u64,
@@ -33,7 +33,7 @@ pub(crate) struct RunningTotal {
 }
 
 impl RunningTotal {
-    // A total of 0 that may rise to `limit`.
+    // A total of 0 with this limit.
     pub(crate) fn new(alloc: Global, limit: u64) -> RunningTotal
         ensures { result.steps.items ≡ [] }
     {

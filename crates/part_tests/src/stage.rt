@@ -1,10 +1,10 @@
-//! What stands around the engines: what clients and a host say, and what each is told.
+//! The surroundings of the engines: the texts of clients and a host, and the bytes that each took.
 
 use crate::fake_devices::{Feed, Taken};
 use std::alloc::Global;
 use std::cell::Cell;
 
-// What a client says, and what it took.
+// A client's text, and the bytes that it took.
 #[derive(Drop)]
 pub(crate) struct Visitor {
     pub(crate) says: Cell<Feed>,
@@ -20,7 +20,7 @@ impl Visitor {
     }
 }
 
-// Two clients, and what hosts say that are no stubs. What the first link is asked is kept apart from what the later ones are.
+// Two clients, and the text of hosts that are no stubs. Requests over the first link are kept apart from later ones.
 pub(crate) struct Stage {
     pub(crate) first: Visitor,
     pub(crate) second: Visitor,
@@ -29,7 +29,7 @@ pub(crate) struct Stage {
     pub(crate) asked_later: Taken,
 }
 
-// Written out, as that of a rig.
+// Written out, as in `rig.rt`.
 impl Drop for Stage {
     fn drop(self) {
         let Stage {

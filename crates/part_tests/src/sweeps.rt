@@ -6,7 +6,7 @@ use std::test::Fail;
 use sweeper::{Pace, SweepRefusal, Swept, sweep_once};
 use ticket_gate::{Alone, Turns};
 
-// So many links to host 0 fail at the moment 0. False where a turn was refused.
+// Fails this many links to host 0 at the moment 0. False: a turn was refused.
 fn fail_links<R: Wait>(rt: &R, turns: &mut Alone<Core>, times: u64) -> bool {
     for epoch in 0..times {
         let failed = Event::Failed {
@@ -17,7 +17,7 @@ fn fail_links<R: Wait>(rt: &R, turns: &mut Alone<Core>, times: u64) -> bool {
         };
         let outcome = turns.turn(rt, failed);
         let is_refused = outcome.is_err();
-        // (one call: where it stands, the drop of an answer is proved field by field)
+        // (one call: an inline drop of an answer is proved field by field)
         drop(outcome);
         if is_refused {
             return false;

@@ -1,6 +1,6 @@
-//! What clients ask, and what three hosts whose maps are empty at first answer.
+//! The requests of clients, and the answers of three hosts that are empty at first.
 
-// What a client says, and what it is answered.
+// A client's requests, and the answers.
 pub(crate) type Exchange = (&'static [u8], &'static [u8]);
 
 // A SET of 27 bytes and an MGET of 35.
@@ -23,7 +23,7 @@ pub(crate) const OTHER_KEYS: &[u8] =
 
 pub(crate) const OTHER_ANSWERS: &[u8] = b"+OK\r\n*3\r\n$1\r\n1\r\n$-1\r\n$1\r\n1\r\n";
 
-// Local answers, one of a reader that refuses its bytes, a last command, and commands of one host and of several.
+// Local answers, one of a reader that refuses its bytes, a last command, and commands for one host and for several.
 pub(crate) const EXCHANGES: &[Exchange] = &[
     SET_AND_MGET,
     (
@@ -51,8 +51,8 @@ pub(crate) const GET: &[u8] = b"*2\r\n$3\r\nGET\r\n$1\r\na\r\n";
 // A SET of the same key.
 pub(crate) const SET: &[u8] = b"*3\r\n$3\r\nSET\r\n$1\r\na\r\n$1\r\n1\r\n";
 
-// What the proxy answers for a part that was lost.
+// The proxy's answer for a lost part.
 pub(crate) const FAILURE: &[u8] = b"-upstream failure\r\n";
 
-// What a host answers to a GET of a key that it hasn't.
+// A host's answer to a GET of a missing key.
 pub(crate) const NOTHING: &[u8] = b"$-1\r\n";

@@ -8,7 +8,7 @@ use proxy_core::{Answer, Core, CoreTurns, Event, Refusal};
 use std::sync::Wait;
 use ticket_gate::{Alone, TurnRefusal, Turns};
 
-// Which turns are refused, counted from 1 as they are asked for: from the first on so many.
+// The turns that are refused: this many from the first on, counted from 1.
 #[derive(Clone, Copy)]
 pub(crate) struct Ration {
     first: u64,
@@ -31,7 +31,7 @@ impl Ration {
     }
 }
 
-// Turns on a core of which some are refused.
+// Turns on a core, some of which are refused.
 #[derive(Drop)]
 pub(crate) struct Rationed {
     alone: Alone<Core>,

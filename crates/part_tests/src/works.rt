@@ -1,4 +1,4 @@
-//! Works that run at the same time: two clients that meet.
+//! Works in several threads: two clients that meet.
 use crate::core_at_gate::core;
 use proxy_core::Core;
 use proxy_engines::{ClientEngine, ClientWork, EngineError, Tallied, run_all};
@@ -13,14 +13,14 @@ use ticket_gate::Alone;
 
 const MAX_LOOKS: u32 = 1_000_000;
 
-// How a reader goes on once its text was given.
+// A reader's end after its text.
 #[derive(Clone, Copy, Debug, PartialEq, Eq)]
 enum Then {
     Ends,
     Fails,
 }
 
-// Where two readers meet, and how many bytes their writers took.
+// The meeting of two readers, and the bytes that their writers took.
 #[derive(Drop)]
 struct Room {
     first_is_here: AtomicBool,
@@ -38,7 +38,7 @@ impl Room {
     }
 }
 
-// Looks at the flag, with a yield after each look, until it is up. False where it never was.
+// Waits until the flag is up, with a yield after each look. False: it never was.
 fn rises(flag: &AtomicBool) -> bool {
     for _ in 0..MAX_LOOKS {
         if flag.load(SeqCst) {
@@ -49,7 +49,7 @@ fn rises(flag: &AtomicBool) -> bool {
     false
 }
 
-// Gives its text only once the other reader is here too. It fails where that never comes.
+// Returns its text only once the other reader is here too, and fails if that never comes.
 #[derive(Drop)]
 struct Meeting<'a> {
     room: &'a Room,
@@ -135,7 +135,7 @@ fn clients<'a, R: Wait>(rt: &R, alloc: Global, room: &'a Room) -> Result<Vec<Cli
     Ok(works)
 }
 
-// Works that ran one after another would not meet, and the first of them would answer that its reader failed.
+// Works that ran one after another would not meet, and the first one would report a failed reader.
 #[test]
 fn two_workers_meet(rt: HostRuntime) -> Result<(), Fail> {
     let room = Room::new();

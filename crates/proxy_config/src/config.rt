@@ -20,32 +20,32 @@ use serde_json::Value;
 use std::alloc::Global;
 use std::net::SocketAddr;
 
-/// A host to which commands are sent.
+/// A host.
 #[derive(Debug, Drop)]
 pub struct Host {
     /// Its name on the ring: the text of its address, as the file has it.
     pub name: HostName,
 
-    /// Where it listens.
+    /// Its address.
     pub address: SocketAddr,
 }
 
-/// The settings, under the names that their keys have in the file.
+/// The settings, named as their keys in the file.
 #[derive(Debug, Drop)]
 pub struct Config {
-    /// Where clients are listened for. By default 127.0.0.1:6379.
+    /// The address for clients. By default 127.0.0.1:6379.
     pub listen: SocketAddr,
 
-    /// 1 to 64 hosts, no two of which have the same name. There is no default.
+    /// 1 to 64 hosts with distinct names. There is no default.
     pub hosts: Vec<Host>,
 
     /// The weight of each host on the ring, from 1 to 100. By default 1 for each.
     pub weights: Vec<u32>,
 
-    /// How many threads serve, 1 to 64. By default 4.
+    /// The number of worker threads, 1 to 64. By default 4.
     pub workers: u32,
 
-    /// After how long a host's reply is late, 1 to 600,000 milliseconds. By default 5,000.
+    /// A host's reply is late after this many milliseconds, 1 to 600,000. By default 5,000.
     pub reply_ms: u32,
 
     /// Whether keys are hashed by their hash tags. By default they aren't.
@@ -55,45 +55,40 @@ pub struct Config {
     /// 10,000.
     pub interval_ms: u32,
 
-    /// How long a first ejection lasts, 1 to 3,600,000 milliseconds. By default 30,000.
+    /// The duration of a first ejection, 1 to 3,600,000 milliseconds. By default 30,000.
     pub base_ms: u32,
 
-    /// How long an ejection lasts at most, `base_ms` to 86,400,000 milliseconds. By default 300,000,
-    /// or `base_ms` where that is more.
+    /// The longest ejection, `base_ms` to 86,400,000 milliseconds. By default 300,000, or `base_ms` if that is more.
     pub max_ms: u32,
 
-    /// Up to which share of the hosts may be ejected, 0 to 100 percent; one host may always be. By
-    /// default 10.
+    /// The share of hosts that may be ejected, 0 to 100 percent; one host always may. By default 10.
     pub max_percent: u32,
 
-    /// How many bad results in a row trip a host, 0 to 1,000,000, where 0 turns this off. By default
-    /// 5.
+    /// A host trips after this many consecutive bad results, 0 to 1,000,000; 0 turns this off. By default 5.
     pub consecutive: u32,
 
-    /// From how many hosts with a success rate on rates are compared, 1 to 65, where more than there
+    /// Compare success rates only if at least this many hosts have one, 1 to 65; more than there
     /// are hosts turns this off. By default 5.
     pub success_hosts: u32,
 
-    /// From how many results in an interval on a host has a success rate, 1 to 1,000,000. By default
-    /// 100.
+    /// The results in an interval that give a host a success rate, 1 to 1,000,000. By default 100.
     pub request_volume: u32,
 
-    /// How far below the mean a rate is an outlier, in thousandths of the standard deviation, 0 to
+    /// A rate is an outlier if more than this far below the mean, in thousandths of the standard deviation, 0 to
     /// 100,000. By default 1,900.
     pub factor: u32,
 
-    /// Below which share of available hosts all are used, 0 to 100 percent, where 0 turns this off.
-    /// By default 50.
+    /// Use all hosts if fewer than this share is available, 0 to 100 percent; 0 turns this off. By default 50.
     pub panic_percent: u32,
 }
 
 impl Config {
-    /// The settings that the bytes of a file stand for.
+    /// The settings in the bytes of a file.
     ///
-    /// Refused with `Fault` and the words that tell the fault: `json` if the bytes are no JSON object,
-    /// else `unknown key` if it gives a key that the table hasn't, else the first key of the table,
-    /// in its order, whose value is out of its range or of another kind. Of a key that stands twice
-    /// the last counts. Refused with `Memory`, in place of any answer, where memory is refused.
+    /// Refused with `Fault` and its words: `json` if the bytes are no JSON object, else `unknown key` if it has a key
+    /// that isn't in the table. Else they are the first key of the table, in its order, whose value is out of its range
+    /// or of another type. Of a repeated key the last one counts. Refused with `Memory`, in place of any other result,
+    /// where memory is refused.
     pub fn read(alloc: Global, bytes: &[u8]) -> Result<Config, ConfigError>
         ensures ok { IfOk result (λ config. IsSettings bytes.now (values_of config)) }
         ensures parts { IfOk result
@@ -113,8 +108,8 @@ impl Config {
         Config::from_object(alloc, &file)
     }
 
-    /// The ring of the hosts, by their names and weights: those of settings that were read can
-    /// always have one. Refused with `Memory` alone.
+    /// The ring of the hosts, by their names and weights. Settings that were read always have one.
+    /// Refused with `Memory` alone.
     pub fn ring(&self, alloc: Global) -> Result<Ring, ConfigError>
         requires { AreRingParts self.now.hosts.items self.now.weights.items }
         ensures ok { IfOk result
@@ -132,7 +127,7 @@ impl Config {
         }
     }
 
-    // The settings that a JSON object gives: this is the table, line by line.
+    // The settings of a JSON object: this is the table, line by line.
     fn from_object(alloc: Global, file: &Value) -> Result<Config, ConfigError>
         ensures ok { IfOk result (λ config. AllFit keys (view file.now) (values_of config)) }
         ensures refused { IfErr result (λ e. MemoryOr (IsFaultOf (view file.now)) e) }
@@ -172,7 +167,7 @@ impl Config {
     }
 }
 
-// What is told of bytes of which no JSON was read.
+// The error for bytes that aren't JSON.
 fn told_of(error: &serde_json::Error) -> ConfigError
     ensures { (IsMemory error.now × (result ≡ ConfigError.Memory))
         ⊎ ((¬ IsMemory error.now) × IsFault result (codes "json")) }
@@ -183,7 +178,7 @@ fn told_of(error: &serde_json::Error) -> ConfigError
     ConfigError::Fault("json")
 }
 
-// The number at `max_ms`, which is `base_ms` at least.
+// The number at `max_ms`, which is at least `base_ms`.
 fn max_ms(file: &Value, base_ms: u32) -> Result<u32, ConfigError>
     ensures ok { IfOk result (λ n. IsNumberOr (max base_ms 300000) base_ms 86400000
         (get (name_of MaxMs) (view file.now)) n) }

@@ -10,7 +10,7 @@ use crate::error::ConfigError;
 use serde_json::Value;
 use std::net::SocketAddr;
 
-/// The whole number at a key, from `least` to `most`, or the default where the file doesn't give the key.
+/// The whole number at a key, from `least` to `most`, or the default without the key.
 pub(crate) fn number(
     file: &Value,
     key: &'static str,
@@ -32,7 +32,7 @@ pub(crate) fn number(
     }
 }
 
-/// The truth value at a key, or the default where the file doesn't give the key.
+/// The truth value at a key, or the default without the key.
 pub(crate) fn flag(file: &Value, key: &'static str, default: bool) -> Result<bool, ConfigError>
     ensures ok { IfOk result (λ b. IsFlagOr default (get key.now (view file.now)) b) }
     ensures fault { IfErr result (λ e. IsFault e key.now) }
@@ -45,7 +45,7 @@ pub(crate) fn flag(file: &Value, key: &'static str, default: bool) -> Result<boo
     }
 }
 
-/// The socket address at a key, or the one that the default text writes where the file doesn't give the key.
+/// The socket address at a key, or the default's without the key.
 pub(crate) fn address(
     file: &Value,
     key: &'static str,

@@ -8,11 +8,11 @@ use thiserror::Error;
 /// Why a settings file is refused.
 #[derive(Clone, Copy, Debug, PartialEq, Eq, Error)]
 pub enum ConfigError {
-    /// Memory was refused. It stands in place of any other answer.
+    /// Memory was refused. It takes the place of any other result.
     #[error("out of memory")]
     Memory,
-    /// The bytes are no settings: `json`, `unknown key`, or the first key of the table that has a
-    /// fault.
+    /// The bytes are no settings: `json`, `unknown key`, or the first key of the table with an
+    /// error.
     #[error("settings: {0}")]
     Fault(&'static str),
 }

@@ -14,7 +14,7 @@ use serde_json::Value;
 use std::alloc::Global;
 use std::net::SocketAddr;
 
-/// The hosts that a settings file gives.
+/// The hosts of a settings file.
 pub(crate) fn hosts(alloc: Global, file: &Value) -> Result<Vec<Host>, ConfigError>
     ensures ok { IfOk result (λ hosts. AreHosts (get (codes "hosts") (view file.now)) hosts.items) }
     ensures fault { IfErr result (λ e. ¬ (e ≡ ConfigError.Memory) → IsFault e (codes "hosts")) }
@@ -30,7 +30,7 @@ pub(crate) fn hosts(alloc: Global, file: &Value) -> Result<Vec<Host>, ConfigErro
     }
 }
 
-// The hosts of the entries of an array.
+// The hosts of an array's entries.
 fn hosts_in(alloc: Global, entries: &[Value]) -> Result<Vec<Host>, ConfigError>
     ensures ok { IfOk result
         (λ hosts. AreHosts (Some (array (items_view entries.now))) hosts.items) }

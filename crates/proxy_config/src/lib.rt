@@ -1,8 +1,8 @@
 //! The settings file: a JSON object with a key for each setting.
 //!
-//! [`Config::read`] gives the settings that a file's bytes stand for, or the first fault in it. What
-//! each key may have, and what it is where the file doesn't give it, stands in one table
-//! (`specs/Table`), which contracts cite.
+//! [`Config::read`] returns the settings in a file's bytes, or its first error. One table
+//! (`specs/Table`), which contracts cite, has the values and the default of each key. It stands on
+//! `serde_json` and `ketama`. Begin with `config.rt`.
 //!
 //! ```text
 //! let config = Config::read(alloc, br#"{"hosts":["127.0.0.1:7001","127.0.0.1:7002"]}"#)?;

@@ -12,7 +12,7 @@ use ketama::MAX_WEIGHT;
 use serde_json::Value;
 use std::alloc::Global;
 
-/// The weights that a settings file gives to these hosts.
+/// The hosts' weights in a settings file.
 pub(crate) fn weights(alloc: Global, file: &Value, hosts: &[Host]) -> Result<Vec<u32>, ConfigError>
     ensures ok { IfOk result
         (λ weights. AreWeightsOr (length hosts.now)
@@ -34,7 +34,7 @@ pub(crate) fn weights(alloc: Global, file: &Value, hosts: &[Host]) -> Result<Vec
     }
 }
 
-// The weights of the entries of an array, which are to be so many.
+// The weights of an array's entries, which must be as many as the hosts.
 fn weights_in(alloc: Global, entries: &[Value], hosts: usize) -> Result<Vec<u32>, ConfigError>
     ensures ok { IfOk result
         (λ weights. AreWeightsOr hosts (Some (array (items_view entries.now))) weights.items) }

@@ -51,7 +51,7 @@ impl Machine {
         )
     }
 
-    /// A host answered: the reply belongs to the oldest part that flies.
+    /// A host answered: its reply belongs to the oldest part that flies.
     pub(crate) fn answer(
         &mut self,
         host: usize,
@@ -98,7 +98,7 @@ impl Machine {
         })
     }
 
-    // The reply once more, with room for its step.
+    // A second share of the reply, with room for its step.
     fn shared_with_room(&mut self, value: &Value, bytes: u64) -> Result<Value, Refusal>
         ensures shared { IfOk result (λ shared. tree_of shared ≡ tree_of value.now) }
         ensures room { OnOk result ((self.new.journal.room ≡ Some bytes)
@@ -115,7 +115,7 @@ impl Machine {
         }
     }
 
-    // Why the reply is refused, if it is for a cause of its own.
+    // The refusal of the reply for a cause of its own, if there is one.
     fn answer_cause(&self, host: usize, epoch: u64, value: &Value) -> Option<Refusal>
         requires hosts { length self.now.pipelines.states ≡ hosts (setting_in self.now) }
         ensures { result ≡ own_cause_in (setting_in self.now) (memory_in self.now)
@@ -138,7 +138,7 @@ impl Machine {
     }
 }
 
-/// Tells outlier detection of a result of the host, and gives what it did to it.
+/// Gives outlier detection a result of the host, and returns its effect.
 pub(crate) fn counted(ejector: &mut Ejector, host: usize, ok: bool, t: u64) -> Trip
     requires { host < ejector.old.rules.hosts }
     ensures state { (O : State) (marks : List Mark)

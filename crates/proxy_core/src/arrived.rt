@@ -56,8 +56,7 @@ impl Machine {
         self.settle(pass, Event::Arrived { conn, request }, done)
     }
 
-    /// A request of a connection arrived: the command is accepted, and each of its parts gets its host for good, or a value at
-    /// once.
+    /// Accepts the command of a connection's request. Each of its parts gets its host for good, or a value at once.
     pub(crate) fn arrive(&mut self, conn: u64, request: &Request) -> Result<Done, Refusal>
         requires { IsKept self.old }
         ensures done { IfOk result (λ d. (d.answer ≡ answer_to (setting_in self.old)
@@ -94,7 +93,7 @@ impl Machine {
         self.accept_plan(conn, plan)
     }
 
-    // Looks for a cause, makes room, and finds what is to be done with the request.
+    // Looks for a cause, makes room, and plans the request.
     fn ready_to_arrive<'r>(
         &mut self,
         conn: u64,
@@ -124,7 +123,7 @@ impl Machine {
         }
     }
 
-    // Accepts a command of this plan.
+    // Accepts a command with this plan.
     fn accept_plan(&mut self, conn: u64, plan: Planned<'_>) -> Result<Accepted, Refusal>
         requires pipelines { length self.old.pipelines.states ≡ hosts (setting_in self.old) }
         requires hosts { self.old.ejector.rules.hosts ≡ self.old.ring.hosts }
@@ -189,7 +188,7 @@ impl Machine {
         }
     }
 
-    // Accepts a command whose parts are placed, with room for those that are to wait, which don't yet.
+    // Accepts a command whose parts are placed, and reserves room for those that are to wait. They don't wait yet.
     fn accept_placed(
         &mut self,
         conn: u64,
@@ -211,7 +210,7 @@ impl Machine {
         Ok(Accepted::counted(index, placed))
     }
 
-    // Finds the place of a command's only part, and counts for its host the part that is to wait for it.
+    // Places a command's only part, and counts it for its host if it is to wait there.
     fn place_whole(&self, counts: &mut [u16], key: &Bytes, text: Bytes) -> Placed
         requires pipelines { length self.now.pipelines.states ≡ hosts (setting_in self.now) }
         requires hosts { self.now.ejector.rules.hosts ≡ self.now.ring.hosts }
@@ -228,7 +227,7 @@ impl Machine {
         self.place_at(usable, counts, 0, self.point_of(key), text)
     }
 
-    // Accepts a command of these parts.
+    // Accepts a command with these parts.
     fn accept_list(&mut self, conn: u64, how: Join, list: PartPlans) -> Result<Accepted, Refusal>
         requires pipelines { length self.old.pipelines.states ≡ hosts (setting_in self.old) }
         requires hosts { self.old.ejector.rules.hosts ≡ self.old.ring.hosts }
@@ -255,7 +254,7 @@ impl Machine {
         }
     }
 
-    // Finds the places of a command's parts, one after the other, and counts for each host the parts that are to wait for it.
+    // Places a command's parts one after another, and counts for each host those that are to wait there.
     fn place_parts(&self, counts: &mut [u16], list: PartPlans) -> Result<Vec<Placed>, AllocError>
         requires pipelines { length self.now.pipelines.states ≡ hosts (setting_in self.now) }
         requires hosts { self.now.ejector.rules.hosts ≡ self.now.ring.hosts }
@@ -275,7 +274,7 @@ impl Machine {
         self.place_all(usable, counts, list)
     }
 
-    // Finds the places among the usable hosts.
+    // Places the parts among the usable hosts.
     fn place_all(
         &self,
         usable: &[bool],
@@ -304,7 +303,7 @@ impl Machine {
         Ok(placed)
     }
 
-    // Finds the place of the next part.
+    // Places the next part.
     fn place_one(&self, usable: &[bool], counts: &mut [u16], number: u32, plan: PartPlan) -> Placed
         requires pipelines { length self.now.pipelines.states ≡ self.now.ring.hosts }
         requires usable { length usable.now ≡ self.now.ring.hosts }
@@ -333,7 +332,7 @@ impl Machine {
         point_of_key(key.as_slice(), self.ejector.rules().settings.tags)
     }
 
-    // Finds the place of the next part, whose key has this point.
+    // Places the next part, whose key has this point.
     fn place_at(
         &self,
         usable: &[bool],

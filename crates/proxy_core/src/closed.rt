@@ -25,7 +25,7 @@ impl Machine {
         self.settle(pass, Event::Closed { conn }, done)
     }
 
-    /// Closes a connection: its parts that wait are dropped, and the replies to those that fly go to nobody.
+    /// Closes a connection: its waiting parts are dropped, and the replies to its flying ones are discarded.
     pub(crate) fn close(&mut self, conn: u64) -> Result<Done, Refusal>
         requires closed { self.old.connections.closed + 1 < 2 ^ 64 }
         requires awaited { (h : ℕ)
@@ -55,7 +55,7 @@ impl Machine {
     }
 }
 
-// Forgets the connection's parts. None waits or flies where all its commands are handed out, and no pipe is looked at then.
+// Forgets the connection's parts. If all its commands are handed out it has none, and no pipe is looked at.
 fn forget_parts(pipelines: &mut Pipelines, connections: &Connections, conn: u64)
     requires awaited { (h : ℕ)
         → AreAwaited (lost_owners (pipeline_at h pipelines.old.states)) upstream_failure

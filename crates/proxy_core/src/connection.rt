@@ -15,7 +15,7 @@ use resp_core::Value;
 use splitter::Join;
 use std::alloc::Global;
 
-/// An open connection: its commands that are accepted and not handed out, and whether it takes no further one.
+/// An open connection: its commands that are accepted and not handed out, and whether it accepts no further one.
 #[derive(Drop)]
 pub(crate) struct Connection {
     pub queue: Queue,
@@ -23,7 +23,7 @@ pub(crate) struct Connection {
 }
 
 impl Connection {
-    /// A connection that was just opened.
+    /// A new connection.
     pub(crate) fn new(alloc: Global) -> Connection
         ensures { result ≡ fresh_connection }
     {
@@ -34,7 +34,7 @@ impl Connection {
     }
 }
 
-/// Puts a command behind the others. Each part that got a value at once has it.
+/// Queues a command. Parts that got a value at once have it.
 pub(crate) fn queue_parts(queue: &mut Queue, how: Join, placed: &[Placed]) -> Result<u64, Refusal>
     requires left { length queue.old.commands < max_unwritten }
     requires index { queue.old.popped + length queue.old.commands < 2 ^ 64 - 1 }
@@ -67,7 +67,7 @@ fn give(queue: &mut Queue, command: u64, part: u32, place: Place)
     }
 }
 
-/// Puts a command behind the others that has its one value.
+/// Queues a command that has its one value.
 pub(crate) fn queue_own(queue: &mut Queue, value: Value) -> Result<u64, Refusal>
     requires left { length queue.old.commands < max_unwritten }
     requires index { queue.old.popped + length queue.old.commands < 2 ^ 64 - 1 }

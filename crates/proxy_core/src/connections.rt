@@ -19,9 +19,9 @@ use std::alloc::{AllocError, Global};
 use std::marker::Model;
 use upstream_pipe::{Lost, Owner};
 
-/// The connections by their numbers, which count from 0 in the order of their opening.
+/// The connections by their numbers, which count from 0 in the order of opening.
 ///
-/// Contracts see each that is open, with nothing in the place of one that is closed, and how many were closed.
+/// Contracts see each open one, `None` in the place of a closed one, and the number of closed ones.
 #[derive(Drop)]
 pub(crate) struct Connections {
     alloc: Global,
@@ -64,14 +64,14 @@ impl Connections {
         }
     }
 
-    /// How many are open.
+    /// The number of open connections.
     pub(crate) fn open_count(&self) -> usize
         ensures { result ≡ length self.now.numbered - self.now.closed }
     {
         self.numbered.len().saturating_sub(self.closed)
     }
 
-    /// How many of the connection's commands are accepted and not handed out: none where it isn't open.
+    /// The number of the connection's commands accepted and not handed out; 0 if it isn't open.
     pub(crate) fn left(&self, conn: u64) -> usize
         ensures { result ≡ left_in (connection_at conn self.now.numbered) }
     {
@@ -81,7 +81,7 @@ impl Connections {
         }
     }
 
-    /// Opens a connection, and gives its number.
+    /// Opens a connection, and returns its number.
     pub(crate) fn open(&mut self) -> Result<u64, AllocError>
         ensures number { IfOk result (λ conn. conn ≡ length self.old.numbered) }
         ensures opened { OnOk result (self.new
@@ -95,7 +95,7 @@ impl Connections {
         Ok(conn)
     }
 
-    /// The connection takes no further command.
+    /// The connection accepts no further command.
     pub(crate) fn finish(&mut self, conn: u64)
         ensures { self.new ≡ record self.old {
           numbered = with_connection finished_connection conn
@@ -108,7 +108,7 @@ impl Connections {
         }
     }
 
-    /// The connection ends: what it kept is dropped.
+    /// Closes the connection, and drops its queue.
     pub(crate) fn close(&mut self, conn: u64)
         requires { self.old.closed + 1 < 2 ^ 64 }
         ensures { self.new ≡ record {
@@ -123,7 +123,7 @@ impl Connections {
         }
     }
 
-    /// The reply to the oldest command of the connection is handed out: each part of the command has its value.
+    /// Takes out the oldest command of the connection, each part of which has its value.
     pub(crate) fn hand(&mut self, conn: u64)
         requires { IsSome (reply_in (connection_at conn self.old.numbered)) }
         ensures { self.new ≡ record self.old {
@@ -137,7 +137,7 @@ impl Connections {
         }
     }
 
-    /// Gives the part of this owner, if there is one, its value.
+    /// Gives the owner's part its value, if there is an owner.
     pub(crate) fn answer(&mut self, owner: Option<Owner>, value: Value)
         requires { AreAwaited (list_of owner) (tree_of value) self.old.numbered }
         ensures { self.new ≡ record self.old {
@@ -161,7 +161,7 @@ impl Connections {
         answer_one(&mut self.numbered[owner.conn as usize], owner, value);
     }
 
-    /// Gives each of the parts that were lost, none of which has a value, the failure of its host.
+    /// Gives each lost part the failure of its host. None of them has a value.
     pub(crate) fn fail(&mut self, lost: &Lost)
         requires { AreAwaited (filter_map
             (λ o. o) lost.now.flying.items ++ lost.now.waiting.items) upstream_failure
@@ -188,7 +188,7 @@ impl Connections {
         }
     }
 
-    // So it gives each of those that are there.
+    // Like `fail_parts`, for places that may have lost their owner.
     fn fail_places(&mut self, places: &[Option<Owner>])
         requires { AreAwaited (filter_map (λ o. o) places.now) upstream_failure self.old.numbered }
         ensures { self.new ≡ record self.old {
@@ -201,8 +201,8 @@ impl Connections {
         }
     }
 
-    /// Accepts a command of the connection whose parts are placed, behind the others, and gives its index. Each part that
-    /// got a value at once has it.
+    /// Accepts a command of the connection with placed parts, behind the others, and returns its index. Parts that got
+    /// a value at once have it.
     pub(crate) fn accept(&mut self, conn: u64, how: Join, placed: &[Placed]) -> Result<u64, Refusal>
         requires open { MayAccept (connection_at conn self.old.numbered) }
         requires join { MayJoin how (length placed.now) }
@@ -220,8 +220,8 @@ impl Connections {
         accept_one(&mut self.numbered[conn as usize], how, placed)
     }
 
-    /// Accepts a command of the connection that the proxy answers itself, behind the others, and gives its index. After
-    /// the last one the connection takes no further command.
+    /// Accepts a command of the connection that the proxy answers itself, behind the others, and returns its index.
+    /// After the last one the connection accepts no further command.
     pub(crate) fn accept_own(
         &mut self,
         conn: u64,
@@ -243,7 +243,7 @@ impl Connections {
     }
 }
 
-// The connection, if it is open, takes no further command.
+// Finishes the connection, if it is open.
 fn finish_one(connection: &mut Option<Connection>)
     ensures { connection.new ≡ option_map finished_connection connection.old }
 {
@@ -252,14 +252,14 @@ fn finish_one(connection: &mut Option<Connection>)
     }
 }
 
-// What the connection kept is dropped.
+// Drops what the connection kept.
 fn close_one(connection: &mut Option<Connection>)
     ensures { connection.new ≡ None }
 {
     drop(connection.take());
 }
 
-// The reply to the oldest command of the connection, if it is open, is handed out.
+// Takes out the oldest command of the connection, if that is open.
 fn hand_one(connection: &mut Option<Connection>)
     requires { IsSome (reply_in connection.old) }
     ensures { connection.new ≡ option_map connection_without_front connection.old }
@@ -269,7 +269,7 @@ fn hand_one(connection: &mut Option<Connection>)
     }
 }
 
-// Gives a part of the connection, if it is open, its value.
+// Gives a part of the connection its value, if that is open.
 fn answer_one(connection: &mut Option<Connection>, owner: Owner, value: Value)
     requires { IsAwaitedIn connection.old owner }
     ensures { connection.new ≡ option_map (with_answer owner (tree_of value)) connection.old }
@@ -280,7 +280,7 @@ fn answer_one(connection: &mut Option<Connection>, owner: Owner, value: Value)
     }
 }
 
-// Accepts a command of the connection, which is open.
+// Accepts a command of the connection, which must be open.
 fn accept_one(
     connection: &mut Option<Connection>,
     how: Join,
@@ -302,7 +302,7 @@ fn accept_one(
     }
 }
 
-// Accepts a command of the connection, which is open.
+// Accepts a command of the connection, which must be open.
 fn accept_own_one(
     connection: &mut Option<Connection>,
     value: Value,

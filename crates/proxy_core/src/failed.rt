@@ -51,7 +51,7 @@ impl Machine {
         )
     }
 
-    /// A host failed: all parts that wait for it or fly to it are lost, and its epoch is over.
+    /// A host failed: all parts that wait for it or fly are lost, and its epoch ends.
     pub(crate) fn fail(
         &mut self,
         host: usize,
@@ -99,7 +99,7 @@ impl Machine {
         })
     }
 
-    // Looks for a cause, makes room, and takes the host's parts, which are lost. Its kind and its moment don't count here.
+    // Looks for a cause, makes room, and takes out the host's parts, which are lost. Kind and moment don't matter here.
     fn ready_to_fail(&mut self, host: usize, epoch: u64) -> Result<Lost, Refusal>
         requires hosts { length self.old.pipelines.states ≡ hosts (setting_in self.old) }
         requires epochs { (pipeline_at host (memory_in self.old).pipelines).epoch < 2 ^ 64 - 1 }
@@ -127,8 +127,8 @@ impl Machine {
     }
 }
 
-// Tells outlier detection of a fault of the host, unless the host had nothing to do and its link was dropped, and gives what
-// it did to the host.
+// Gives outlier detection a fault of the host, and returns its effect. A link that was dropped while the host had no
+// parts isn't counted.
 fn faulted(ejector: &mut Ejector, host: usize, kind: Kind, parts: u64, t: u64) -> Trip
     requires { host < ejector.old.rules.hosts }
     ensures state { (p : PipelineState) (O : State) (marks : List Mark)

@@ -22,7 +22,7 @@ impl Machine {
         self.settle(pass, Event::Finished { conn }, done)
     }
 
-    /// The connection takes no further command.
+    /// The connection accepts no further command.
     pub(crate) fn finish(&mut self, conn: u64) -> Result<Done, Refusal>
         ensures done { IfOk result (λ d. (d.answer ≡ answers.Finishing)
             × IsDone self.old self.new (events.Finished conn) d (record (memory_in self.old) {

@@ -31,7 +31,7 @@ impl Machine {
         self.settle(pass, Event::Handed { conn }, done)
     }
 
-    /// Hands out the reply to the oldest command of the connection that isn't handed out.
+    /// Hands out the reply to the oldest command of the connection.
     pub(crate) fn hand(&mut self, conn: u64) -> Result<Done, Refusal>
         requires plain { IfSome (reply_in (connection_at conn self.old.connections.numbered))
             (λ v. IsTrue (is_plain_tree v)) }
@@ -86,8 +86,8 @@ impl Machine {
     }
 }
 
-// The text of the reply to the oldest command, which has to be plain, if there is one. A reply that is one value is written from
-// where it stands.
+// The text of the reply to the oldest command, if it has come; it must be plain. A reply of one value is written from
+// its place.
 fn front_text(texts: &mut Texts, queue: &Queue) -> Result<Option<Bytes>, AllocError>
     requires plain { IfSome (front_reply queue.now.commands) (λ v. IsTrue (is_plain_tree v)) }
     ensures text { IfOk result (λ o. o ≡ option_map text (front_reply queue.now.commands)) }
@@ -107,7 +107,7 @@ fn front_text(texts: &mut Texts, queue: &Queue) -> Result<Option<Bytes>, AllocEr
     }
 }
 
-// The text of a reply, which has to be plain.
+// The text of a reply, which must be plain.
 fn some_text(texts: &mut Texts, reply: &Value) -> Result<Option<Bytes>, AllocError>
     requires plain { IsTrue (is_plain_tree (tree_of reply.now)) }
     ensures text { IfOk result (λ o. o ≡ Some (text (tree_of reply.now))) }

@@ -1,4 +1,4 @@
-//! What one core hands over to another.
+//! What a core hands over to the next.
 ghost use Rattle.std.specs.Prelude.{◌≡◌, ◌<◌};
 ghost use Rattle.ejector.specs.Opening.{IsOpening};
 ghost use Rattle.ejector.specs.State.{is_out};
@@ -6,10 +6,10 @@ ghost use Rattle.ejector.specs.State.{is_out};
 use ejector::{EjectState, Rules};
 use std::marker::Model;
 
-/// What a core hands over to the next: where outlier detection stands, the number of hosts and the settings, and how long
-/// the journal was.
+/// What a core hands over to the next: the state of outlier detection, the number of hosts, the settings, and the
+/// journal's length.
 ///
-/// It comes from `Core::hand_over` alone.
+/// Only `Core::hand_over` makes one.
 #[derive(Drop)]
 pub struct Handover {
     detection: EjectState,
@@ -26,7 +26,7 @@ impl Model for Handover {
 }
 
 impl Handover {
-    /// What is handed over.
+    /// The handover of this state.
     pub(crate) fn new(detection: EjectState, steps: u64, bytes: u64) -> Handover
         ensures { result ≡ record { detection = detection; steps = steps; bytes = bytes } }
     {
@@ -37,21 +37,21 @@ impl Handover {
         }
     }
 
-    /// How many steps the journal had.
+    /// The number of the journal's steps.
     pub fn steps(&self) -> u64
         ensures { result ≡ self.now.steps }
     {
         self.steps
     }
 
-    /// How many bytes of payload its steps kept.
+    /// The bytes of payload of these steps.
     pub fn bytes(&self) -> u64
         ensures { result ≡ self.now.bytes }
     {
         self.bytes
     }
 
-    /// The number of hosts and the settings, which allow the state that is handed over.
+    /// The number of hosts and the settings, which allow the state handed over.
     pub fn rules(&self) -> &Rules
         ensures rules { result.now ≡ self.now.detection.rules }
         ensures opening { IsOpening self.now.detection.rules self.now.detection.state }
@@ -59,7 +59,7 @@ impl Handover {
         self.detection.rules()
     }
 
-    /// Whether the host is put aside.
+    /// Whether the host is ejected.
     pub fn is_out(&self, host: usize) -> bool
         requires { host < self.now.detection.rules.hosts }
         ensures { result ≡ is_out self.now.detection.state host }
@@ -67,7 +67,7 @@ impl Handover {
         self.detection.is_out(host)
     }
 
-    /// Where outlier detection stands.
+    /// The state of outlier detection.
     pub(crate) fn into_detection(self) -> EjectState
         ensures { result ≡ self.detection }
     {

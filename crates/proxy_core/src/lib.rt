@@ -1,9 +1,11 @@
 //! The core of the proxy: one turn after another.
 //!
-//! Each event is one turn. It is answered, and its step joins the journal, or it is refused with a cause and nothing has
-//! changed. The journal is a legal history (`proxy_history`) whatever events come, in whatever order. The core answers from
-//! what it keeps: a queue for each open connection, a pipe to each host, the state of outlier detection and counts; and what
-//! it keeps is what the history determines (`specs/Memory`). It never looks at its journal to answer.
+//! Each event is one turn. It is answered and its step is added to the journal, or it is refused with a cause and
+//! nothing has changed. The journal is a legal history (`proxy_history`), whatever events come in whatever order.
+//!
+//! The core answers from its memory: a queue for each open connection, a pipe to each host, the state of outlier
+//! detection, and counts. The history determines this memory (`specs/Memory`); the core never looks at its journal to
+//! answer. It stands on the queue, pipe, ring, ejector and splitter. Begin with `machine.rt`, then `arrived.rt`.
 #![tactic(auto)]
 
 mod answered;

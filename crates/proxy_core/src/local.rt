@@ -1,4 +1,4 @@
-//! The values that the proxy gives to parts itself.
+//! The proxy's own values for parts.
 ghost use Rattle.std.specs.Prelude.{◌≡◌};
 ghost use Rattle.resp_core.specs.Value.{tree_of};
 ghost use Rattle.proxy_history.specs.Value.{upstream_failure};
@@ -14,14 +14,14 @@ pub(crate) fn upstream_failure() -> Value
     Value::Fault(Bytes::from_static(b"upstream failure"))
 }
 
-/// The value of a part for whose key no host is usable.
+/// The value of a part whose key has no usable host.
 pub(crate) fn no_upstream_host() -> Value
     ensures { tree_of result ≡ no_upstream_host }
 {
     Value::Fault(Bytes::from_static(b"no upstream host"))
 }
 
-/// The value of a part that finds as many parts waiting for its host as may.
+/// The value of a part for whose host too many already wait.
 pub(crate) fn proxy_busy() -> Value
     ensures { tree_of result ≡ proxy_busy }
 {

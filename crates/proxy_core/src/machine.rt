@@ -1,4 +1,4 @@
-//! The core, and its state: each event is a turn.
+//! The core and its state.
 ghost use Rattle.std.specs.Prelude.{◌≡◌, ◌-◌, ◌≤◌, ◌<◌, ◌⊎◌, Some, [], length, IfOk, IfErr, IsErrOf, IsOk, OnOk, OnErr, MatchOption};
 ghost use Rattle.ejector.specs.Settings.{IsInRange, first_difference, first_fault};
 ghost use Rattle.ejector.specs.Opening.{IsOpening};
@@ -61,8 +61,8 @@ impl Model for Core {
 impl Core {
     /// A core to which nothing has happened.
     ///
-    /// Refused 1011 with the first setting that is out of its range, `hosts` where the ring has none. Where no setting is,
-    /// it is refused only 1001, for want of memory for what is kept of each host.
+    /// Refused 1011 with the first setting out of its range, or `hosts` where the ring has none. If all are in range,
+    /// it is refused only 1001, for want of memory for the hosts.
     pub fn new(alloc: Global, ring: Ring, settings: Settings) -> Result<Core, Refusal>
         ensures made { IfOk result (λ c. (c.setting ≡ setting_of ring settings) × (c.steps ≡ [])) }
         ensures refused { MatchOption (first_fault (setting_of ring settings).rules)
@@ -78,11 +78,11 @@ impl Core {
         }
     }
 
-    /// A core that goes on from what another handed over: its journal is empty, and its hosts are out, with their streaks,
-    /// tallies and multipliers, as they were. Epochs and the numbers of connections begin at 0.
+    /// A core that starts from another's handover. Its journal is empty. Its hosts keep their ejections, streaks,
+    /// tallies and multipliers. Epochs and connection numbers begin at 0.
     ///
-    /// Refused 1011 with the first field in which ring and settings differ from those of the handover: `hosts`, and then
-    /// the settings in their order. Where none does, it is refused only 1001, for want of memory.
+    /// Refused 1011 with the first field in which ring and settings differ from the handover's: `hosts`, then the
+    /// settings in their order. If none differs, it is refused only 1001, for want of memory.
     pub fn new_from(
         alloc: Global,
         ring: Ring,
@@ -111,7 +111,7 @@ impl Core {
         }
     }
 
-    // A core with an empty journal that goes on from where outlier detection stands.
+    // A core with an empty journal and this state of outlier detection.
     fn with(alloc: Global, ring: Ring, ejector: Ejector) -> Result<Core, Refusal>
         requires { ejector.rules.hosts ≡ ring.hosts }
         ensures made { IfOk result (λ c. (c.setting ≡ setting_from ring ejector)
@@ -139,8 +139,8 @@ impl Core {
         }
     }
 
-    /// What another core needs to go on from here: the state of outlier detection after all steps so far, with the number of
-    /// hosts and the settings, and how long the journal is. It takes no memory.
+    /// The state that another core can start from: outlier detection after all steps so far, the number of hosts, the
+    /// settings, and the journal's length. It takes no memory.
     pub fn hand_over(&self) -> Handover
         ensures rules { result.detection.rules ≡ self.now.setting.rules }
         ensures state { result.detection.state ≡ detector_state self.now }
@@ -155,12 +155,12 @@ impl Core {
         )
     }
 
-    /// Takes one event of the pass `pass`: it is answered as a legal history has it, and its step with this answer is added.
+    /// Takes one event of the pass `pass`: answers it as a legal history does, and adds its step with this answer.
     ///
-    /// Refused by the first cause of the event's own that holds (1003 to 1010, 1012, 1013), else with 1002 where the journal
-    /// would be full. It may be refused 1001, for want of memory, only where it has no cause of its own and its step fits
-    /// the journal (`Handed` also where its step doesn't: its text takes memory before its length is known). The event
-    /// comes back then, and nothing has changed.
+    /// Refused by the first cause of the event's own that holds (1003 to 1010, 1012, 1013), else with 1002 where the
+    /// journal would be full. It may be refused 1001, for want of memory, only where it has no cause of its own and its
+    /// step fits the journal. (`Handed` may also where its step doesn't fit: its text takes memory before its length is
+    /// known.) The event comes back, and nothing has changed.
     #[inline(always)]
     pub fn turn(&mut self, pass: u64, event: Event) -> Result<Answer, Refused>
         ensures step { IfOk result
@@ -175,9 +175,9 @@ impl Core {
         self.machine.turn(pass, event)
     }
 
-    /// Takes one event after another, each of its pass: item `i` of the answers is that of pair `i`, or why it was refused.
+    /// Takes one event after another, each of its pass. Item `i` of the result is the answer to pair `i`, or its refusal.
     ///
-    /// Refused 1001 where there is no memory for the answers; no event was taken then. A run of no events takes no memory
+    /// Refused 1001 where there is no memory for the answers: no event was taken. A run of no events takes no memory
     /// and is Ok.
     pub fn run(&mut self, pairs: Vec<(u64, Event)>) -> Result<Vec<Result<Answer, Refusal>>, Refusal>
         ensures run { IfOk result
@@ -196,7 +196,7 @@ impl Core {
         Ok(answers)
     }
 
-    // Takes one event, which is dropped where it is refused.
+    // Takes one event, and drops it if it is refused.
     fn answer(&mut self, pass: u64, event: Event) -> Result<Answer, Refusal>
         ensures turn { IsTurn self.old.setting (history_in self.old) pass event result
             (history_in self.new) }
@@ -220,8 +220,8 @@ impl Core {
         &self.machine.journal
     }
 
-    /// How many hosts the ring has, 1 to 64. Their numbers count from 0. No setting of the core is out of its range, and its
-    /// opening state is one that the settings allow.
+    /// The number of the ring's hosts, 1 to 64; they are numbered from 0. All settings of the core are in range and
+    /// allow its opening state.
     pub fn hosts(&self) -> usize
         ensures hosts { result ≡ hosts self.now.setting }
         ensures ring { result ≡ self.now.setting.ring.hosts }
@@ -233,7 +233,7 @@ impl Core {
         self.machine.pipelines.len()
     }
 
-    /// The epoch of a host: how many faults it has had.
+    /// The epoch of a host: the number of its faults.
     pub fn epoch(&self, host: usize) -> u64
         requires { host < hosts self.now.setting }
         ensures { result ≡ epoch host (history_in self.now) }
@@ -241,7 +241,7 @@ impl Core {
         self.machine.pipelines.epoch(host)
     }
 
-    /// How many parts wait to be sent to a host.
+    /// The number of parts that wait for a host.
     pub fn waiting(&self, host: usize) -> usize
         requires { host < hosts self.now.setting }
         ensures { result ≡ length (waiting_parts host
@@ -250,7 +250,7 @@ impl Core {
         self.machine.pipelines.waiting(host)
     }
 
-    /// How many parts were sent to a host in its epoch and have no reply, those of closed connections too.
+    /// The number of parts sent to a host in its epoch without a reply, with those of closed connections.
     pub fn flying(&self, host: usize) -> usize
         requires { host < hosts self.now.setting }
         ensures { result ≡ flying_count host (past self.now.setting (history_in self.now)) }
@@ -258,7 +258,7 @@ impl Core {
         self.machine.pipelines.flying(host)
     }
 
-    /// How many connections are open: those that were opened, less those that were closed.
+    /// The number of open connections.
     pub fn open_connections(&self) -> usize
         ensures { result ≡ openings (history_in self.now)
             - times is_any_closing (history_in self.now) }
@@ -266,7 +266,7 @@ impl Core {
         self.machine.connections.open_count()
     }
 
-    /// Whether the host is put aside.
+    /// Whether the host is ejected.
     pub fn is_out(&self, host: usize) -> bool
         requires { host < hosts self.now.setting }
         ensures { result ≡ is_out (detector_state self.now) host }
@@ -291,7 +291,7 @@ impl Recorded for Core {
 
     type Refusal = Refusal;
 
-    // The ring, and the rules of outlier detection with the state that it found.
+    // The ring, and the rules of outlier detection with its opening state.
     type Setting = (Ring, EjectState);
 
     type Sight = Handover;
@@ -310,7 +310,7 @@ impl Recorded for Core {
         self.hand_over()
     }
 
-    // Inlined, so that an event and its answer are moved once less.
+    // Inlined, which saves a move of event and answer.
     #[inline(always)]
     fn turn(&mut self, pass: u64, event: Event) -> Result<Answer, (Refusal, Event)> {
         match Core::turn(self, pass, event) {
@@ -324,7 +324,7 @@ impl Recorded for Core {
     ghost legal_before = { legal_before };
 }
 
-// Why there is no core where there is no ejector.
+// The refusal of a core whose ejector was refused.
 fn refusal_of(error: EjectError) -> Refusal
     ensures { result ≡ refusal_for error }
 {
@@ -334,30 +334,30 @@ fn refusal_of(error: EjectError) -> Refusal
     }
 }
 
-/// The ring and what the events so far left.
+/// The ring, and the state that the events have left.
 #[derive(Drop)]
 pub(crate) struct Machine {
     pub alloc: Global,
     pub ring: Ring,
     // Its rules are the core's.
     pub ejector: Ejector,
-    // How outlier detection stood before the first step. Clauses alone read it, and it takes no bytes.
+    // The state of outlier detection before the first step. Only contracts read it, and it takes no bytes.
     pub opening: Snapshot<Ejector>,
     pub journal: Journal<Event, Answer>,
     pub connections: Connections,
     pub pipelines: Pipelines,
-    // Where texts of parts and of replies are written.
+    // Writes the texts of parts and replies.
     pub texts: Texts,
 }
 
-/// What an event comes to, before its step is added.
+/// The result of an event, before its step is added.
 #[derive(Drop)]
 pub(crate) struct Done {
-    /// What is answered.
+    /// The answer.
     pub answer: Answer,
     /// The same answer, for the step.
     pub recorded: Answer,
-    /// The bytes of payload of the step.
+    /// The step's bytes of payload.
     pub bytes: u64,
 }
 
@@ -392,8 +392,7 @@ impl Machine {
         }
     }
 
-    // Adds the step of an event that was done, or gives the event back. Where it stands, the kind of the event is known, so
-    // that little is moved.
+    // Adds an event's step, or returns the event with its refusal. Callers know the kind of the event, so little is moved.
     #[inline(always)]
     pub(crate) fn settle(
         &mut self,
@@ -422,7 +421,7 @@ impl Machine {
     }
 }
 
-/// Makes room in a journal for one step with so many bytes of payload.
+/// Makes room in a journal for a step with this many bytes of payload.
 #[inline(always)]
 pub(crate) fn make_room(journal: &mut Journal<Event, Answer>, bytes: u64) -> Result<(), Refusal>
     ensures room { OnOk result ((journal.new.room ≡ Some bytes) × (IsFull journal.old bytes → ⊥)) }

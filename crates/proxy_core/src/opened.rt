@@ -21,7 +21,7 @@ impl Machine {
         self.settle(pass, Event::Opened, done)
     }
 
-    /// Opens a connection, whose number is that of the connections opened before.
+    /// Opens a connection. Its number is the number of connections opened before.
     pub(crate) fn open(&mut self) -> Result<Done, Refusal>
         ensures done { IfOk result
             (λ d. (d.answer ≡ answers.Opened (length self.old.connections.numbered))

@@ -10,7 +10,7 @@ use proxy_history::Refusal;
 use std::alloc::Global;
 use upstream_pipe::{Lost, Owner, Part, Pipe, PipeRefusal};
 
-/// The pipe to a host, and how many parts were taken from it in its epoch.
+/// The pipe to a host, and the number of parts taken from it in its epoch.
 #[derive(Drop)]
 pub(crate) struct Pipeline {
     pub pipe: Pipe,
@@ -18,7 +18,7 @@ pub(crate) struct Pipeline {
 }
 
 impl Pipeline {
-    /// A pipeline to a host to which nothing was sent.
+    /// A new pipeline.
     pub(crate) fn new(alloc: Global) -> Pipeline
         ensures { state_of result ≡ no_pipeline }
     {
@@ -28,7 +28,7 @@ impl Pipeline {
         }
     }
 
-    /// Takes the oldest part that waits, and gives its text, which is empty where none waits.
+    /// Takes the oldest waiting part, and returns its text, which is empty if none waits.
     pub(crate) fn take(&mut self) -> Bytes
         requires { self.old.taken + 1 < 2 ^ 64 }
         ensures text { result ≡ text_of_oldest self.old.pipe.waiting }
@@ -41,8 +41,8 @@ impl Pipeline {
         }
     }
 
-    /// A reply of this epoch came, which is the present one, and a part flies: takes the oldest that flies, and gives its
-    /// owner, where its connection is open.
+    /// Takes the oldest flying part, to which a reply came; there must be one, and the epoch must be the present one.
+    /// Returns its owner, if its connection is open.
     pub(crate) fn answer(&mut self, epoch: u64) -> Option<Owner>
         requires epoch { epoch ≡ self.old.pipe.epoch }
         requires flying { self.old.pipe.flying ≢ [] }
@@ -52,8 +52,8 @@ impl Pipeline {
         self.pipe.answered(epoch).unwrap_or(None)
     }
 
-    /// The host failed in this epoch, which is the present one: all its parts are lost. Refused where memory is, and nothing
-    /// has changed then.
+    /// Takes out all parts, which are lost by a fault in this epoch; it must be the present one. Refused where memory
+    /// is, and nothing has changed.
     pub(crate) fn fail(&mut self, epoch: u64) -> Result<Lost, PipeRefusal>
         requires epoch { epoch ≡ self.old.pipe.epoch }
         requires next { epoch < 2 ^ 64 - 1 }
@@ -68,7 +68,7 @@ impl Pipeline {
         Ok(lost)
     }
 
-    /// Reserves room for so many parts more.
+    /// Reserves room for this many more parts.
     pub(crate) fn reserve(&mut self, parts: usize) -> Result<(), Refusal>
         ensures room { OnOk result (parts ≤ self.new.pipe.room) }
         ensures refused { IfErr result (λ r. r ≡ Refusal.NoMemory) }
@@ -80,7 +80,7 @@ impl Pipeline {
         }
     }
 
-    /// A part waits behind the others. There is room for it.
+    /// Queues a part, for which there must be room.
     pub(crate) fn push(&mut self, part: Part)
         requires room { 0 < self.old.pipe.room }
         requires limit { length self.old.pipe.waiting < max_waiting }
@@ -90,7 +90,7 @@ impl Pipeline {
         let _room = self.pipe.push(part).is_ok();
     }
 
-    /// A connection is closed: its parts that wait are dropped, and the replies to those that fly go to nobody.
+    /// Forgets a closed connection: its waiting parts are dropped, and the replies to its flying ones are discarded.
     pub(crate) fn forget(&mut self, conn: u64)
         ensures { state_of self.new ≡ without_connection conn (state_of self.old) }
     {

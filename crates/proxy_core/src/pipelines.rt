@@ -15,9 +15,9 @@ use std::alloc::{AllocError, Global};
 use std::marker::Model;
 use upstream_pipe::{Lost, Owner, Part, PipeRefusal};
 
-/// The pipelines to the hosts, by the numbers of the hosts, which count from 0.
+/// The pipelines by the numbers of their hosts, which count from 0.
 ///
-/// Contracts see the state of each, and beside it for how many more parts each has room.
+/// Contracts see the state of each, and the number of further parts that it has room for.
 #[derive(Drop)]
 pub(crate) struct Pipelines {
     by_host: Vec<Pipeline>,
@@ -32,7 +32,7 @@ impl Model for Pipelines {
 }
 
 impl Pipelines {
-    /// A pipeline to each of so many hosts, to which nothing was sent.
+    /// A new pipeline for each host.
     pub(crate) fn new(alloc: Global, hosts: usize) -> Result<Pipelines, AllocError>
         ensures { IfOk result (λ p. p.states ≡ replicate hosts no_pipeline) }
     {
@@ -43,7 +43,7 @@ impl Pipelines {
         Ok(Pipelines { by_host })
     }
 
-    /// How many hosts there are.
+    /// The number of hosts.
     pub(crate) fn len(&self) -> usize
         ensures { result ≡ length self.now.states }
     {
@@ -58,7 +58,7 @@ impl Pipelines {
         self.by_host[host].pipe.epoch()
     }
 
-    /// How many parts wait for a host.
+    /// The number of parts that wait for a host.
     pub(crate) fn waiting(&self, host: usize) -> usize
         requires { host < length self.now.states }
         ensures { result ≡ length (pipeline_at host self.now.states).waiting }
@@ -66,7 +66,7 @@ impl Pipelines {
         self.by_host[host].pipe.waiting()
     }
 
-    /// How many parts fly to a host.
+    /// The number of parts that fly to a host.
     pub(crate) fn flying(&self, host: usize) -> usize
         requires { host < length self.now.states }
         ensures { result ≡ length (pipeline_at host self.now.states).flying }
@@ -74,7 +74,7 @@ impl Pipelines {
         self.by_host[host].pipe.flying()
     }
 
-    /// How many parts were taken for a host in its epoch.
+    /// The number of parts taken for a host in its epoch.
     pub(crate) fn taken(&self, host: usize) -> u64
         requires { host < length self.now.states }
         ensures { result ≡ (pipeline_at host self.now.states).taken }
@@ -82,7 +82,7 @@ impl Pipelines {
         self.by_host[host].taken
     }
 
-    /// The oldest part that waits for a host, if one does.
+    /// The oldest part that waits for a host, if there is one.
     pub(crate) fn oldest(&self, host: usize) -> Option<&Part>
         requires { host < length self.now.states }
         ensures { option_copied result ≡ slice_get (pipeline_at host self.now.states).waiting 0 }
@@ -90,7 +90,7 @@ impl Pipelines {
         self.by_host[host].pipe.oldest()
     }
 
-    /// Reserves room for so many parts more of each host. Refused 1001 (no memory): no more than room has changed then.
+    /// Reserves room for this many more parts of each host. Refused 1001 (no memory): only room has changed.
     pub(crate) fn reserve(&mut self, counts: &[u16]) -> Result<(), Refusal>
         requires { length counts.now ≡ length self.old.states }
         ensures room { OnOk result (HasRooms counts.now (length self.new.states) self.new) }
@@ -103,7 +103,7 @@ impl Pipelines {
         Ok(())
     }
 
-    // Reserves room for so many parts more of one host. The others have as much as before.
+    // Reserves room for this many more parts of one host; the others' stays.
     fn reserve_one(&mut self, host: usize, parts: usize) -> Result<(), Refusal>
         requires { host < length self.old.states }
         ensures room { OnOk result (parts ≤ get_or self.new.room host 0) }
@@ -114,7 +114,7 @@ impl Pipelines {
         self.by_host[host].reserve(parts)
     }
 
-    /// The parts of a command that are to wait do, each for its host. There is room for them.
+    /// Queues a command's parts that are to wait, each for its host. There must be room.
     pub(crate) fn push(&mut self, conn: u64, command: u64, placed: Vec<Placed>)
         requires { HaveRoom placed.items self.old }
         ensures { self.new.states ≡ pushed_all conn command placed.items self.old.states }
@@ -124,7 +124,7 @@ impl Pipelines {
         }
     }
 
-    /// A part waits, if it is to. There is room for it.
+    /// Queues a part, if it is to wait. There must be room.
     pub(crate) fn push_one(&mut self, conn: u64, command: u64, placed: Placed)
         requires { MayWait placed.place self.old }
         ensures pushed { self.new.states ≡ pushed_at placed.place
@@ -145,7 +145,7 @@ impl Pipelines {
         }
     }
 
-    /// Takes the oldest part that waits for a host, and gives its text, which is empty where none waits.
+    /// Takes the oldest part that waits for a host, and returns its text, which is empty if none waits.
     pub(crate) fn take(&mut self, host: usize) -> Bytes
         requires host { host < length self.old.states }
         requires taken { (pipeline_at host self.old.states).taken + 1 < 2 ^ 64 }
@@ -155,8 +155,8 @@ impl Pipelines {
         self.by_host[host].take()
     }
 
-    /// A reply of this epoch came from a host, which is its present one, and a part flies to it: takes the oldest that
-    /// flies, and gives its owner, where its connection is open.
+    /// Takes the oldest part that flies to a host, to which a reply came; there must be one, and the epoch must be the
+    /// host's present one. Returns its owner, if its connection is open.
     pub(crate) fn answer(&mut self, host: usize, epoch: u64) -> Option<Owner>
         requires host { host < length self.old.states }
         requires epoch { epoch ≡ (pipeline_at host self.old.states).epoch }
@@ -167,8 +167,8 @@ impl Pipelines {
         self.by_host[host].answer(epoch)
     }
 
-    /// A host failed in this epoch, which is its present one: all its parts are lost, and handed out. Refused where memory
-    /// is, and no part has changed then.
+    /// Takes out all parts of a host, which are lost by a fault in this epoch; it must be the host's present one.
+    /// Refused where memory is, and no part has changed.
     pub(crate) fn fail(&mut self, host: usize, epoch: u64) -> Result<Lost, PipeRefusal>
         requires host { host < length self.old.states }
         requires epoch { epoch ≡ (pipeline_at host self.old.states).epoch }
@@ -184,7 +184,7 @@ impl Pipelines {
         self.by_host[host].fail(epoch)
     }
 
-    /// A connection is closed: its parts that wait are dropped, and the replies to those that fly go to nobody.
+    /// Forgets a closed connection: its waiting parts are dropped, and the replies to its flying ones are discarded.
     pub(crate) fn forget(&mut self, conn: u64)
         ensures { self.new.states ≡ map (without_connection conn) self.old.states }
     {
@@ -193,7 +193,7 @@ impl Pipelines {
         }
     }
 
-    // The parts of a connection that is closed are forgotten for one host.
+    // Forgets a closed connection's parts for one host.
     fn forget_at(&mut self, host: usize, conn: u64)
         requires { host < length self.old.states }
         ensures { self.new.states ≡ with_pipeline (without_connection conn) host self.old.states }

@@ -1,4 +1,4 @@
-//! Where the parts of a command go as it arrives.
+//! The places of a command's parts at its arrival.
 ghost use Rattle.std.specs.Prelude.{◌≡◌, ◌<◌, Some, None, length, map, count_by, IfSome};
 ghost use Rattle.std.specs.Option.{option_map};
 ghost use Rattle.resp_core.specs.Value.{tree_of};
@@ -13,19 +13,19 @@ use resp_core::Value;
 use splitter::Local;
 use upstream_pipe::MAX_WAITING;
 
-/// Where a part goes for good.
+/// The final place of a part.
 #[derive(Clone, Copy)]
 pub(crate) enum Place {
     /// It waits for the host.
     Waits(usize),
-    /// No usable host has its key.
+    /// No usable host owns its key.
     NoHost,
-    /// As many parts as may wait for its host do.
+    /// As many parts as may wait for its host already do.
     Busy,
 }
 
 impl Place {
-    /// The value that a part gets at once, if it doesn't wait.
+    /// The value that the part gets at once, unless it waits.
     pub(crate) fn value(self) -> Option<Value>
         ensures { option_map tree_of result ≡ value_at self }
     {
@@ -45,7 +45,7 @@ pub(crate) struct Placed {
     pub text: Bytes,
 }
 
-/// What is answered to a command that is accepted.
+/// The answer to an accepted command.
 #[derive(Clone, Copy)]
 pub(crate) struct Accepted {
     pub index: u64,
@@ -117,8 +117,8 @@ impl Accepted {
     }
 }
 
-/// The place of the next part, whose key has this host. `counts` has for each host how many parts of the command wait for
-/// it, and is brought up to date.
+/// The place of the next part, whose key has this host. `counts` has the number of the command's waiting parts for each
+/// host, and is updated.
 pub(crate) fn next_place(pipelines: &Pipelines, counts: &mut [u16], host: Option<usize>) -> Place
     requires hosts { length counts.old ≡ length pipelines.now.states }
     requires host { IfSome host (λ h. h < length pipelines.now.states) }

@@ -1,12 +1,12 @@
-//! An event that was refused.
+//! A refused event.
 
 use proxy_history::{Event, Refusal};
 
-/// An event that was refused: why, and the event, which comes back as it was given.
+/// A refused event with its cause; the event comes back as it was given.
 #[derive(Drop)]
 pub struct Refused {
-    /// Why it was refused.
+    /// The cause.
     pub cause: Refusal,
-    /// What was refused.
+    /// The event.
     pub event: Event,
 }

@@ -1,4 +1,4 @@
-//! It is time to look at the hosts that are out, and at those that answer badly.
+//! Ejected hosts may return, and hosts that answer badly are ejected.
 ghost use Rattle.std.specs.Prelude.{◌≡◌, ◌∷◌, List, IfOk, IfErr, OnOk};
 ghost use Rattle.ejector.specs.declared.mark.Mark.{Mark};
 ghost use Rattle.ejector.specs.declared.mark.Mark.TheVariants as marks';
@@ -64,7 +64,7 @@ fn swept(ejector: &mut Ejector, t: u64) -> Swept
     }
 }
 
-// The answer to a sweep that had this result.
+// The answer to a sweep with this result.
 fn counts_of(hosts: Swept) -> Answer
     ensures { result ≡ counts_of hosts }
 {

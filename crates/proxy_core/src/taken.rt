@@ -24,7 +24,7 @@ impl Machine {
         self.settle(pass, Event::Taken { host }, done)
     }
 
-    /// Takes the oldest part that waits for the host, which flies from now on.
+    /// Takes the oldest part that waits for the host; it flies from now on.
     pub(crate) fn take(&mut self, host: usize) -> Result<Done, Refusal>
         requires hosts { length self.old.pipelines.states ≡ hosts (setting_in self.old) }
         requires taken { (pipeline_at host (memory_in self.old).pipelines).taken + 1 < 2 ^ 64 }

@@ -1,4 +1,4 @@
-//! What a worker needs of a state on which it makes turns of the core.
+//! The turns that a worker makes of a core.
 ghost use Rattle.proxy_core.specs.CoreTurns.{AnswersFit, AreFewSteps, AreHistories, EpochsArePresent, FinishingTakesNothing, OpeningsAreNew, RefusalsMean};
 
 use crate::machine::Core;
@@ -7,35 +7,34 @@ use ketama::Ring;
 use proxy_history::{Answer, Event, Refusal};
 use ticket_gate::{Alone, Seated, Turns};
 
-/// Turns of a core, which a worker makes without knowing whether others make turns too, with what holds of what it sees.
+/// Turns of a core, whether others make turns too or not, with the laws of the steps that are seen.
 ///
-/// The setting is the ring, and the rules of outlier detection with the state that it found.
+/// The setting is the ring, and the rules of outlier detection with its opening state.
 pub trait CoreTurns: Turns<
     Event = Event,
     Answer = Answer,
     Refusal = Refusal,
     Setting = (Ring, EjectState),
 > {
-    /// What a pass sees is a legal history, in the other order.
+    /// The steps that a pass sees, newest first, are a legal history.
     ghost are_histories: { AreHistories Self.legal };
 
-    /// Each event has an answer of its kind. The proxy's own answer to a request tells whether the connection finishes
-    /// with it.
+    /// Each event has an answer of its kind. The proxy's own answer to a request shows whether it finishes the connection.
     ghost answers_fit: { AnswersFit Self.legal };
 
-    /// No step before uses the number of a connection that is opened.
+    /// No earlier step has the number of a newly opened connection.
     ghost openings_are_new: { OpeningsAreNew Self.legal };
 
-    /// No more steps are seen than a journal takes.
+    /// No more steps are seen than fit a journal.
     ghost are_few_steps: { AreFewSteps Self.legal };
 
-    /// A part that is taken, a reply and a fault name the epoch that their host has then: the number of its faults before.
+    /// A taken part, a reply and a fault have their host's epoch at that time: the number of its earlier faults.
     ghost epochs_are_present: { EpochsArePresent Self.legal };
 
-    /// What a refusal says of the steps that are seen.
+    /// What a refusal means for the steps that are seen.
     ghost refusals_mean: { RefusalsMean Self.cause };
 
-    /// A request of an open connection that finishes would be refused for that.
+    /// Any request of an open connection that finishes is refused for that.
     ghost finishing_takes_nothing: { FinishingTakesNothing Self.cause };
 }
 

@@ -1,4 +1,4 @@
-//! One turn, and what it does to the caller's own steps.
+//! One turn, and its effect on the caller's own steps.
 ghost use Rattle.std.specs.Prelude.{◌≡◌, ◌∷◌, [], ℕ, IfOk, IfErr, OnOk};
 ghost use Rattle.journal_core.specs.Journal.{step_by};
 ghost use Rattle.ticket_gate.specs.Journal.{AddsTurn};
@@ -30,7 +30,7 @@ pub(crate) enum Denied {
 const SPENT: u16 = 1202;
 
 impl Denied {
-    /// What an engine tells of it.
+    /// The engine's error for it.
     pub(crate) fn error(&self) -> EngineError
         ensures { result ≡ EngineError.TurnRefused (denied_number self.now) }
     {
@@ -42,8 +42,8 @@ impl Denied {
         }
     }
 
-    /// What an engine tells of it: its error, or this answer where it is none, since the next reply hasn't come, a command is
-    /// held back, no part waits, or a host has spoken unasked.
+    /// The engine's error for it. It returns `answer` where it isn't an error: the next reply hasn't come, a command is
+    /// held back, no part waits, or a host has sent an unasked reply.
     pub(crate) fn told_as<A: Drop>(&self, answer: A) -> Result<A, EngineError>
         ensures { result ≡ told_as self.now answer }
     {
@@ -59,8 +59,7 @@ impl Denied {
     }
 }
 
-/// Makes one turn. Where it is refused the event comes back. Where it stands the kind of the event is known, so that little is
-/// moved.
+/// Makes one turn. A refused event comes back. Callers know the kind of the event, so little is moved.
 #[inline(always)]
 pub(crate) fn ask<Rt: Wait, T: CoreTurns>(
     rt: &Rt,
@@ -85,7 +84,7 @@ pub(crate) fn ask<Rt: Wait, T: CoreTurns>(
     }
 }
 
-/// Makes one turn of an event that nobody wants back.
+/// Makes one turn, and drops the event if it is refused.
 #[inline(always)]
 pub(crate) fn tell<Rt: Wait, T: CoreTurns>(
     rt: &Rt,
@@ -110,14 +109,14 @@ pub(crate) fn tell<Rt: Wait, T: CoreTurns>(
     }
 }
 
-// Whether the connection finishes with an answer of the proxy's own.
+// Whether an answer of the proxy's own finishes the connection.
 fn is_last_answer(local: Option<Local>) -> bool
     ensures { result ≡ is_last_answer local }
 {
     matches!(local, Some(Local::Bye | Local::Broken))
 }
 
-/// One Arrived turn. True says that the request finishes its connection. Where it is refused the request comes back.
+/// One Arrived turn. True: the request finishes its connection. A refused request comes back.
 pub(crate) fn arrive<Rt: Wait, T: CoreTurns>(
     rt: &Rt,
     turns: &mut T,
@@ -142,7 +141,7 @@ pub(crate) fn arrive<Rt: Wait, T: CoreTurns>(
     }
 }
 
-/// One Opened turn. Gives the connection's number, which no step before has.
+/// One Opened turn. Returns the connection's number, which is in no earlier step.
 pub(crate) fn open<Rt: Wait, T: CoreTurns>(rt: &Rt, turns: &mut T) -> Result<u64, Denied>
     ensures turns { KeepsTurns T.pass T.setting T.seen turns.old turns.new }
     ensures answered { IfOk result (λ c. own_history T.pass T.seen turns.new ≡ step_by
@@ -159,7 +158,7 @@ pub(crate) fn open<Rt: Wait, T: CoreTurns>(rt: &Rt, turns: &mut T) -> Result<u64
     }
 }
 
-/// One Answered turn. Where it is refused the value comes back.
+/// One Answered turn. A refused value comes back.
 pub(crate) fn give<Rt: Wait, T: CoreTurns>(
     rt: &Rt,
     turns: &mut T,

@@ -1,4 +1,4 @@
-//! A client's end.
+//! A client's engine.
 ghost use Rattle.std.specs.Prelude.{◌≡◌, ◌≢◌, ◌↔◌, ◌∷◌, ◌++◌, ◌⊎◌, ℕ, [], List, Option, None, Some, true, false, IfOk, IfErr, IfSome, IfNone, OnOk, OnErr};
 ghost use Rattle.splitter.specs.Request.{Request as Asked};
 ghost use Rattle.proxy_history.specs.History.{History};
@@ -23,7 +23,7 @@ use std::marker::Model;
 use std::sync::Wait;
 use std::{io, mem};
 
-/// What a step did.
+/// The result of a step.
 #[derive(Clone, Copy, Debug, PartialEq, Eq, Drop)]
 pub enum Progress {
     /// Bytes were read or taken, or a turn was answered.
@@ -34,32 +34,32 @@ pub enum Progress {
     NeedsLink,
     /// The connection was closed after a fault of its reader or writer.
     Cut,
-    /// All was handed out and written, and the connection was closed.
+    /// All replies are handed out and written, and the connection was closed.
     Ended,
 }
 
-/// How far a connection has come.
+/// The stage of a connection.
 #[derive(Clone, Copy, Debug, PartialEq, Eq, Drop)]
 pub enum Stage {
     /// Requests are taken.
     Open,
-    /// The input has ended, and the connection is to be told so.
+    /// The input has ended, and the Finished turn is due.
     AtEnd,
     /// Nothing more arrives.
     Finishing,
-    /// A device failed, and the connection is to be closed.
+    /// A device failed, and the Closed turn is due.
     Failed,
-    /// The connection was closed, for a fault or at its end.
+    /// The connection was closed, after a fault or at its end.
     Closed {
-        /// Whether it was for a fault.
+        /// Whether it was after a fault.
         is_cut: bool,
     },
 }
 
-/// A client's end: what is read becomes requests, and what is handed out is written.
+/// A client's engine: turns input into requests, and writes the replies that are handed out.
 ///
-/// Contracts see its connection, both ends, the request that waits to be accepted, how many were accepted and how many replies
-/// handed out, how far the connection has come, whether nothing more is to be taken in, and whether reading stopped for that.
+/// Contracts see the connection's number, both ends, the waiting request, and the numbers of accepted requests and
+/// handed out replies. They also see the stage, whether the engine is drained, and whether reading stopped for that.
 #[derive(Drop)]
 pub struct ClientEngine<R: ReadTally, W: WriteTally> {
     conn: u64,
@@ -69,7 +69,7 @@ pub struct ClientEngine<R: ReadTally, W: WriteTally> {
     accepted: u64,
     handed: u64,
     stage: Stage,
-    // Nothing more is to be read or taken in.
+    // Nothing more may be read or accepted.
     is_drained: bool,
     // Reading stopped for that, before the input ended or a request finished the connection.
     is_halted: bool,
@@ -109,7 +109,7 @@ impl<R: ReadTally, W: WriteTally> ClientEngine<R, W> {
     ghost use Rattle.proxy_history.specs.declared.refusal.Refusal.{Refusal};
     ghost use Rattle.splitter.specs.declared.request.Request.{Request};
 
-    // One Handed turn. False says that the next reply hasn't come.
+    // One Handed turn. False: the next reply hasn't come.
     fn hand<Rt: Wait, T: CoreTurns>(&mut self, rt: &Rt, turns: &mut T) -> Result<bool, EngineError>
         requires live { IsLive self.old.stage }
         requires nothing { self.old.outbox.pending ≡ [] }
@@ -160,7 +160,7 @@ impl<R: ReadTally, W: WriteTally> ClientEngine<R, W> {
         }
     }
 
-    // One Closed turn after a fault of a device, and what the step answers then. Until it is answered, no other turn is made.
+    // One Closed turn after a device's fault; the step then returns `answer`. Until it is answered no other turn is made.
     fn cut<Rt: Wait, T: CoreTurns>(
         &mut self,
         rt: &Rt,
@@ -210,7 +210,7 @@ impl<R: ReadTally, W: WriteTally> ClientEngine<R, W> {
         }
     }
 
-    // The request that waits, as an Arrived turn. Idle says that it is held back: too many commands are unwritten.
+    // Offers the waiting request in an Arrived turn. Idle: it is held back, since too many commands are unwritten.
     fn offer<Rt: Wait, T: CoreTurns>(
         &mut self,
         rt: &Rt,
@@ -245,7 +245,7 @@ impl<R: ReadTally, W: WriteTally> ClientEngine<R, W> {
         }
     }
 
-    // The next request, if one has come whole.
+    // Fetches the next complete request. False: there is none.
     fn fetch(&mut self) -> Result<bool, EngineError>
         requires stage { self.old.stage ≡ Stage.Open }
         requires none { self.old.next ≡ None }
@@ -266,7 +266,7 @@ impl<R: ReadTally, W: WriteTally> ClientEngine<R, W> {
         }
     }
 
-    // Whether a request waits, or has come whole.
+    // Whether a request waits, or has come completely.
     fn has_next(&mut self) -> Result<bool, EngineError>
         requires stage { self.old.stage ≡ Stage.Open }
         requires last { self.old.is_drained ≡ true → self.old.next ≡ Some Request.Broken }
@@ -307,7 +307,7 @@ impl<R: ReadTally, W: WriteTally> ClientEngine<R, W> {
         }
     }
 
-    // Nothing more is read, at the end of the input or by `drain`, which becomes a Finished turn.
+    // Stops reading, at the end of the input or by `drain`, and makes the Finished turn.
     fn stop_reading<Rt: Wait, T: CoreTurns>(
         &mut self,
         rt: &Rt,
@@ -351,7 +351,7 @@ impl<R: ReadTally, W: WriteTally> ClientEngine<R, W> {
         }
     }
 
-    // Whether nothing more is to be taken in. A refusal of the reader that waits is still told, since it ends the input.
+    // Whether nothing more may be accepted. A waiting refusal of the reader still counts, since it ends the input.
     fn is_to_stop(&self) -> bool
         ensures stops { result ≡ true → (self.now.is_drained ≡ true)
             × (self.now.next ≢ Some Request.Broken) }
@@ -361,7 +361,7 @@ impl<R: ReadTally, W: WriteTally> ClientEngine<R, W> {
         self.is_drained && !matches!(self.next, Some(Request::Broken))
     }
 
-    // The next request as an Arrived turn, else one read. A drained engine takes in nothing more.
+    // Offers the next request, or reads once. A drained engine does neither.
     fn take_in<Rt: Wait, T: CoreTurns>(
         &mut self,
         rt: &Rt,
@@ -388,7 +388,7 @@ impl<R: ReadTally, W: WriteTally> ClientEngine<R, W> {
         self.offer(rt, turns)
     }
 
-    // The end, once all that was accepted is handed out.
+    // Closes the connection, once all accepted commands are handed out.
     fn end<Rt: Wait, T: CoreTurns>(
         &mut self,
         rt: &Rt,
@@ -409,7 +409,7 @@ impl<R: ReadTally, W: WriteTally> ClientEngine<R, W> {
         self.close(rt, turns)
     }
 
-    // Whether a reply was handed out. No turn is made where all that was accepted is handed out: it would be refused.
+    // Hands out a reply, if one is due. No turn is made if all accepted commands are handed out, since it would be refused.
     fn has_handed<Rt: Wait, T: CoreTurns>(
         &mut self,
         rt: &Rt,
@@ -432,7 +432,7 @@ impl<R: ReadTally, W: WriteTally> ClientEngine<R, W> {
         self.hand(rt, turns)
     }
 
-    // One step of a connection that is neither closed nor to be closed for a fault.
+    // One step of a connection that isn't closed and has no fault.
     fn go_on<Rt: Wait, T: CoreTurns>(
         &mut self,
         rt: &Rt,
@@ -458,13 +458,13 @@ impl<R: ReadTally, W: WriteTally> ClientEngine<R, W> {
         }
     }
 
-    /// Does the first of these that applies: one write of what is pending; one reply handed out; the request that waits, or the
-    /// next one that has come, accepted; one read of at most 16,384 bytes; and once nothing more arrives and all is handed out
-    /// and written, the close. After [`drain`](ClientEngine::drain) no request is accepted and nothing is read. A closed
-    /// connection's step does nothing.
+    /// Does the first of these that applies: writes pending bytes once; hands out one reply; accepts the waiting
+    /// request or the next complete one; reads at most 16,384 bytes once. It closes the connection once nothing more
+    /// arrives and all is handed out and written. After [`drain`](ClientEngine::drain) no request is accepted and
+    /// nothing is read. A step of a closed connection does nothing.
     ///
-    /// Refused 1402 or 1403 where the reader or the writer failed in this call, and the connection was closed for it; 1401 for
-    /// want of memory, and 1404 where a turn was refused: the next step goes on from the same place.
+    /// Refused 1402 or 1403 where the reader or the writer failed in this call; the connection was then closed. Refused
+    /// 1401 for want of memory and 1404 where a turn was refused; the next step then continues at the same place.
     pub fn step<Rt: Wait, T: CoreTurns>(
         &mut self,
         rt: &Rt,
@@ -486,11 +486,11 @@ impl<R: ReadTally, W: WriteTally> ClientEngine<R, W> {
         }
     }
 
-    /// From here on no step reads or takes in a request, not even one that waits: what is accepted is answered and written, and
-    /// then the connection is closed. What was read and isn't asked stays, for another engine to go on from. Bytes that the
-    /// reader refused are still told, and finish the connection.
+    /// Reads and accepts nothing from here on, not even a waiting request: accepted ones are answered and written, and
+    /// then the connection is closed. Unused input stays for the next engine. Bytes that the reader refused still
+    /// count, and finish the connection.
     ///
-    /// Nothing else changes now, and the device isn't touched. What the engine carries stays true.
+    /// Nothing else changes now, no device is called, and the engine's facts stay true.
     pub fn drain(&mut self)
         ensures drained { self.new ≡ record self.old { is_drained = true } }
         ensures carries { (H : History) (taken b : List ℕ) → Carries self.old H taken b
@@ -499,17 +499,17 @@ impl<R: ReadTally, W: WriteTally> ClientEngine<R, W> {
         self.is_drained = true;
     }
 
-    /// Whether the connection was closed after a drain, all answered and written, while its socket can go on: neither had its
-    /// input ended nor did a request finish it.
+    /// Whether the connection was closed after a drain, with everything answered and written, and its socket can go on:
+    /// its input hasn't ended, and no request has finished it.
     pub fn may_go_on(&self) -> bool
         ensures { (result ≡ true) ↔ MayGoOn self.now }
     {
         self.is_halted && self.stage == Stage::Closed { is_cut: false }
     }
 
-    /// Has the writer pass on what it gathered. What the engine carries stays true.
+    /// Flushes the writer. The engine's facts stay true.
     ///
-    /// Fails as the writer's flush does, and the connection goes on all the same.
+    /// Fails as the writer's flush does; the connection goes on.
     pub fn flush(&mut self) -> io::Result<()>
         ensures goes { (H : History) → Goes self.old self.new H H false }
         ensures stage { self.new.stage ≡ self.old.stage }
@@ -530,9 +530,9 @@ impl<R: ReadTally + Drop, W: WriteTally + Drop> ClientEngine<R, W> {
     ghost use Rattle.proxy_engines.specs.ClientSteps.{OpensClient};
     ghost use Rattle.proxy_engines.specs.Socket.{IsLeft, IsRest};
 
-    /// Opens a connection: all that it needs is taken first, and then one Opened turn is made.
+    /// Opens a connection: reserves everything that it needs, and then makes one Opened turn.
     ///
-    /// Refused 1401 or 1404, and then no step was added, and the reader and the writer are dropped.
+    /// Refused 1401 or 1404: no step was added, and the reader and the writer are dropped.
     pub fn open<Rt: Wait, T: CoreTurns>(
         rt: &Rt,
         alloc: Global,
@@ -579,10 +579,10 @@ impl<R: ReadTally + Drop, W: WriteTally + Drop> ClientEngine<R, W> {
         }
     }
 
-    /// Opens a connection on a socket that goes on: with what the connection before it left. The request that waited there is
-    /// the first that is offered here. One Opened turn is made, and no memory is taken but what the turn takes.
+    /// Opens a connection on a carried-over socket, with the rest of the connection before. That one's waiting request
+    /// is the first offered here. Makes one Opened turn, and takes no memory but that turn's.
     ///
-    /// Refused 1404, and then no step was added, and all comes back.
+    /// Refused 1404: no step was added, and everything comes back.
     pub fn open_with<Rt: Wait, T: CoreTurns>(
         rt: &Rt,
         turns: &mut T,
@@ -621,8 +621,8 @@ impl<R: ReadTally + Drop, W: WriteTally + Drop> ClientEngine<R, W> {
         }
     }
 
-    /// What the next connection of the socket goes on from: both ends, and what was read and isn't asked, the request that waits
-    /// included. None, and all is dropped, unless [`may_go_on`](ClientEngine::may_go_on).
+    /// The rest for the socket's next connection: both ends, and the unused input with the waiting request. `None`,
+    /// with everything dropped, unless [`may_go_on`](ClientEngine::may_go_on).
     pub fn into_rest(self) -> Option<(R, W, Rest)>
         ensures some { IfSome result (λ o. MayGoOn self) }
         ensures none { IfNone result (MayGoOn self → ⊥) }
@@ -645,7 +645,7 @@ impl<R: ReadTally + Drop, W: WriteTally + Drop> ClientEngine<R, W> {
         Some((reader, outbox.into_writer(), rest))
     }
 
-    /// The writer. What is pending is dropped, and so is the reader.
+    /// The writer. Pending bytes and the reader are dropped.
     pub fn into_writer(self) -> W
         ensures { W.contents result ≡ self.outbox.held }
     {

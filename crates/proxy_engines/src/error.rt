@@ -1,4 +1,4 @@
-//! Why a call of an engine is refused.
+//! Errors of engines.
 ghost use Rattle.std.specs.Prelude.{◌≡◌};
 ghost use Rattle.proxy_engines.specs.EngineError.{number_of};
 
@@ -6,17 +6,17 @@ use std::fmt;
 
 /// Why a call of an engine is refused.
 ///
-/// After 1401 and 1404 the next step goes on from the same place. After 1402 and 1403 a client's steps answer `Cut`, and a
-/// host's go on without a link.
+/// After 1401 and 1404 the next step continues at the same place. After 1402 and 1403 a client's steps return `Cut`,
+/// and a host's go on without a link.
 #[derive(Clone, Copy, Debug, PartialEq, Eq, Drop)]
 pub enum EngineError {
-    /// 1401: there was no memory.
+    /// 1401: memory was refused.
     NoMemory,
-    /// 1402: a read failed, and the connection was closed for it, or the fault recorded.
+    /// 1402: a read failed. The connection was closed, or the fault recorded.
     ReadFailed,
-    /// 1403: a write failed, and the connection was closed for it, or the fault recorded.
+    /// 1403: a write failed. The connection was closed, or the fault recorded.
     WriteFailed,
-    /// 1404: the core or its gate refused a turn, by this number.
+    /// 1404: the core or its gate refused a turn, with this number.
     TurnRefused {
         /// The refusal's number.
         number: u16,

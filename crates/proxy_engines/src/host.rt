@@ -1,4 +1,4 @@
-//! A host's end.
+//! A host's engine.
 ghost use Rattle.std.specs.Prelude.{◌≡◌, ◌≢◌, ◌⊎◌, ◌↔◌, ℕ, List, [], Option, Some, None, IfOk, IfErr, IfSome, OnOk, OnErr, true, false, unwrap_or};
 ghost use Rattle.proxy_history.specs.History.{History};
 ghost use Rattle.proxy_history.specs.Own.{host_steps};
@@ -23,9 +23,9 @@ use std::alloc::Global;
 use std::marker::Model;
 use std::sync::Wait;
 
-/// A host's end: parts that wait are taken and written, and what is read becomes replies.
+/// A host's engine: takes and writes waiting parts, and turns input into replies.
 ///
-/// Contracts see its line, its link, if there is one, and a fault that is still to be recorded.
+/// Contracts see its line, its link, if there is one, and a fault that isn't recorded yet.
 #[derive(Drop)]
 pub struct HostEngine<R: ReadTally, W: WriteTally> {
     alloc: Global,
@@ -34,7 +34,7 @@ pub struct HostEngine<R: ReadTally, W: WriteTally> {
     fault: Option<Kind>,
 }
 
-// What a step answers that recorded an earlier fault first.
+// The result of a step that recorded an earlier fault first.
 fn after_fault(told: Result<Progress, EngineError>) -> Result<Progress, EngineError>
     ensures { result ≡ after_fault told }
 {
@@ -62,7 +62,7 @@ impl<R: ReadTally, W: WriteTally> Model for HostEngine<R, W> {
 }
 
 impl<R: ReadTally, W: WriteTally> HostEngine<R, W> {
-    /// The engine of a host, without a link. A reply is late once its part was taken `reply_ms` milliseconds ago.
+    /// A host's engine without a link. A reply is late `reply_ms` milliseconds after its part was taken.
     pub fn new(alloc: Global, host: usize, reply_ms: u64) -> HostEngine<R, W>
         ensures line { result.line ≡ record {
           host = host;
@@ -88,7 +88,7 @@ impl<R: ReadTally, W: WriteTally> HostEngine<R, W> {
 
 #[tactic(auto, using(crate::proofs::HostLemmas::works_on, crate::proofs::HostLemmas::works_left, crate::proofs::HostLemmas::works_fault))]
 impl<R: ReadTally + Drop, W: WriteTally + Drop> HostEngine<R, W> {
-    // Records a fault and gives the link up. Where that turn is refused, the next step tries it first.
+    // Records a fault and drops the link. If the turn is refused, the next step makes it first.
     fn record_fault<Rt: Wait, T: CoreTurns>(
         &mut self,
         rt: &Rt,
@@ -106,9 +106,9 @@ impl<R: ReadTally + Drop, W: WriteTally + Drop> HostEngine<R, W> {
         Ok(())
     }
 
-    /// Takes a link to the host. The engine has none, and no fault is still to be recorded.
+    /// Attaches a link to the host. There must be none, and no fault that isn't recorded.
     ///
-    /// Refused 1401, and then the reader and the writer come back, and the engine is as it was.
+    /// Refused 1401: the reader and the writer come back, and the engine hasn't changed.
     pub fn attach(&mut self, reader: R, writer: W) -> Result<(), (EngineError, R, W)>
         requires none { self.old.link ≡ None }
         requires no_fault { self.old.fault ≡ None }
@@ -130,9 +130,9 @@ impl<R: ReadTally + Drop, W: WriteTally + Drop> HostEngine<R, W> {
         }
     }
 
-    /// No link to the host could be made: one Failed turn of kind Refused. The engine has no link.
+    /// Records that no link to the host could be made: one Failed turn of kind Refused. There must be no link.
     ///
-    /// Refused 1404, and then the next step makes that turn first.
+    /// Refused 1404: the next step makes that turn first.
     pub fn refused<Rt: Wait, T: CoreTurns>(
         &mut self,
         rt: &Rt,
@@ -146,10 +146,10 @@ impl<R: ReadTally + Drop, W: WriteTally + Drop> HostEngine<R, W> {
         self.record_fault(rt, turns, Kind::Refused, moment)
     }
 
-    /// Gives up what the host was asked: one Failed turn of kind Dropped, and the link, if there is one, is dropped. A fault
-    /// that is still to be recorded gives its own kind. A value that was read and waits for its turn goes with the link.
+    /// Gives up the host's parts: one Failed turn of kind Dropped, and a link is dropped. A fault that isn't recorded
+    /// yet gives its own kind instead. A value that waits for its turn is dropped with the link.
     ///
-    /// Refused 1404, and then the next step makes that turn first.
+    /// Refused 1404: the next step makes that turn first.
     pub fn give_up<Rt: Wait, T: CoreTurns>(
         &mut self,
         rt: &Rt,
@@ -163,7 +163,7 @@ impl<R: ReadTally + Drop, W: WriteTally + Drop> HostEngine<R, W> {
         self.record_fault(rt, turns, kind, moment)
     }
 
-    // Records a fault, and answers what the step tells of it.
+    // Records a fault, and returns the step's result.
     fn tell_fault<Rt: Wait, T: CoreTurns>(
         &mut self,
         rt: &Rt,
@@ -216,7 +216,7 @@ impl<R: ReadTally + Drop, W: WriteTally + Drop> HostEngine<R, W> {
         }
     }
 
-    // One part is taken, if none is pending.
+    // Takes one part, if none is pending.
     fn take_one<Rt: Wait, T: CoreTurns>(
         &mut self,
         rt: &Rt,
@@ -273,7 +273,7 @@ impl<R: ReadTally + Drop, W: WriteTally + Drop> HostEngine<R, W> {
         }
     }
 
-    // One step where no fault is to be recorded.
+    // One step without an unrecorded fault.
     fn go_on<Rt: Wait, T: CoreTurns>(
         &mut self,
         rt: &Rt,
@@ -299,15 +299,15 @@ impl<R: ReadTally + Drop, W: WriteTally + Drop> HostEngine<R, W> {
         }
     }
 
-    /// Does a step at this moment, in milliseconds: a fault that is still to be recorded; one write of what is pending, or
-    /// one part taken; then, on a link, a reply for each value that was read, one read, and a reply for each value that
-    /// came by it. Then a reply that is late is a fault.
+    /// Makes a step at this moment, in milliseconds. It records an earlier fault. It writes pending bytes once, or
+    /// takes one part. On a link it makes a reply of each value read, reads once, and makes a reply of each value that
+    /// came. Last, a late reply is a fault.
     ///
-    /// A fault is recorded, and the link given up: Dropped at the end of the input or where a device failed, Garbled for a
-    /// byte that is refused or a value that nobody asked for, Late. `NeedsLink` says that bytes are pending without a link.
+    /// A fault is recorded and the link dropped. It is Dropped at the end of the input or where a device failed,
+    /// Garbled for a refused byte or an unasked value, or Late. `NeedsLink`: bytes are pending and there is no link.
     ///
-    /// Refused 1402 or 1403 where the reader or the writer failed in this call, and the fault was recorded for it; 1401 for
-    /// want of memory, and 1404 where a turn was refused: the next step goes on from the same place.
+    /// Refused 1402 or 1403 where the reader or the writer failed in this call; the fault was then recorded. Refused
+    /// 1401 for want of memory and 1404 where a turn was refused; the next step then continues at the same place.
     pub fn step<Rt: Wait, T: CoreTurns>(
         &mut self,
         rt: &Rt,

@@ -1,4 +1,4 @@
-//! What is read and not yet asked.
+//! Input that isn't used yet.
 ghost use Rattle.std.specs.Prelude.{true, ◌≡◌, ◌≢◌, ◌≤◌, ◌↔◌, ◌++◌, ◌∷◌, ℕ, List, [], length, Some, None, IfOk, IfErr, IfSome, IfNone, OnErr, OnOk};
 ghost use Rattle.std.specs.Io.KnownBytes.{Consumes, IsAtEnd};
 ghost use Rattle.resp_core.specs.declared.error.RespError.{RespError};
@@ -12,20 +12,20 @@ use splitter::Request;
 use std::alloc::{AllocError, Global};
 use std::marker::Model;
 
-/// How many bytes one read takes at most.
+/// The most bytes of one read.
 pub const READ_SIZE: usize = 16_384;
 
-// How many bytes a first read takes at most, and how many are kept for reading where little comes.
+// The most bytes of a first read, and the least length of the buffer.
 const LEAST_READ_SIZE: usize = 1_024;
 
-// Whether it is want of memory, and no refusal of a byte.
+// Whether memory was refused, and not a byte.
 fn is_memory(error: &RespError) -> bool
     ensures { (result ≡ true) ↔ (error.now ≡ RespError.NoMemory) }
 {
     matches!(error, RespError::NoMemory)
 }
 
-// How long a buffer of this length is to be where the last read brought so many bytes: 0 before the first.
+// The length that a buffer should have after a read of `last` bytes; 0 before the first one.
 fn fitting_size(length: usize, last: usize) -> usize
     requires { (LEAST_READ_SIZE ≤ length) × (length ≤ READ_SIZE) }
     ensures { (LEAST_READ_SIZE ≤ result) × (result ≤ READ_SIZE) }
@@ -39,10 +39,9 @@ fn fitting_size(length: usize, last: usize) -> usize
     }
 }
 
-/// What was read from a client and not asked: the request that waits, an unfinished command, and what was read and not looked
-/// at.
+/// A client's unused input: the waiting request, an unfinished command, and bytes not looked at.
 ///
-/// Contracts see the request, the bytes that were not looked at, and the reader of values, which has refused nothing.
+/// Contracts see the request, the bytes not looked at, and the reader of values, which has refused nothing.
 #[derive(Drop)]
 pub struct Rest {
     next: Option<Request>,
@@ -77,18 +76,18 @@ impl Model for Rest {
         × (r.values.refusal ≡ None) };
 }
 
-/// A reader, the bytes that it read last, and the reader of values.
+/// A reader, its latest bytes, and the reader of values.
 #[derive(Drop)]
 pub(crate) struct Inbox<R: ReadTally> {
     alloc: Global,
     input: R,
-    // The bytes that came last stand in front, so many of them.
+    // The latest bytes are in front; `fresh` is their number.
     buffer: Vec<u8>,
     fresh: usize,
-    // So many came with the last read that brought any.
+    // The bytes of the last read that brought any, or half of the number before if that is more.
     last: usize,
     values: Reader,
-    // Whether the reader of values has given all that came whole of the bytes that it was fed.
+    // Whether the reader of values has returned all complete values of its bytes.
     has_given_all: bool,
 }
 
@@ -119,7 +118,7 @@ impl<R: ReadTally> Model for Inbox<R> {
 impl<R: ReadTally> Inbox<R> {
     ghost use Rattle.proxy_engines.specs.Ends.{GivesNext, Holds, IsCut, KeepsReader};
 
-    /// An end that has read nothing yet. Where there is no memory for its buffer, the reader comes back.
+    /// An inbox that has read nothing. Without memory for its buffer the reader comes back.
     pub(crate) fn new(alloc: Global, input: R, limits: Limits) -> Result<Inbox<R>, R>
         ensures left { IfOk result (λ i. i.left ≡ R.remaining input) }
         ensures most { IfOk result (λ i. i.values.most ≡ limits.array) }
@@ -141,7 +140,7 @@ impl<R: ReadTally> Inbox<R> {
         }
     }
 
-    /// An end behind which this rest stands, and the request that waits.
+    /// An inbox that goes on from this rest, and the waiting request.
     pub(crate) fn with(input: R, rest: Rest) -> (Inbox<R>, Option<Request>)
         ensures left { result.0.left ≡ R.remaining input }
         ensures fresh { result.0.fresh ≡ rest.fresh }
@@ -169,7 +168,7 @@ impl<R: ReadTally> Inbox<R> {
         (inbox, next)
     }
 
-    /// The reader, and what was read and not asked: the request that waits, and what is no request yet. Nothing may be refused.
+    /// The reader and the unused input, with this waiting request. Nothing may have been refused.
     pub(crate) fn into_rest(self, next: Option<Request>) -> (R, Rest)
         requires { self.values.refusal ≡ None }
         ensures left { R.remaining result.0 ≡ self.left }
@@ -199,8 +198,8 @@ impl<R: ReadTally> Inbox<R> {
         (input, rest)
     }
 
-    // Makes the buffer twice as long where the last read filled it, and half as long where an eighth of it was enough, as far
-    // as there is memory. What was in it has been given on by then.
+    // Doubles the buffer if the last read filled it, and halves it if an eighth was enough, as memory allows. Its
+    // content must have been used.
     fn fit(&mut self)
         requires { self.old.fresh ≡ [] }
         ensures { self.new ≡ self.old }
@@ -213,7 +212,7 @@ impl<R: ReadTally> Inbox<R> {
         }
     }
 
-    /// Reads once. What was read last has to be given on by then.
+    /// Reads once. The previous read must have been used.
     pub(crate) fn read_once(&mut self) -> Told
         requires { self.old.fresh ≡ [] }
         ensures bytes { Consumes self.old.left self.new.left self.new.fresh }
@@ -241,7 +240,7 @@ impl<R: ReadTally> Inbox<R> {
         told
     }
 
-    // Gives what came last to the reader of values.
+    // Feeds the latest bytes to the reader of values.
     fn feed(&mut self) -> Result<(), AllocError>
         requires { self.old.values.refusal ≡ None }
         ensures fresh { OnOk result (self.new.fresh ≡ []) }
@@ -260,9 +259,9 @@ impl<R: ReadTally> Inbox<R> {
         Ok(())
     }
 
-    /// The next request that has come whole; a refused byte is one too. Nothing may be refused yet.
+    /// The next complete request; a refused byte is one too. Nothing may have been refused before.
     ///
-    /// Refused where there is no memory; nothing is lost then.
+    /// Refused where there is no memory; nothing is lost.
     pub(crate) fn next_request(&mut self) -> Result<Option<Request>, AllocError>
         requires { self.old.values.refusal ≡ None }
         ensures next { IfOk result (λ o. GivesNext self.old self.new o) }

@@ -1,4 +1,4 @@
-//! What follows from what engines carry, and how much they read at once.
+//! Laws of engines, and the limit of one read. Each is the contract of a function that does nothing.
 ghost use Rattle.std.specs.Prelude.{◌≡◌};
 ghost use Rattle.proxy_engines.specs.Laws.{AcceptedAreFirst, ClientsLeaveOthers, EndedIsOver, EndedIsWhole, HostsLeaveOthers, OthersLeaveClients, OthersLeaveHosts};
 ghost use Rattle.proxy_engines.specs.Socket.{SocketAnswersInOrder, SocketAsksInOrder, SocketBegins, SocketEndsWhole, SocketGoesOver, SocketMoves, SocketStays};
@@ -10,37 +10,37 @@ pub fn reads_are_limited()
     ensures { READ_SIZE ≡ 16384 }
 {}
 
-/// The requests accepted are the first of those that the bytes read ask.
+/// The accepted requests are the first ones that the bytes read give.
 pub fn accepted_are_first()
     ensures { AcceptedAreFirst }
 {}
 
-/// A client that ended has accepted the requests of all bytes up to and with the first that finishes; all were handed out, and
-/// the writer took all that was handed out. Unless it was halted for a drain, its input is at its end, or a request finished it.
+/// A client that ended has accepted the requests of all its bytes, up to and with the first one that finishes. All
+/// replies were handed out, and the writer took them. Unless it was halted for a drain, its input has ended or a request
+/// finished it.
 pub fn ended_is_whole()
     ensures whole { EndedIsWhole }
     ensures over { EndedIsOver }
 {}
 
-/// Steps of others leave what a client's and a host's engine carry as it is.
+/// Other callers' steps leave the facts of a client's and a host's engine true.
 pub fn others_leave_engines()
     ensures clients { OthersLeaveClients }
     ensures hosts { OthersLeaveHosts }
 {}
 
-/// The steps of an engine are of its own connection or its own host alone, so engines of one thread don't disturb each
-/// other.
+/// An engine's steps are only of its own connection or host, so engines of one thread don't disturb each other.
 pub fn engines_leave_others()
     ensures clients { ClientsLeaveOthers }
     ensures hosts { HostsLeaveOthers }
 {}
 
-/// A socket goes on from one connection to the next, each in a generation of its own: the requests that they accept, one
-/// connection after the other, are the first that all bytes read from the socket ask; and what its writer took, with what is
-/// pending, is what was handed out to them, one connection after the other.
+/// A socket has one connection after another, each in its own generation. The requests that the connections accept, one
+/// after another, are the first ones that all bytes read from the socket give. What its writer took, with pending bytes,
+/// is what was handed out to the connections, one after another.
 ///
-/// So it is at the first connection, and so it stays over each move of an engine, over steps of others, and where one engine is
-/// opened with the rest that another left.
+/// This holds at the first connection. It stays true over each move of an engine, over other callers' steps, and where
+/// an engine is opened with the rest of another.
 pub fn sockets_go_on()
     ensures begins { SocketBegins }
     ensures moves { SocketMoves }

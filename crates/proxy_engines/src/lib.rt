@@ -1,15 +1,13 @@
-//! Byte ends of clients and hosts.
+//! The engines: the proxy's ends of clients and hosts.
 //!
-//! A [`ClientEngine`] turns what its reader gives into a connection's events at a core, and writes what the core hands out
-//! to it. A [`HostEngine`] writes the parts that a core sends to a host, and turns what the link's reader gives into
-//! replies. Both make turns of whatever they are lent (`CoreTurns`): a pass at a gate, or a core of one's own. Nothing is
-//! asked of readers and writers but that they count their faults and pauses ([`Tally`]); [`Tallied`] does it for any
-//! socket.
+//! A [`ClientEngine`] turns its input into a connection's events at a core, and writes the replies that the core hands
+//! out. A [`HostEngine`] writes the core's parts to a host, and turns the link's input into replies. Both are lent
+//! turns (`CoreTurns`): a pass at a gate, or a core of their own. Readers and writers only have to count their failures
+//! and pauses ([`Tally`]); [`Tallied`] does this for any socket. [`run_all`] runs many [`Work`]s in threads; a
+//! [`ClientWork`] steps one client's engine to its end.
 //!
-//! [`run_all`] runs many [`Work`]s at the same time, each in a thread of its own. A [`ClientWork`] steps one client's engine to
-//! its end.
-//!
-//! Contracts say what an engine carries from step to step over the steps of its own caller, and what follows at the end.
+//! Contracts state the facts of an engine from step to step, over its own caller's steps, and what follows at the end.
+//! It stands on `proxy_core` and `devices`. Begin with `client.rt`, then `host.rt`.
 #![tactic(auto)]
 
 mod ask;

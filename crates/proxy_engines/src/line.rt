@@ -1,4 +1,4 @@
-//! What goes to a host: the text that is to be written, and when each part without reply was taken.
+//! The output for a host: its pending text, and when each part without a reply was taken.
 ghost use Rattle.std.specs.Prelude.{◌≡◌, ◌≢◌, ◌⊎◌, ◌++◌, ◌==◌, ◌↔◌, ℕ, List, [], Option, true, false, length, drop, IfOk, IfErr, OnOk, OnErr};
 ghost use Rattle.std.specs.Io.KnownBytes.{Appends};
 ghost use Rattle.proxy_history.specs.declared.event.Event.{Event};
@@ -19,7 +19,7 @@ use std::collections::VecDeque;
 use std::marker::Model;
 use std::sync::Wait;
 
-// The number of a turn of an epoch that is over.
+// The number of a refused turn in an epoch that is over.
 const STALE: u16 = 1006;
 
 /// A host's engine without its link.
@@ -29,9 +29,9 @@ pub(crate) struct Line {
     reply_ms: u64,
     epoch: u64,
     pending: Bytes,
-    // When each part without reply was taken, the oldest first.
+    // When each part without a reply was taken, the oldest first.
     moments: VecDeque<u64>,
-    // A part was of another epoch: someone else failed the host.
+    // A part was of another epoch: another caller failed the host.
     is_astray: bool,
 }
 
@@ -51,7 +51,7 @@ impl Model for Line {
 }
 
 impl Line {
-    /// To this host, whose reply is late after so many milliseconds.
+    /// The line of this host, whose replies are late after `reply_ms` milliseconds.
     pub(crate) fn new(alloc: Global, host: usize, reply_ms: u64) -> Line
         ensures { result ≡ record {
           host = host;
@@ -72,7 +72,7 @@ impl Line {
         }
     }
 
-    /// One Taken turn. False says that nothing waited. Nothing may be pending.
+    /// One Taken turn. False: no part waited. There must be no pending bytes.
     pub(crate) fn take<Rt: Wait, T: CoreTurns>(
         &mut self,
         rt: &Rt,
@@ -112,7 +112,7 @@ impl Line {
         }
     }
 
-    /// One Failed turn: the epoch ends, and what was pending is dropped.
+    /// One Failed turn: the epoch ends, and pending bytes are dropped.
     pub(crate) fn fail<Rt: Wait, T: CoreTurns>(
         &mut self,
         rt: &Rt,
@@ -151,7 +151,7 @@ impl Line {
         }
     }
 
-    /// Whether the oldest part without reply was taken so long ago that its reply is late.
+    /// Whether the oldest part without a reply was taken so long ago that its reply is late.
     pub(crate) fn is_late(&self, moment: u64) -> bool
         ensures { (result ≡ true) ↔ IsLate self.now moment }
     {
@@ -175,14 +175,14 @@ impl Line {
         self.epoch
     }
 
-    /// The oldest part without reply has one.
+    /// The oldest part without a reply got one.
     pub(crate) fn forget_moment(&mut self)
         ensures { self.new ≡ record self.old { moments = drop 1 self.old.moments } }
     {
         let _oldest = self.moments.pop_front();
     }
 
-    /// One write of what is pending.
+    /// Writes pending bytes once.
     pub(crate) fn write_to<W: WriteTally>(&mut self, writer: &mut W) -> Told
         requires some { self.old.pending ≢ [] }
         ensures bytes { (gave rest : List ℕ)
@@ -203,7 +203,7 @@ impl Line {
         told
     }
 
-    /// Whether nothing is to be written.
+    /// Whether no bytes are pending.
     pub(crate) fn is_empty(&self) -> bool
         ensures { result ≡ (length self.now.pending == 0) }
     {

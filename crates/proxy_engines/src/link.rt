@@ -26,7 +26,7 @@ use std::alloc::Global;
 use std::marker::Model;
 use std::sync::Wait;
 
-/// The two ends of a link to a host, and a value whose turn was not answered yet.
+/// The two ends of a link to a host, and a value whose turn isn't answered yet.
 #[derive(Drop)]
 pub(crate) struct Link<R: ReadTally, W: WriteTally> {
     inbox: Inbox<R>,
@@ -34,14 +34,14 @@ pub(crate) struct Link<R: ReadTally, W: WriteTally> {
     next: Option<Value>,
 }
 
-/// What a move came to.
+/// The result of a move.
 #[derive(Clone, Copy, Drop)]
 pub(crate) enum Outcome {
     /// Nothing could be done for now.
     Still,
     /// Bytes or steps were added.
     Moved,
-    /// A fault of the link, and what the step answers once it is recorded.
+    /// A fault of the link, and the step's error once the fault is recorded.
     Fault {
         kind: Kind,
         error: Option<EngineError>,
@@ -56,7 +56,7 @@ impl Outcome {
         matches!(self, Outcome::Fault { .. })
     }
 
-    // Something moved, here or there.
+    // This outcome, or the other one if nothing moved here.
     fn or(self, other: Outcome) -> Outcome
         ensures is { result ≡ either self other }
         ensures calm { is_fault self ≡ false → is_fault other ≡ false → is_fault result ≡ false }
@@ -68,7 +68,7 @@ impl Outcome {
     }
 }
 
-// What was found among the bytes that were read.
+// The next thing in the bytes read.
 #[derive(Clone, Copy, Drop)]
 enum Found {
     Value,
@@ -99,7 +99,7 @@ impl<R: ReadTally, W: WriteTally> Model for Link<R, W> {
 impl<R: ReadTally, W: WriteTally> Link<R, W> {
     ghost use Rattle.proxy_engines.specs.Ends.{Holds};
 
-    /// A link on which nothing was read or written. Where there is no memory for it, both ends come back.
+    /// A link before any read or write. Without memory both ends come back.
     pub(crate) fn new(alloc: Global, reader: R, writer: W) -> Result<Link<R, W>, (R, W)>
         ensures inbox { IfOk result (λ k. (k.inbox.left ≡ R.remaining reader)
             × (k.inbox.values.most ≡ HOST_MEMBERS) × (k.inbox.values.refusal ≡ None)) }
@@ -118,7 +118,7 @@ impl<R: ReadTally, W: WriteTally> Link<R, W> {
         }
     }
 
-    // One write of what is pending.
+    // Writes pending bytes once.
     fn write(&mut self, line: &mut Line) -> Outcome
         requires some { line.old.pending ≢ [] }
         ensures goes { (H : History) (m : ℕ)
@@ -140,7 +140,7 @@ impl<R: ReadTally, W: WriteTally> Link<R, W> {
         }
     }
 
-    // The next value that has come whole, if there is one.
+    // Looks for the next complete value.
     fn seek(&mut self) -> Result<Found, EngineError>
         requires whole { self.old.inbox.values.refusal ≡ None }
         ensures goes { (l : LineState) (H : History) (m : ℕ)
@@ -165,7 +165,7 @@ impl<R: ReadTally, W: WriteTally> Link<R, W> {
         }
     }
 
-    // One Answered turn of the value that waits.
+    // One Answered turn of the waiting value.
     fn answer<Rt: Wait, T: CoreTurns>(
         &mut self,
         line: &mut Line,
@@ -201,7 +201,7 @@ impl<R: ReadTally, W: WriteTally> Link<R, W> {
         }
     }
 
-    // One read.
+    // Reads once.
     fn listen(&mut self) -> Outcome
         requires none { self.old.next ≡ None }
         requires given { HasGivenAll self.old.inbox }
@@ -229,7 +229,7 @@ impl<R: ReadTally, W: WriteTally> Link<R, W> {
         }
     }
 
-    // The turn of the next value that has come whole, if there is one.
+    // Makes the turn of the next complete value, if there is one.
     fn answer_next<Rt: Wait, T: CoreTurns>(
         &mut self,
         line: &mut Line,
@@ -259,7 +259,7 @@ impl<R: ReadTally, W: WriteTally> Link<R, W> {
         }
     }
 
-    // The turns of all values that have come whole.
+    // Makes the turns of all complete values.
     fn answer_all<Rt: Wait, T: CoreTurns>(
         &mut self,
         line: &mut Line,
@@ -291,7 +291,7 @@ impl<R: ReadTally, W: WriteTally> Link<R, W> {
         unreachable!()
     }
 
-    // One write of what is pending, or one part taken.
+    // Writes pending bytes once, or takes one part.
     fn send<Rt: Wait, T: CoreTurns>(
         &mut self,
         line: &mut Line,
@@ -321,7 +321,7 @@ impl<R: ReadTally, W: WriteTally> Link<R, W> {
         }
     }
 
-    // The values that are held, one read, and the values that came by it.
+    // Answers the values that have come, reads once, and answers those that came with it.
     fn receive<Rt: Wait, T: CoreTurns>(
         &mut self,
         line: &mut Line,
@@ -357,7 +357,7 @@ impl<R: ReadTally, W: WriteTally> Link<R, W> {
         Ok(before.or(heard).or(after))
     }
 
-    /// One step on the link, up to a fault that is to be recorded.
+    /// One step on the link, until a fault must be recorded.
     pub(crate) fn attend<Rt: Wait, T: CoreTurns>(
         &mut self,
         line: &mut Line,

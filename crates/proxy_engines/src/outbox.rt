@@ -1,4 +1,4 @@
-//! What is to be written.
+//! The output that isn't written yet.
 ghost use Rattle.std.specs.Prelude.{◌≡◌, ◌≢◌, ◌==◌, ◌<◌, ◌⊎◌, ℕ, List, length, []};
 ghost use Rattle.std.specs.Io.KnownBytes.{Keeps};
 ghost use Rattle.devices.specs.Device.{HasFailed, HasPaused, is_moved};
@@ -10,7 +10,7 @@ use std::io;
 use std::io::Write;
 use std::marker::Model;
 
-/// A writer, and the text that it is to take next.
+/// A writer, and its pending text.
 #[derive(Drop)]
 pub(crate) struct Outbox<W: WriteTally> {
     writer: W,
@@ -32,7 +32,7 @@ impl<W: WriteTally> Model for Outbox<W> {
 impl<W: WriteTally> Outbox<W> {
     ghost use Rattle.proxy_engines.specs.Ends.{Sends};
 
-    /// With nothing to write.
+    /// An outbox without a text.
     pub(crate) fn new(writer: W) -> Outbox<W>
         ensures held { result.held ≡ W.contents writer }
         ensures counts { result.counts ≡ W.counts writer }
@@ -44,14 +44,14 @@ impl<W: WriteTally> Outbox<W> {
         }
     }
 
-    /// Whether nothing is to be written.
+    /// Whether no bytes are pending.
     pub(crate) fn is_empty(&self) -> bool
         ensures { result ≡ (length self.now.pending == 0) }
     {
         self.pending.is_empty()
     }
 
-    /// Takes the next text. Nothing may be pending.
+    /// Takes the next text. There must be no pending bytes.
     pub(crate) fn put(&mut self, text: Bytes)
         requires { self.old.pending ≡ [] }
         ensures { self.new ≡ record self.old { pending = text } }
@@ -59,7 +59,7 @@ impl<W: WriteTally> Outbox<W> {
         self.pending = text;
     }
 
-    /// Writes once. Something has to be pending.
+    /// Writes once. There must be pending bytes.
     pub(crate) fn write_once(&mut self) -> Told
         requires some { self.old.pending ≢ [] }
         ensures bytes { (gave : List ℕ) × Sends self.old self.new gave
@@ -78,7 +78,7 @@ impl<W: WriteTally> Outbox<W> {
         told
     }
 
-    /// Has the writer pass on what it gathered.
+    /// Flushes the writer.
     pub(crate) fn flush(&mut self) -> io::Result<()>
         ensures held { Keeps self.old.held self.new.held }
         ensures pending { self.new.pending ≡ self.old.pending }
@@ -86,7 +86,7 @@ impl<W: WriteTally> Outbox<W> {
         self.writer.flush()
     }
 
-    /// The writer. What is pending is dropped.
+    /// The writer. Pending bytes are dropped.
     pub(crate) fn into_writer(self) -> W
         ensures { W.contents result ≡ self.held }
     {

@@ -1,4 +1,4 @@
-//! Works at the same time, each in a thread of its own.
+//! Works in threads of their own.
 ghost use Rattle.std.specs.Prelude.{◌≡◌, ◌≤◌, IfOk, IfErr, vec_len, vec_capacity, ⊤, [], Result, All};
 ghost use Rattle.std.specs.List.{AllZip};
 ghost use Rattle.proxy_engines.specs.Works.{Answers, IsBegun, IsCallable, Settles};
@@ -13,7 +13,7 @@ use std::sync::Wait;
 use std::thread;
 use std::thread::{Promise, PromisedHandle, Scope, Threads};
 
-// What the run of a work answers.
+// The result of a work's run.
 type WorkResult = Result<(), EngineError>;
 
 // The promise that an answer is one that the work may give.
@@ -53,14 +53,14 @@ impl<Rt: Wait, K: Work<Rt>> Started<Rt, K> {
     }
 }
 
-// A work that was begun: a thread runs it, or its call found none.
+// A work to run: a thread runs it, or none was to be had for its call.
 #[derive(Drop)]
 enum Begun<Rt: Wait, K: Work<Rt>, F> {
     There(Started<Rt, K>),
     Left(F),
 }
 
-// A work that a thread runs, or that has answered.
+// A work that a thread runs, or its answer.
 #[derive(Drop)]
 enum Settled<Rt: Wait, K: Work<Rt>> {
     There(Started<Rt, K>),
@@ -81,7 +81,7 @@ impl<Rt: Wait, K: Work<Rt>, F: FnOnce() -> WorkResult> Begun<Rt, K, F> {
 }
 
 impl<Rt: Wait, K: Work<Rt>> Settled<Rt, K> {
-    // Its answer, for which this may wait.
+    // Its answer; this may wait.
     fn answer<H: Threads>(self, rt: &H) -> WorkResult
         ensures { Answers K.may_answer self result }
     {
@@ -114,7 +114,7 @@ fn begin<'s, E, Rt: Wait, K: Work<Rt>, F: FnOnce() -> WorkResult + Send + 's>(
     }
 }
 
-// Starts a thread for each work, as the call that `make` makes of it. There is room for them.
+// Starts a thread for each work, with the call that `make` makes of it. There must be room for them.
 fn begin_all<
     's,
     E,
@@ -143,7 +143,7 @@ fn begin_all<
     begun
 }
 
-// Runs the works that no thread runs, one after another. There is room for them.
+// Runs the works without a thread, one after another. There must be room for them.
 fn settle_all<Rt: Wait, K: Work<Rt>, F: FnOnce() -> WorkResult + Drop>(
     begun: Vec<Begun<Rt, K, F>>,
     room: Vec<Settled<Rt, K>>,
@@ -161,7 +161,7 @@ fn settle_all<Rt: Wait, K: Work<Rt>, F: FnOnce() -> WorkResult + Drop>(
     settled
 }
 
-// The answers, for which this may wait. There is room for them.
+// The answers; this may wait. There must be room for them.
 fn answer_all<Rt: Wait, K: Work<Rt>, H: Threads>(
     rt: &H,
     settled: Vec<Settled<Rt, K>>,
@@ -178,7 +178,7 @@ fn answer_all<Rt: Wait, K: Work<Rt>, H: Threads>(
     answers
 }
 
-// Room for so many items.
+// Room for this many items.
 fn room_for<T>(alloc: Global, count: usize) -> Result<Vec<T>, EngineError>
     ensures ok { IfOk result (λ v. (v.items ≡ []) × (count ≤ vec_capacity v)) }
     ensures err { IfErr result (λ e. e ≡ EngineError.NoMemory) }
@@ -189,7 +189,7 @@ fn room_for<T>(alloc: Global, count: usize) -> Result<Vec<T>, EngineError>
     }
 }
 
-// Room for works: for those that are begun, for those that are settled, and for their answers.
+// Room for works: begun ones, settled ones, and their answers.
 #[derive(Drop)]
 struct Room<Rt: Wait, K: Work<Rt>, F> {
     begun: Vec<Begun<Rt, K, F>>,
@@ -198,7 +198,7 @@ struct Room<Rt: Wait, K: Work<Rt>, F> {
 }
 
 impl<Rt: Wait, K: Work<Rt> + Drop, F: Drop> Room<Rt, K, F> {
-    // Room for so many works.
+    // Room for this many works.
     fn for_works(alloc: Global, count: usize) -> Result<Room<Rt, K, F>, EngineError>
         ensures begun { IfOk result (λ r. (r.begun.items ≡ []) × (count ≤ vec_capacity r.begun)) }
         ensures settled { IfOk result
@@ -218,7 +218,7 @@ impl<Rt: Wait, K: Work<Rt> + Drop, F: Drop> Room<Rt, K, F> {
     }
 }
 
-// Runs the work in whichever thread this is.
+// Runs the work in the present thread.
 fn run_one<Rt: Wait, K: Work<Rt> + Drop>(rt: &Rt, mut work: K) -> WorkResult
     requires { K.is_fresh work }
     ensures { K.may_answer work result }
@@ -226,8 +226,7 @@ fn run_one<Rt: Wait, K: Work<Rt> + Drop>(rt: &Rt, mut work: K) -> WorkResult
     work.run(rt)
 }
 
-// Runs the works, each as the call that `make` makes of it, and waits for their answers. There is room for them, so it can't
-// be refused.
+// Runs the works, each by the call that `make` makes of it, and waits for their answers. Room is there, so it can't be refused.
 fn run_in<
     's,
     E,
@@ -257,10 +256,10 @@ fn run_in<
     answer_all(rt, settled, answers)
 }
 
-/// Runs each work once, all at the same time: a thread is started for each, and the works for which none could be had are run
-/// here, one after another, once the others were started. Then it waits for all. Gives each work's answer in its place.
+/// Runs each work once, all at the same time, and waits for them. Each gets a thread; works without one are run here,
+/// one after another, once the others were started. Returns each work's answer in its place.
 ///
-/// Refused 1401 where there is no memory for the answers; no work was begun then, and the works are dropped.
+/// Refused 1401 where there is no memory for the answers: no work was begun, and the works are dropped.
 pub fn run_all<Rt: Threads + Wait + Sync, K: Work<Rt> + Send + Drop>(
     rt: &Rt,
     alloc: Global,

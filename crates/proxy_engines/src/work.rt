@@ -1,4 +1,4 @@
-//! What a thread does, from its start to its end.
+//! The work of a thread.
 ghost use Rattle.std.specs.Prelude.{◌≡◌, ◌⊎◌, Result, Bool, true, None, IfErr, OnOk, ⊤};
 ghost use Rattle.proxy_engines.specs.Client.{Goes, HasNoFault};
 ghost use Rattle.proxy_engines.specs.Moves.{AsTold};
@@ -13,12 +13,12 @@ use proxy_core::CoreTurns;
 use std::sync::Wait;
 use std::thread;
 
-/// What a thread does, from its start to its end. [`run_all`](crate::run_all) runs many at the same time.
+/// The work of a thread, from its start to its end. [`run_all`](crate::run_all) runs many at the same time.
 pub trait Work<Rt: Wait> {
-    /// Whether it may be run. Nothing says that it may be again after a run.
+    /// Whether it may be run. After a run this needn't hold again.
     ghost is_fresh: { Self → Type 0 };
 
-    /// What its run may answer.
+    /// The answers that its run may give.
     ghost may_answer: { Self → Result ⊤ EngineError → Type 0 };
 
     /// Runs it to its end.
@@ -27,12 +27,12 @@ pub trait Work<Rt: Wait> {
         ensures { may_answer self.old result };
 }
 
-/// A client's engine with the turns that it makes: it steps until the connection is closed.
+/// A client's engine with its turns: it steps until the connection is closed.
 #[derive(Drop)]
 pub struct ClientWork<T: CoreTurns, R: ReadTally, W: WriteTally> {
     /// The engine.
     pub engine: ClientEngine<R, W>,
-    /// What it makes turns of.
+    /// Its turns.
     pub turns: T,
 }
 
@@ -41,11 +41,10 @@ impl<Rt: Wait, T: CoreTurns, R: ReadTally, W: WriteTally> Work<Rt> for ClientWor
 
     ghost may_answer = { λ work answer. ⊤ };
 
-    /// Steps until the connection is closed, for whatever cause, or a step is refused. After a step that could do nothing it
-    /// lets other threads run.
+    /// Steps until the connection is closed or a step is refused. After a step without a move it yields to other threads.
     ///
-    /// Refused as the step was: after 1402 and 1403 the connection is closed; after 1401 and 1404 a further run goes on from
-    /// the same place.
+    /// Refused as the step was: after 1402 and 1403 the connection is closed; after 1401 and 1404 another run continues
+    /// at the same place.
     fn run(&mut self, rt: &Rt) -> Result<(), EngineError>
         ensures turns { KeepsTurns T.pass T.setting T.seen self.old.turns self.new.turns }
         ensures goes { AsTold (Goes self.old.engine self.new.engine

@@ -1,4 +1,4 @@
-//! What is answered to events.
+//! The answers to events.
 
 use bytes::Bytes;
 use ejector::Trip;
@@ -16,48 +16,48 @@ pub enum Answer {
     Accepted {
         /// Its number in its connection, counted from 0.
         index: u64,
-        /// Which answer the proxy gives itself, where it does; `parts`, `no_host` and `busy` are 0 then.
+        /// The kind of the proxy's own answer, if it is one; `parts`, `no_host` and `busy` are 0 then.
         local: Option<Local>,
-        /// How many parts it has.
+        /// The number of its parts.
         parts: u64,
-        /// How many of them found no usable host, and have the value `no upstream host`.
+        /// The number of parts without a usable host, whose value is `no upstream host`.
         no_host: u64,
-        /// How many of them found 1,024 parts waiting for their host, and have the value `proxy busy`.
+        /// The number of parts for whose host 1,024 parts waited already, and whose value is `proxy busy`.
         busy: u64,
     },
     /// No later command of the connection is accepted.
     Finishing,
-    /// A part is to be written to the host.
+    /// A part is written to the host.
     Sent {
-        /// The host's epoch: how many faults it had.
+        /// The host's epoch: the number of its faults.
         epoch: u64,
-        /// How many parts were taken from that host in that epoch before.
+        /// The number of parts taken before for that host in that epoch.
         place: u64,
-        /// What is to be written.
+        /// The part's text.
         text: Bytes,
     },
     /// The reply belongs to the oldest part that flew.
     Matched {
-        /// What the result did to the host.
+        /// The effect of the result on the host.
         trip: Trip,
     },
-    /// The parts that waited for the host or flew to it are lost: each gets the value `upstream failure`.
+    /// The parts that waited for the host or flew are lost: each gets the value `upstream failure`.
     Lost {
-        /// How many there were, those of closed connections that flew too.
+        /// The number of these parts, with those of closed connections that flew.
         parts: u64,
-        /// What the result did to the host.
+        /// The effect of the result on the host.
         trip: Trip,
     },
     /// The sweep was made.
     Swept {
-        /// How many hosts came back.
+        /// The number of hosts that came back.
         returned: u32,
-        /// How many were put aside.
+        /// The number of hosts ejected.
         ejected: u32,
-        /// How many tripped and stayed.
+        /// The number of hosts that tripped and stayed.
         kept: u32,
     },
-    /// The reply is to be written to the client.
+    /// The reply is written to the client.
     Bytes {
         /// Its text.
         text: Bytes,

@@ -1,18 +1,18 @@
-//! What can happen to the proxy.
+//! The events of the proxy.
 
 use resp_core::Value;
 use splitter::Request;
 
-/// What was wrong with the link to a host.
+/// The fault of a link to a host.
 #[derive(Clone, Copy, Debug, PartialEq, Eq, Hash)]
 pub enum Kind {
     /// No link could be made.
     Refused,
     /// The link ended or failed.
     Dropped,
-    /// A reply didn't come in its time.
+    /// A reply didn't come in time.
     Late,
-    /// Bytes outside the grammar, or a reply that nobody asked for.
+    /// Bytes outside the grammar, or an unasked reply.
     Garbled,
 }
 
@@ -21,14 +21,14 @@ pub enum Kind {
 pub enum Event {
     /// A client opened a connection.
     Opened,
-    /// A request of a connection was read.
+    /// A request of a connection arrived.
     Arrived {
         /// The connection's number.
         conn: u64,
-        /// What was asked.
+        /// The request.
         request: Request,
     },
-    /// A connection's input ended: no later command of it is accepted.
+    /// A connection's input ended: it accepts no later command.
     Finished {
         /// The connection's number.
         conn: u64,
@@ -38,34 +38,34 @@ pub enum Event {
         /// The host's number.
         host: usize,
     },
-    /// A host answered, on the link of an epoch.
+    /// A host answered on the link of an epoch.
     Answered {
         /// The host's number.
         host: usize,
-        /// How many faults the host had before the link was made.
+        /// The number of the host's faults before the link was made.
         epoch: u64,
         /// The reply.
         value: Value,
         /// The moment.
         t: u64,
     },
-    /// The link of an epoch to a host failed.
+    /// The link to a host in an epoch failed.
     Failed {
         /// The host's number.
         host: usize,
-        /// How many faults the host had before the link was made.
+        /// The number of the host's faults before the link was made.
         epoch: u64,
-        /// What was wrong.
+        /// The fault.
         kind: Kind,
         /// The moment.
         t: u64,
     },
-    /// It is time to look at the hosts that are out, and at those that answer badly.
+    /// Ejected hosts may return, and hosts that answer badly are ejected.
     Swept {
         /// The moment.
         t: u64,
     },
-    /// The reply to the oldest unwritten command of a connection is handed to the connection's writer.
+    /// The reply to the oldest unwritten command of a connection goes to its writer.
     Handed {
         /// The connection's number.
         conn: u64,

@@ -1,10 +1,13 @@
-//! What a legal history of the proxy is.
+//! The definition of a legal history of the proxy.
 //!
-//! A history is the list of all steps that the proxy made: what happened, and what was answered. This crate has the types
-//! of events, answers and refusals, and in `specs/` what a history determines: the parts of commands and their hosts, what
-//! waits, what was sent, which reply belongs to which part, each command's outcome, and with it which answer each event
-//! has and why it is refused. The rules are this project's own profile of Envoy's documentation pages "Redis" and "Outlier
-//! detection"; replies of a host come in the order of its requests, as the Redis serialization protocol (RESP2) says.
+//! A history is the list of all steps of the proxy: each event with its answer. This crate has the types of events,
+//! answers and refusals. `specs/` defines what a history determines: the parts of commands and their hosts, and the
+//! parts that wait and that were sent. It also defines which reply belongs to which part, each command's outcome, and
+//! each event's answer or refusal.
+//!
+//! The rules are this project's own profile of Envoy's documentation pages "Redis" and "Outlier detection". A host's
+//! replies come in the order of its requests, as RESP2 says. It stands on `splitter`, `ketama`, `ejector` and the
+//! crates of queue and pipe. Begin with `event.rt`, then `specs/Legal.antt`.
 #![tactic(auto)]
 
 mod answer;

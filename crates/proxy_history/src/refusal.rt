@@ -21,22 +21,22 @@ pub enum Refusal {
     /// 1004: 1,024 commands of the connection are accepted and not handed out.
     #[error("too many unwritten commands")]
     Crowded,
-    /// 1005: nothing waits for the host.
+    /// 1005: no part waits for the host.
     #[error("nothing waits")]
     NothingWaiting,
-    /// 1006: the epoch isn't the host's.
+    /// 1006: the epoch isn't the host's present one.
     #[error("not of the present epoch, which is {current}")]
     Stale {
         /// The host's epoch.
         current: u64,
     },
-    /// 1007: no part that was sent in the epoch is unanswered.
+    /// 1007: every part sent in the epoch has its reply.
     #[error("nobody asked")]
     Unasked,
-    /// 1008: no command is unwritten, or a part of the oldest has no value yet.
+    /// 1008: there is no unwritten command, or a part of the oldest has no value yet.
     #[error("not ready: {left} commands are left")]
     NotReady {
-        /// How many commands of the connection are accepted and not handed out.
+        /// The number of the connection's commands accepted and not handed out.
         left: u64,
     },
     /// 1009: the connection takes no further command.

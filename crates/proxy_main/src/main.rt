@@ -1,4 +1,5 @@
-//! `redproxy`: a proxy that clients speak to as to one Redis server.
+//! `redproxy`: a proxy that clients use as one Redis server. Begin with `run`; `serve` is in
+//! `proxy_serve`, `local` in `proxy_run`.
 #![tactic(auto)]
 
 ghost use Rattle.std.specs.Prelude.{IfOk};
@@ -20,13 +21,13 @@ use std::sync::Wait;
 use std::thread::Threads;
 use std::{env, fs, io};
 
-// The status of a command line that asks for nothing that can be done.
+// The status of a bad command line.
 const BAD_COMMAND_LINE: u8 = 2;
 
-// The status of settings that have a fault.
+// The status of bad settings.
 const BAD_SETTINGS: u8 = 3;
 
-// Serves the one client on standard input and output, and gives the status.
+// Serves one client on standard input and output. Returns the status.
 fn run_local<R: Runtime + AllocGlobal + Wait>(rt: &R) -> u8 {
     match local_run(rt, rt.alloc(), rt.reader(), io::writer(rt)) {
         Ok(_writer) => 0,
@@ -34,7 +35,7 @@ fn run_local<R: Runtime + AllocGlobal + Wait>(rt: &R) -> u8 {
     }
 }
 
-// Tells what a settings file says, or its first fault, and gives the status.
+// Prints the settings file's line or its first error. Returns the status.
 fn run_check<R: Runtime + AllocGlobal>(rt: &R, config: &str) -> u8 {
     match checked(rt, config) {
         Ok(line) => match print!(rt; "{line}") {
@@ -57,7 +58,7 @@ fn checked<R: Runtime + AllocGlobal>(rt: &R, config: &str) -> Result<String, Con
     }
 }
 
-// Serves clients on the address of the settings, and gives the status.
+// Serves clients on the settings' address. Returns the status.
 fn run_serve<
     R: Runtime
         + AllocGlobal
@@ -112,7 +113,7 @@ fn run_serve<
     }
 }
 
-// Where an operator asks, if that is wanted.
+// The operator's listener, if one is wanted.
 fn admin<R: Runtime + RandomSource + Net>(
     rt: &R,
     metrics: Option<SocketAddr>,
@@ -135,7 +136,7 @@ fn admin<R: Runtime + RandomSource + Net>(
     }
 }
 
-// Under systemd lines begin with their level.
+// Under systemd, lines begin with their level.
 fn log<R: Runtime + AllocGlobal>(rt: &R) -> Log {
     Log::new(env::var(rt, "JOURNAL_STREAM").is_ok())
 }
@@ -151,13 +152,13 @@ fn settings_of<R: Runtime + AllocGlobal>(rt: &R, config: &str) -> Result<Config,
     }
 }
 
-// Tells why the program ends, and gives the status.
+// Logs why the program ends. Returns the status.
 fn ended<R: Eprint>(rt: &R, ending: Ending) -> u8 {
     let _ = eprintln!(rt; "{ending}");
     ending.status()
 }
 
-// Tells why the serving ended and what failed, and gives the status.
+// Logs why the server ended and what failed. Returns the status.
 fn stopped<R: Eprint>(rt: &R, log: Log, stop: Stop) -> u8 {
     let tag = log.tag(Level::Error);
     let _ = eprintln!(rt; "{tag}{stop}");

@@ -1,4 +1,4 @@
-//! A reader that is heard of before it is read.
+//! A reader that pauses before each read.
 ghost use Rattle.std.specs.Prelude.{◌≡◌, ◌<◌, ◌+◌, ◌-◌, ◌^◌, min, length, true, false};
 ghost use Rattle.devices.specs.Device.{IsRead};
 ghost use Rattle.proxy_run.specs.Announced.{with_pauses};
@@ -7,10 +7,9 @@ use proxy_engines::{ReadTally, Tally, Told};
 use std::io;
 use std::io::{ErrorKind, Read};
 
-/// A reader that pauses once before each read. So whoever steps an engine hears that all that came is answered and that a read
-/// comes next, which may wait.
+/// A reader that pauses once before each read. So its engine goes idle once all input is answered, before a read that may wait.
 ///
-/// Its counts are those of the reader within, and its own pauses.
+/// Its counts are the inner reader's, with its own pauses.
 #[derive(Drop)]
 pub(crate) struct Announced<R> {
     inner: R,
@@ -19,7 +18,7 @@ pub(crate) struct Announced<R> {
 }
 
 impl<R> Announced<R> {
-    /// Its next call is a pause.
+    /// The first call is a pause.
     pub(crate) fn new(inner: R) -> Announced<R>
         ensures inner { result.inner ≡ inner }
         ensures next { result.is_announced ≡ false }
@@ -31,7 +30,7 @@ impl<R> Announced<R> {
         }
     }
 
-    // Pauses, where that is due before the next read.
+    // Pauses, if a pause is due before the next read.
     fn pause(&mut self) -> bool
         ensures inner { self.new.inner ≡ self.old.inner }
         ensures pauses { result ≡ true → (self.old.is_announced ≡ false)
@@ -72,7 +71,7 @@ impl<R: Read> Read for Announced<R> {
 }
 
 impl<R: ReadTally> ReadTally for Announced<R> {
-    /// A pause, and the reader isn't asked; or, after one, what the reader tells of a read.
+    /// Pauses without a read, or, after a pause, reads and returns the result.
     fn read_told(&mut self, buffer: &mut [u8]) -> Told
         requires room { 0 < length buffer.old }
         ensures told { IsRead (R.remaining self.old.inner) (R.remaining self.new.inner)

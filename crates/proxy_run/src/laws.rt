@@ -1,4 +1,4 @@
-//! How long `local` runs, as the contract of a function that does nothing.
+//! The limit of `local`'s steps, as the contract of a function that does nothing.
 ghost use Rattle.std.specs.Prelude.{◌≡◌};
 
 use crate::local::MAX_STEPS;

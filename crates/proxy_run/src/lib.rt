@@ -1,4 +1,5 @@
-//! What the program `redproxy` runs, over any reader and writer, and how it ends.
+//! What `redproxy local` runs, over any reader and writer: one client, and three hosts in memory.
+//! It stands on `proxy_engines` and `stub_server`. Begin with `local.rt`.
 #![tactic(auto)]
 
 mod announced;

@@ -24,10 +24,10 @@ use std::io::{BufWriter, Read, Write};
 use std::sync::Wait;
 use ticket_gate::Alone;
 
-// Steps that all engines of a run make together, at most.
+// The most steps of all engines of a run together.
 pub(crate) const MAX_STEPS: u32 = 1_073_741_824;
 
-// Bytes of replies that are gathered before they are written, at most.
+// Replies are written once this many bytes are gathered.
 const MAX_GATHERED: usize = 65_536;
 
 // The pass that makes all turns.
@@ -36,22 +36,22 @@ const PASS: u64 = 0;
 // The moment of each event.
 const MOMENT: u64 = 0;
 
-/// What writes the replies to the client.
+/// The client's writer.
 type Output<W> = Tallied<BufWriter<W>>;
 
 /// The client's engine.
 type Client<R, W> = ClientEngine<Announced<Tallied<R>>, Output<W>>;
 
-/// Answers the one client whose bytes the reader gives, and gives back the writer, which the replies were written to.
+/// Serves the one client whose bytes the reader has, and returns the writer, which has the replies.
 ///
-/// Ends Ok once a request finished the connection, or at the end of the input. Each read takes at most 16,384 bytes. The
-/// replies to what it brought are written together before the next read, once 65,536 bytes of them are gathered, and at the
-/// end, however the run ends.
+/// Ends Ok after a request that finishes the connection, or at the end of the input. Each read takes at most 16,384
+/// bytes. Its replies are written together: before the next read, once 65,536 bytes are gathered, and at the end,
+/// however the run ends.
 ///
-/// Ends with `JournalFull` where the journal takes no step more: 262,144 steps, or 67,108,864 bytes of payload. The opening,
-/// the end of the input and the close are a step each, and a command is two, and two more for each part that hosts answer.
-/// Ends with `Socket` where the reader or the writer fails, and after 1,073,741,824 steps of engines; with `Memory` where
-/// memory is refused. (`Spent` is for turns at a gate.) A reader that pauses is read again.
+/// Ends with `JournalFull` if the journal takes no further step: 262,144 steps, or 67,108,864 bytes of payload. The
+/// opening, the end of the input and the close are a step each; a command is two, and two more for each part that hosts
+/// answer. Ends with `Socket` if the reader or the writer fails, and after 1,073,741,824 steps of engines; with
+/// `Memory` if memory is refused. (`Spent` is for turns at a gate.) A reader that pauses is read again.
 pub fn local_run<Rt: Wait, R: Read + Drop, W: Write + Drop>(
     rt: &Rt,
     alloc: Global,
@@ -91,7 +91,7 @@ fn open_client<Rt: Wait, T: CoreTurns, R: Read + Drop, W: Write + Drop>(
     Ok(ClientEngine::open(rt, alloc, turns, reader, Tallied::new(output))?)
 }
 
-// Runs the client until it ends, and then writes what was gathered, however it ended: how it ended, and the writer.
+// Runs the client until it ends, and then writes the gathered bytes in any case. Returns the ending and the writer.
 fn run_to_end<
     Rt: Wait,
     R: ReadTally + Drop,
@@ -119,7 +119,7 @@ fn run_to_end<
     Ok((ran, writer))
 }
 
-// The writer, once it has taken all that was gathered for it.
+// Writes all gathered bytes, and returns the writer.
 fn written_out<W: Write + Drop>(output: Output<W>) -> Result<W, Ending>
     ensures ok { IfOk result (λ w. Keeps (writer_contents W.contents output.inner) (W.contents w)) }
     ensures err { IfErr result (λ e. e ≡ Ending.Socket) }
@@ -133,7 +133,7 @@ fn written_out<W: Write + Drop>(output: Output<W>) -> Result<W, Ending>
     Ok(writer)
 }
 
-// Steps the client until it ends, and after each of its steps the hosts, where they may have something to do.
+// Steps the client until it ends. After each step, steps the hosts if they may have something to do.
 fn run_client<
     Rt: Wait,
     R: ReadTally + Drop,
@@ -162,7 +162,7 @@ fn run_client<
     Err(Ending::Socket)
 }
 
-// Whether the newest step is a command that hosts have to answer.
+// Whether the newest step is a command with parts for hosts.
 fn asks_hosts(core: &Core) -> bool {
     let journal = core.journal();
     match journal.get(journal.len().saturating_sub(1)) {
@@ -176,8 +176,7 @@ fn asks_hosts(core: &Core) -> bool {
     }
 }
 
-// One step of the client, and then, unless it ended or moved without asking hosts for anything, steps of the hosts until all
-// are idle.
+// Steps the client once. Then steps the hosts until all are idle, unless the client ended or moved without parts for hosts.
 fn step_all<
     Rt: Wait,
     R: ReadTally + Drop,
@@ -212,7 +211,7 @@ fn step_all<
     }
 }
 
-// One step of the client. Where it is idle, nothing that came is unanswered, and what was gathered is written.
+// Steps the client once. If it is idle, everything is answered, and gathered bytes are written.
 fn step_client<Rt: Wait, T: CoreTurns, R: ReadTally + Drop, W: WriteTally + Drop>(
     rt: &Rt,
     turns: &mut T,
@@ -259,7 +258,7 @@ fn settle<Rt: Wait, T: CoreTurns, P: ReadTally + Drop, Q: WriteTally + Drop>(
     Err(Ending::Socket)
 }
 
-// One step of each host. True says that all were idle.
+// Steps each host once. True: all were idle.
 fn step_hosts<Rt: Wait, T: CoreTurns, P: ReadTally + Drop, Q: WriteTally + Drop>(
     rt: &Rt,
     turns: &mut T,
@@ -281,7 +280,7 @@ fn step_hosts<Rt: Wait, T: CoreTurns, P: ReadTally + Drop, Q: WriteTally + Drop>
     Ok(are_idle)
 }
 
-// One step of a host. True says that it was idle.
+// Steps a host once. True: it was idle.
 fn step_host<Rt: Wait, T: CoreTurns, P: ReadTally + Drop, Q: WriteTally + Drop>(
     rt: &Rt,
     turns: &mut T,
@@ -302,7 +301,7 @@ fn step_host<Rt: Wait, T: CoreTurns, P: ReadTally + Drop, Q: WriteTally + Drop>(
     }
 }
 
-// Takes one of the steps that are left.
+// Takes one of the remaining steps.
 fn spend(left: &mut u32) -> Result<(), Ending>
     ensures ok { OnOk result (left.new + 1 ≡ left.old) }
     ensures err { IfErr result (λ e. (left.old ≡ 0) × (e ≡ Ending.Socket)) }

@@ -15,10 +15,10 @@ use stub_server::{Stub, StubLink, StubReader, StubWriter};
 /// The engine of a host in memory.
 pub(crate) type StubEngine = HostEngine<Tallied<StubReader>, Tallied<StubWriter>>;
 
-// How many hosts there are.
+// The number of hosts.
 const HOSTS: usize = 3;
 
-// After how many milliseconds a reply is late.
+// A reply is late after this many milliseconds.
 const REPLY_MS: u64 = 5_000;
 
 /// A core with an empty journal, for the hosts `stub-0`, `stub-1` and `stub-2` and the default settings.
@@ -64,7 +64,7 @@ fn host_name(alloc: Global, bytes: &[u8]) -> Result<HostName, Ending>
     }
 }
 
-/// The hosts' engines, in the order of their numbers, each with a link to a host in memory whose map is empty.
+/// The hosts' engines, by their numbers, each with a link to an empty stub.
 pub(crate) fn stub_engines(alloc: Global) -> Result<Vec<StubEngine>, Ending>
     ensures hosts { IfOk result (λ es. map (λ e. e.line.host) es.items ≡ 0 ∷ 1 ∷ 2 ∷ []) }
     ensures err { IfErr result (λ e. e ≡ Memory) }
@@ -76,7 +76,7 @@ pub(crate) fn stub_engines(alloc: Global) -> Result<Vec<StubEngine>, Ending>
     Ok(engines)
 }
 
-// The engine of one host, with a link to a host in memory whose map is empty.
+// The engine of one host, with a link to an empty stub.
 fn stub_engine(alloc: Global, host: usize) -> Result<StubEngine, Ending>
     ensures host { IfOk result (λ e. e.line.host ≡ host) }
     ensures err { IfErr result (λ e. e ≡ Memory) }
@@ -89,7 +89,7 @@ fn stub_engine(alloc: Global, host: usize) -> Result<StubEngine, Ending>
     }
 }
 
-// The two ends of a link to a host in memory whose map is empty.
+// The two ends of a link to an empty stub.
 fn stub_ends(alloc: Global) -> Result<(StubReader, StubWriter), Ending>
     ensures err { IfErr result (λ e. e ≡ Memory) }
 {

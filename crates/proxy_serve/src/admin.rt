@@ -1,5 +1,5 @@
-//! The address at which an operator asks how the serving stands, and orders its end: HTTP, in a thread of its own that makes
-//! no turn and has no look at a core.
+//! The operator's address: HTTP pages about the running server, and orders to end it. It has a thread of its own, which
+//! makes no turn and doesn't look at a core.
 
 use crate::generation::ServeRuntime;
 use crate::log::Level;
@@ -21,16 +21,16 @@ use std::time::Duration;
 
 const LISTENER: Token = Token(usize::MAX);
 
-// So many visitors are there at a time. Where a further one comes, the one leaves that has been there longest.
+// At most this many visitors are connected. A further one displaces the one that has been idle longest.
 const MAX_VISITORS: usize = 64;
 
-// So long may a visit last without a further request, in milliseconds.
+// Close a visit after this many milliseconds without progress.
 const VISIT_MS: u64 = 10_000;
 
-// So many reads and writes of one visitor are made at most in one round.
+// At most this many reads and writes of one visitor are made in a round.
 const MAX_MOVES: u32 = 16;
 
-// How long a head and a body may be, and how much is read at once, in bytes.
+// The greatest size of a head, of a body, and of one read, in bytes.
 const MAX_HEAD: usize = 4_096;
 
 const MAX_BODY: usize = 1_024;
@@ -41,12 +41,12 @@ const EVENTS: usize = 64;
 
 const PAUSE_MS: u64 = 50;
 
-/// Where an operator asks, and what is told of the program.
+/// The operator's listener, and what its pages say of the program.
 #[derive(Drop)]
 pub struct Admin {
     /// The listener.
     pub listener: TcpListener,
-    /// Keys of its tables that nobody outside knows.
+    /// Secret keys for its hash tables.
     pub keys: RandomState,
     /// The program's version.
     pub version: &'static str,
@@ -75,7 +75,7 @@ fn obey<R: ServeRuntime>(rt: &R, server: &Server, order: Option<Order>) {
     }
 }
 
-// What a visitor's round came to.
+// The result of a visitor's round.
 #[derive(Clone, Copy, Drop)]
 enum Moved {
     // Nothing was read or written.
@@ -89,12 +89,12 @@ enum Moved {
 struct Visitor {
     connection: Connection,
     stream: TcpStream,
-    // When something last moved, in milliseconds.
+    // When bytes last moved, in milliseconds.
     moved: u64,
 }
 
 impl Visitor {
-    // Reads, answers and writes as far as it goes.
+    // Reads, answers and writes until the socket has to wait.
     fn attend(&mut self, answers: &mut Answers<'_>) -> Moved {
         let mut moved = Moved::Nothing;
         for _ in 0..MAX_MOVES {
@@ -116,13 +116,13 @@ impl Visitor {
         moved
     }
 
-    // As `attend`, with the order that was among what was asked.
+    // Like `attend`; also returns the order among the requests.
     fn answer(&mut self, mut answers: Answers<'_>) -> (Moved, Option<Order>) {
         let moved = self.attend(&mut answers);
         (moved, answers.order())
     }
 
-    // Whether the visit is over, by what its round at this moment came to.
+    // Whether the visit is over after a round with this result.
     fn is_over(&mut self, moved: Moved, moment: u64) -> bool {
         match moved {
             Moved::Something => {
@@ -135,14 +135,14 @@ impl Visitor {
     }
 }
 
-/// What answers there, before anybody has come.
+/// The operator's end, before its thread runs.
 pub(crate) struct AdminListener {
     alloc: Global,
     admin: Admin,
     poll: Poll,
 }
 
-// Written out, so that where one is dropped that is one call: each function that holds one is proved sooner.
+// Written out so that a drop is one call: each function that holds one is proved sooner.
 impl Drop for AdminListener {
     fn drop(self) {
         let AdminListener {
@@ -154,7 +154,7 @@ impl Drop for AdminListener {
 }
 
 impl AdminListener {
-    /// What answers at the address, where there is one. Stops with `Socket` where the poll fails.
+    /// Opens the operator's end, if an address is given. Stops with `Socket` where the poll fails.
     pub(crate) fn open<R: Net>(
         rt: &R,
         alloc: Global,
@@ -191,7 +191,7 @@ impl AdminListener {
     }
 }
 
-/// The work of the thread that answers there.
+/// The work of the operator's thread.
 #[derive(Drop)]
 pub(crate) struct AdminWork<'a> {
     pub(crate) listener: AdminListener,
@@ -200,7 +200,7 @@ pub(crate) struct AdminWork<'a> {
 }
 
 impl<'a> AdminWork<'a> {
-    /// Answers until the serving has ended.
+    /// Answers until the server ends.
     pub(crate) fn run<R: ServeRuntime>(self, rt: &R) {
         let AdminWork {
             listener,
@@ -212,7 +212,7 @@ impl<'a> AdminWork<'a> {
     }
 }
 
-/// Who answers there, and who has come.
+/// The listener and its visitors.
 #[derive(Drop)]
 struct Visits {
     alloc: Global,
@@ -237,7 +237,7 @@ impl Visits {
         unreachable!()
     }
 
-    // Waits for visitors. Where that fails it is told, and nothing is answered from then on.
+    // Waits for visitors. A failure is logged, and nothing is answered afterwards.
     fn wait<R: Eprint>(&mut self, rt: &R, server: &Server, events: &mut Events) -> bool {
         let pause = Some(Duration::from_millis(PAUSE_MS));
         let Err(error) = self.poll.poll(events, pause) else {
@@ -262,7 +262,7 @@ impl Visits {
         }
     }
 
-    // With whom nothing has moved the longest.
+    // The visitor that has been idle longest.
     fn oldest(&self) -> Option<usize> {
         let (mut oldest, mut moved) = (None, u64::MAX);
         for key in 0..self.visitors.capacity() {
@@ -282,7 +282,7 @@ impl Visits {
         }
     }
 
-    // Has the poll tell of the socket of the next visitor.
+    // Registers the next visitor's socket with the poll.
     fn register(&self, stream: &mut TcpStream) -> bool {
         let token = Token(self.visitors.vacant_key());
         let interests = Interest::READABLE | Interest::WRITABLE;
@@ -305,7 +305,7 @@ impl Visits {
         Ok(())
     }
 
-    // Each visitor is tried in each round: they are few.
+    // Steps every visitor: they are few.
     fn attend<R: ServeRuntime>(&mut self, rt: &R, server: &Server, config: &Config, moment: u64) {
         if self.visitors.is_empty() {
             return;
@@ -322,7 +322,7 @@ impl Visits {
         }
     }
 
-    // What the visitor ordered.
+    // Steps one visitor, and returns its order.
     fn attend_one(
         &mut self,
         key: usize,

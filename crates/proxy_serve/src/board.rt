@@ -1,9 +1,9 @@
-//! What each generation is to do, for threads that look without waiting.
+//! The present task of each generation, readable without a lock.
 
 use generations::{Generations, Phase};
 use std::sync::atomic::{AtomicU8, AtomicU64, Ordering};
 
-// Stands in place of a generation's number where there is none.
+// Stands for no generation.
 const NONE: u64 = u64::MAX;
 
 const DRAINS: u8 = 0;
@@ -12,7 +12,7 @@ const GIVES_UP: u8 = 1;
 
 const STOPS: u8 = 2;
 
-/// The newest generation that is open, the one before it while it has connections, and what that one is to do.
+/// The newest open generation, the one before it while that has connections, and the older one's task.
 #[derive(Drop)]
 pub(crate) struct Board {
     newest: AtomicU64,
@@ -21,7 +21,7 @@ pub(crate) struct Board {
 }
 
 impl Board {
-    /// No generation is open yet.
+    /// A board without an open generation.
     pub(crate) fn new() -> Board {
         Board {
             newest: AtomicU64::new(NONE),
@@ -30,7 +30,7 @@ impl Board {
         }
     }
 
-    /// Shows what was decided. Who is told to serve no more finds what it is to do by then.
+    /// Publishes what was decided. A generation that sees that it no longer serves finds its task already here.
     pub(crate) fn show<H: Drop>(&self, generations: &Generations<H>) {
         let older = generations.older().unwrap_or(NONE);
         let phase = match generations.phase(older) {
@@ -44,7 +44,7 @@ impl Board {
         self.newest.store(newest, Ordering::SeqCst);
     }
 
-    /// What the generation is to do. One that isn't open yet drains: it has no connection.
+    /// The generation's task. One that isn't open yet drains: it has no connection.
     pub(crate) fn phase(&self, number: u64) -> Phase {
         let newest = self.newest.load(Ordering::SeqCst);
         if newest == number {

@@ -1,4 +1,4 @@
-//! A client's connection, as a worker has it.
+//! A client's connection, as its worker holds it.
 
 use crate::counted_turns::{CountedTurns, TurnCounts};
 use crate::generation_state::{GenerationState, LARGE, LARGE_STEP};
@@ -16,60 +16,59 @@ use std::cell::RefCell;
 use std::rc::Rc;
 use std::sync::Wait;
 
-// Steps of one connection in one round, so that one pipeline doesn't starve the others.
+// The most steps of one connection in a round, so that one pipeline doesn't starve the others.
 const MAX_STEPS: u32 = 256;
 
-// A connection whose unfinished command has fewer bytes isn't ended for what all of them have.
+// Connections with a smaller unfinished command are never closed for the sum of all.
 const MAX_SPARED: u64 = 16_384;
 
-// For so long a closed connection's bytes are still read and thrown away, in milliseconds: a socket that is let go with bytes
-// unread would take the last answers from its peer.
+// A closed connection's input is read and discarded for this many milliseconds: closing a socket with unread bytes
+// would lose the last answers.
 const LINGER_MS: u64 = 1_000;
 
 type Engine = ClientEngine<Tallied<SocketReader>, Tallied<SocketWriter>>;
 
-/// How far a client has come.
+/// A connection's stage.
 #[derive(Clone, Copy, Drop)]
 enum Stage {
     Served,
-    /// The connection is closed, and its last bytes are to be written.
+    /// The connection is closed; its last bytes are still to be written.
     Leaving,
-    /// Nothing is sent more; what still comes is thrown away until this moment.
+    /// The sending half is closed; input is discarded until this moment.
     Lingering { until: u64 },
 }
 
 /// A worker's round over its clients.
 #[derive(Clone, Copy, Drop)]
 pub(crate) struct Round {
-    /// The moment of it, in milliseconds.
+    /// Its moment, in milliseconds.
     pub(crate) now: u64,
     /// Steps of the journal that the worker keeps for its links.
     pub(crate) reserve: u64,
 }
 
-/// What a round of a client did.
+/// The result of a client's round.
 #[derive(Clone, Copy, Drop)]
 pub(crate) enum Stepped {
     /// Nothing more can be done for now.
     Idle,
     /// More can be done at once.
     Ready,
-    /// The socket is to be let go.
+    /// The socket can be dropped.
     Closed,
-    /// All was answered, and the socket goes over to the newest generation.
+    /// Everything is answered, and the socket goes over to the newest generation.
     CarriedOver,
 }
 
-/// A socket on its way from one generation to the next, with what was read from it and not asked, and what it is still to be
-/// given.
+/// A socket on its way to the next generation, with its input that no command was made of and its output that isn't written.
 pub(crate) struct CarriedSocket {
     socket: Socket,
     rest: Rest,
-    // How many bytes had come when a command was last accepted.
+    // The bytes that had come when a command was last accepted.
     begun: u64,
 }
 
-// Written out, so that where one is dropped that is one call: each function that holds one is proved sooner.
+// Written out so that a drop is one call: each function that holds one is proved sooner.
 impl Drop for CarriedSocket {
     fn drop(self) {
         let CarriedSocket {
@@ -81,15 +80,15 @@ impl Drop for CarriedSocket {
 }
 
 impl CarriedSocket {
-    /// The newest generation takes no further connection: what is gathered is written as far as the socket takes it, and nothing
-    /// more is sent.
+    /// Writes gathered bytes as far as the socket takes them, and closes the sending half: the newest generation takes
+    /// no further connection.
     pub(crate) fn shut_down(&mut self, buffer: &mut Vec<u8>) {
         self.socket.write_out(buffer);
         self.socket.shut();
         let _ = self.socket.throw_away();
     }
 
-    // Has the poll tell of the socket, and shares it with the two ends that an engine is to have.
+    // Registers the socket with the poll, and shares it with an engine's two ends.
     fn share(
         mut self,
         alloc: Global,
@@ -124,7 +123,7 @@ impl CarriedSocket {
     }
 }
 
-// A carried socket that is shared.
+// A carried socket with its two ends.
 #[derive(Drop)]
 struct SharedRest {
     socket: Rc<RefCell<Socket>>,
@@ -136,23 +135,23 @@ pub(crate) struct Client {
     engine: Engine,
     socket: Rc<RefCell<Socket>>,
     stage: Stage,
-    // Commands that are accepted and not yet handed out: how many, and since when.
+    // The number of commands accepted and not yet answered, and since when they wait.
     unanswered: u64,
     waits: Unanswered,
-    // How many replies had come to all clients when this one was last asked for its own.
+    // The generation's count of replies when this client last asked for its own.
     replies: u64,
     // The last round ended before all was done.
     has_more: bool,
-    // Refusals of memory to its next step.
+    // Consecutive refusals of memory.
     refusals: Refusals,
     // Nothing more is taken in.
     is_drained: bool,
-    // How many bytes had come when a command was last accepted, and how many came since.
+    // The bytes that had come when a command was last accepted, and the bytes since.
     begun: u64,
     unfinished: u64,
 }
 
-// Written out, so that where one is dropped that is one call: each function that holds one is proved sooner.
+// Written out so that a drop is one call: each function that holds one is proved sooner.
 impl Drop for Client {
     fn drop(self) {
         let Client {
@@ -171,14 +170,14 @@ impl Drop for Client {
     }
 }
 
-/// Why a worker could not go on with a step.
+/// Why a step failed.
 #[derive(Clone, Copy, Drop)]
 pub(crate) enum StepError {
     /// There was no memory; the step is made again.
     Memory,
     /// The journal has no room for it.
     Full,
-    /// The serving ends.
+    /// The server ends.
     Ends(Ending),
     /// The device failed, or the turn has no meaning: the connection or link ends alone.
     Alone,
@@ -192,7 +191,7 @@ impl StepError {
 }
 
 impl From<EngineError> for StepError {
-    /// What an engine's refusal means to its worker.
+    /// The engine's error, as its worker treats it.
     fn from(error: EngineError) -> StepError {
         match error {
             EngineError::NoMemory | EngineError::TurnRefused { number: 1001 } => StepError::Memory,
@@ -203,7 +202,7 @@ impl From<EngineError> for StepError {
     }
 }
 
-// The socket, once no engine has its ends any more.
+// The socket, once no engine holds its ends.
 fn detach(
     socket: Rc<RefCell<Socket>>,
     registry: &Registry,
@@ -223,7 +222,7 @@ fn detach(
 }
 
 impl Client {
-    // A client of which nothing has come.
+    // A client that hasn't sent anything yet.
     fn new(alloc: Global, engine: Engine, socket: Rc<RefCell<Socket>>) -> Client {
         Client {
             engine,
@@ -267,7 +266,7 @@ impl Client {
         Ok(Client::new(alloc, engine, socket))
     }
 
-    /// Opens a connection on a socket that comes from another generation. Where the turn is refused the socket comes back.
+    /// Opens a connection on a socket from another generation. If the turn is refused the socket comes back.
     pub(crate) fn open_carried<R: Wait, T: CoreTurns>(
         rt: &R,
         alloc: Global,
@@ -304,12 +303,12 @@ impl Client {
         }
     }
 
-    /// Counts what has come of its unfinished command.
+    /// Counts the bytes of its unfinished command.
     pub(crate) fn note_carried(&self, generation: &GenerationState<'_>) {
         generation.note_unfinished(self.unfinished, 0);
     }
 
-    /// The socket with what was read and not asked, for the newest generation.
+    /// Takes the socket with its unused input, for the newest generation.
     pub(crate) fn carry(
         self,
         registry: &Registry,
@@ -335,21 +334,21 @@ impl Client {
         detach(socket, registry, rest, begun)
     }
 
-    /// Takes note of what the poll tells.
+    /// Records what the poll reports.
     pub(crate) fn on_readiness(&mut self, event: &Readiness) {
         if let Ok(mut socket) = self.socket.try_borrow_mut() {
             socket.on_readiness(event);
         }
     }
 
-    /// Takes nothing more in: what was accepted is answered, and then the connection is closed.
+    /// Takes in no further commands. Accepted ones are answered, then the connection is closed.
     pub(crate) fn drain(&mut self) {
         self.engine.drain();
         self.is_drained = true;
         self.has_more = true;
     }
 
-    /// Its input ends behind what has come by now: that is answered, and then the connection is closed.
+    /// Ends the input behind the bytes that have come. Those are answered, then the connection is closed.
     pub(crate) fn end_input(&mut self) {
         if let Ok(mut socket) = self.socket.try_borrow_mut() {
             socket.end_input();
@@ -357,8 +356,8 @@ impl Client {
         self.has_more = true;
     }
 
-    /// Writes what the socket takes at once, and sends nothing more. What has come is thrown away, as the end of a socket with
-    /// bytes unread would take the last answers from its peer.
+    /// Writes what the socket takes at once, closes the sending half, and discards what has come: closing a socket with
+    /// unread bytes would lose the last answers.
     pub(crate) fn shut_down(&mut self, buffer: &mut Vec<u8>) {
         if let Ok(mut socket) = self.socket.try_borrow_mut() {
             socket.write_out(buffer);
@@ -377,7 +376,7 @@ impl Client {
         self.unanswered > 0
     }
 
-    /// Whether a round can bring anything.
+    /// Whether a round can make progress.
     pub(crate) fn may_go(&self, generation: &GenerationState<'_>, now: u64) -> bool {
         if self.has_more {
             return true;
@@ -388,7 +387,7 @@ impl Client {
         self.has_event() || (self.unanswered > 0 && self.replies != generation.replies())
     }
 
-    // Whether the socket may have something.
+    // Whether the socket may have bytes.
     fn may_read(&self) -> bool {
         match self.socket.try_borrow() {
             Ok(socket) => socket.may_read(),
@@ -396,7 +395,7 @@ impl Client {
         }
     }
 
-    // Whether the socket may have or take something.
+    // Whether the socket may have bytes, or take some.
     fn has_event(&self) -> bool {
         match self.socket.try_borrow() {
             Ok(socket) => socket.may_read() || socket.may_write(),
@@ -404,7 +403,7 @@ impl Client {
         }
     }
 
-    /// Steps the engine as far as it goes, and writes what it gathered.
+    /// Steps the engine until it has to wait, and writes what it gathered.
     pub(crate) fn run_once<R: Wait, T: CoreTurns>(
         &mut self,
         rt: &R,
@@ -437,7 +436,7 @@ impl Client {
         Ok(self.finish_closing(rt, generation, round.now))
     }
 
-    // The journal has no room for a further command: none is taken in any more, from any client.
+    // The journal has no room for a further command: no client's commands are taken in from here on.
     fn close_up(&mut self, generation: &GenerationState<'_>) {
         generation.close_up();
         self.drain();
@@ -467,8 +466,8 @@ impl Client {
         }
     }
 
-    // Steps until nothing more can be done for now, for so many steps, or until many parts have come. A command is taken in only
-    // with all steps that it will owe.
+    // Steps until nothing more can be done, or `MAX_STEPS` are made, or this worker's share of parts has come. A
+    // command is taken in only if the journal has room for all steps that it will owe.
     fn step_engine<R: Wait, T: CoreTurns>(
         &mut self,
         rt: &R,
@@ -477,7 +476,7 @@ impl Client {
         reserve: u64,
     ) -> Result<(), StepError> {
         let most_parts = generation.parts_per_worker();
-        // (there is room for as many commands as this and one more)
+        // (the number of accepted commands at which there was room for one more)
         let mut room_for = None;
         for _ in 0..MAX_STEPS {
             if turns.counts().parts >= most_parts {
@@ -498,7 +497,7 @@ impl Client {
         Ok(())
     }
 
-    // What a step of the engine came to. True says that nothing more can be done for now.
+    // Handles the result of an engine's step. True: nothing more can be done for now.
     fn heed(
         &mut self,
         stepped: Result<Progress, EngineError>,
@@ -527,7 +526,7 @@ impl Client {
         }
     }
 
-    // Whether the journal has room for a further command of the client, with all that it will owe.
+    // Whether the journal has room for a further command with all steps that it will owe.
     fn may_take_in<R: Wait, T: CoreTurns>(
         &self,
         rt: &R,
@@ -541,8 +540,7 @@ impl Client {
         generation.lend(rt, turns, reserve) && turns.has_room_for_command(self.unfinished)
     }
 
-    // What an error means. A command for which the journal has no room isn't taken in; where it has none for an answer, the
-    // connection can't go on.
+    // Handles an error. Without room for a command none is taken in; without room for an answer the connection ends.
     fn handle_error(
         &mut self,
         error: StepError,
@@ -557,7 +555,7 @@ impl Client {
         Ok(())
     }
 
-    /// Memory was refused to it: it's tried again, unless that was so too often in a row.
+    /// Counts a refusal of memory. The step is made again, unless too many were refused in a row.
     pub(crate) fn refuse(&mut self) -> StepError {
         self.has_more = true;
         if self.refusals.refused() {
@@ -567,7 +565,7 @@ impl Client {
         }
     }
 
-    // Counts what is unanswered, and tells others of parts.
+    // Counts commands without an answer, and reports parts to the other workers.
     fn count(&mut self, counts: TurnCounts, generation: &GenerationState<'_>) {
         self.unanswered = self
             .unanswered
@@ -579,7 +577,7 @@ impl Client {
         self.count_unfinished_bytes(generation, counts.accepted > 0);
     }
 
-    // Counts what came of a command that isn't whole yet, and ends the connection where all of them have too much.
+    // Counts the bytes of an unfinished command, and ends the connection if all connections together have too many.
     fn count_unfinished_bytes(&mut self, generation: &GenerationState<'_>, has_accepted: bool) {
         let Ok(mut socket) = self.socket.try_borrow_mut() else {
             return;
@@ -598,7 +596,7 @@ impl Client {
         }
     }
 
-    // What is still to be done of a connection that was closed.
+    // Finishes a connection that was closed.
     fn finish_closing<R: Wait>(
         &mut self,
         rt: &R,

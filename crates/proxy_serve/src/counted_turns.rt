@@ -1,4 +1,4 @@
-//! Turns that are looked at as they go by.
+//! Counts what a worker's turns did.
 
 use crate::ledger::Ledger;
 use generations::{FAR_BYTES, FAR_STEPS, Loan, Payload, StepKind};
@@ -7,22 +7,21 @@ use std::mem;
 use std::sync::Wait;
 use ticket_gate::{TurnRefusal, Turns};
 
-// A command of one part has so many steps. Payload is reckoned over the replies that came, so that parts that failed don't make
-// the average smaller than what the others bring.
+// The steps of a command of one part. Payload is averaged over replies, so that failed parts don't lower the average.
 const STEPS_A_REPLY: u64 = 4;
 
-/// What happened since it was last looked at.
+/// What happened since the counts were last taken.
 #[derive(Clone, Copy, Drop)]
 pub(crate) struct TurnCounts {
-    /// Commands were accepted, so many.
+    /// Commands accepted.
     pub(crate) accepted: u64,
-    /// Replies were handed out, so many.
+    /// Replies handed out.
     pub(crate) handed: u64,
-    /// Parts came for hosts, so many.
+    /// Parts queued for hosts.
     pub(crate) parts: u64,
-    /// Replies of hosts were taken, so many.
+    /// Hosts' replies taken.
     pub(crate) matched: u64,
-    /// Faults of hosts were recorded, so many.
+    /// Hosts' faults recorded.
     pub(crate) faults: u64,
     /// Replies came for clients, or parts were lost.
     pub(crate) has_replies: bool,
@@ -59,8 +58,8 @@ impl TurnCounts {
     }
 }
 
-/// Bytes of payload of some steps: of all that was kept, of what hosts answered, and of what was handed out to clients; and over
-/// how many steps they are reckoned.
+/// Payload bytes of some steps: bytes kept in all, of hosts' replies, and handed out to clients; and the number of
+/// steps that the average is taken over.
 #[derive(Clone, Copy, Drop)]
 struct Bytes {
     kept: u64,
@@ -77,19 +76,19 @@ impl Bytes {
         steps: 0,
     };
 
-    // So many more are kept.
+    // Adds to the bytes kept.
     #[inline(always)]
     fn keep(&mut self, count: u64) {
         self.kept = self.kept.saturating_add(count);
     }
 
-    // Tells of them.
+    // Adds them to the payload.
     fn tell(self, payload: &mut Payload) {
         payload.note(self.kept, self.came, self.handed, self.steps);
     }
 }
 
-// How many bytes of payload an event brings.
+// The payload bytes of an event.
 #[inline(always)]
 fn bytes_of(event: &Event) -> u64 {
     match event {
@@ -99,16 +98,16 @@ fn bytes_of(event: &Event) -> u64 {
     }
 }
 
-/// What a worker knows of its turns' answers and of the journal: counts, the steps that it was lent, and the payload.
+/// A worker's account of its turns: counts, the steps lent to it, and the payload.
 #[derive(Drop)]
 struct Account {
     counts: TurnCounts,
     loan: Loan,
-    // Steps since it last settled, what they cost, and their bytes.
+    // Since the last settlement: the steps, their cost and their bytes.
     steps: u64,
     cost: u64,
     bytes: Bytes,
-    // What all workers had told by then, and how many steps with payload were owed; by that, the average of payload a step, and
+    // As of the last report: all workers' payload, the owed steps that have payload, the average bytes a step, and
     // whether the journal was far from full.
     payload: Payload,
     owed: u64,
@@ -131,7 +130,7 @@ impl Account {
         }
     }
 
-    // A step of this kind was made.
+    // Counts a step of this kind.
     #[inline(always)]
     fn step(&mut self, kind: StepKind) {
         self.counts.note(kind);
@@ -140,7 +139,8 @@ impl Account {
         self.cost = self.cost.saturating_add(kind.cost());
     }
 
-    // A step was made whose event brought so many bytes of payload. A part that got its value at once is neither sent nor answered.
+    // Counts the step of an answer whose event had this many payload bytes. A part that failed at once is neither sent
+    // nor answered.
     #[inline(always)]
     fn note(&mut self, brought: u64, answer: &Answer) {
         match answer {
@@ -178,7 +178,7 @@ impl Account {
         }
     }
 
-    // Tells of payload, and takes note of what all workers have told of it.
+    // Reports its payload, and reads what all workers have reported.
     fn tell(&mut self, ledger: &mut Ledger) {
         let bytes = mem::replace(&mut self.bytes, Bytes::NONE);
         bytes.tell(&mut ledger.payload);
@@ -187,7 +187,7 @@ impl Account {
         self.is_far = self.payload.is_far_from_full(self.owed());
     }
 
-    // Tells what was done, and takes note of what all workers have told.
+    // Reports its steps and payload, and reads what all workers have reported.
     fn settle(&mut self, ledger: &mut Ledger, open: u64) {
         ledger.budget.settle(&mut self.loan);
         let steps = mem::replace(&mut self.steps, 0);
@@ -199,7 +199,7 @@ impl Account {
         self.tell(ledger);
     }
 
-    // Whether room needn't be reckoned: the journal was far from full, and little has come since.
+    // Whether room needn't be computed: the journal was far from full, and little has come since.
     #[inline(always)]
     fn is_far_from_full(&self, unfinished: u64) -> bool {
         self.is_far
@@ -208,14 +208,14 @@ impl Account {
             && unfinished <= FAR_BYTES
     }
 
-    // What is known of the payload now.
+    // The payload known now.
     fn known(&self) -> Payload {
         let mut known = self.payload;
         self.bytes.tell(&mut known);
         known
     }
 
-    // How many steps with payload are owed now.
+    // The owed steps that have payload.
     fn owed(&self) -> u64 {
         self.owed
             .saturating_add(self.cost)
@@ -223,7 +223,7 @@ impl Account {
     }
 }
 
-/// A worker's turns, looked at as they go by.
+/// A worker's turns, counted.
 #[derive(Drop)]
 pub(crate) struct CountedTurns<T: CoreTurns> {
     turns: T,
@@ -238,29 +238,29 @@ impl<T: CoreTurns> CountedTurns<T> {
         }
     }
 
-    /// The turns themselves, to be asked what is no turn.
+    /// The turns themselves, for calls that make no turn.
     pub(crate) fn inner(&mut self) -> &mut T {
         &mut self.turns
     }
 
-    /// What happened since it was last taken.
+    /// What happened since the counts were last taken.
     #[inline(always)]
     pub(crate) fn counts(&self) -> &TurnCounts {
         &self.account.counts
     }
 
-    /// What happened since it was last taken, and takes it.
+    /// Takes the counts.
     pub(crate) fn take_counts(&mut self) -> TurnCounts {
         mem::replace(&mut self.account.counts, TurnCounts::NONE)
     }
 
-    /// How many steps more may be made or owed of those that were lent.
+    /// The steps lent that are neither made nor owed.
     #[inline(always)]
     pub(crate) fn free_steps(&self) -> u64 {
         self.account.loan.free()
     }
 
-    /// Borrows steps of the journal. False says that so many aren't left.
+    /// Borrows steps of the journal. False: that many aren't left.
     pub(crate) fn borrow_steps(&mut self, ledger: &mut Ledger, steps: u64) -> bool {
         let is_lent = ledger.budget.lend(steps);
         if is_lent {
@@ -269,28 +269,28 @@ impl<T: CoreTurns> CountedTurns<T> {
         is_lent
     }
 
-    /// Tells what was done, gives back what was lent and not spent, and takes note of what all workers have told. So many
-    /// connections are open.
+    /// Reports its steps and payload, returns unspent steps, and reads what all workers have reported. `open` is the
+    /// number of open connections.
     pub(crate) fn settle(&mut self, ledger: &mut Ledger, open: u64) {
         self.account.settle(ledger, open);
     }
 
-    /// Tells of payload, and takes note of what all workers have told of it.
+    /// Reports its payload, and reads what all workers have reported.
     pub(crate) fn tell_payload(&mut self, ledger: &mut Ledger) {
         self.account.tell(ledger);
     }
 
-    /// How many bytes of payload a step has on the average, as far as all workers have told.
+    /// The average payload bytes a step, from all workers' reports.
     pub(crate) fn average(&self) -> u64 {
         self.account.average
     }
 
-    /// How many bytes of payload were kept since it was last told.
+    /// The payload bytes kept since the last report.
     pub(crate) fn untold_bytes(&self) -> u64 {
         self.account.bytes.kept
     }
 
-    /// Whether the journal has room for the payload of a further command, of a client that has so many bytes unfinished.
+    /// Whether the journal has room for the payload of a further command, of a client with this many unfinished bytes.
     #[inline(always)]
     pub(crate) fn has_room_for_command(&self, unfinished: u64) -> bool {
         self.account.is_far_from_full(unfinished)
@@ -300,7 +300,7 @@ impl<T: CoreTurns> CountedTurns<T> {
                 .takes_in(self.account.owed(), unfinished)
     }
 
-    /// Whether the journal has room for a host's reply of which so many bytes have come.
+    /// Whether the journal has room for a host's reply of which this many bytes have come.
     #[inline(always)]
     pub(crate) fn has_room_for_reply(&self, unfinished: u64) -> bool {
         self.account.is_far_from_full(unfinished) || self.account.known().takes_reply(unfinished)

@@ -23,7 +23,7 @@ use std::sync::Wait;
 use std::thread::Threads;
 use ticket_gate::{Gate, Spare};
 
-/// What serving stands on: threads that wait, sockets, the clock, and standard error.
+/// What the server runs on: threads that can wait, sockets, the clock, and standard error.
 pub(crate) trait ServeRuntime: Threads
     + Wait
     + Net<Listener = std::net::TcpListener, Stream = std::net::TcpStream>
@@ -40,7 +40,7 @@ impl<
         + Sync,
 > ServeRuntime for R {}
 
-/// What each thread of a generation is given beside its seat at the gate.
+/// What each thread of a generation gets beside its seat at the gate.
 #[derive(Clone, Copy, Drop)]
 pub(crate) struct ThreadContext<'a> {
     pub(crate) alloc: Global,
@@ -49,7 +49,7 @@ pub(crate) struct ThreadContext<'a> {
     pub(crate) marks: Marks,
 }
 
-/// What one thread of a generation does.
+/// The task of one thread of a generation.
 #[derive(Drop)]
 enum Task<'a> {
     Work(WorkerSetup<'a>),
@@ -87,7 +87,7 @@ fn settings(config: &Config) -> Settings {
     }
 }
 
-// A core that goes on from there, or to which nothing has happened.
+// A core that starts from this handover, or a new one.
 fn core(alloc: Global, config: &Config, from: Option<Handover>) -> Result<Counted, Ending>
     requires { AreRingParts config.now.hosts.items config.now.weights.items }
     ensures { IfOk result (λ core. core.steps ≡ []) }
@@ -121,7 +121,7 @@ fn seat<'a, R: Wait>(
     }
 }
 
-// A worker for each poll, and what sweeps and opens the generation.
+// A worker's task for each poll, and the task that sweeps and opens the generation.
 fn tasks<'a, R: Wait>(
     rt: &R,
     context: ThreadContext<'a>,
@@ -154,7 +154,7 @@ fn waker_of(poll: &Poll) -> Result<Waker, Stop> {
     }
 }
 
-/// The polls of the workers, their workers, and what wakes them for a new socket.
+/// The workers' polls, their state, and the wakers for new sockets.
 #[derive(Drop)]
 struct Polls {
     polls: Vec<Poll>,
@@ -163,7 +163,7 @@ struct Polls {
 }
 
 impl Polls {
-    // Those of one worker more.
+    // Adds those of one more worker.
     fn add<R: Net>(&mut self, rt: &R, has_hosts: bool) -> Result<(), Stop> {
         let poll = match Poll::new(rt) {
             Ok(poll) => poll,
@@ -189,7 +189,7 @@ fn make_polls<R: Net>(rt: &R, alloc: Global, workers: usize, hosts: usize) -> Re
     Ok(all)
 }
 
-/// A generation that is to be opened.
+/// A generation to open.
 #[derive(Drop)]
 pub(crate) struct GenerationOptions<'a> {
     pub(crate) server: &'a Server,
@@ -198,9 +198,8 @@ pub(crate) struct GenerationOptions<'a> {
     pub(crate) due: Due<Inherited>,
 }
 
-/// Opens the generation, and serves in it until its threads have ended. What it did is added to the server's counts.
-///
-/// Where it can't be opened, the server is told.
+/// Opens the generation and serves until its threads have ended. Its counts are added to the server's. If it can't be
+/// opened, this is reported to the server.
 pub(crate) fn run_generation<R: ServeRuntime>(rt: &R, alloc: Global, options: GenerationOptions<'_>)
     requires { AreRingParts options.config.now.hosts.items options.config.now.weights.items }
 {
@@ -214,7 +213,7 @@ pub(crate) fn run_generation<R: ServeRuntime>(rt: &R, alloc: Global, options: Ge
     }
 }
 
-// Ends with `Memory` or `Socket` where it could not be opened, and then it was never the newest.
+// Ends with `Memory` or `Socket` if it could not be opened; it was then never the newest.
 fn serve_generation<R: ServeRuntime>(
     rt: &R,
     alloc: Global,
@@ -253,7 +252,7 @@ fn serve_generation<R: ServeRuntime>(
     Ok(())
 }
 
-// Lets the threads make turns of the core, and gives it back once all of them have ended: `None` where a ticket was left.
+// Lets the threads make turns, and returns the core once all have ended; `None` if a ticket was left.
 fn work<R: ServeRuntime>(
     rt: &R,
     context: ThreadContext<'_>,

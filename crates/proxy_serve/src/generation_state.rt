@@ -1,4 +1,4 @@
-//! What the threads of one generation share beside their gate.
+//! What the threads of one generation share beside the gate.
 
 use crate::counted_turns::CountedTurns;
 use crate::ledger::Ledger;
@@ -12,75 +12,74 @@ use std::sync::{Mutex, Wait};
 use std::thread;
 use std::time::Duration;
 
-// So many parts or more may wait that some worker hasn't looked for yet: then no further command is taken in. A host has
-// room for 1,024 that wait.
+// Take in no further commands once some worker hasn't looked at this many parts. A host can queue 1,024.
 const MAX_UNSEEN: u64 = 256;
 
-// So many parts or more may all workers together let come between two looks at that.
+// The most parts that all workers together may queue between two checks of that.
 const MAX_PARTS_AT_ONCE: u64 = 512;
 
-/// Payload of so many bytes is told to the other workers before it is decided what the journal has room for.
+/// Payload of this many bytes is reported to the other workers before room in the journal is decided.
 pub(crate) const LARGE: u64 = 65_536;
 
-/// Where a step has so many bytes of payload on the average, each command that is accepted is told at once.
+/// From this average of payload bytes a step on, each accepted command is reported at once.
 pub(crate) const LARGE_STEP: u64 = 8_192;
 
-// So many steps of a journal are lent to all workers together at most; but each is lent what one command may take.
+// At most this many steps of a journal are lent to all workers together; each worker is lent at least a command's.
 const MAX_LENT: u64 = 65_536;
 
-// So many bytes may the unfinished commands of all connections have, before those connections that add to them are ended.
+// Connections that add to their unfinished commands are ended once all of these have this many bytes together.
 const MAX_UNFINISHED: u64 = 67_108_864;
 
-// So long the threads of a generation wait for each other at its start, in milliseconds.
+// The threads of a generation wait this many milliseconds for each other at its start.
 const MAX_START_MS: u32 = 1_000;
 
-// What becomes of a generation: its threads come together, they have begun, or some were missing.
+// The start of a generation: its threads gather, they have begun, or some were missing.
 const GATHERS: u8 = 0;
 
 const BEGUN: u8 = 1;
 
 const GIVEN_UP: u8 = 2;
 
-/// How a worker is woken, and how far it is.
+/// How a worker is woken, and what it waits for.
 #[derive(Drop)]
 pub(crate) struct WorkerStatus {
     waker: Waker,
     // Whether it has hosts.
     has_hosts: bool,
-    // Whether clients of it wait for replies.
+    // Whether its clients wait for replies.
     awaits: AtomicBool,
-    // Whether it takes in nothing until others have looked for their parts.
+    // Whether it takes in nothing until others have looked at their parts.
     is_held_back: AtomicBool,
     // Whether it may be asleep.
     is_asleep: AtomicBool,
-    // So many parts had come when it last looked for those of its hosts.
+    // The generation's count of parts when it last looked at those of its hosts.
     seen: AtomicU64,
 }
 
-/// What the threads of a generation look at.
+/// What the threads of a generation share.
 pub(crate) struct GenerationState<'a> {
     server: &'a Server,
     number: u64,
     workers: Vec<WorkerStatus>,
-    // How many of its threads have come.
+    // The number of its threads that have come.
     come: AtomicU64,
     // GATHERS, BEGUN or GIVEN_UP.
     start: AtomicU8,
-    // Connections that are open.
+    // The number of open connections.
     open: AtomicU64,
-    // How much of its journal is spent and lent.
+    // The journal's spent and lent steps.
     ledger: Mutex<Ledger>,
-    // Whether no further commands are to be accepted, so that those that were can be answered before the journal is full.
+    // Whether no further commands are accepted, so that accepted ones can be answered before the journal is full.
     is_closing: AtomicBool,
-    // How many parts came for hosts.
+    // The number of parts queued for hosts.
     parts: AtomicU64,
-    // Rises once replies came for clients.
+    // Rises when replies come for clients.
     replies: AtomicU64,
-    // How many bytes of unfinished commands have come.
+    // The bytes of all unfinished commands.
     unfinished: AtomicU64,
 }
 
-// Written out, so that where one is dropped that is one call: each function that holds one is proved sooner.
+// Written out so that a drop is one call: each function that holds one is proved sooner.
 impl Drop for GenerationState<'_> {
     fn drop(self) {
         let GenerationState {
@@ -111,12 +110,12 @@ impl WorkerStatus {
         }
     }
 
-    // Whether it has so many parts yet to look for that no further ones are to come.
+    // Whether clients must be held back for the parts that it hasn't looked at.
     fn is_behind(&self, parts: u64) -> bool {
         parts.saturating_sub(self.seen.load(Ordering::SeqCst)) >= MAX_UNSEEN
     }
 
-    /// The worker looked for the parts of its hosts when so many parts had come. True says that others may have waited for it.
+    /// The worker has looked at its hosts' parts up to this count. True: others may have waited for that.
     pub(crate) fn mark_seen(&self, parts: u64) -> bool {
         let was_behind = self.is_behind(parts);
         self.seen.store(parts, Ordering::SeqCst);
@@ -144,7 +143,7 @@ impl WorkerStatus {
 }
 
 impl<'a> GenerationState<'a> {
-    /// A generation to which nothing has happened. The one before had so many bytes of payload a step.
+    /// A generation to which nothing has happened. `average` is the last generation's payload bytes a step.
     pub(crate) fn new(
         server: &'a Server,
         number: u64,
@@ -176,12 +175,12 @@ impl<'a> GenerationState<'a> {
         self.number
     }
 
-    // A worker for each worker, and one thread that sweeps.
+    // The number of its workers, and one thread that sweeps.
     fn threads(&self) -> u64 {
         (self.workers.len() as u64).saturating_add(1)
     }
 
-    /// Counts a thread that has come, and waits for the others. False says that some didn't come in time: then none begins.
+    /// Counts a thread that has come, and waits for the others. False: some didn't come in time, and none begins.
     pub(crate) fn wait_for_all<R: Clock>(&self, rt: &R) -> bool {
         if self.come.fetch_add(1, Ordering::SeqCst).saturating_add(1) == self.threads() {
             self.decide(BEGUN);
@@ -196,12 +195,12 @@ impl<'a> GenerationState<'a> {
         self.has_begun()
     }
 
-    /// Lets the generation not begin, unless it has.
+    /// Keeps the generation from beginning, unless it has begun.
     pub(crate) fn give_up(&self) {
         self.decide(GIVEN_UP);
     }
 
-    // What becomes of the generation, unless that is decided.
+    // Decides the start, unless it is decided.
     fn decide(&self, start: u8) {
         let _ = self
             .start
@@ -213,12 +212,12 @@ impl<'a> GenerationState<'a> {
         self.start.load(Ordering::SeqCst) == BEGUN
     }
 
-    /// The worker of a worker.
+    /// The state of a worker.
     pub(crate) fn worker(&self, place: usize) -> Option<&WorkerStatus> {
         self.workers.get(place)
     }
 
-    /// What is to be done. Sockets wait at the queues while nothing more is taken in and no newer generation is open.
+    /// The generation's phase. Sockets wait in the queues while it takes in nothing and no newer generation is open.
     pub(crate) fn phase(&self) -> Phase {
         let phase = self.server.phase(self.number);
         if phase == Phase::Serving && self.is_closing() {
@@ -228,13 +227,12 @@ impl<'a> GenerationState<'a> {
         }
     }
 
-    /// Whether no connection is open in it and none will be: it serves no more, by what was said before it was counted.
+    /// Whether no connection is open and none will be: reads the phase before the count.
     pub(crate) fn is_drained(&self) -> bool {
         self.server.phase(self.number) != Phase::Serving && self.open.load(Ordering::SeqCst) == 0
     }
 
-    /// Tells what the worker's turns did since it was last here, and what it was lent and didn't spend comes back. So many
-    /// steps are lent to it anew that it may always make.
+    /// Reports what the worker's turns did, takes back its unspent steps, and lends it this reserve again.
     pub(crate) fn settle<R: Wait, T: CoreTurns>(
         &self,
         rt: &R,
@@ -247,7 +245,7 @@ impl<'a> GenerationState<'a> {
         turns.borrow_steps(ledger, reserve);
     }
 
-    /// Lends so many steps. False says that so many aren't left.
+    /// Lends this many steps. False: that many aren't left.
     pub(crate) fn lend_steps<R: Wait, T: CoreTurns>(
         &self,
         rt: &R,
@@ -257,7 +255,7 @@ impl<'a> GenerationState<'a> {
         turns.borrow_steps(&mut self.ledger.lock(rt), steps)
     }
 
-    /// Lends steps to the worker until it has enough for any command beside these. False says that so many aren't left.
+    /// Lends the worker steps until it has enough for any command beside the reserve. False: that many aren't left.
     pub(crate) fn lend<R: Wait, T: CoreTurns>(
         &self,
         rt: &R,
@@ -276,8 +274,8 @@ impl<'a> GenerationState<'a> {
         turns.borrow_steps(ledger, many.max(missing)) || turns.borrow_steps(ledger, missing)
     }
 
-    /// Of a host's reply so many bytes have come, where so many had when it was last told. Whether the journal has room for it,
-    /// beside all others that are coming, by what all workers have told.
+    /// Whether the journal has room for a host's reply beside all others that are coming, by all workers' reports.
+    /// `came` of its bytes have come; `before` had come at the last report.
     pub(crate) fn takes_reply<R: Wait, T: CoreTurns>(
         &self,
         rt: &R,
@@ -291,22 +289,22 @@ impl<'a> GenerationState<'a> {
         ledger.takes_reply(came, before)
     }
 
-    /// How many steps were made or are owed, as far as workers have told.
+    /// The steps made or owed, by the workers' reports.
     pub(crate) fn spent<R: Wait>(&self, rt: &R) -> u64 {
         self.ledger.lock(rt).budget.spent()
     }
 
-    /// Bytes a step with which the next generation is to reckon.
+    /// The payload bytes a step that the next generation starts with.
     pub(crate) fn average<R: Wait>(&self, rt: &R) -> u64 {
         self.ledger.lock(rt).payload.next_average()
     }
 
-    /// Whether no further commands are to be accepted.
+    /// Whether no further commands are accepted.
     pub(crate) fn is_closing(&self) -> bool {
         self.is_closing.load(Ordering::SeqCst)
     }
 
-    /// No further commands are to be accepted.
+    /// Accepts no further commands.
     pub(crate) fn close_up(&self) {
         self.is_closing.store(true, Ordering::SeqCst);
     }
@@ -316,27 +314,27 @@ impl<'a> GenerationState<'a> {
         self.open.fetch_add(1, Ordering::SeqCst);
     }
 
-    /// Counts a connection that is gone.
+    /// Counts a closed connection.
     pub(crate) fn count_gone(&self) {
         self.open.fetch_sub(1, Ordering::SeqCst);
     }
 
-    /// How many parts came for hosts.
+    /// The number of parts queued for hosts.
     pub(crate) fn parts(&self) -> u64 {
         self.parts.load(Ordering::SeqCst)
     }
 
-    /// How often replies came for clients.
+    /// The number of times that replies came for clients.
     pub(crate) fn replies(&self) -> u64 {
         self.replies.load(Ordering::SeqCst)
     }
 
-    /// Tells that so many parts came for hosts.
+    /// Counts parts queued for hosts.
     pub(crate) fn count_parts(&self, count: u64) {
         self.parts.fetch_add(count, Ordering::SeqCst);
     }
 
-    /// A connection's unfinished command has so many bytes now, and had so many before.
+    /// Changes the bytes of a connection's unfinished command.
     pub(crate) fn note_unfinished(&self, now: u64, before: u64) {
         if now > before {
             self.unfinished.fetch_add(now - before, Ordering::SeqCst);
@@ -345,12 +343,12 @@ impl<'a> GenerationState<'a> {
         }
     }
 
-    /// Whether the unfinished commands of all connections have more bytes than may be.
+    /// Whether the unfinished commands of all connections have too many bytes.
     pub(crate) fn is_overfull(&self) -> bool {
         self.unfinished.load(Ordering::SeqCst) > MAX_UNFINISHED
     }
 
-    /// How many parts one worker may let come of a client before it looks for its own.
+    /// The most parts that one worker may let a client queue before it looks at its own.
     pub(crate) fn parts_per_worker(&self) -> u64 {
         let workers = self.workers.len() as u64;
         if workers == 0 {
@@ -360,18 +358,18 @@ impl<'a> GenerationState<'a> {
         }
     }
 
-    /// Whether so many parts came since some worker looked for its own that no further ones are to come.
+    /// Whether clients must be held back until some worker has looked at its parts.
     pub(crate) fn must_hold_back(&self) -> bool {
         let parts = self.parts();
         self.workers.iter().any(|worker| worker.is_behind(parts))
     }
 
-    /// Tells that replies came for clients.
+    /// Counts replies for clients.
     pub(crate) fn count_replies(&self) {
         self.replies.fetch_add(1, Ordering::SeqCst);
     }
 
-    /// Wakes those of the workers beside this one that are behind with the parts of their hosts.
+    /// Wakes the other workers that are behind with their hosts' parts.
     pub(crate) fn wake_behind(&self, place: usize) {
         let parts = self.parts();
         for (other, worker) in self.workers.iter().enumerate() {
@@ -381,7 +379,7 @@ impl<'a> GenerationState<'a> {
         }
     }
 
-    /// Wakes those of the workers beside this one that were held back.
+    /// Wakes the other workers that hold clients back.
     pub(crate) fn wake_held(&self, place: usize) {
         for (other, worker) in self.workers.iter().enumerate() {
             if other != place && worker.is_held_back.load(Ordering::SeqCst) {
@@ -390,7 +388,7 @@ impl<'a> GenerationState<'a> {
         }
     }
 
-    /// Wakes those of the workers beside this one whom parts or replies that came may concern.
+    /// Wakes the other workers that new parts or replies may concern.
     pub(crate) fn wake_for(&self, place: usize, has_parts: bool, has_replies: bool) {
         for (other, worker) in self.workers.iter().enumerate() {
             let concerns = (has_parts && worker.has_hosts)

@@ -1,4 +1,4 @@
-//! A host, as its worker has it.
+//! A host's connection, as its worker holds it.
 ghost use Rattle.std.specs.Prelude.{◌≡◌, None, IfOk};
 
 use crate::client::StepError;
@@ -19,17 +19,17 @@ use std::net::{Net, SocketAddr};
 use std::rc::Rc;
 use std::sync::Wait;
 
-// Steps of one host in one round.
+// The most steps of one host in a round.
 const MAX_STEPS: u32 = 4_096;
 
-// A host is looked at after so long at the latest, in milliseconds, so that a late reply is found.
+// A host is looked at after this many milliseconds at the latest, so that a late reply is noticed.
 const LOOK_MS: u64 = 10;
 
-// For so long a link that is being made holds clients back, in milliseconds: until it stands nothing goes out to its host, and
-// what waits there has room for 1,024 parts alone. One that takes longer holds nobody back.
+// A link that is connecting holds clients back for this many milliseconds: nothing goes out until it is up, and only
+// 1,024 parts can wait. One that takes longer doesn't hold clients back.
 const CONNECTING_MS: u64 = 20;
 
-// It is told again that a host can't be reached after so many milliseconds.
+// Log again after this many milliseconds that a host can't be reached.
 const TELL_MS: u64 = 1_000;
 
 type Engine = HostEngine<Tallied<SocketReader>, Tallied<SocketWriter>>;
@@ -38,7 +38,7 @@ type Engine = HostEngine<Tallied<SocketReader>, Tallied<SocketWriter>>;
 #[derive(Drop)]
 enum LinkState {
     Down,
-    /// A connection is being made since this moment; whether the poll told anything of it.
+    /// Connecting since this moment; `is_told`: the poll has reported an event.
     Connecting {
         stream: TcpStream,
         since: u64,
@@ -47,7 +47,7 @@ enum LinkState {
     Up(Rc<RefCell<Socket>>),
 }
 
-/// What came of a connection that is being made.
+/// The state of a connection attempt.
 #[derive(Clone, Copy, Drop)]
 enum ConnectOutcome {
     Pending,
@@ -58,9 +58,9 @@ enum ConnectOutcome {
 /// A worker's round over its hosts.
 #[derive(Clone, Copy, Drop)]
 pub(crate) struct HostRound {
-    /// The moment, in milliseconds.
+    /// Its moment, in milliseconds.
     pub(crate) now: u64,
-    /// Whether what waits for the host is given up.
+    /// Whether waiting parts are given up.
     pub(crate) gives_up: bool,
 }
 
@@ -71,21 +71,21 @@ pub(crate) struct HostConnection {
     token: Token,
     reply_ms: u64,
     link: LinkState,
-    // How often parts had come for all hosts when this one was last asked for its own.
+    // The generation's count of parts when this host was last stepped.
     parts: u64,
     looked: u64,
     has_more: bool,
-    // Refusals of memory to its next step, or to its link.
+    // Consecutive refusals of memory to its step or its link.
     refusals: Refusals,
-    // How many bytes had come on the link when a reply was last taken.
+    // The bytes that had come on the link when a reply was last taken.
     begun: u64,
-    // How many bytes of a large reply that is coming were told.
+    // The bytes of a large unfinished reply that were reported.
     coming: u64,
-    // When it was last told that the host can't be reached.
+    // When it was last logged that the host can't be reached.
     told: Option<u64>,
 }
 
-// Written out, so that where one is dropped that is one call: each function that holds one is proved sooner.
+// Written out so that a drop is one call: each function that holds one is proved sooner.
 impl Drop for HostConnection {
     fn drop(self) {
         let HostConnection {
@@ -131,12 +131,12 @@ impl HostConnection {
         }
     }
 
-    /// Where it is.
+    /// The host's address.
     pub(crate) fn address(&self) -> SocketAddr {
         self.address
     }
 
-    /// Whether a link to it is being made, and that not for long.
+    /// Whether a link has been connecting for less than `CONNECTING_MS`.
     pub(crate) fn is_connecting(&self, now: u64) -> bool {
         match &self.link {
             LinkState::Connecting { since, .. } => now.saturating_sub(*since) < CONNECTING_MS,
@@ -144,7 +144,7 @@ impl HostConnection {
         }
     }
 
-    /// Takes note of what the poll tells.
+    /// Records what the poll reports.
     pub(crate) fn on_readiness(&mut self, event: &Readiness) {
         match &mut self.link {
             LinkState::Down => {}
@@ -157,7 +157,7 @@ impl HostConnection {
         }
     }
 
-    /// Whether a round can bring anything.
+    /// Whether a round can make progress.
     pub(crate) fn may_go(&self, generation: &GenerationState<'_>, now: u64) -> bool {
         self.has_more
             || self.parts != generation.parts()
@@ -176,8 +176,8 @@ impl HostConnection {
         }
     }
 
-    /// Steps the engine as far as it goes, writes what it gathered, and makes a link where one is needed. True says that
-    /// the host couldn't be reached, and that this is to be told.
+    /// Steps the engine until it has to wait, writes what it gathered, and connects where a link is needed. True: the
+    /// host couldn't be reached, and this is to be logged.
     pub(crate) fn run_once<R: Wait + Net, T: CoreTurns>(
         &mut self,
         rt: &R,
@@ -206,7 +206,7 @@ impl HostConnection {
         }
     }
 
-    // Whether it is time to tell again that the host can't be reached.
+    // Whether it is time to log again that the host can't be reached.
     fn is_to_be_told(&mut self, now: u64) -> bool {
         let is_due = match self.told {
             None => true,
@@ -265,7 +265,7 @@ impl HostConnection {
         Ok(is_refused)
     }
 
-    // Has a connection made, and tells the engine what came of it.
+    // Connects, and gives the engine the result.
     fn make_link<R: Wait + Net, T: CoreTurns>(
         &mut self,
         rt: &R,
@@ -285,7 +285,7 @@ impl HostConnection {
         Ok(outcome)
     }
 
-    // One step of the engine, and what it says of the socket. A link that has to go is given up before it.
+    // Steps the engine once, and records what that says of the socket. A link that has to go is given up first.
     fn step<R: Wait, T: CoreTurns>(
         &mut self,
         rt: &R,
@@ -311,7 +311,7 @@ impl HostConnection {
         }
     }
 
-    // What a step said of the socket, by what was counted before it and behind it.
+    // Records what a step said of the socket, by the counts before and after it.
     fn note_step(&mut self, before: &TurnCounts, after: &TurnCounts)
         ensures { self.new.engine ≡ self.old.engine }
     {
@@ -324,7 +324,7 @@ impl HostConnection {
         self.drop_if_released();
     }
 
-    // What an error means: a reply that doesn't fit the journal goes with its link.
+    // Handles an error. A reply that doesn't fit the journal is given up with its link.
     fn handle_error<R: Wait, T: CoreTurns>(
         &mut self,
         rt: &R,
@@ -339,7 +339,7 @@ impl HostConnection {
         }
     }
 
-    // Whether the link has to go: what waits for the host is given up, or the journal has no room for the reply that comes.
+    // Whether the link has to go: waiting parts are given up, or the journal has no room for the reply that comes.
     fn is_to_be_given_up<R: Wait, T: CoreTurns>(
         &mut self,
         rt: &R,
@@ -363,7 +363,7 @@ impl HostConnection {
         taken.is_some() && (gives_up || !has_room)
     }
 
-    // How many bytes came on the link.
+    // The bytes that came on the link.
     fn taken(&self) -> Option<u64> {
         match &self.link {
             LinkState::Up(socket) => match socket.try_borrow() {
@@ -374,7 +374,7 @@ impl HostConnection {
         }
     }
 
-    // What comes from here on belongs to another reply.
+    // The bytes from here on belong to the next reply.
     fn note_reply(&mut self)
         ensures { self.new.engine ≡ self.old.engine }
     {
@@ -383,7 +383,7 @@ impl HostConnection {
         }
     }
 
-    // Gives up what waits for the host and the link to it: each part is answered by name.
+    // Gives up the link and the waiting parts: each part is answered by name.
     fn give_up<R: Wait, T: CoreTurns>(
         &mut self,
         rt: &R,
@@ -401,7 +401,7 @@ impl HostConnection {
         }
     }
 
-    // Lets the socket go once the engine has given the link up.
+    // Drops the socket once the engine has released the link.
     fn drop_if_released(&mut self)
         ensures { self.new.engine ≡ self.old.engine }
     {
@@ -412,8 +412,7 @@ impl HostConnection {
         }
     }
 
-    // Lets a connection go that is being made, once nothing waits for it or what waited is lost: what comes next has one made
-    // anew.
+    // Drops a connection attempt once its parts are gone. The next part starts another one.
     fn abandon_connecting(&mut self)
         ensures { self.new.engine ≡ self.old.engine }
     {
@@ -422,14 +421,14 @@ impl HostConnection {
         }
     }
 
-    // Puts another link in the place of the one that was there.
+    // Replaces the link.
     fn set_link(&mut self, link: LinkState)
         ensures { self.new.engine ≡ self.old.engine }
     {
         drop(mem::replace(&mut self.link, link));
     }
 
-    // Begins a connection, or looks what came of it.
+    // Starts to connect, or looks at the attempt.
     fn connect<R: Net>(&mut self, rt: &R, registry: &Registry, now: u64) -> ConnectOutcome
         ensures { self.new.engine ≡ self.old.engine }
     {
@@ -492,7 +491,7 @@ impl HostConnection {
         }
     }
 
-    // Gives the engine the link that stands.
+    // Gives the engine the link that is up.
     fn attach(&mut self) -> Result<(), StepError>
         requires link { self.old.engine.link ≡ None }
         requires fault { self.old.engine.fault ≡ None }
@@ -532,7 +531,7 @@ impl HostConnection {
     }
 }
 
-// What came of a connection that is being made.
+// The state of a connection attempt.
 fn look(stream: &TcpStream, is_told: bool, is_overdue: bool) -> ConnectOutcome {
     if is_told {
         match stream.take_error() {

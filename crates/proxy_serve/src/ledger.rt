@@ -1,8 +1,8 @@
-//! How much of a generation's journal is spent and lent.
+//! The spent and lent steps of a generation's journal, and its payload.
 
 use generations::{Budget, Payload};
 
-/// What the workers of a generation have told of its journal.
+/// What the workers of a generation have reported of its journal.
 #[derive(Drop)]
 pub(crate) struct Ledger {
     pub(crate) budget: Budget,
@@ -14,7 +14,7 @@ pub(crate) struct Ledger {
 }
 
 impl Ledger {
-    /// Nothing was told yet. The generation before had so many bytes a step.
+    /// An empty ledger. `average` is the last generation's payload bytes a step.
     pub(crate) fn new(average: u64) -> Ledger {
         Ledger {
             budget: Budget::new(),
@@ -24,19 +24,19 @@ impl Ledger {
         }
     }
 
-    /// A worker has made so many steps.
+    /// Adds steps that a worker has made.
     pub(crate) fn note_steps(&mut self, steps: u64) {
         self.steps = self.steps.saturating_add(steps);
     }
 
-    /// Of a host's reply so many bytes have come, where so many had when it was last told. Whether the journal has room for it,
-    /// beside all others that are coming.
+    /// Whether the journal has room for a host's reply beside all others that are coming. `came` of its bytes have
+    /// come; `before` had come at the last report.
     pub(crate) fn takes_reply(&mut self, came: u64, before: u64) -> bool {
         self.coming = self.coming.saturating_sub(before).saturating_add(came);
         self.payload.takes_reply(self.coming)
     }
 
-    /// How many steps are still owed.
+    /// The steps still owed.
     pub(crate) fn owed(&self) -> u64 {
         self.budget.spent().saturating_sub(self.steps)
     }

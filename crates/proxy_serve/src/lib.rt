@@ -1,12 +1,12 @@
-//! Serves clients on sockets, with real hosts behind them, from many threads.
+//! Serves clients on sockets, before real hosts, with many threads.
 //!
-//! One thread listens, and deals sockets to workers in turn. The workers of a generation step the engines of their clients
-//! and of their hosts, which make their turns at the generation's gate; one thread of it sweeps. When its journal is nearly
-//! full another generation is opened, which goes on from its state of outlier detection; new sockets go there, and those of
-//! the old one go over to it, once their clients have got the answers to all that was accepted.
+//! One thread accepts sockets and gives them to the workers in turn. The workers of a generation step the engines of
+//! their clients and hosts, which make turns at the generation's gate; one more thread sweeps. When the journal is
+//! nearly full, the next generation opens with the state of outlier detection. New sockets go there, and old ones
+//! follow once their accepted commands are answered.
 //!
-//! What is proved of the answers is proved of the engines and of the core. Here stands what brings bytes, readiness and
-//! moments to them.
+//! It stands on the engines and the core, of which the answers are proved; here bytes, readiness and time are brought
+//! to them. Begin with `serve` in `serving.rt`, then `Worker::run_once` in `worker.rt`.
 #![tactic(auto)]
 
 mod admin;

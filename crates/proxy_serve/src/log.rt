@@ -1,31 +1,31 @@
 //! Lines on standard error.
 
-/// How grave a line is, as syslog has it.
+/// The severity of a line, as in syslog.
 #[derive(Clone, Copy, Debug, PartialEq, Eq)]
 pub enum Level {
-    /// The program ends with it.
+    /// The program ends.
     Error,
-    /// Clients are hurt, or a host is.
+    /// Clients or a host have a problem.
     Warning,
-    /// A host is well again, or the serving drains.
+    /// A host is back, or the server drains.
     Notice,
-    /// All is well.
+    /// Normal operation.
     Info,
 }
 
-/// How lines on standard error begin.
+/// The beginning of lines on standard error.
 #[derive(Clone, Copy, Debug)]
 pub struct Log {
     has_levels: bool,
 }
 
 impl Log {
-    /// Lines begin with their level, as in `<4>`, where `has_levels` says so: systemd's journal takes it off and keeps it.
+    /// With `has_levels`, lines begin with their level, as in `<4>`, which systemd's journal removes and records.
     pub fn new(has_levels: bool) -> Log {
         Log { has_levels }
     }
 
-    /// With what a line of this level begins.
+    /// The beginning of a line of this level.
     pub fn tag(self, level: Level) -> &'static str {
         if !self.has_levels {
             return "";

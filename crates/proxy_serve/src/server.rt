@@ -1,4 +1,4 @@
-//! What all threads of a serving share, whichever generation they belong to.
+//! What all threads of `serve` share, in every generation.
 
 use crate::board::Board;
 use crate::client::CarriedSocket;
@@ -19,20 +19,19 @@ use std::collections::VecDeque;
 use std::sync::atomic::{AtomicBool, Ordering};
 use std::sync::{Mutex, MutexGuard, Wait};
 
-// After so many generations in a row that could not be opened the serving ends.
+// End the server after this many generations in a row could not be opened.
 const MAX_FAILURES: u32 = 1_000;
 
-/// What a generation goes on from.
+/// What a generation starts from.
 #[derive(Drop)]
 pub(crate) struct Inherited {
     /// The state of outlier detection.
     pub(crate) handover: Handover,
-    /// How many bytes of payload a step had.
+    /// The payload bytes a step.
     pub(crate) average: u64,
 }
 
-/// Where the new sockets of one worker wait, and those that go over to the newest generation, and how the worker that takes
-/// them now is woken.
+/// The new sockets and the carried-over sockets that wait for one worker, and the waker of the worker that takes them now.
 #[derive(Drop)]
 pub(crate) struct AcceptQueue {
     sockets: Mutex<VecDeque<TcpStream>>,
@@ -40,25 +39,25 @@ pub(crate) struct AcceptQueue {
     waker: Mutex<Option<Waker>>,
 }
 
-/// What all threads look at.
+/// What all threads share.
 pub(crate) struct Server {
     queues: Vec<AcceptQueue>,
-    // Wakes the thread that listens and opens generations.
+    // Wakes the thread that accepts and opens generations.
     waker: Waker,
-    // Whether the serving goes on, and where it doesn't, why, if not because it is done.
+    // Whether the server goes on; if not, why, unless it is done.
     is_running: AtomicBool,
     stop: Mutex<Option<Stop>>,
     log: Log,
-    // Which sockets are taken, and when the serving is done; and whether it drains, for who looks without waiting.
+    // Which sockets are accepted and when the server is done; and whether it drains, readable without a lock.
     sockets: Mutex<Sockets>,
     is_draining: AtomicBool,
-    // Which generation does what, and what of it stands on the board for who looks without waiting.
+    // Which generation has which task; the board shows it without a lock.
     generations: Mutex<Generations<Inherited>>,
     board: Board,
     stats: Mutex<Stats>,
 }
 
-// Written out, so that where one is dropped that is one call: each function that holds one is proved sooner.
+// Written out so that a drop is one call: each function that holds one is proved sooner.
 impl Drop for Server {
     fn drop(self) {
         let Server {
@@ -108,12 +107,12 @@ impl Server {
         })
     }
 
-    /// How many workers each generation has.
+    /// The number of workers of each generation.
     pub(crate) fn workers(&self) -> usize {
         self.queues.len()
     }
 
-    /// How lines on standard error begin.
+    /// The beginning of lines on standard error.
     pub(crate) fn log(&self) -> Log {
         self.log
     }
@@ -125,12 +124,12 @@ impl Server {
         }
     }
 
-    /// Counts a socket that was accepted. False says that none more is taken: it is to be closed.
+    /// Counts an accepted socket. False: no more are taken, and it is to be closed.
     pub(crate) fn accept<R: Wait>(&self, rt: &R) -> bool {
         self.sockets.lock(rt).accept()
     }
 
-    // The serving ends where that was the last thing it waited for.
+    // Ends the server if it waited for nothing else.
     fn end_if_done(&self, sockets: MutexGuard<'_, Sockets>) {
         let are_done = sockets.are_done();
         drop(sockets);
@@ -139,28 +138,28 @@ impl Server {
         }
     }
 
-    /// Counts a socket that is let go. With the last one a serving that drains is done.
+    /// Counts a socket that is dropped. The last one ends a draining server.
     pub(crate) fn let_go<R: Wait>(&self, rt: &R) {
         let mut sockets = self.sockets.lock(rt);
         sockets.let_go();
         self.end_if_done(sockets);
     }
 
-    /// Counts a connection that is closed. With the last that is waited for the serving is done.
+    /// Counts a closed connection; ends the server after `connections` of them, as its options say.
     pub(crate) fn count_closed<R: Wait>(&self, rt: &R) {
         let mut sockets = self.sockets.lock(rt);
         sockets.close();
         self.end_if_done(sockets);
     }
 
-    /// Counts a connection that is closed and its socket that is let go.
+    /// Counts a closed connection and its dropped socket.
     pub(crate) fn close<R: Wait>(&self, rt: &R) {
         self.count_closed(rt);
         self.let_go(rt);
     }
 
-    /// From here on no socket is taken, and the inputs of all connections end behind what has come. With the last socket the
-    /// serving is done. Ignored where that was said before.
+    /// Accepts no further socket, and ends all inputs behind what has come. The last socket then ends the server. A
+    /// second call is ignored.
     pub(crate) fn drain<R: Wait + Eprint>(&self, rt: &R) {
         if self.is_draining.swap(true, Ordering::SeqCst) {
             return;
@@ -174,7 +173,7 @@ impl Server {
         self.wake_all(rt);
     }
 
-    // Wakes all workers, and the thread that listens.
+    // Wakes all workers, and the thread that accepts.
     fn wake_all<R: Wait>(&self, rt: &R) {
         for queue in self.queues.iter() {
             self.wake(rt, queue);
@@ -182,17 +181,17 @@ impl Server {
         let _ = self.waker.wake();
     }
 
-    /// Whether no socket is taken any more, and inputs end behind what has come.
+    /// Whether no further socket is accepted, and inputs end behind what has come.
     pub(crate) fn is_draining(&self) -> bool {
         self.is_draining.load(Ordering::SeqCst)
     }
 
-    /// Ends the serving at once.
+    /// Ends the server at once.
     pub(crate) fn quit(&self) {
         self.halt();
     }
 
-    /// Puts a socket into a worker's queue, and wakes the worker. Where there is no memory the socket is closed.
+    /// Queues a socket for a worker and wakes it. Without memory the socket is closed.
     pub(crate) fn push<R: Wait>(&self, rt: &R, place: usize, stream: TcpStream) {
         let Some(queue) = self.queues.get(place) else {
             return self.let_go(rt);
@@ -218,9 +217,9 @@ impl Server {
         self.queues.get(place)?.sockets.lock(rt).pop_front()
     }
 
-    /// Makes room in the queue for one socket more that goes over. False says that there is no memory.
+    /// Reserves memory in the queue for one more carried-over socket. False: there is none.
     ///
-    /// Into each queue one worker alone puts sockets that go over, and one takes them; so the room stays.
+    /// The room stays: for each queue one worker alone puts such sockets in, and one takes them out.
     pub(crate) fn has_room_to_carry<R: Wait>(&self, rt: &R, place: usize) -> bool {
         match self.queues.get(place) {
             Some(queue) => queue.carried.lock(rt).reserve(1).is_ok(),
@@ -228,8 +227,7 @@ impl Server {
         }
     }
 
-    /// Puts a socket that goes over into the queue, and wakes the worker that takes from it now. Where there is no memory the
-    /// socket is closed, and is counted as closed.
+    /// Queues a carried-over socket, and wakes the worker that takes it. Without memory the socket is closed and counted.
     pub(crate) fn carry<R: Wait>(&self, rt: &R, place: usize, carried: CarriedSocket) {
         let Some(queue) = self.queues.get(place) else {
             return self.close(rt);
@@ -240,7 +238,7 @@ impl Server {
         self.wake(rt, queue);
     }
 
-    /// Puts a socket that could not go on yet back in front of the others, as `carry` does.
+    /// Puts a carried-over socket that can't be opened yet back at the front. Without memory it is closed and counted.
     pub(crate) fn carry_back<R: Wait>(&self, rt: &R, place: usize, carried: CarriedSocket) {
         let Some(queue) = self.queues.get(place) else {
             return self.close(rt);
@@ -250,24 +248,24 @@ impl Server {
         }
     }
 
-    /// Takes the socket that goes over and waits longest in a worker's queue.
+    /// Takes the carried-over socket that waits longest in a worker's queue.
     pub(crate) fn take_carried<R: Wait>(&self, rt: &R, place: usize) -> Option<CarriedSocket> {
         self.queues.get(place)?.carried.lock(rt).pop_front()
     }
 
-    /// Whether the serving goes on.
+    /// Whether the server goes on.
     pub(crate) fn runs(&self) -> bool {
         self.is_running.load(Ordering::SeqCst)
     }
 
-    // The serving goes on no more. False says that it didn't before.
+    // Stops the server. False: it was stopped before.
     fn halt(&self) -> bool {
         let did_run = self.is_running.swap(false, Ordering::SeqCst);
         let _ = self.waker.wake();
         did_run
     }
 
-    /// Ends the serving. The first reason stays.
+    /// Ends the server. The first reason stays.
     pub(crate) fn end<R: Wait>(&self, rt: &R, stop: Stop) {
         let mut first = self.stop.lock(rt);
         if self.halt() {
@@ -275,12 +273,12 @@ impl Server {
         }
     }
 
-    /// Why the serving ended, if not because it is done.
+    /// Why the server ended, unless it is done.
     pub(crate) fn stop<R: Wait>(&self, rt: &R) -> Option<Stop> {
         *self.stop.lock(rt)
     }
 
-    /// What the generation is to do.
+    /// The generation's task.
     pub(crate) fn phase(&self, number: u64) -> Phase {
         if self.runs() {
             self.board.phase(number)
@@ -289,24 +287,24 @@ impl Server {
         }
     }
 
-    /// Whether the generation was the newest at some time.
+    /// Whether the generation is or was open.
     pub(crate) fn has_opened(&self, number: u64) -> bool {
         self.board.has_opened(number)
     }
 
-    // What was decided is put on the board, and a generation that is due wakes the thread that opens it.
+    // Publishes what was decided, and wakes the thread that opens a generation that is due.
     fn publish(&self, generations: MutexGuard<'_, Generations<Inherited>>) {
         self.board.show(&generations);
         drop(generations);
         let _ = self.waker.wake();
     }
 
-    /// The generation that is to be opened now, told once.
+    /// The generation to open now; each is returned once.
     pub(crate) fn take_due<R: Wait>(&self, rt: &R) -> Option<Due<Inherited>> {
         self.generations.lock(rt).take_due()
     }
 
-    /// The generation is open at this moment: sockets come to it, each to the worker that its waker wakes.
+    /// The generation opens at this moment: new sockets come to it, and the wakers wake its workers.
     pub(crate) fn open<R: Wait>(&self, rt: &R, number: u64, now: u64, wakers: Vec<Waker>) {
         let mut generations = self.generations.lock(rt);
         generations.opened(number, now);
@@ -318,7 +316,7 @@ impl Server {
         }
     }
 
-    /// The generation could not be opened. After too many in a row the serving ends so.
+    /// The generation could not be opened. Too many failures in a row end the server.
     pub(crate) fn fail<R: Wait>(&self, rt: &R, number: u64, stop: Stop) {
         let is_last = self.generations.lock(rt).failed(number);
         if is_last {
@@ -326,7 +324,7 @@ impl Server {
         }
     }
 
-    /// Hosts answered commands of the generation that drains, by this moment.
+    /// Hosts have answered commands of the draining generation by this moment.
     pub(crate) fn progressed<R: Wait>(&self, rt: &R, number: u64, now: u64) {
         self.generations.lock(rt).progressed(number, now);
     }
@@ -338,22 +336,22 @@ impl Server {
         self.board.show(&generations);
     }
 
-    /// The newest generation has reached its marks at this moment, or takes nothing more in: another one is wanted, which goes
-    /// on from there, once an older one had its time.
+    /// The newest generation has reached its marks at this moment, or takes in nothing more. The next one starts from
+    /// this state, once an older one has had its time.
     pub(crate) fn full<R: Wait>(&self, rt: &R, number: u64, now: u64, from: Inherited) {
         let mut generations = self.generations.lock(rt);
         generations.full(number, now, from);
         self.publish(generations);
     }
 
-    /// The generation that drains has no connection left.
+    /// The draining generation has no connection left.
     pub(crate) fn drained<R: Wait>(&self, rt: &R, number: u64) {
         let mut generations = self.generations.lock(rt);
         generations.drained(number);
         self.publish(generations);
     }
 
-    /// Whether a sweep of the generation is due at this moment.
+    /// Whether the generation has to sweep at this moment.
     pub(crate) fn is_sweep_due<R: Wait>(&self, rt: &R, number: u64, now: u64) -> bool {
         self.generations.lock(rt).is_sweep_due(number, now)
     }
@@ -363,33 +361,33 @@ impl Server {
         self.generations.lock(rt).swept(number, now);
     }
 
-    /// A generation that lives looks so.
+    /// Records the sight of a living generation.
     pub(crate) fn looked<R: Wait>(&self, rt: &R, number: u64, sight: &Sight) {
         self.stats.lock(rt).looked(number, sight);
     }
 
-    /// A generation is gone, and did that in so many steps.
+    /// Records that a generation is gone, with its counts and steps.
     pub(crate) fn gone<R: Wait>(&self, rt: &R, number: u64, counts: &Counts, steps: u64) {
         self.stats.lock(rt).gone(number, counts, steps);
     }
 
-    /// Adds commands that took so long.
+    /// Adds the durations of commands.
     pub(crate) fn add_durations<R: Wait>(&self, rt: &R, durations: &Histogram) {
         self.stats.lock(rt).add_durations(durations);
     }
 
-    /// What all generations did, those that live by the last look at them.
+    /// The counts of all generations; of living ones by their last sight.
     pub(crate) fn counts<R: Wait>(&self, rt: &R) -> Counts {
         self.stats.lock(rt).counts()
     }
 
-    // The newest generation that is open, and the one before it while that has connections.
+    // The newest open generation, and the one before it while that has connections.
     fn open_generations<R: Wait>(&self, rt: &R) -> (Option<u64>, Option<u64>) {
         let generations = self.generations.lock(rt);
         (generations.newest(), generations.older())
     }
 
-    /// What is told of the serving now.
+    /// The numbers of the server now.
     pub(crate) fn snapshot<R: Wait>(&self, rt: &R) -> Snapshot {
         let closed = self.sockets.lock(rt).closed();
         let (newest, older) = self.open_generations(rt);

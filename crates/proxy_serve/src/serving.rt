@@ -1,4 +1,4 @@
-//! Serving, from its listener to its last line.
+//! `serve`, from its listener to its last line.
 ghost use Rattle.std.specs.Prelude.{◌≤◌, length};
 ghost use Rattle.proxy_config.specs.RingParts.{AreRingParts};
 
@@ -29,36 +29,36 @@ const LISTENER: Token = Token(0);
 
 const WAKER: Token = Token(1);
 
-// So many sockets are taken at once at most.
+// The most sockets accepted at once.
 const MAX_TAKEN: u32 = 1_024;
 
-// So often it is looked whether a signal waits, in milliseconds.
+// Pending signals are looked for once in this many milliseconds.
 const SIGNAL_MS: u64 = 100;
 
-// What is read of the process's status at most, in bytes.
+// The most bytes read of the process's status.
 const MAX_STATUS: usize = 4_096;
 
-// The thread that listens looks after so many milliseconds at the latest what is to be done.
+// The accepting thread looks for work after this many milliseconds at the latest.
 const PAUSE_MS: u64 = 10;
 
-// Errors by which the system says that it has no room for a further socket just now: Linux's numbers for no memory, no file
-// number, in the system or in the process, and no room for buffers.
+// Linux's errors for want of room for a further socket: no memory, no file number in the system or in the process, and
+// no buffers.
 const NO_ROOM: [i32; 4] = [12, 23, 24, 105];
 
-/// What the thread that listens has before it.
+/// The accepting thread's state.
 struct Acceptor<'a> {
     poll: Poll,
-    // None once no client is taken any more.
+    // None once no further client is accepted.
     listener: Option<TcpListener>,
-    // The listener's.
+    // The listener's address.
     address: SocketAddr,
     server: &'a Server,
-    // To which worker the next socket goes.
+    // The worker that gets the next socket.
     rota: Rota,
     signals: Signals,
 }
 
-// Written out, so that where one is dropped that is one call: each function that holds one is proved sooner.
+// Written out so that a drop is one call: each function that holds one is proved sooner.
 impl Drop for Acceptor<'_> {
     fn drop(self) {
         let Acceptor {
@@ -73,7 +73,7 @@ impl Drop for Acceptor<'_> {
 }
 
 impl<'a> Acceptor<'a> {
-    // The listener's address is this one where the system doesn't tell it.
+    // `address` stands in where the system doesn't return the listener's.
     fn new(
         poll: Poll,
         listener: TcpListener,
@@ -91,7 +91,7 @@ impl<'a> Acceptor<'a> {
         }
     }
 
-    // How SIGTERM ends it depends on how it was started.
+    // Logs the start. What SIGTERM does depends on how the program was started.
     fn tell_start<R: Eprint>(&mut self, rt: &R, config: &Config) {
         let tag = self.server.log().tag(Level::Info);
         let (address, hosts, workers) = (self.address, config.hosts.len(), config.workers);
@@ -115,7 +115,7 @@ impl<'a> Acceptor<'a> {
         }
     }
 
-    // Waits for what is to be done, deals new sockets, and heeds what the process is asked.
+    // Waits for events, accepts sockets, and obeys signals.
     fn run_once<R: Wait + Clock + Eprint>(
         &mut self,
         rt: &R,
@@ -135,7 +135,7 @@ impl<'a> Acceptor<'a> {
         Ok(())
     }
 
-    // Gives the sockets of new connections to the workers in turn. One for which there is no room is closed.
+    // Accepts new connections, and gives them to the workers in turn. One without room is closed.
     fn accept_all<R: Wait>(&mut self, rt: &R) -> Result<(), Stop> {
         let Some(listener) = &self.listener else {
             return Ok(());
@@ -151,7 +151,7 @@ impl<'a> Acceptor<'a> {
                     if error.kind() == ErrorKind::WouldBlock || has_no_room(&error) {
                         break;
                     }
-                    // (a peer may be gone before it is taken)
+                    // (the peer may be gone already)
                     if error.kind() != ErrorKind::ConnectionAborted
                         && error.kind() != ErrorKind::Interrupted
                     {
@@ -171,17 +171,17 @@ fn has_no_room(error: &io::Error) -> bool {
     }
 }
 
-// What asks the process to end, as the system tells it.
+// Pending signals, as the system reports them.
 #[derive(Drop)]
 struct Signals {
-    // The process's status, read anew each time; without it nothing is asked.
+    // The process's status, read anew each time; without it no signal is seen.
     status: Option<File>,
-    // When it was last looked, in milliseconds.
+    // When it was last read, in milliseconds.
     looked: u64,
 }
 
 impl Signals {
-    // What is asked now. It is looked each `SIGNAL_MS` milliseconds, and in between nothing is asked.
+    // What signals ask for now. The status is read once in `SIGNAL_MS` milliseconds; in between nothing is asked.
     fn asked(&mut self, now: u64) -> Asked {
         if now.saturating_sub(self.looked) < SIGNAL_MS {
             return Asked::Nothing;
@@ -192,14 +192,14 @@ impl Signals {
         asked_by_signals(&text[..count])
     }
 
-    // Whether SIGTERM ends the serving in order, since it was blocked when the program was started.
+    // Whether SIGTERM drains the server, since it was blocked when the program was started.
     fn is_term_orderly(&mut self) -> bool {
         let mut text = [0u8; MAX_STATUS];
         let count = self.read(&mut text);
         is_term_blocked(&text[..count])
     }
 
-    // How many bytes the system tells.
+    // Reads the status, and returns its length.
     fn read(&mut self, text: &mut [u8]) -> usize
         ensures { result ≤ length text.old }
     {
@@ -216,7 +216,7 @@ impl Signals {
     }
 }
 
-// What wakes the thread that listens, and its poll.
+// Opens the poll of the accepting thread, with its waker.
 fn open<R: Net>(rt: &R, listener: &mut TcpListener) -> Result<(Poll, Waker), Stop> {
     let poll = match Poll::new(rt) {
         Ok(poll) => poll,
@@ -234,33 +234,33 @@ fn open<R: Net>(rt: &R, listener: &mut TcpListener) -> Result<(Poll, Waker), Sto
     }
 }
 
-/// What `serve` is told beside its settings.
+/// The options of `serve` beside its settings.
 #[derive(Drop)]
 pub struct Options {
-    /// Where an operator asks how it stands, and orders its end; `None`: nowhere.
+    /// The operator's address; `None`: none.
     pub admin: Option<Admin>,
-    /// Where the system tells of signals that wait: `/proc/self/status`; `None`: they aren't heeded.
+    /// The file that shows pending signals, `/proc/self/status`; `None`: signals aren't heeded.
     pub status: Option<File>,
-    /// After how many closed connections it ends; 0 is never.
+    /// The number of closed connections after which it ends; 0 is never.
     pub connections: u64,
-    /// How long a journal becomes before another one is opened.
+    /// The length of a journal at which the next one opens.
     pub marks: Marks,
-    /// How its lines on standard error begin.
+    /// The beginning of its lines on standard error.
     pub log: Log,
 }
 
-/// Serves clients on the listener by the settings. It ends once it has drained, at once where it is told so, or after so many
-/// closed connections as the options say. Then it writes
-/// `accepted <a> handed <o> sent <s> answered <r> lost <l> ejections <e>` and a newline, of all that happened.
+/// Serves clients on the listener by the settings. It ends when it has drained, at once on an order, or after
+/// `connections` closed connections. Then it writes the counts of the whole run and a newline:
+/// `accepted <a> handed <o> sent <s> answered <r> lost <l> ejections <e>`.
 ///
-/// It drains where SIGTERM or SIGINT waits for the process, as `status` tells: no further client is taken, what has come from the
-/// others is answered, and each connection is closed behind that. Where both wait it ends at once.
+/// It drains when SIGTERM or SIGINT waits for the process, by `status`: no further client is accepted, what has come is
+/// answered, and then each connection is closed. If both wait it ends at once.
 ///
-/// Once a journal is as long as the marks say another one is opened. At most two are kept at a time.
+/// The next journal opens when one has reached the marks. At most two have connections at a time, and three are kept.
 ///
-/// Stops with `Socket` (5) where the listener, a poll or the writer fails, and says what failed; `Memory` (6) for want of
-/// memory: where it was refused 1,000 times in a row to one thing, or at the start; `Spent` (7) where a gate has no ticket left.
-/// All threads have ended then.
+/// Stops with `Socket` (5), and what failed, where the listener, a poll or the writer fails. Stops with `Memory` (6)
+/// where memory was refused at the start or 1,000 times in a row to one thing, and with `Spent` (7) where a gate has no
+/// ticket left. All threads have ended then.
 pub fn serve<
     R: Threads
         + Wait
@@ -310,7 +310,7 @@ fn serve_with<R: ServeRuntime, W: Write>(
     finish(rt, &server, output)
 }
 
-/// As `serve`, for who needs to know how it ended alone: without an operator's address, and whatever signals wait.
+/// Like `serve`, but returns only the ending; without an operator's address, and ignoring signals.
 pub fn serve_run<
     R: Threads
         + Wait
@@ -343,7 +343,7 @@ pub fn serve_run<
     }
 }
 
-// Keeps one generation after the other until the serving ends.
+// Runs one generation after another until the server ends.
 fn serve_on<R: ServeRuntime>(
     rt: &R,
     alloc: Global,
@@ -413,11 +413,11 @@ fn join<R: Threads>(rt: &R, generation: Option<JoinHandle<()>>) {
     }
 }
 
-/// The threads of the generations that were begun last. At most two of them have connections; the third closes its gate.
+/// The threads of the latest generations. At most two of these have connections; the third closes its gate.
 #[derive(Drop)]
 struct GenerationThreads {
     newest: Option<JoinHandle<()>>,
-    // The number of that one.
+    // The newest one's number.
     number: u64,
     older: Option<JoinHandle<()>>,
     oldest: Option<JoinHandle<()>>,
@@ -433,8 +433,8 @@ impl GenerationThreads {
         }
     }
 
-    // Makes room for a thread more: waits for the newest one where that could not be opened, else for the one that has had no
-    // connection the longest. So few journals stand at a time.
+    // Makes room for one more thread. Waits for the newest one if that could not be opened, else for the one without a
+    // connection the longest. This bounds the number of journals.
     fn make_room<R: Threads>(&mut self, rt: &R, server: &Server) {
         if !server.has_opened(self.number) {
             return join(rt, self.newest.take());
@@ -456,7 +456,7 @@ impl GenerationThreads {
     }
 }
 
-// How it ended, and the last line.
+// Returns the reason of the end, or writes the last line.
 fn finish<R: Wait, W: Write>(rt: &R, server: &Server, output: &mut W) -> Result<(), Stop> {
     match server.stop(rt) {
         Some(stop) => Err(stop),

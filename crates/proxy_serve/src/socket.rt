@@ -1,4 +1,4 @@
-//! A socket that is asked only where it may have something, and is written in large pieces.
+//! A socket that is read and written only when the poll reported it, and in large pieces.
 ghost use Rattle.std.specs.Prelude.{List, ℕ};
 ghost use Rattle.std.specs.Io.{ReadsAtMost, WritesAtMost};
 
@@ -15,29 +15,30 @@ use std::net::Shutdown;
 use std::os::fd::AsRawFd;
 use std::rc::Rc;
 
-// So many reads of a closed connection's socket are made at most.
+// The most reads of a closed connection's socket in a round.
 const MAX_THROWN: u32 = 64;
 
-// So many bytes are still read of an input that is to end behind what has come.
+// The most bytes still read of an input that is to end behind what has come.
 const MAX_LAST: u64 = 1_048_576;
 
-/// A socket with what is known of it, and the bytes that it is still to be given.
+/// A socket, what is known of it, and its unwritten bytes.
 pub(crate) struct Socket {
     output: Gatherer<TcpStream>,
     is_readable: bool,
-    // The peer sends nothing more: an end of the input stands behind what is unread.
+    // The peer sends nothing more: the input ends behind the unread bytes.
     is_ended: bool,
     // The last write took less than it was given.
     is_short: bool,
-    // And since then the poll told of room.
+    // The poll has reported room since then.
     has_room: bool,
-    // So many bytes were read.
+    // The number of bytes read.
     taken: u64,
-    // So many bytes are still read before the input ends, if it is to end behind what has come.
+    // The number of bytes still to read before the input ends, if it is to end behind what has
+    // come.
     left: Option<u64>,
 }
 
-// Written out, so that where one is dropped that is one call: each function that holds one is proved sooner.
+// Written out so that a drop is one call: each function that holds one is proved sooner.
 impl Drop for Socket {
     fn drop(self) {
         let Socket {
@@ -57,7 +58,7 @@ fn paused() -> io::Error {
 }
 
 impl Socket {
-    /// A socket that may have something and may take something.
+    /// A socket that may have bytes and may take some.
     pub(crate) fn new(alloc: Global, stream: TcpStream) -> Socket {
         Socket {
             output: Gatherer::new(alloc, stream),
@@ -70,7 +71,7 @@ impl Socket {
         }
     }
 
-    /// Has the poll tell of the socket from here on, by this token. It may have something, and may take something.
+    /// Registers the socket with the poll under this token. It may then have bytes and take some.
     pub(crate) fn register(&mut self, registry: &Registry, token: Token) -> io::Result<()> {
         let fd = self.output.writer().as_raw_fd();
         registry.register(
@@ -84,13 +85,13 @@ impl Socket {
         Ok(())
     }
 
-    /// Has the poll tell no more of the socket.
+    /// Removes the socket from the poll.
     pub(crate) fn deregister(&self, registry: &Registry) {
         let fd = self.output.writer().as_raw_fd();
         let _ = registry.deregister(&mut SourceFd(&fd));
     }
 
-    /// Takes note of what the poll tells.
+    /// Records what the poll reports.
     pub(crate) fn on_readiness(&mut self, event: &Event) {
         if event.is_readable() || event.is_read_closed() || event.is_error() {
             self.is_readable = true;
@@ -104,13 +105,13 @@ impl Socket {
         }
     }
 
-    /// Reads and writes fail from here on.
+    /// Makes reads and writes fail from here on.
     pub(crate) fn break_off(&mut self) {
         self.output.break_off();
         self.is_readable = true;
     }
 
-    /// The input ends behind what has come by now, and at the latest behind `MAX_LAST` bytes.
+    /// Ends the input behind what has come, or after `MAX_LAST` bytes at the latest.
     pub(crate) fn end_input(&mut self) {
         if self.left.is_none() {
             self.left = Some(MAX_LAST);
@@ -118,17 +119,17 @@ impl Socket {
         }
     }
 
-    /// How many bytes were read.
+    /// The number of bytes read.
     pub(crate) fn taken(&self) -> u64 {
         self.taken
     }
 
-    /// Whether a read may bring something.
+    /// Whether a read may return bytes.
     pub(crate) fn may_read(&self) -> bool {
         self.is_readable
     }
 
-    /// Whether the socket may take bytes that are gathered, or the rest of a text that it didn't take whole.
+    /// Whether the socket may take gathered bytes, or the rest of a text that it took in part.
     pub(crate) fn may_write(&self) -> bool {
         self.has_room || self.output.may_write()
     }
@@ -143,12 +144,12 @@ impl Socket {
         self.output.is_broken()
     }
 
-    /// Lends the socket a buffer for gathering, where it has nothing gathered.
+    /// Lends the socket a buffer, unless it has gathered bytes.
     pub(crate) fn lend_buffer(&mut self, buffer: &mut Vec<u8>) {
         self.output.borrow_room(buffer);
     }
 
-    /// Writes what is gathered, and gives the buffer back where all of it was taken.
+    /// Writes gathered bytes, and returns the buffer once all are taken.
     pub(crate) fn write_out(&mut self, buffer: &mut Vec<u8>) {
         self.has_room = false;
         self.output.write_out(buffer);
@@ -182,7 +183,7 @@ impl Socket {
         self.end_where_it_pauses(read)
     }
 
-    // Where the input is to end behind what has come, a pause is its end.
+    // Where the input is to end behind what has come, treats a pause as its end.
     fn end_where_it_pauses(&mut self, read: io::Result<usize>) -> io::Result<usize>
         ensures { (bytes : List ℕ) → ReadsAtMost read bytes → ReadsAtMost result bytes }
     {
@@ -202,7 +203,7 @@ impl Socket {
         }
     }
 
-    // One read. A short one has taken all that there was, as the poll tells of what comes later.
+    // Reads once. A short read has taken all that there was; the poll reports later bytes.
     fn read_socket(&mut self, buffer: &mut [u8]) -> io::Result<usize>
         ensures { ReadsAtMost result buffer.new }
     {
@@ -224,7 +225,7 @@ impl Socket {
         }
     }
 
-    /// Reads what has come and throws it away. True says that the input has ended or failed.
+    /// Reads and discards what has come. True: the input has ended or failed.
     pub(crate) fn throw_away(&mut self) -> bool {
         let mut piece = [0u8; 1_024];
         for _ in 0..MAX_THROWN {
@@ -237,7 +238,7 @@ impl Socket {
         true
     }
 
-    /// Sends nothing more.
+    /// Closes the sending half.
     pub(crate) fn shut(&self) {
         let _ = self.output.writer().shutdown(Shutdown::Write);
     }
@@ -251,7 +252,7 @@ pub(crate) struct SocketReader(Rc<RefCell<Socket>>);
 #[derive(Drop)]
 pub(crate) struct SocketWriter(Rc<RefCell<Socket>>);
 
-/// A socket, and the two ends of it for an engine.
+/// A socket, and its two ends for an engine.
 #[derive(Drop)]
 pub(crate) struct SharedSocket {
     pub(crate) socket: Rc<RefCell<Socket>>,

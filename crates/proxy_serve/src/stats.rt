@@ -1,13 +1,13 @@
-//! What a run has done until now: of generations that are gone, and of those that live by the last look at them.
+//! The counts of a run: of generations that are gone, and of living ones by their last sight.
 
 use admin_pages::Look;
 use histogram::Histogram;
 use proxy_stats::{Counts, Sight};
 
-// Fewer generations have a journal at a time: two with connections, one whose gate is closed, and one that is being opened.
+// More than the generations with a journal at a time, at most three: with connections, closing the gate, or opening.
 const MAX_LIVING: u64 = 4;
 
-// The last look at a generation that has a journal.
+// The last sight of a generation that has a journal.
 #[derive(Clone, Copy, Drop)]
 struct Living {
     number: u64,
@@ -15,21 +15,21 @@ struct Living {
     look: Look,
 }
 
-/// The numbers of a run.
+/// The counts of a run.
 #[derive(Drop)]
 pub(crate) struct Stats {
-    // How many generations were opened.
+    // The number of generations opened.
     generations: u64,
-    // What those did that are gone, and how many steps they had.
+    // The counts and steps of generations that are gone.
     past: Counts,
     past_steps: u64,
-    // Those that live, each at the rest of its number by `MAX_LIVING`.
+    // Living generations, each at its number modulo `MAX_LIVING`.
     living: [Option<Living>; MAX_LIVING as usize],
     durations: Histogram,
 }
 
 impl Stats {
-    /// Nothing was done.
+    /// Nothing has happened.
     pub(crate) fn new() -> Stats {
         Stats {
             generations: 0,
@@ -40,12 +40,12 @@ impl Stats {
         }
     }
 
-    /// A further generation is open.
+    /// Counts a generation that opens.
     pub(crate) fn opened(&mut self) {
         self.generations = self.generations.saturating_add(1);
     }
 
-    /// A living generation looks so.
+    /// Records the sight of a living generation.
     pub(crate) fn looked(&mut self, number: u64, sight: &Sight) {
         let look = Look {
             steps: sight.handover.steps(),
@@ -59,24 +59,24 @@ impl Stats {
         });
     }
 
-    /// A generation is gone, and did that in so many steps.
+    /// Records that a generation is gone, with its counts and steps.
     pub(crate) fn gone(&mut self, number: u64, counts: &Counts, steps: u64) {
         self.living[(number % MAX_LIVING) as usize] = None;
         self.past = self.past.plus(counts);
         self.past_steps = self.past_steps.saturating_add(steps);
     }
 
-    /// Adds commands that took so long.
+    /// Adds the durations of commands.
     pub(crate) fn add_durations(&mut self, durations: &Histogram) {
         self.durations = self.durations.plus(durations);
     }
 
-    /// How many generations were opened.
+    /// The number of generations opened.
     pub(crate) fn generations(&self) -> u64 {
         self.generations
     }
 
-    /// How many steps the journals have of all generations but these two.
+    /// The journal steps of all generations but these two.
     pub(crate) fn steps_beside(&self, newest: Option<u64>, older: Option<u64>) -> u64 {
         let mut steps = self.past_steps;
         for living in &self.living {
@@ -90,12 +90,12 @@ impl Stats {
         steps
     }
 
-    /// How long commands took.
+    /// The durations of commands.
     pub(crate) fn durations(&self) -> &Histogram {
         &self.durations
     }
 
-    /// What all generations did.
+    /// The counts of all generations.
     pub(crate) fn counts(&self) -> Counts {
         let mut counts = self.past;
         for living in &self.living {
@@ -106,7 +106,7 @@ impl Stats {
         counts
     }
 
-    /// The last look at a generation, if it lives.
+    /// The last sight of a generation, if it lives.
     pub(crate) fn look(&self, number: Option<u64>) -> Look {
         for living in &self.living {
             match living {

@@ -1,4 +1,4 @@
-//! Why a serving ends before it is done.
+//! Why the server ended before it was done.
 
 use exit_status::Ending;
 use std::alloc::{AllocError, AllocFailed};
@@ -6,29 +6,29 @@ use std::fmt::{self, Display, Formatter};
 use std::io::Error;
 use std::net::SocketAddr;
 
-/// What failed where the serving ended by `Ending::Socket`.
+/// What failed when the server ended with `Ending::Socket`.
 #[derive(Clone, Copy, Drop)]
 pub struct Failure {
-    /// What could not be done, as `cannot listen on`.
+    /// The action that failed, as `cannot listen on`.
     pub what: &'static str,
-    /// At which address; `None` where it has none.
+    /// Its address; `None` if it has none.
     pub address: Option<SocketAddr>,
-    /// The error of the system.
+    /// The system's error.
     pub error: Error,
 }
 
-/// Why a serving ended before it was done. Its text is what is told on standard error: that of its ending, and behind it what
+/// Why the server ended before it was done. Its text goes to standard error: that of its ending, and behind it what
 /// failed, as in `socket: cannot listen on 127.0.0.1:6379: Address already in use (os error 98)`.
 #[derive(Clone, Copy, Drop)]
 pub struct Stop {
-    /// How the program ends.
+    /// The program's ending.
     pub ending: Ending,
-    /// What failed; `None` where the ending says all.
+    /// What failed; `None` if the ending says all.
     pub failure: Option<Failure>,
 }
 
 impl Stop {
-    /// A socket, a poll or a stream failed so.
+    /// A socket, a poll or a stream failed.
     pub fn socket(what: &'static str, error: Error) -> Stop {
         Stop {
             ending: Ending::Socket,
@@ -40,7 +40,7 @@ impl Stop {
         }
     }
 
-    /// A socket with this address failed so.
+    /// A socket with this address failed.
     pub fn socket_at(what: &'static str, address: SocketAddr, error: Error) -> Stop {
         Stop {
             ending: Ending::Socket,

@@ -1,4 +1,4 @@
-//! SweepThread at their pace, and looks how hosts and journal stand.
+//! The sweeping thread: sweeps when due, and watches hosts and journal.
 
 use crate::counted_turns::CountedTurns;
 use crate::generation::ThreadContext;
@@ -21,26 +21,26 @@ use std::time::Duration;
 use std::{mem, thread};
 use sweeper::{SweepRefusal, sweep_once};
 
-// Between two looks, in milliseconds.
+// The milliseconds between two looks.
 const PAUSE_MS: u64 = 5;
 
-/// What sweeps, tells which hosts are put aside and come back, and asks for another generation in time.
+/// Sweeps, logs which hosts are ejected and return, and asks for the next generation in time.
 pub(crate) struct SweepThread<'a> {
     turns: CountedTurns<CountedSeat<'a>>,
     generation: &'a GenerationState<'a>,
     config: &'a Config,
     marks: Marks,
-    // Wake the workers for new sockets, once the generation is open.
+    // The wakers for new sockets, used once the generation opens.
     wakers: Vec<Waker>,
-    // SweepThread that found no memory.
+    // Consecutive sweeps without memory.
     refusals: Refusals,
-    // Whether each host was put aside when they were last looked at.
+    // Whether each host was ejected at the last look.
     are_out: Vec<bool>,
-    // How many commands the hosts had answered then.
+    // The number of commands that the hosts had answered then.
     answered: u64,
 }
 
-// Written out, so that where one is dropped that is one call: each function that holds one is proved sooner.
+// Written out so that a drop is one call: each function that holds one is proved sooner.
 impl Drop for SweepThread<'_> {
     fn drop(self) {
         let SweepThread {
@@ -57,7 +57,7 @@ impl Drop for SweepThread<'_> {
 }
 
 impl<'a> SweepThread<'a> {
-    /// The first look is only noted. Refused where there is no memory.
+    /// A thread that hasn't looked yet. Refused where there is no memory.
     pub(crate) fn new(
         context: ThreadContext<'a>,
         seat: CountedSeat<'a>,
@@ -81,8 +81,8 @@ impl<'a> SweepThread<'a> {
         })
     }
 
-    /// Opens the generation once all its threads have come, and sweeps until it has nothing more to do, or ends the
-    /// serving.
+    /// Opens the generation once all its threads have come. Sweeps until that is drained or the server ends, or ends
+    /// the server.
     pub(crate) fn run<R: Wait + Clock + Eprint>(mut self, rt: &R) {
         if !self.generation.wait_for_all(rt) {
             return;
@@ -126,7 +126,7 @@ impl<'a> SweepThread<'a> {
         unreachable!()
     }
 
-    // One sweep, where the journal has a step for it that nobody owes. False says that it has to be made again.
+    // Sweeps once, if the journal has a step to spare. False: it has to be made again.
     fn sweep<R: Wait>(&mut self, rt: &R, moment: u64) -> Result<bool, Stop> {
         if !self.generation.lend_steps(rt, &mut self.turns, 1) {
             return Ok(false);
@@ -148,7 +148,7 @@ impl<'a> SweepThread<'a> {
         }
     }
 
-    // How the core stands, which is told to who asks, too.
+    // The core's state, which is also recorded for the operator's pages.
     fn sight<R: Wait>(&mut self, rt: &R) -> Result<Sight, Stop> {
         match self.turns.inner().sight(rt) {
             Ok(sight) => {
@@ -160,7 +160,7 @@ impl<'a> SweepThread<'a> {
         }
     }
 
-    // Hosts that were put aside by an earlier generation aren't told of again.
+    // Hosts ejected by an earlier generation aren't logged again.
     fn note_first<R: Wait>(&mut self, rt: &R) -> Result<(), Stop> {
         let Sight { handover, .. } = self.sight(rt)?;
         let hosts = handover.rules().hosts;
@@ -170,8 +170,8 @@ impl<'a> SweepThread<'a> {
         Ok(())
     }
 
-    // Looks how the core stands. Of a generation that drains it tells that hosts still answer; of one that serves it tells of
-    // the hosts, and of how full the journal is. Steps that are owed count as steps.
+    // Looks at the core. A draining generation reports that hosts still answer; a serving one logs ejections and
+    // reports a journal that is nearly full. Owed steps count as steps.
     fn look<R: Wait + Eprint>(&mut self, rt: &R, phase: Phase, moment: u64) -> Result<(), Stop> {
         let Sight {
             handover,

@@ -1,4 +1,4 @@
-//! A worker: a thread with a poll of its own, over its clients and hosts.
+//! A worker: a thread that has a poll and steps its clients and hosts.
 
 use crate::client::{CarriedSocket, Client, Round, StepError, Stepped};
 use crate::counted_turns::CountedTurns;
@@ -23,25 +23,25 @@ use std::rt::Clock;
 use std::sync::Wait;
 use std::time::Duration;
 
-// Tokens from here on are hosts; the greatest is the waker's.
+// Tokens from here on are hosts; the greatest one is the waker's.
 const HOSTS: usize = 1 << 32;
 
 /// The token of a worker's waker.
 pub(crate) const WAKER: Token = Token(usize::MAX);
 
-// A worker without anything to do looks again after so many milliseconds at the latest.
+// An idle worker looks again after this many milliseconds at the latest.
 const PAUSE_MS: u64 = 10;
 
-// So many rounds are made at most before the last sockets of a generation are closed.
+// The most rounds before the last sockets of a generation are closed.
 const LAST_ROUNDS: u32 = 16;
 
-// After a try that found no memory the next one is made so many milliseconds later.
+// The milliseconds until the next try after one without memory.
 const NO_MEMORY_MS: u64 = 1;
 
-// So many events are taken from the poll, and so many sockets from the queue, at once.
+// The most events taken from the poll, and sockets from the queue, at once.
 const EVENTS: usize = 1_024;
 
-/// The milliseconds of the clock.
+/// The clock's milliseconds.
 pub(crate) fn now<R: Clock>(rt: &R) -> u64 {
     match rt.monotonic() {
         Ok(since) => u64::try_from(since.as_millis()).unwrap_or(u64::MAX),
@@ -49,7 +49,7 @@ pub(crate) fn now<R: Clock>(rt: &R) -> u64 {
     }
 }
 
-/// What a worker is made of.
+/// What a worker starts with.
 pub(crate) struct WorkerSetup<'a> {
     context: ThreadContext<'a>,
     place: usize,
@@ -57,7 +57,7 @@ pub(crate) struct WorkerSetup<'a> {
     seat: CountedSeat<'a>,
 }
 
-// Written out, so that where one is dropped that is one call: each function that holds one is proved sooner.
+// Written out so that a drop is one call: each function that holds one is proved sooner.
 impl Drop for WorkerSetup<'_> {
     fn drop(self) {
         let WorkerSetup {
@@ -84,8 +84,8 @@ impl<'a> WorkerSetup<'a> {
         }
     }
 
-    /// Works once all threads of its generation have come, until that has nothing more to do, or ends the serving. Where
-    /// there is no memory to begin with the generation is given up.
+    /// Works once all threads of its generation have come, until that has nothing more to do, or ends the server.
+    /// Without memory to begin the generation is given up.
     pub(crate) fn run<R: Wait + Net + Clock + Eprint>(self, rt: &R) {
         let generation = self.context.generation;
         let events = Events::with_capacity(self.context.alloc, EVENTS);
@@ -148,18 +148,18 @@ fn hosts_of(
     Ok(hosts)
 }
 
-/// What became of the socket that stood first in a worker's queue.
+/// The result for the first socket in a worker's queue.
 #[derive(Clone, Copy, Drop)]
 enum Accepted {
     /// It has a connection.
     Opened,
     /// It was closed.
     Closed,
-    /// None stands there, or it can't be opened for now.
+    /// There is none, or it can't be opened for now.
     None,
 }
 
-/// What a worker has before it while it works.
+/// A running worker.
 struct Worker<'a> {
     alloc: Global,
     place: usize,
@@ -168,32 +168,32 @@ struct Worker<'a> {
     turns: CountedTurns<CountedSeat<'a>>,
     clients: Slab<Client>,
     hosts: Vec<HostConnection>,
-    // Lent to one socket after the other to gather what is written.
+    // Lent to one socket after another for its output.
     buffer: Vec<u8>,
-    // Refusals of memory to what stands first in the queue.
+    // Consecutive refusals of memory to the first socket in the queue.
     opening: Refusals,
-    // Whether something found no memory in this round.
+    // Whether something in this round found no memory.
     lacks_memory: bool,
-    // Sockets may wait in the queue, and when it was last looked.
+    // Whether sockets may wait in the queue, and when that was last looked at.
     may_have_sockets: bool,
     accepted_at: u64,
     // The client with which the next round begins.
     next: usize,
-    // No further parts may come until other workers have looked for theirs.
+    // Whether clients wait until other workers have looked at their parts.
     is_held_back: bool,
     is_draining: bool,
-    // The serving drains: inputs end behind what has come.
+    // Whether the server drains: inputs end behind what has come.
     ends_inputs: bool,
-    // What waits for hosts is given up.
+    // Whether the hosts' waiting parts are given up.
     gives_up: bool,
-    // How many clients wait for replies.
+    // The number of clients that wait for replies.
     awaiting: usize,
-    // How long commands took that were answered since that was last told, and when that was.
+    // The durations of commands since the last report, and when that was.
     durations: Histogram,
     told: u64,
 }
 
-// Written out, so that where one is dropped that is one call: each function that holds one is proved sooner.
+// Written out so that a drop is one call: each function that holds one is proved sooner.
 impl Drop for Worker<'_> {
     fn drop(self) {
         let Worker {
@@ -254,7 +254,7 @@ impl<'a> Worker<'a> {
         unreachable!()
     }
 
-    // Drains and gives up where the generation does. False says that its last sockets are to be closed.
+    // Drains and gives up with the generation. False: its last sockets are to be closed.
     fn follow_phase(&mut self) -> bool {
         match self.generation.phase() {
             Phase::Serving => {}
@@ -268,7 +268,7 @@ impl<'a> Worker<'a> {
         true
     }
 
-    // Waits so many milliseconds at most for what the poll tells.
+    // Waits at most this many milliseconds for the poll's events.
     fn wait(&mut self, events: &mut Events, pause: u64) -> Result<(), Stop> {
         let polled = self.poll.poll(events, Some(Duration::from_millis(pause)));
         if let Some(worker) = self.generation.worker(self.place) {
@@ -280,7 +280,7 @@ impl<'a> Worker<'a> {
         }
     }
 
-    // What can still be answered is answered, and sockets that can go over do, before the others are closed.
+    // Answers what it still can, and hands sockets over, before it closes the others.
     fn finish<R: Wait + Net + Clock + Eprint>(&mut self, rt: &R) -> Result<(), Stop> {
         self.drain();
         self.gives_up = true;
@@ -292,8 +292,7 @@ impl<'a> Worker<'a> {
         Ok(())
     }
 
-    // Tells what was done. Of what was lent the worker keeps a step for a fault of each of its links, by which nothing may be
-    // lost.
+    // Reports the worker's turns. It keeps a lent step for a fault of each of its links, because a fault must be recorded.
     fn settle<R: Wait>(&mut self, rt: &R) {
         let reserve = self.reserve();
         self.generation.settle(rt, &mut self.turns, reserve);
@@ -303,7 +302,7 @@ impl<'a> Worker<'a> {
         self.hosts.len() as u64
     }
 
-    // Ends the inputs of all clients once the serving drains.
+    // Ends all clients' inputs once the server drains.
     fn end_inputs(&mut self) {
         if self.ends_inputs || !self.generation.server().is_draining() {
             return;
@@ -316,7 +315,7 @@ impl<'a> Worker<'a> {
         }
     }
 
-    // Takes nothing more in from any client.
+    // Takes in nothing more from any client.
     fn drain(&mut self) {
         if self.is_draining || self.clients.is_empty() {
             return;
@@ -329,7 +328,7 @@ impl<'a> Worker<'a> {
         }
     }
 
-    // The connections that are cut short get what is gathered for them, and are counted as closed.
+    // Writes the gathered bytes of connections that are cut short, and counts these as closed.
     fn close_clients<R: Wait + Eprint>(&mut self, rt: &R) {
         let server = self.generation.server();
         let mut cut = 0u32;
@@ -355,7 +354,7 @@ impl<'a> Worker<'a> {
         self.close_carried(rt);
     }
 
-    // Once the serving ends no generation takes what waits in the queue.
+    // Closes the sockets in the queue: once the server ends no generation takes them.
     fn close_carried<R: Wait>(&mut self, rt: &R) {
         let server = self.generation.server();
         for _ in 0..MAX_SOCKETS {
@@ -371,7 +370,7 @@ impl<'a> Worker<'a> {
         }
     }
 
-    // How long the poll may wait, in milliseconds.
+    // The longest wait of the poll, in milliseconds.
     fn pause(&self, moves: bool, before: (u64, u64)) -> u64 {
         if self.lacks_memory {
             return NO_MEMORY_MS;
@@ -385,7 +384,7 @@ impl<'a> Worker<'a> {
         if self.has_news(before) { 0 } else { PAUSE_MS }
     }
 
-    // Whether something came since the round began, or what held clients back is gone.
+    // Whether parts or replies came since the round began, or clients needn't be held back any more.
     fn has_news(&self, before: (u64, u64)) -> bool {
         (!self.hosts.is_empty() && before.0 != self.generation.parts())
             || (self.awaiting > 0 && before.1 != self.generation.replies())
@@ -409,7 +408,7 @@ impl<'a> Worker<'a> {
         }
     }
 
-    // One round: new sockets, replies, clients, and the parts that these asked for. Whether more is to be done at once.
+    // One round: new sockets, replies, clients, and the parts that these queued. True: more can be done at once.
     fn run_once<R: Wait + Net + Clock + Eprint>(&mut self, rt: &R) -> Result<bool, Stop> {
         let now = now(rt);
         self.lacks_memory = false;
@@ -427,7 +426,7 @@ impl<'a> Worker<'a> {
         Ok(moves)
     }
 
-    // Hosts, clients, and the parts that these asked for.
+    // Steps hosts, then clients, then hosts for the parts that these queued.
     fn step_all<R: Wait + Net + Eprint>(&mut self, rt: &R, now: u64) -> Result<bool, Stop> {
         let hosts = self.step_hosts(rt, now)?;
         let clients = self.step_clients(rt, now)?;
@@ -435,7 +434,7 @@ impl<'a> Worker<'a> {
         Ok(hosts || clients || after)
     }
 
-    // Wakes the workers whom parts and replies may concern that came since there were so many.
+    // Wakes the workers that parts and replies since these counts may concern.
     fn wake_others(&self, before: (u64, u64)) {
         let has_parts = before.0 != self.generation.parts();
         let has_replies = before.1 != self.generation.replies();
@@ -444,7 +443,7 @@ impl<'a> Worker<'a> {
         }
     }
 
-    // Tells how long commands took.
+    // Reports the durations of commands.
     fn tell_durations<R: Wait>(&mut self, rt: &R) {
         let durations = mem::replace(&mut self.durations, Histogram::new());
         if durations.total > 0 {
@@ -452,7 +451,7 @@ impl<'a> Worker<'a> {
         }
     }
 
-    // Counts a refusal of memory to what stands first in the queue.
+    // Counts a refusal of memory to the first socket in the queue.
     fn count_refusal(&mut self) -> Result<(), Stop> {
         self.lacks_memory = true;
         self.may_have_sockets = true;
@@ -463,7 +462,7 @@ impl<'a> Worker<'a> {
         }
     }
 
-    // What an error means. For want of memory the step is made again, until it was refused too often in a row.
+    // Handles an error. Without memory the step is made again, until too many were refused in a row.
     fn handle_error(&mut self, error: StepError) -> Result<(), Stop> {
         match error {
             StepError::Full => {
@@ -479,7 +478,7 @@ impl<'a> Worker<'a> {
         }
     }
 
-    // What an error means to a connection that is being opened.
+    // Handles the error of a connection that is being opened.
     fn handle_open_error(&mut self, error: StepError) -> Result<(), Stop> {
         match error {
             StepError::Memory => self.count_refusal(),
@@ -487,7 +486,7 @@ impl<'a> Worker<'a> {
         }
     }
 
-    // Whether a connection more may be opened: the generation serves, and its journal has room for the connection and a command.
+    // Whether one more connection may be opened: the generation serves, and its journal has room for it and a command.
     fn may_open<R: Wait>(&mut self, rt: &R) -> bool {
         if self.generation.phase() != Phase::Serving {
             return false;
@@ -500,8 +499,8 @@ impl<'a> Worker<'a> {
         has_room
     }
 
-    // Takes the sockets that wait in the worker's queue, those that go over first. Each is counted before it is looked whether
-    // the generation still serves: so none comes to one that has drained.
+    // Opens the sockets in the worker's queue, carried-over ones first. Each is counted before the phase is read: so
+    // none comes to a generation that has drained.
     fn accept_new<R: Wait>(&mut self, rt: &R) -> Result<(), Stop> {
         self.may_have_sockets = false;
         for _ in 0..EVENTS {
@@ -542,7 +541,7 @@ impl<'a> Worker<'a> {
         }
     }
 
-    // The client has a connection from here on.
+    // Gives the client a place: it has a connection from here on.
     fn insert<R: Wait>(&mut self, rt: &R, mut client: Client) -> Accepted {
         self.opening.succeeded();
         if self.ends_inputs {
@@ -557,8 +556,8 @@ impl<'a> Worker<'a> {
         }
     }
 
-    // A socket that comes from another generation. Where there is no memory, or the journal takes no further step, it waits at
-    // the queue once more. Where its connection can't be opened otherwise it gets what is gathered for it and is closed.
+    // Opens a carried-over socket. It waits in the queue again where there is no memory or no step left. Where its
+    // connection can't be opened otherwise, its gathered bytes are written and it is closed.
     fn open_carried<R: Wait>(&mut self, rt: &R, carried: CarriedSocket) -> Result<Accepted, Stop> {
         let token = Token(self.clients.vacant_key());
         let opened = Client::open_carried(
@@ -600,7 +599,7 @@ impl<'a> Worker<'a> {
         Ok(Accepted::None)
     }
 
-    // Has the poll tell of the socket of the next client.
+    // Registers the next client's socket with the poll.
     fn register(&self, stream: &mut TcpStream) -> bool {
         let token = Token(self.clients.vacant_key());
         let interests = Interest::READABLE | Interest::WRITABLE;
@@ -610,7 +609,7 @@ impl<'a> Worker<'a> {
             .is_ok()
     }
 
-    // A new socket. One whose connection can't be opened is let go.
+    // Opens a new socket. One whose connection can't be opened is dropped.
     fn open<R: Wait>(&mut self, rt: &R, mut stream: TcpStream) -> Result<Accepted, Stop> {
         let _ = stream.set_nodelay(true);
         if !self.register(&mut stream) {
@@ -663,7 +662,7 @@ impl<'a> Worker<'a> {
         Ok(moves)
     }
 
-    // What came for a host whose link is being made isn't seen yet: too much of it holds clients back.
+    // Marks parts as seen, unless a host is connecting: parts for that must hold clients back.
     fn mark_parts_seen(&self, parts: u64, now: u64) {
         if self.hosts.iter().any(|host| host.is_connecting(now)) {
             return;
@@ -680,7 +679,7 @@ impl<'a> Worker<'a> {
         }
     }
 
-    // Each client in turn, beginning where the last round stopped. Between two of them the parts that have come are taken.
+    // Steps each client, beginning where the last round stopped. In between, hosts take parts where these hold clients back.
     fn step_clients<R: Wait + Net + Eprint>(&mut self, rt: &R, now: u64) -> Result<bool, Stop> {
         let mut moves = false;
         self.is_held_back = false;
@@ -690,7 +689,7 @@ impl<'a> Worker<'a> {
             if self.generation.must_hold_back() {
                 moves = self.step_hosts(rt, now)? || moves;
                 if self.generation.must_hold_back() {
-                    // (others have to look for theirs first)
+                    // (other workers must look at theirs first)
                     self.generation.wake_behind(self.place);
                     self.next = key;
                     self.is_held_back = true;
@@ -702,7 +701,7 @@ impl<'a> Worker<'a> {
         Ok(moves)
     }
 
-    // The worker of this place in the newest generation gets the socket. Where there is no memory for that it stays for now.
+    // Gives the socket to the worker of this place in the newest generation. Without memory it stays for now.
     fn carry_over<R: Wait>(&mut self, rt: &R, key: usize) -> Result<bool, Stop> {
         let server = self.generation.server();
         if !server.has_room_to_carry(rt, self.place) {
@@ -744,7 +743,7 @@ impl<'a> Worker<'a> {
         self.heed(rt, key, stepped)
     }
 
-    // Counts a client that waits for replies now or doesn't, and did so before its round or didn't.
+    // Updates the number of waiting clients by one client, before and after its round.
     fn count_awaiting(&mut self, did_await: bool, awaits: bool) {
         if did_await && !awaits {
             self.awaiting = self.awaiting.saturating_sub(1);
@@ -754,7 +753,7 @@ impl<'a> Worker<'a> {
         }
     }
 
-    // What a client's round asks for. True says that more can be done at once.
+    // Handles the result of a client's round. True: more can be done at once.
     fn heed<R: Wait>(
         &mut self,
         rt: &R,

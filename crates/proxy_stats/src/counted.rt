@@ -15,7 +15,7 @@ use std::boxed::Box;
 use std::marker::Model;
 use ticket_gate::Recorded;
 
-/// A core, with counts of what it did. Contracts see the core.
+/// A core with its counts. Contracts see the core.
 #[derive(Drop)]
 pub struct Counted {
     core: Core,
@@ -23,16 +23,16 @@ pub struct Counted {
     counts: Box<Counts>,
 }
 
-/// What a look at a core that counts tells. All of it is of one moment.
+/// The sight of a core that counts. All of it is of one moment.
 #[derive(Drop)]
 pub struct Sight {
-    /// What another core would need to go on from here.
+    /// The state that another core can start from.
     pub handover: Handover,
 
-    /// What happened so far.
+    /// The counts so far.
     pub counts: Counts,
 
-    /// How the core stands.
+    /// The core's load.
     pub load: Load,
 }
 
@@ -53,9 +53,9 @@ impl Model for Counted {
 }
 
 impl Counted {
-    /// The core, which counts from here on. What it did already is counted.
+    /// Counts the steps of the core, those made already and those to come.
     ///
-    /// Refused where there is no memory for the counts; the core is dropped then.
+    /// Refused where there is no memory for the counts; the core is dropped.
     pub fn new(alloc: Global, core: Core) -> Result<Counted, AllocError>
         ensures { IfOk result (λ c. c ≡ core) }
     {
@@ -69,8 +69,8 @@ impl Counted {
         }
     }
 
-    /// What happened so far: each number is the sum over the steps of the core's journal. It takes no
-    /// memory, and the same time for each length of the journal.
+    /// The counts so far: each number is a sum over the steps of the core's journal. It takes no
+    /// memory, and its time doesn't depend on the journal's length.
     pub fn counts(&self) -> &Counts
         ensures sums { AreCounts self.now.steps result.now }
         ensures value { result.now ≡ counts_of self.now.steps }
@@ -133,7 +133,7 @@ impl Recorded for Counted {
     ghost legal_before = { legal_before };
 }
 
-// Adds what the newest step counts.
+// Adds the newest step.
 fn count_last(journal: &Journal<Event, Answer>, counts: &mut Counts)
     ensures { (steps : List StepOf) (step : StepOf) → journal.now.steps ≡ steps ++ step ∷ []
         → HasCounted counts.old step counts.new }

@@ -10,7 +10,7 @@ use proxy_core::{Answer, CoreTurns, Event, Refusal};
 use std::sync::Wait;
 use ticket_gate::{Gate, Pass, Seated, TurnRefusal, Turns};
 
-/// A pass at the gate of a core that counts, as a worker uses it.
+/// A pass at the gate of a core that counts, for a worker.
 #[derive(Drop)]
 pub struct CountedSeat<'a> {
     seated: Seated<'a, Counted>,
@@ -36,8 +36,8 @@ impl<'a> CountedSeat<'a> {
 
     /// Looks at the core inside the gate, and adds no step to its journal.
     ///
-    /// Counts and load are those of the journal that the pass sees now, and that journal is legal.
-    /// Refused `Spent` (1202) alone, where all tickets were drawn.
+    /// Counts and load are those of the journal that the pass sees now, which is legal. Refused
+    /// only `Spent` (1202), once all tickets were drawn.
     pub fn sight<R: Wait>(&mut self, rt: &R) -> Result<Sight, TurnRefusal<Refusal, ()>>
         ensures sight { IfOk result (λ sight. sight
             ≡ sight_of self.old.seated.gate.setting self.new.seated.pass.known.seen) }

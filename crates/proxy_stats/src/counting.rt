@@ -6,8 +6,8 @@ ghost use Rattle.proxy_stats.specs.Sums.{AreCounts, AreCapped};
 use crate::tally::Counts;
 use proxy_core::{Answer, Core, Event, Journal};
 
-/// What happened so far, by the journal of a core: each number is a sum over its steps. It goes over
-/// them once, and takes no memory.
+/// The counts so far of a core's journal: each number is a sum over its steps. It reads them once,
+/// and takes no memory.
 pub fn counts(core: &Core) -> Counts
     ensures { AreCounts core.now.steps result }
 {

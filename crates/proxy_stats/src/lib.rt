@@ -1,7 +1,8 @@
-//! Counts of what a proxy did, told by its journal.
+//! Counts what a proxy did, by its journal.
 //!
-//! [`counts`] goes over the journal of a core once. [`Counted`] is a core that counts as it goes, and
-//! tells the same at any time. [`Counts::plus`] joins the counts of one core and the next.
+//! [`counts`] reads the journal of a core once. [`Counted`] is a core that counts as it goes, with
+//! the same result at any time. [`Counts::plus`] joins the counts of one core and the next. It
+//! stands on `proxy_core`. Begin with `tally.rt`, then `counted.rt`.
 #![tactic(auto)]
 
 pub use counted::{Counted, Sight};

@@ -1,4 +1,4 @@
-//! How a core stands at one moment: what is open, and what is due of each host.
+//! The load of a core at one moment: open connections, and the parts of each host.
 ghost use Rattle.std.specs.Prelude.{◌≡◌, ◌<◌};
 ghost use Rattle.proxy_history.specs.Setting.{hosts};
 ghost use Rattle.proxy_history.specs.Proxy.{history_in};
@@ -7,34 +7,34 @@ ghost use Rattle.proxy_stats.specs.Load.{host_load_of, load_of};
 use ketama::MAX_HOSTS;
 use proxy_core::Core;
 
-/// How one host stands.
+/// The load of one host.
 #[derive(Clone, Copy, Debug, PartialEq, Eq)]
 pub struct HostLoad {
-    /// Parts that wait to be sent to it.
+    /// The parts that wait for it.
     pub waiting: u64,
 
-    /// Parts that were sent to it and have no reply, those of closed connections too.
+    /// The parts sent to it without a reply, with those of closed connections.
     pub flying: u64,
 
-    /// Whether it is put aside.
+    /// Whether it is ejected.
     pub is_out: bool,
 }
 
-/// How a core stands.
+/// The load of a core.
 #[derive(Clone, Copy, Debug, PartialEq, Eq)]
 pub struct Load {
-    /// Connections that are open.
+    /// The open connections.
     pub connections: u64,
 
     /// Whether so few hosts are available that all are used.
     pub in_panic: bool,
 
-    /// How each host stands, by its number; nothing is due of those that there aren't.
+    /// The load of each host, by its number; none for numbers without a host.
     pub hosts: [HostLoad; MAX_HOSTS],
 }
 
 impl HostLoad {
-    /// Nothing is due.
+    /// No part waits or flies.
     pub const NONE: HostLoad = HostLoad {
         waiting: 0,
         flying: 0,
@@ -54,7 +54,7 @@ impl HostLoad {
 }
 
 impl Load {
-    /// Nothing is open, and nothing is due.
+    /// Nothing is open, and no part waits or flies.
     pub const NONE: Load = Load {
         connections: 0,
         in_panic: false,
@@ -62,7 +62,7 @@ impl Load {
     };
 }
 
-/// How the core stands now. It takes no memory.
+/// The core's present load. It takes no memory.
 pub fn load_of(core: &Core) -> Load
     ensures { result ≡ load_of core.now.setting (history_in core.now) }
 {

@@ -1,4 +1,4 @@
-//! What one step adds to the counts.
+//! Adds one step to the counts.
 ghost use Rattle.std.specs.Prelude.{◌≡◌, ◌<◌, ◌^◌, ℕ, if◌then◌else◌, length, slice_index, slice_index_or};
 ghost use Rattle.proxy_stats.specs.Amounts.{takings, replies, failures, lost_parts, ejected_in, kept_in, ejected_hosts, kept_hosts, own_answers, of_host, local_place};
 ghost use Rattle.proxy_stats.specs.Sums.{grown_sum, AreGrown, AreHostsGrown, with_answer, with_event, with_trip};
@@ -9,7 +9,7 @@ use ketama::MAX_HOSTS;
 use proxy_core::{Answer, Event, Local, Step, Trip};
 
 impl Counts {
-    /// Adds what one step counts.
+    /// Adds one step.
     pub(crate) fn add(&mut self, step: &Step<Event, Answer>)
         ensures grown { AreGrown self.old step.now self.new }
         ensures ejected { ejected_hosts step.now < 2 ^ 32 }
@@ -23,7 +23,7 @@ impl Counts {
         add_to_host(&mut self.hosts, step);
     }
 
-    // What is counted by the event.
+    // Adds the event.
     #[inline(always)]
     fn add_event(&mut self, event: &Event)
         ensures { self.new ≡ with_event self.old event.now }
@@ -37,7 +37,7 @@ impl Counts {
         }
     }
 
-    // What is counted by the answer, but for answers of the proxy's own.
+    // Adds the answer, except for answers of the proxy's own.
     #[inline(always)]
     fn add_answer(&mut self, answer: &Answer)
         ensures added { self.new ≡ with_answer self.old answer.now }
@@ -130,7 +130,7 @@ fn place_of(answer: Local) -> usize
     }
 }
 
-// The host of a step, if it has one, counts it.
+// Adds the step to its host, if it has one.
 fn add_to_host(hosts: &mut [HostCounts; MAX_HOSTS], step: &Step<Event, Answer>)
     ensures same { length hosts.new ≡ length hosts.old }
     ensures grown { (h : ℕ) (d : HostCounts) → h < 64
@@ -148,7 +148,7 @@ fn add_to_host(hosts: &mut [HostCounts; MAX_HOSTS], step: &Step<Event, Answer>)
 }
 
 impl HostCounts {
-    // With a step of this host.
+    // These counts with a step of this host.
     fn and(&self, step: &Step<Event, Answer>) -> HostCounts
         ensures sent { result.sent ≡ grown_sum self.now.sent (takings step.now) }
         ensures answered { result.answered ≡ grown_sum self.now.answered (replies step.now) }

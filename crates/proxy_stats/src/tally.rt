@@ -5,60 +5,59 @@ ghost use Rattle.proxy_stats.specs.declared.tally.HostCounts.{HostCounts};
 
 use ketama::MAX_HOSTS;
 
-/// How many kinds of answers the proxy gives itself.
+/// The number of kinds of the proxy's own answers.
 pub const LOCAL_KINDS: usize = 7;
 
-/// What happened to one host.
+/// The counts of one host.
 #[derive(Clone, Copy, Debug, PartialEq, Eq)]
 pub struct HostCounts {
-    /// Parts that were taken to be sent to it.
+    /// Parts taken for it.
     pub sent: u64,
 
-    /// Replies of it that were taken.
+    /// Its replies.
     pub answered: u64,
 
     /// Its faults.
     pub faults: u64,
 
-    /// Parts that waited for it or flew to it at a fault, those without an owner too.
+    /// Parts that waited for it or flew at a fault, with those without an owner.
     pub lost: u64,
 }
 
-/// What happened so far.
+/// The counts so far.
 #[derive(Clone, Copy, Debug, PartialEq, Eq)]
 pub struct Counts {
-    /// Commands that were accepted.
+    /// Accepted commands.
     pub accepted: u64,
 
-    /// Replies that were handed out.
+    /// Replies handed out.
     pub handed: u64,
 
-    /// Parts that were taken to be sent.
+    /// Parts taken.
     pub sent: u64,
 
-    /// Replies of hosts that were taken.
+    /// Hosts' replies.
     pub answered: u64,
 
-    /// Parts that waited or flew at a fault of their host, those without an owner too.
+    /// Parts that waited or flew at a fault of their host, with those without an owner.
     pub lost: u64,
 
-    /// How often a host was ejected, by results and by sweeps.
+    /// Ejections of hosts, by results and by sweeps.
     pub ejections: u64,
 
-    /// How often a host tripped and stayed, by results and by sweeps.
+    /// Trips of hosts that stayed, by results and by sweeps.
     pub kept: u64,
 
-    /// Parts that found no usable host.
+    /// Parts without a usable host.
     pub no_host: u64,
 
-    /// Parts that found too many others waiting for their host.
+    /// Parts for whose host too many others waited.
     pub busy: u64,
 
-    /// Commands that the proxy answered itself, by the answer: Pong, Echoed, Bye, Invalid, Unsupported,
-    /// WrongNumber, Broken.
+    /// Commands answered by the proxy itself, by the answer: Pong, Echoed, Bye, Invalid, Unsupported, WrongNumber, Broken.
     pub local: [u64; LOCAL_KINDS],
 
-    /// What happened to each host, by its number; nothing to those that there aren't.
+    /// The counts of each host, by its number; none for numbers without a host.
     pub hosts: [HostCounts; MAX_HOSTS],
 }
 
@@ -99,8 +98,7 @@ impl Counts {
         hosts: [HostCounts::NONE; MAX_HOSTS],
     };
 
-    /// These counts and the others together: each number is the sum of both, or the greatest `u64`
-    /// where the sum is more.
+    /// The sum of these counts and the others; the greatest `u64` stands for any greater number.
     pub fn plus(&self, other: &Counts) -> Counts
         ensures { AreJoined self.now other.now result }
     {

@@ -1,12 +1,12 @@
-//! What the formula of an outlier means.
+//! The meaning of the outlier formula.
 
-// What holds of the definitions, for whoever reads a contract that cites them.
+// Laws of the definitions, for readers of a contract that cites them.
 ghost use Rattle.std.specs.Prelude.{◌≡◌};
 ghost use Rattle.rate_core.specs.Laws.{FarBelowIsByDeviation, SpreadIsVariance};
 
 use crate::outlier::MAX_HOSTS;
 
-/// `n` times the sum of squares, less the square of the sum, is `n * n` times the variance.
+/// `n` times the sum of squares, minus the square of the sum, is `n * n` times the variance.
 pub fn spread_is_variance()
     ensures { SpreadIsVariance }
 {}

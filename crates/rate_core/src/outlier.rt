@@ -1,12 +1,12 @@
-//! Which rate is an outlier.
+//! Finds outliers among rates.
 ghost use Rattle.std.specs.Prelude.{◌≡◌, ◌<◌, ◌≤◌, length, sum, sum_by, All};
 ghost use Rattle.std.specs.Option.{ForSome};
 ghost use Rattle.rate_core.specs.Outlier.{is_outlier, known_rates, square};
 
-/// The most hosts whose rates are compared, and so the most that a ring or an ejector has.
+/// The most hosts whose rates are compared, and of a ring or an ejector.
 pub const MAX_HOSTS: usize = 64;
 
-/// How many rates there are, their sum and the sum of their squares.
+/// The number of known rates, their sum, and the sum of their squares.
 #[derive(Clone, Copy)]
 struct Totals {
     count: u64,
@@ -14,7 +14,7 @@ struct Totals {
     squares: u64,
 }
 
-/// The totals of the rates that are there.
+/// The totals of the known rates.
 fn totals_of(rates: &[Option<u32>]) -> Totals
     requires few { length rates.now ≤ MAX_HOSTS }
     requires within { All (λ rate. ForSome rate (λ r. r ≤ 1000000)) rates.now }
@@ -43,14 +43,13 @@ fn totals_of(rates: &[Option<u32>]) -> Totals
     }
 }
 
-/// Whether the host's rate is below the mean of all rates by more than `factor` thousandths of their
-/// (the population's) standard deviation, strictly. A host without a rate is no outlier.
+/// Whether the host's rate is below the mean of all rates by more than `factor` thousandths of their (population)
+/// standard deviation. A host without a rate is no outlier.
 ///
-/// With the sum `S` and the sum of squares `Q` of the `n` rates that are there, and the host's rate `r`:
-/// `S > n*r` and `(S - n*r)^2 * 1000000 > factor^2 * (n*Q - S^2)`, which is that test without a root.
+/// With `n` known rates, their sum `S`, the sum of their squares `Q`, and the host's rate `r`, the test without a root
+/// is `S > n*r` and `(S - n*r)^2 * 1000000 > factor^2 * (n*Q - S^2)`.
 ///
-/// `rates` has the rate of each host, in millionths: at most 64 of them, each at most 1,000,000. `factor` is at
-/// most 100,000.
+/// `rates` has each host's rate in millionths: at most 64 of them, each at most 1,000,000. `factor` is at most 100,000.
 pub fn is_outlier(rates: &[Option<u32>], host: usize, factor: u32) -> bool
     requires few { length rates.now ≤ MAX_HOSTS }
     requires within { All (λ rate. ForSome rate (λ r. r ≤ 1000000)) rates.now }

@@ -1,4 +1,4 @@
-//! A command whose reply is awaited.
+//! A command that waits for its reply.
 ghost use Rattle.std.specs.Prelude.{◌≡◌, ◌↔◌, Some, None, slice_get, IsTrue, IsSome, IfOk, IfErr};
 ghost use Rattle.std.specs.Option.{option_copied, option_map};
 ghost use Rattle.resp_core.specs.Value.{tree_of};
@@ -11,15 +11,15 @@ use splitter::{Join, SplitError};
 use std::alloc::{AllocError, Global};
 use std::marker::Model;
 
-/// A command, with the values of its parts as far as they have come.
+/// A command with the values of its parts that have come.
 ///
-/// Contracts see how the values become one, and each part's value or that it has none yet.
+/// Contracts see how the values are joined, and each part's value, if it has come.
 #[derive(Drop)]
 pub(crate) struct Command {
     parts: Parts,
 }
 
-/// The parts of a command. One whose value is the reply as it is takes no memory.
+/// The parts of a command. A command whose only value is the reply takes no memory.
 #[derive(Drop)]
 pub(crate) enum Parts {
     Same(Option<Value>),
@@ -42,7 +42,7 @@ impl Model for Command {
 }
 
 impl Command {
-    /// A command of so many parts, none of which has a value yet. There has to be a part at least, and just one for `Same`.
+    /// A command of this many parts, none of which has a value. There must be at least one, and exactly one for `Same`.
     pub(crate) fn new(alloc: Global, how: Join, parts: usize) -> Result<Command, AllocError>
         requires { MayJoin how parts }
         ensures { IfOk result (λ command. command ≡ awaiting_command how parts) }
@@ -54,7 +54,7 @@ impl Command {
         Ok(Command { parts })
     }
 
-    /// Whether there is this part, and it has no value yet.
+    /// Whether this part exists and has no value yet.
     pub(crate) fn is_open(&self, part: usize) -> bool
         ensures { IsTrue result ↔ (slice_get self.now.values part ≡ Some None) }
     {
@@ -64,7 +64,7 @@ impl Command {
         }
     }
 
-    /// Gives a part its value, which it doesn't have yet. It takes no memory.
+    /// Gives a part its value; it must have none. It takes no memory.
     pub(crate) fn set(&mut self, part: usize, value: Value)
         requires { slice_get self.old.values part ≡ Some None }
         ensures { self.new ≡ with_value part (tree_of value) self.old }
@@ -85,7 +85,7 @@ impl Command {
         }
     }
 
-    /// The reply as it stands, where it is the value of the one part and has come. It takes no memory.
+    /// The reply, if it is the value of the only part and has come. It takes no memory.
     pub(crate) fn same_reply(&self) -> Option<&Value>
         ensures { option_map tree_of (option_copied result) ≡ same_reply_to self.now }
     {
@@ -95,7 +95,7 @@ impl Command {
         }
     }
 
-    /// The reply: the join of the values of the parts, each of which has one.
+    /// The reply: the join of the parts' values, all of which must have come.
     pub(crate) fn reply(&self, alloc: Global) -> Result<Value, SplitError>
         requires { IsSome (reply_to self.now) }
         ensures value { IfOk result (λ reply. reply_to self.now ≡ Some (tree_of reply)) }

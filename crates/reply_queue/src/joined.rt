@@ -1,4 +1,4 @@
-//! The values of a command that are joined, as far as they have come.
+//! The values of a command that are joined, with those that have come.
 ghost use Rattle.std.specs.Prelude.{◌≡◌, ◌<◌, ◌↔◌, Some, None, length, replicate, slice_get, slice_set, vec_len, IsTrue, IsSome, IfOk, IfErr};
 ghost use Rattle.std.specs.Option.{option_copied, option_map};
 ghost use Rattle.resp_core.specs.Value.{tree_of};
@@ -11,17 +11,17 @@ use std::alloc::{AllocError, Global};
 use std::marker::Model;
 use std::mem;
 
-/// The values of a command's parts as far as they have come, and how they become one.
+/// The values of a command's parts that have come, and how they are joined.
 ///
-/// Contracts see it as a command whose reply is awaited.
+/// Contracts see a command that waits for its reply.
 #[derive(Drop)]
 pub(crate) struct Joined {
     how: Join,
-    // A null stands in the place of a value that hasn't come.
+    // Null in the place of a value that hasn't come.
     values: Vec<Value>,
     // Whether each value has come.
     come: Vec<bool>,
-    // How many have not.
+    // The number of values that haven't.
     missing: usize,
 }
 
@@ -40,7 +40,7 @@ impl Model for Joined {
 }
 
 impl Joined {
-    /// So many parts, none of which has a value yet. There has to be a part at least, and just one for `Same`.
+    /// This many parts, none of which has a value. There must be at least one, and exactly one for `Same`.
     pub(crate) fn new(alloc: Global, how: Join, parts: usize) -> Result<Joined, AllocError>
         requires { MayJoin how parts }
         ensures { IfOk result (λ joined. joined ≡ awaiting_command how parts) }
@@ -55,7 +55,7 @@ impl Joined {
         })
     }
 
-    /// Whether there is this part, and it has no value yet.
+    /// Whether this part exists and has no value yet.
     pub(crate) fn is_open(&self, part: usize) -> bool
         ensures { IsTrue result ↔ (slice_get self.now.values part ≡ Some None) }
     {
@@ -65,7 +65,7 @@ impl Joined {
         }
     }
 
-    /// Gives a part its value, which it doesn't have yet. It takes no memory.
+    /// Gives a part its value; it must have none. It takes no memory.
     pub(crate) fn set(&mut self, part: usize, value: Value)
         requires { slice_get self.old.values part ≡ Some None }
         ensures { self.new ≡ with_value part (tree_of value) self.old }
@@ -82,7 +82,7 @@ impl Joined {
         self.missing == 0
     }
 
-    /// The reply: the join of the values of the parts, each of which has one.
+    /// The reply: the join of the parts' values, all of which must have come.
     pub(crate) fn reply(&self, alloc: Global) -> Result<Value, SplitError>
         requires { IsSome (reply_to self.now) }
         ensures value { IfOk result (λ reply. reply_to self.now ≡ Some (tree_of reply)) }
@@ -92,7 +92,7 @@ impl Joined {
     }
 }
 
-// So many nulls.
+// This many nulls.
 fn nulls(alloc: Global, count: usize) -> Result<Vec<Value>, AllocError>
     ensures { IfOk result (λ values. vec_len values ≡ count) }
 {

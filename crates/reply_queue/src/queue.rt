@@ -14,12 +14,12 @@ use std::alloc::Global;
 use std::collections::VecDeque;
 use std::marker::Model;
 
-/// How many commands may be accepted and not popped.
+/// The most commands accepted and not popped.
 pub const MAX_COMMANDS: usize = 1_024;
 
 /// The commands of one connection that are accepted and not popped, the oldest first.
 ///
-/// Contracts see how many were popped, and of each command how the values of its parts become one and which have come.
+/// Contracts see the number popped, and of each command how its values are joined and which have come.
 #[derive(Drop)]
 pub struct Queue {
     alloc: Global,
@@ -45,7 +45,7 @@ impl Model for Queue {
 }
 
 impl Queue {
-    /// A queue of no commands. The first that is accepted gets the index 0.
+    /// An empty queue. The first command gets the index 0.
     pub fn new(alloc: Global) -> Queue
         ensures popped { result.popped ≡ 0 }
         ensures commands { result.commands ≡ [] }
@@ -57,12 +57,12 @@ impl Queue {
         }
     }
 
-    /// Accepts a command of so many parts, whose values will be joined in this way, and gives its index: the number of
-    /// commands accepted before it. It makes a place for each value. There have to be from 1 to 4,294,967,295 parts, and
-    /// just one for `Same`.
+    /// Accepts a command of this many parts, whose values will be joined by `how`, and returns its index: the number of
+    /// commands accepted before. It reserves a place for each value. There must be 1 to 4,294,967,295 parts, and
+    /// exactly one for `Same`.
     ///
-    /// Refused 802 (crowded) exactly if 1,024 commands are accepted and not popped, else 803 (spent) exactly if the index
-    /// would be the greatest `u64`, else 801 (no memory).
+    /// Refused 802 (crowded) exactly if 1,024 commands are accepted and not popped, else 803 (spent) exactly if the
+    /// index would be the greatest `u64`, else 801 (no memory).
     pub fn accept(&mut self, how: Join, parts: usize) -> Result<u64, QueueRefusal>
         requires join { MayJoin how parts }
         requires parts { parts < 2 ^ 32 }
@@ -92,8 +92,8 @@ impl Queue {
         Ok(index)
     }
 
-    /// Whether the command is accepted and not popped, and has this part, counted from 0, which has no value yet. It
-    /// takes no memory.
+    /// Whether the command is accepted and not popped, and has this part, counted from 0, without a value yet. It takes
+    /// no memory.
     pub fn is_open(&self, command: u64, part: u32) -> bool
         ensures { IsTrue result ↔ IsOpen self.now command part }
     {
@@ -106,7 +106,7 @@ impl Queue {
         }
     }
 
-    /// Gives a part that is open its value. It takes no memory.
+    /// Gives an open part its value. It takes no memory.
     pub fn set_part(&mut self, command: u64, part: u32, value: Value)
         requires { IsOpen self.old command part }
         ensures { self.new ≡ with_part command part (tree_of value) self.old }
@@ -115,7 +115,7 @@ impl Queue {
         self.commands[place].set(part as usize, value);
     }
 
-    /// Whether there is a command, and each part of the oldest has a value. It takes no memory.
+    /// Whether there is a command and all parts of the oldest have values. It takes no memory.
     pub fn ready(&self) -> bool
         ensures { IsTrue result ↔ IsSome (front_reply self.now.commands) }
     {
@@ -125,7 +125,7 @@ impl Queue {
         }
     }
 
-    /// How many commands are accepted and not popped, at most 1,024. It takes no memory.
+    /// The number of commands accepted and not popped, at most 1,024. It takes no memory.
     pub fn left(&self) -> usize
         ensures commands { result ≡ length self.now.commands }
         ensures limit { result ≤ MAX_COMMANDS }
@@ -133,10 +133,10 @@ impl Queue {
         self.commands.len()
     }
 
-    /// Takes the oldest command out, and gives its reply: the join of the values of its parts. `None` exactly if there is
-    /// no command or a part of the oldest has no value.
+    /// Removes the oldest command, and returns its reply: the join of its parts' values. `None` exactly if there is no
+    /// command or a part of the oldest has no value.
     ///
-    /// Refused 801 (no memory), and only where there is a reply to give.
+    /// Refused 801 (no memory), only if there is a reply.
     pub fn pop(&mut self) -> Result<Option<Value>, QueueRefusal>
         ensures reply { IfOk result
             (λ reply. option_map tree_of reply ≡ front_reply self.old.commands) }
@@ -153,10 +153,10 @@ impl Queue {
         Ok(reply)
     }
 
-    /// What `pop` would give: the reply to the oldest command, or `None` exactly if there is no command or a part of the
-    /// oldest has no value. It changes nothing.
+    /// The result that `pop` would have: the reply to the oldest command, or `None` exactly if there is no command or a
+    /// part of the oldest has no value. It changes nothing.
     ///
-    /// Refused 801 (no memory), and only where there is a reply to give.
+    /// Refused 801 (no memory), only if there is a reply.
     pub fn front(&self) -> Result<Option<Value>, QueueRefusal>
         ensures reply { IfOk result
             (λ reply. option_map tree_of reply ≡ front_reply self.now.commands) }
@@ -169,8 +169,8 @@ impl Queue {
         }
     }
 
-    /// The reply to the oldest command as it stands, where it is the value of the command's one part (`Same`): `None` exactly
-    /// if there is no command, its values are joined in another way, or its value hasn't come. It shares nothing, and takes no
+    /// The reply to the oldest command, if it is the value of the command's only part (`Same`). `None` exactly if there
+    /// is no command, its values are joined otherwise, or its value hasn't come. It shares nothing, and takes no
     /// memory.
     pub fn same_front(&self) -> Option<&Value>
         ensures reply { option_map tree_of (option_copied result)
@@ -182,8 +182,7 @@ impl Queue {
         }
     }
 
-    /// Takes the oldest command out. There has to be one, and each of its parts has to have a value, as `ready` tells. It
-    /// takes no memory.
+    /// Removes the oldest command. There must be one, and all its parts must have values (`ready`). It takes no memory.
     pub fn drop_front(&mut self)
         requires { IsSome (front_reply self.old.commands) }
         ensures { self.new ≡ without_front self.old }

@@ -1,4 +1,4 @@
-//! Lists whose members have not all come.
+//! Lists whose members haven't all come.
 ghost use Rattle.std.specs.Prelude.{◌≡◌, ◌≤◌, ◌-◌, ℕ, List, [], length, ◌++◌, ◌∷◌, ◌<◌, vec_len, vec_capacity, IfOk, IfErr, IfSome, IfNone};
 ghost use Rattle.resp_core.specs.Begun.{nested_outcome};
 ghost use Rattle.resp_core.specs.Reading.{value_at, found};
@@ -7,15 +7,15 @@ ghost use Rattle.resp_core.specs.Value.{tree_of};
 use crate::value::{Value, Values};
 use std::alloc::{AllocFailed, Global};
 
-// A list of which these members came, and so many are due behind the one that is read.
+// A list with these members, and the number still due behind the value being read.
 #[derive(Drop)]
 pub(crate) struct Begun {
     pub(crate) members: Values,
     pub(crate) due: u64,
 }
 
-// Puts a value that came into the innermost list. Where that is whole, it goes into the next one, and so on: the outermost
-// value, if it is whole. Where memory is refused the lists may be fewer, and the value is a greater one.
+// Puts a value into the innermost list. A complete list goes into the next one, and so on. Returns the outermost value
+// if it is complete. Where memory is refused, lists may have been completed; the error's value is then the last of them.
 pub(crate) fn put(opens: &mut Vec<Begun>, value: Value) -> Result<Option<Value>, AllocFailed<Value>>
     ensures due { IfOk result (λ o. IfNone o ((most left : ℕ) (rest : List ℕ)
         → length opens.old.items ≤ left
@@ -56,7 +56,7 @@ pub(crate) fn put(opens: &mut Vec<Begun>, value: Value) -> Result<Option<Value>,
     Ok(Some(value))
 }
 
-// Pushes a list where there is room for it.
+// Pushes a list, for which there is room.
 fn put_back(opens: &mut Vec<Begun>, list: Begun)
     requires { vec_len opens.old < vec_capacity opens.old }
     ensures { opens.new.items ≡ opens.old.items ++ list ∷ [] }

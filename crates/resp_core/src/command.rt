@@ -1,4 +1,4 @@
-//! Commands: arrays of at least one bulk string, and of bulk strings alone.
+//! Commands: arrays of bulk strings only, and of at least one.
 ghost use Rattle.std.specs.Prelude.{◌≡◌, ◌<◌, IfSome, IfNone, true, false, length, map};
 ghost use Rattle.resp_core.specs.Value.{tree_of};
 ghost use Rattle.resp_core.specs.Command.{is_command, are_words, is_bulk, payload_of, word, IsArrayOf};
@@ -7,8 +7,8 @@ use crate::value::{Value, Values};
 use bytes::Bytes;
 
 impl Value {
-    /// The words of the value, where it is a command: an array of at least one bulk string and of bulk strings alone. The
-    /// first word is the command's name.
+    /// The words of a command: an array of bulk strings only, and of at least one. The first word is the command's
+    /// name. `None` for any other value.
     pub fn words(&self) -> Option<&Values>
         ensures command { IfSome result (λ words. is_command (tree_of self.now) ≡ true
             × are_words words.now ≡ true × IsArrayOf words.now (tree_of self.now)) }
@@ -34,7 +34,7 @@ impl Value {
 }
 
 impl Values {
-    // At least one bulk string, and bulk strings alone.
+    // Whether there is at least one bulk string and nothing else.
     fn are_words(&self) -> bool
         ensures { result ≡ are_words self.now }
     {
@@ -46,8 +46,8 @@ impl Values {
         !self.0.is_empty()
     }
 
-    /// The bytes of the word of this number, the command's name being word 0. The values have to be the words of a
-    /// command, as `Value::words` gives them, and the number has to be below their number.
+    /// The bytes of word `at`; word 0 is the command's name. The values must be the words of a command, as
+    /// `Value::words` returns them, and `at` must be below their number.
     pub fn word(&self, at: usize) -> &Bytes
         requires words { are_words self.now ≡ true }
         requires inside { at < length self.now }

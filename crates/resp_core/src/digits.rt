@@ -1,12 +1,12 @@
-//! The digits of a length or an integer, which are read a byte at a time.
+//! The digits of a length or an integer, read a byte at a time.
 ghost use Rattle.std.specs.Prelude.{◌≡◌, ◌≤◌, ◌^◌, pos, neg_ℤ};
 ghost use Rattle.resp_core.specs.Going.{DigitSteps};
 ghost use Rattle.resp_core.specs.Reading.{of_length, of_integer, digits_at};
 
 use crate::error::Refusal;
 
-// How digits are read: the greatest number, how many there may be, and how a byte is refused that is none, a digit too
-// many, a digit that makes the number too great, and one that does both.
+// How digits are read: the greatest number, and the most digits. Then the refusals of a byte that is no digit, of a
+// digit too many, of a digit that makes the number too great, and of one that does both.
 #[derive(Clone, Copy, Drop)]
 pub(crate) struct Digits {
     pub(crate) limit: u64,
@@ -17,7 +17,7 @@ pub(crate) struct Digits {
     pub(crate) both: Refusal,
 }
 
-// The digits of a length.
+// The digits of a length at most `limit`.
 pub(crate) fn of_length(limit: u64) -> Digits
     ensures { result ≡ of_length limit }
 {
@@ -31,7 +31,7 @@ pub(crate) fn of_length(limit: u64) -> Digits
     }
 }
 
-// The digits of a whole number.
+// The digits of an integer at most `limit`, in at most `most` digits.
 pub(crate) fn of_integer(limit: u64, most: usize) -> Digits
     ensures { result ≡ of_integer limit most }
 {
@@ -45,7 +45,7 @@ pub(crate) fn of_integer(limit: u64, most: usize) -> Digits
     }
 }
 
-// The number with a minus in front.
+// The number with a minus sign.
 pub(crate) fn negated(n: u64) -> i64
     requires { n ≤ 2 ^ 63 }
     ensures { result ≡ neg_ℤ (pos n) }
@@ -53,7 +53,7 @@ pub(crate) fn negated(n: u64) -> i64
     if n == 0 { 0 } else { -((n - 1) as i64) - 1 }
 }
 
-// The number that the digits write with one more, or `None` where they end.
+// The digits' number with one more digit, or `None` at their end.
 #[tactic(auto, unfolding(crate::specs::Reading::digits_at))]
 pub(crate) fn step_digits(
     digits: Digits,

@@ -5,7 +5,7 @@ ghost use Rattle.resp_core.specs.declared.error.RespError.TheVariants.{NoMemory}
 use std::alloc::{AllocError, AllocFailed};
 use thiserror::Error;
 
-/// Why a byte of the stream cannot stand where it does, before its offset is known.
+/// Why a byte of the stream is refused, without its offset.
 #[derive(Clone, Copy, Drop)]
 pub(crate) enum Refusal {
     BadType,
@@ -38,8 +38,8 @@ impl Refusal {
 
 /// Why a call is refused.
 ///
-/// `at` is the offset of the refused byte, counted in bytes from 0 at the first byte of the stream. An offset past the
-/// greatest `u64` is told as the greatest `u64`.
+/// `at` is the offset of the refused byte, counted from 0 at the first byte of the stream; the greatest `u64` stands
+/// for any more.
 #[derive(Clone, Copy, Debug, PartialEq, Eq, Drop, Error)]
 pub enum RespError {
     /// 101: memory was refused. The call changed nothing and may be made again.

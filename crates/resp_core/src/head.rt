@@ -1,4 +1,4 @@
-//! The head of a value, which is read a byte at a time: all of it but the bytes of a text, a payload and the members.
+//! The head of a value, read a byte at a time: everything before its text, payload or members.
 ghost use Rattle.std.specs.Prelude.{◌≡◌, ◌≤◌, ◌<◌, length, take, drop, IfOk, IfErr};
 ghost use Rattle.resp_core.specs.Going.{Steps, DigitSteps, IsNullOf, GoesOn, IsHead, head_at, IsGoodHead, IsGoodNext, IsGoodSized, limit_of, limit_signed, line_tree, signed_value};
 ghost use Rattle.resp_core.specs.Reading.{of_length, of_integer, refused};
@@ -10,14 +10,14 @@ use crate::limits::{MAX_BULK, MAX_LINE};
 use crate::value::Value;
 use bytes::Bytes;
 
-// What the length of it is read for.
+// The value that a length belongs to.
 #[derive(Clone, Copy, Drop)]
 pub(crate) enum Sized {
     Bulk,
     List,
 }
 
-// What the text of a line is read for.
+// The value that a line of text belongs to.
 #[derive(Clone, Copy, Drop)]
 pub(crate) enum Line {
     Simple,
@@ -36,31 +36,31 @@ impl Line {
     }
 }
 
-// What a head was found to be.
+// The value or the rest that a head announces.
 #[derive(Clone, Copy, Drop)]
 pub(crate) enum Found {
-    // A text, from its first byte on, and a line end.
+    // A text and a line end.
     Line(Line),
-    // So many bytes and a line end.
+    // This many bytes and a line end.
     Payload(u64),
-    // So many values.
+    // This many values.
     Members(u64),
     NullBulk,
     NullList,
     Whole(i64),
 }
 
-// Where in a head the next byte stands.
+// The place in a head where the next byte stands.
 #[derive(Clone, Copy, Drop)]
 pub(crate) enum Head {
     // The type byte.
     Type,
     // The first byte of a length.
     Length(Sized),
-    // Behind the minus sign of a null: 1, and then CR.
+    // Behind the minus sign of a null: 1, then CR.
     One(Sized),
     Return(Sized),
-    // Behind so many digits of a length, which write this number.
+    // Behind `count` digits of a length, whose number is `n`.
     Digits {
         sized: Sized,
         count: usize,
@@ -68,14 +68,14 @@ pub(crate) enum Head {
     },
     // The first byte of an integer.
     Sign,
-    // Behind so many digits of an integer, of which there may be so many, and which write this number.
+    // Behind `count` of at most `most` digits of an integer, whose number is `n`.
     Number {
         is_negative: bool,
         most: usize,
         count: usize,
         n: u64,
     },
-    // LF, and then this is found.
+    // LF, which completes this.
     Feed(Found),
 }
 
@@ -85,7 +85,7 @@ pub(crate) enum Next {
     Found(Found),
 }
 
-// The head behind one byte more.
+// The head after a type byte.
 #[tactic(auto, unfolding(crate::specs::Reading::value_at, crate::specs::Reading::leaf_at, crate::specs::Reading::byte_at, crate::specs::Reading::list_at, crate::specs::Reading::bulk_at))]
 fn step_type(byte: u8, most: u64, left: u32) -> Result<Next, Refusal>
     ensures steps { Steps most left Head.Type byte result }
@@ -164,7 +164,7 @@ fn step_number(
     }
 }
 
-// The first byte of an integer: a sign, or a digit.
+// The head after the first byte of an integer: a sign, or a digit.
 #[tactic(auto, unfolding(crate::specs::Reading::integer_at))]
 fn step_sign(byte: u8, most: u64, left: u32) -> Result<Next, Refusal>
     ensures steps { Steps most left Head.Sign byte result }
@@ -187,7 +187,7 @@ fn step_sign(byte: u8, most: u64, left: u32) -> Result<Next, Refusal>
     }
 }
 
-// What a null is.
+// The null of a length.
 #[tactic(auto, unfolding(crate::specs::Reading::payload_at, crate::specs::Reading::members_at))]
 fn null_of(sized: Sized) -> Found
     ensures { IsNullOf sized result }
@@ -198,7 +198,7 @@ fn null_of(sized: Sized) -> Found
     }
 }
 
-// What comes next behind one byte more of a head.
+// The head after one more byte.
 #[tactic(auto, unfolding(crate::specs::Reading::byte_at, crate::specs::Reading::null_end_at, crate::specs::Reading::count_at))]
 pub(crate) fn step(head: Head, byte: u8, most: u64, left: u32) -> Result<Next, Refusal>
     requires good { IsGoodHead most left head }
@@ -246,10 +246,10 @@ pub(crate) fn step(head: Head, byte: u8, most: u64, left: u32) -> Result<Next, R
     }
 }
 
-// Why a head goes no further: the byte at this place is refused.
+// Why a head can't go on: the byte at this place is refused.
 pub(crate) struct Refused(pub(crate) Refusal, pub(crate) usize);
 
-// Reads a head as far as it has come, and the number of bytes read.
+// Reads a head as far as it has come. Returns what it came to, and the number of bytes read.
 pub(crate) fn read_head(
     head: Head,
     bytes: &[u8],

@@ -1,4 +1,4 @@
-//! Laws of texts and streams, each the contract of a function that does nothing: whoever stands on them calls it.
+//! Laws of texts and streams. Each is the contract of a function that does nothing; its users call it.
 ghost use Rattle.std.specs.Prelude.{◌≡◌};
 ghost use Rattle.resp_core.specs.Laws.{NoTextBeginsAnother, TextIsRead, SpellingIsShortest, ReadValuesArePlain, CommandsArePlain, OneReading, EachStreamHolds, OneHolding, RefusalStays, OneRefusedByte, OneNumber, OneRefusal, ValuesStay, TextIsReadBack, TextIsReadNext, ValuesGoOn};
 
@@ -6,7 +6,7 @@ use crate::progress::{MAX_COPY_BLOCK, MAX_IDLE, MAX_KEPT};
 use crate::reader::{CLIENT_MEMBERS, HOST_MEMBERS, Limits};
 use crate::texts::MAX_TEXT_BLOCK;
 
-/// No text begins another, so a stream can be read from its front with no look ahead.
+/// No text begins another, so a stream can be read without looking ahead.
 pub fn no_text_begins_another()
     ensures { NoTextBeginsAnother }
 {}
@@ -16,7 +16,7 @@ pub fn text_is_read()
     ensures { TextIsRead }
 {}
 
-/// No text of a value is shorter than its one spelling, so what was read and is written again is no longer than it came.
+/// No text of a value is shorter than its one spelling, so a value that is written again is no longer than it came.
 pub fn spelling_is_shortest()
     ensures { SpellingIsShortest }
 {}
@@ -31,47 +31,47 @@ pub fn commands_are_plain()
     ensures { CommandsArePlain }
 {}
 
-/// What a plain value within the limits was written as is read as that value, whatever follows it: at the front of a
-/// stream, and behind other values.
+/// The one spelling of a plain value within the limits is read back as that value, whatever follows it: at the front of
+/// a stream and behind other values.
 pub fn text_is_read_back()
     ensures front { TextIsReadBack }
     ensures next { TextIsReadNext }
 {}
 
-/// A stream has one list of values, and whatever else it is split into is a beginning of that list.
+/// A stream has one list of values. Any other way to split it gives a beginning of that list.
 pub fn one_reading()
     ensures { OneReading }
 {}
 
-/// Each stream has its values, and behind them a refused byte or none.
+/// Each stream has its values, followed by a refused byte or none.
 pub fn each_stream_holds()
     ensures { EachStreamHolds }
 {}
 
-/// A stream has one list of values, and a byte of it is refused or none is.
+/// A stream has one list of values, and either a refused byte or none.
 pub fn one_holding()
     ensures { OneHolding }
 {}
 
-/// A stream is refused at one offset at most, and by one number.
+/// A stream is refused at one offset at most, with one number.
 pub fn one_refusal()
     ensures byte { OneRefusedByte }
     ensures number { OneNumber }
     ensures refusal { OneRefusal }
 {}
 
-/// What was refused stays refused at the same offset, whatever comes behind it.
+/// A refusal stays at its offset, whatever follows.
 pub fn refusal_stays()
     ensures { RefusalStays }
 {}
 
-/// A stream that goes on keeps the values that it had.
+/// A stream that goes on keeps its values.
 pub fn values_stay()
     ensures { ValuesStay }
 {}
 
-/// A stream that is cut behind some of its values goes on as the rest: its values are those before the cut, and then those of
-/// the rest with whatever follows it.
+/// A stream cut behind some of its values goes on as the rest: its values are those before the cut, and then those of
+/// the rest with whatever follows.
 pub fn values_go_on()
     ensures { ValuesGoOn }
 {}
@@ -82,9 +82,9 @@ pub fn members_are_limited()
     ensures host { (HOST_MEMBERS ≡ 65536) × (Limits.HOST.array ≡ HOST_MEMBERS) }
 {}
 
-/// What is kept beside what was read and is to be written. A payload that shares its buffer keeps at most eight times its bytes
-/// of it; a reader without a byte pending keeps a buffer of at most 32,768 bytes; short texts stand in blocks of at most 512
-/// bytes where they were read, and of 16,384 where they were written.
+/// Limits of memory kept besides the values. A payload that shares its buffer keeps at most eight times its bytes. A
+/// reader without a pending byte keeps a buffer of at most 32,768 bytes. Short texts share blocks of at most 512 bytes
+/// where they were read, and of 16,384 where they were written.
 pub fn kept_memory_is_limited()
     ensures payload { MAX_KEPT ≡ 8 }
     ensures idle { MAX_IDLE ≡ 32768 }

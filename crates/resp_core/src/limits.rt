@@ -1,4 +1,4 @@
-//! The limits of what is read, which are the same for all streams.
+//! The limits of all streams.
 
 /// Bytes of a bulk string.
 pub(crate) const MAX_BULK: u64 = 1_048_576;
@@ -9,5 +9,5 @@ pub(crate) const MAX_LINE: usize = 65_536;
 /// Bytes in the text of one outermost value.
 pub(crate) const MAX_TEXT: usize = 8_388_608;
 
-/// Arrays, one within the other.
+/// Arrays nested in each other.
 pub(crate) const MAX_DEPTH: u32 = 8;

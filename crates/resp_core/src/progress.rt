@@ -1,4 +1,4 @@
-//! How far a reader has come in an unfinished value.
+//! The state of a reader within an unfinished value.
 ghost use Rattle.std.specs.Prelude.{true, false, ◌≡◌, ◌≢◌, ◌⊎◌, ◌≤◌, ◌<◌, ◌-◌, ◌+◌, ◌++◌, List, ℕ, [], length, take, drop, Some, None, IfOk, IfErr, IfSome, IfNone, OnOk, OnErr, IsOk};
 ghost use Rattle.resp_core.specs.Progress.{Reads, IsGood, IsFresh, LeadsTo, LeadsToValue, IsShort, HaltsIn, Gave, HasStopped, shown_progress, to_read};
 ghost use Rattle.resp_core.specs.Front.{IsUnfinished};
@@ -17,19 +17,19 @@ use bytes::{Bytes, BytesMut};
 use std::alloc::{AllocError, Global};
 use std::mem;
 
-// Payloads and texts of fewer bytes are copied, and so are those of less than one in `MAX_KEPT`
-// bytes of the buffer: what is shared keeps no more than `MAX_KEPT` times its bytes.
+// Shorter payloads and texts are copied, and so are those of less than one in `MAX_KEPT` bytes of
+// the buffer. So a shared one keeps at most `MAX_KEPT` times its bytes.
 const LEAST_SHARED: usize = 4_096;
 
-// Bytes of a block at most into which short ones are copied. An idle connection can keep so many.
+// The most bytes of a block for copies of short texts. An idle connection can keep this many.
 pub(crate) const MAX_COPY_BLOCK: usize = 512;
 
-// Members of a list at most for which there is room before they come.
+// The most members of a list for which memory is reserved before they come.
 const FEW_MEMBERS: usize = 4;
 
 pub(crate) const MAX_KEPT: usize = 8;
 
-// Bytes of a buffer that is kept while no byte is pending.
+// The most bytes of a buffer that is kept while no byte is pending.
 pub(crate) const MAX_IDLE: usize = 32_768;
 
 // Why no value was read: memory ran out, or the byte at this place of the value is refused.
@@ -41,28 +41,26 @@ pub(crate) enum Halt {
 
 #[derive(Drop)]
 pub(crate) struct Progress {
-    // Fed, and not taken: from the next byte of a head on, or from the first one of a text or a
-    // payload.
+    // Bytes fed and not taken, from the next byte of a head on, or from the first one of a text or a payload.
     pub(crate) pending: BytesMut,
     // The most bytes for which there was room since nothing was pending.
     pub(crate) room: usize,
-    // Where short payloads and texts are copied.
+    // Copies of short payloads and texts.
     pub(crate) copies: Room,
-    // The lists that are open, the outermost first.
+    // The open lists, the outermost first.
     pub(crate) opens: Vec<Begun>,
-    // A whole value that is not yet in its list.
+    // A complete value that isn't in its list yet.
     pub(crate) done: Option<Value>,
     pub(crate) next: Next,
-    // Bytes of a line of text, at the front of those pending, that need not be looked at again.
+    // The pending bytes of a line that needn't be looked at again.
     pub(crate) seen: usize,
-    // Bytes of the value that were taken.
+    // The bytes of the value that were taken.
     pub(crate) came: usize,
-    // While fewer bytes are pending nothing more is read: the bytes of the payload that is due, 0
-    // where none is known to be.
+    // Nothing is read while fewer bytes are pending: the length of the payload that is due, 0 if none is known.
     pub(crate) needed: usize,
 }
 
-// Takes so many bytes from the front, of which the first ones are given.
+// Takes bytes from the front, and returns the first `len` of them.
 fn cut(
     copies: &mut Room,
     pending: &mut BytesMut,
@@ -85,7 +83,7 @@ fn cut(
     Ok(front)
 }
 
-// How a refusal at this place of a value is told: at the byte that makes the value too long, by no higher number.
+// The refusal to report at this place of a value: at the byte that makes the value too long, none with a higher number.
 fn told_at(refusal: Refusal, place: usize) -> Refusal
     ensures { ((refusal ≡ TooDeep) × (place ≡ max_text) × (result ≡ TooLong))
         ⊎ ((place ≡ max_text → refusal ≢ TooDeep) × (result ≡ refusal)) }
@@ -97,7 +95,7 @@ fn told_at(refusal: Refusal, place: usize) -> Refusal
 }
 
 impl Progress {
-    // Nothing came.
+    // Before any byte.
     pub(crate) fn new(alloc: Global) -> Progress
         ensures good { (most : ℕ) → IsGood most result }
         ensures reads { (most : ℕ) → Reads most [] result }
@@ -115,7 +113,7 @@ impl Progress {
         }
     }
 
-    // Whether a payload is due of which not all bytes have come, so that there is no whole value.
+    // Whether a payload is due and hasn't come completely; then there is no complete value.
     pub(crate) fn is_short(&self) -> bool
         ensures { result ≡ true → (most : ℕ) → IsGood most self.now → (held : List ℕ)
             → Reads most held self.now → IsUnfinished most held }
@@ -123,7 +121,7 @@ impl Progress {
         self.pending.len() < self.needed
     }
 
-    // Bytes of the value that came: those that were taken, and those that are pending.
+    // The bytes of the value that have come, taken or pending.
     pub(crate) fn held(&self) -> u64
         requires good { (most : ℕ) × IsGood most self.now }
         ensures { result ≡ self.now.came + length self.now.pending.items }
@@ -131,7 +129,7 @@ impl Progress {
         self.came as u64 + self.pending.len() as u64
     }
 
-    // Takes the bytes that come behind those pending.
+    // Adds bytes behind those pending.
     pub(crate) fn feed(&mut self, piece: &[u8]) -> Result<(), AllocError>
         ensures good { (most : ℕ) → IsGood most self.old → IsGood most self.new }
         ensures reads { OnOk result ((most : ℕ) (held : List ℕ) → Reads most held self.old
@@ -139,13 +137,13 @@ impl Progress {
         ensures same { OnErr result (shown_progress self.new ≡ shown_progress self.old) }
     {
         match piece {
-            // A byte alone is stored, without a call that copies any length.
+            // (one byte is stored without a call that copies any length)
             [byte] => self.pending.extend_from_slice(&[*byte]),
             _ => self.pending.extend_from_slice(piece),
         }
     }
 
-    // Takes note of the room for bytes, before any are taken.
+    // Notes the room for bytes, before any are taken.
     fn note_room(&mut self)
         ensures good { (most : ℕ) → IsGood most self.old → IsGood most self.new }
         ensures same { shown_progress self.new ≡ shown_progress self.old }
@@ -153,7 +151,7 @@ impl Progress {
         self.room = self.room.max(self.pending.capacity());
     }
 
-    // Gives back a large buffer if no byte is pending.
+    // Drops a large buffer if no byte is pending.
     fn give_back(&mut self, alloc: Global)
         ensures good { (most : ℕ) → IsGood most self.old → IsGood most self.new }
         ensures same { shown_progress self.new ≡ shown_progress self.old }
@@ -164,7 +162,7 @@ impl Progress {
         }
     }
 
-    // Forgets what came.
+    // Forgets everything.
     pub(crate) fn begin_anew(&mut self, alloc: Global)
         ensures good { (most : ℕ) → IsGood most self.new }
         ensures reads { (most : ℕ) → Reads most [] self.new }
@@ -172,7 +170,7 @@ impl Progress {
         drop(mem::replace(self, Progress::new(alloc)));
     }
 
-    // The outermost value and the length of its text, if all of it has come.
+    // The outermost value and the length of its text, if it has come completely.
     pub(crate) fn next_value(
         &mut self,
         alloc: Global,
@@ -208,7 +206,7 @@ impl Progress {
         }
     }
 
-    // Reads on, to the end of the outermost value or as far as the bytes go.
+    // Reads to the end of the outermost value, or as far as the bytes go.
     fn go_on(&mut self, alloc: Global, most: u64) -> Result<Option<Value>, Halt>
         requires good { IsGood most self.old }
         ensures good { IsGood most self.new }
@@ -232,7 +230,7 @@ impl Progress {
         }
     }
 
-    // Reads a head, or takes what the last one was found to be: whether all of it has come.
+    // Reads a head, or what the last head announced. True: it has come completely.
     fn turn(&mut self, alloc: Global, most: u64) -> Result<bool, Halt>
         requires good { IsGood most self.old }
         requires done { self.old.done ≡ None }
@@ -248,7 +246,7 @@ impl Progress {
         }
     }
 
-    // Reads on in a head, to its end or as far as the bytes go: whether the end came.
+    // Reads a head to its end, or as far as the bytes go. True: its end came.
     fn go_on_in_head(&mut self, head: Head, most: u64) -> Result<bool, Halt>
         requires good { IsGood most self.old }
         requires head { (self.old.done ≡ None) × (self.old.next ≡ Next.Head head) }
@@ -275,7 +273,7 @@ impl Progress {
         }
     }
 
-    // Takes what a head was found to be, if all of it has come: whether it has.
+    // Takes what a head announced. True: it has come completely.
     fn take_found(&mut self, alloc: Global, found: Found, most: u64) -> Result<bool, Halt>
         requires good { IsGood most self.old }
         requires next { (self.old.done ≡ None) × (self.old.next ≡ Next.Found found) }
@@ -300,7 +298,7 @@ impl Progress {
         Ok(true)
     }
 
-    // The value that came behind the last head, of which no byte is pending.
+    // Sets the complete value of the last head, of which no byte is pending.
     fn finish(&mut self, value: Value)
         ensures done { self.new.done ≡ Some value }
         ensures next { self.new.next ≡ Next.Head Head.Type }
@@ -313,8 +311,8 @@ impl Progress {
         self.needed = 0;
     }
 
-    // Puts the value that came into its list, and closes those that are whole with it: the outermost
-    // value, if it is whole.
+    // Puts a complete value into its list, and closes the lists that it completes. Returns the
+    // outermost value if it is complete.
     fn put_done(&mut self) -> Result<Option<Value>, AllocError>
         ensures good { (most : ℕ) → IsGood most self.old → IsGood most self.new }
         ensures fresh { (most : ℕ) → IsGood most self.old
@@ -343,7 +341,7 @@ impl Progress {
         }
     }
 
-    // Opens a list of so many members, or gives the empty one.
+    // Opens a list of `n` members, or completes the empty one.
     fn open_list(&mut self, alloc: Global, most: u64, n: u64) -> Result<(), AllocError>
         requires good { IsGood most self.old }
         requires next { (self.old.done ≡ None) × (self.old.next ≡ Next.Found (Found.Members n)) }
@@ -368,7 +366,7 @@ impl Progress {
         Ok(())
     }
 
-    // Takes a payload, if all of it and its line end have come.
+    // Takes a payload with its line end, if both have come.
     fn take_bulk(&mut self, n: u64, most: u64) -> Result<bool, Halt>
         requires good { IsGood most self.old }
         requires next { (self.old.done ≡ None) × (self.old.next ≡ Next.Found (Found.Payload n)) }
@@ -403,7 +401,7 @@ impl Progress {
         }
     }
 
-    // Takes a line of text, if all of it has come.
+    // Takes a line of text, if it has come completely.
     fn take_line(&mut self, line: Line, most: u64) -> Result<bool, Halt>
         requires good { IsGood most self.old }
         requires next { (self.old.done ≡ None) × (self.old.next ≡ Next.Found (Found.Line line)) }
@@ -428,7 +426,7 @@ impl Progress {
                 Ok(true)
             }
             Err(Stop::Unfinished) => {
-                // The last byte can be the CR of the line's end.
+                // (the last byte can be the CR of the line's end)
                 self.seen = visible.saturating_sub(1);
                 Ok(false)
             }

@@ -14,42 +14,42 @@ use crate::value::Value;
 use std::alloc::Global;
 use std::marker::Model;
 
-/// How many members an array may have.
+/// The most members of an array.
 ///
-/// The other limits are the same for all streams: 1,048,576 bytes in a bulk string, 65,536 bytes in the line of a simple
-/// string, an error or an integer, arrays at most eight deep (a null array counts as one), and 8,388,608 bytes in the
-/// text of one outermost value.
+/// The other limits are the same for all streams. A bulk string has at most 1,048,576 bytes, the line of a simple
+/// string, an error or an integer 65,536, and the text of one outermost value 8,388,608. Arrays are at most eight deep;
+/// a null array counts as one.
 #[derive(Clone, Copy, Debug, PartialEq, Eq, Drop)]
 pub struct Limits {
-    /// The greatest number of members of an array.
+    /// The most members of an array.
     pub array: u32,
 }
 
 /// The most members of an array that a client may send.
 pub const CLIENT_MEMBERS: u32 = 1_024;
 
-/// The most members of an array that a host may answer.
+/// The most members of an array in a host's reply.
 pub const HOST_MEMBERS: u32 = 65_536;
 
 impl Limits {
-    /// What a client may send: arrays of at most 1,024 members.
+    /// A client's commands: arrays of at most 1,024 members.
     pub const CLIENT: Limits = Limits {
         array: CLIENT_MEMBERS,
     };
 
-    /// What a host may answer: arrays of at most 65,536 members.
+    /// A host's replies: arrays of at most 65,536 members.
     pub const HOST: Limits = Limits {
         array: HOST_MEMBERS,
     };
 }
 
-/// A reader of a stream that comes in pieces, whatever the pieces are.
+/// A reader of a stream that comes in any pieces.
 ///
-/// It is fed the bytes of the stream in order and gives the values whose texts stand in them, one
-/// after the other. It goes on where it stopped, and of an unfinished value it keeps the members that
-/// came and the bytes of the text or payload that is not whole yet. A payload of at least 4,096 bytes
-/// and an eighth of the buffer that it was fed into is given as a part of that buffer; any other is
-/// copied. While no byte is pending it keeps no buffer of more than 32,768 bytes.
+/// It is fed the bytes of the stream in order, and returns the values one after another. It
+/// continues where it stopped: of an unfinished value it keeps the complete members, and the bytes
+/// of an incomplete text or payload. A payload of at least 4,096 bytes and an eighth of its buffer
+/// is returned as a part of that buffer; any other is copied. While no byte is pending it keeps a
+/// buffer of at most 32,768 bytes.
 #[derive(Drop)]
 pub struct Reader {
     progress: Progress,
@@ -89,8 +89,8 @@ impl Reader {
         }
     }
 
-    /// How many bytes it holds of the unfinished value: those fed, less the texts of the values given; 0 after a refusal
-    /// 102 to 107 was told.
+    /// The bytes held of the unfinished value: those fed, without the texts of the values returned; 0 after a refusal
+    /// 102 to 107.
     ///
     /// At most 8,388,608 after `next_value` has answered `None`.
     pub fn held(&self) -> u64
@@ -105,8 +105,8 @@ impl Reader {
         }
     }
 
-    /// From here on the stream is what stands behind the values given: the bytes that came of the unfinished value are its first,
-    /// and offsets count from there. Nothing may be refused yet.
+    /// Starts a new stream behind the values returned. It begins with the held bytes, and offsets count from there.
+    /// There must not have been a refusal.
     pub fn begin_behind(&mut self)
         requires { self.old.refusal ≡ None }
         ensures stands { (b : List ℕ) (ts : List Tree) → Stands self.old b ts
@@ -120,8 +120,8 @@ impl Reader {
 
     /// Takes the next piece of the stream.
     ///
-    /// Refused 101 (no memory), and then the reader is as it was and the piece may be fed again; or by the refusal 102 to
-    /// 107 that `next_value` told before, as ever after it.
+    /// Refused 101 (no memory): nothing has changed, and the piece may be fed again. Refused by 102 to 107 once
+    /// `next_value` has returned that refusal.
     pub fn feed(&mut self, piece: &[u8]) -> Result<(), RespError>
         ensures ok { OnOk result ((b : List ℕ) (ts : List Tree) → Stands self.old b ts
             → Stands self.new (b ++ piece.now) ts) }
@@ -141,13 +141,12 @@ impl Reader {
         Ok(())
     }
 
-    /// The next whole value, or `None` where what has come of it is no whole value yet.
+    /// The next complete value, or `None` if it hasn't come completely.
     ///
-    /// Refused 101 (no memory), and then the reader stands for the same bytes and values as before and goes on at the next
-    /// call; or 102 to 107 at the first byte with which the unfinished value is no beginning of any text, or at byte
-    /// 8,388,609 of it, after all whole values before it. Where two of these numbers fit the place of the byte, the lower
-    /// is told. Once 102 to 107 was told, the reader holds no bytes, and `feed` and `next_value` answer the same refusal
-    /// from then on.
+    /// Refused 101 (no memory): bytes and values are as before, and the next call continues. Refused 102 to 107 at the
+    /// first byte with which the unfinished value is no beginning of a text, or at its byte 8,388,609, after all values
+    /// before it. Where two of these numbers fit at that byte, the lower one is returned. From then on the reader holds
+    /// no bytes, and `feed` and `next_value` return the same refusal.
     pub fn next_value(&mut self) -> Result<Option<Value>, RespError>
         ensures value { IfOk result (λ o. IfSome o (λ v. (b : List ℕ) (ts : List Tree)
             → Stands self.old b ts
@@ -181,8 +180,8 @@ impl Reader {
         self.read_value()
     }
 
-    // What `next_value` does where bytes can lead further. It is a function of its own so that a call within a payload doesn't
-    // prepare for it.
+    // The part of `next_value` for bytes that can lead further. It is a separate function so that a call within a
+    // payload doesn't prepare for it.
     #[inline(never)]
     fn read_value(&mut self) -> Result<Option<Value>, RespError>
         requires untold { self.old.refusal ≡ None }

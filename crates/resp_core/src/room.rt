@@ -5,20 +5,20 @@ use bytes::{Bytes, BytesMut};
 use std::alloc::{AllocError, Global};
 use std::marker::Model;
 
-// How many texts the longest block has room for at least: a longer text doesn't share one.
+// The longest block has room for at least this many texts; a longer text doesn't share one.
 const MIN_TEXTS: usize = 4;
 
-// What part of the longest block the first one is.
+// The first block is this fraction of the longest.
 const FIRST_BLOCK: usize = 8;
 
-/// The room behind the texts of a block.
+/// The free rest of a block of texts.
 ///
-/// Where a text lies changes nothing of it, so that contracts see no difference between two rooms.
+/// Where a text lies doesn't change it, so all rooms look alike to contracts.
 #[derive(Drop)]
 pub(crate) struct Room {
     alloc: Global,
     left: BytesMut,
-    // How long the block is, and how long the next one is at most.
+    // The length of the block, and the greatest length of the next one.
     block_len: usize,
     longest: usize,
 }
@@ -34,7 +34,7 @@ impl Model for Room {
 }
 
 impl Room {
-    /// No block yet. Those to come have at most so many bytes.
+    /// No block yet. Later blocks have at most `longest` bytes.
     pub(crate) fn new(alloc: Global, longest: usize) -> Room {
         Room {
             alloc,
@@ -44,8 +44,8 @@ impl Room {
         }
     }
 
-    /// A copy of the text: behind the others, or in the next block if there is no room. A text of more than a quarter of the
-    /// longest block has a block of its own.
+    /// A copy of the text, behind the others or in the next block. A text of more than a quarter of the longest block
+    /// has a block of its own.
     pub(crate) fn copy_of(&mut self, text: &[u8]) -> Result<Bytes, AllocError>
         ensures { IfOk result (λ bytes. bytes ≡ text.now) }
     {
@@ -61,7 +61,7 @@ impl Room {
         copied
     }
 
-    // Begins a block: twice as long as the one before it, or as long as its first text if that is longer.
+    // Begins a block: twice as long as the last one, or as long as its first text if that is longer.
     fn begin_block(&mut self, text_len: usize) -> Result<(), AllocError> {
         let block_len = self
             .block_len

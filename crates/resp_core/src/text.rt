@@ -11,17 +11,16 @@ use crate::value::{Value, Values};
 use itoa::{Buffer, write_digits};
 use std::alloc::{AllocError, Global};
 
-// How many digits a number of 64 bits has at most.
+// The most digits of a 64-bit number.
 const MAX_DIGITS: usize = 20;
 
-// Places for a type byte and digits, and the end of a line.
+// Room for a type byte, digits and a line end.
 const EMPTY_HEAD: [u8; 23] = *b"000000000000000000000\r\n";
 
 /// Appends the one spelling of the value, or nothing.
 ///
-/// Lengths and integers are written without a plus sign and without leading zeros, and zero as `0`. The value has to be
-/// plain: `Value::is_plain` tells. Memory is asked for once, for the whole text. Refused 101 (no memory), and then nothing
-/// is appended.
+/// Lengths and integers have no plus sign and no leading zeros, and zero is `0`. The value must be plain
+/// (`Value::is_plain`). Memory for the whole text is reserved once. Refused 101 (no memory): nothing is appended.
 pub fn put_text(_alloc: Global, value: &Value, out: &mut Vec<u8>) -> Result<(), RespError>
     requires { IsTrue (is_plain_tree (tree_of value.now)) }
     ensures ok { OnOk result (out.new.items ≡ out.old.items ++ text (tree_of value.now)) }
@@ -39,7 +38,7 @@ pub fn put_text(_alloc: Global, value: &Value, out: &mut Vec<u8>) -> Result<(), 
 
 /// Appends the text of a bulk string with this payload, or nothing.
 ///
-/// Memory is asked for once. It is refused only where there is none.
+/// Memory is reserved once. Refused only where there is none.
 pub fn put_bulk(payload: &[u8], out: &mut Vec<u8>) -> Result<(), AllocError>
     ensures ok { OnOk result (out.new.items ≡ out.old.items ++ text (bulk payload.now)) }
     ensures err { OnErr result (out.new.items ≡ out.old.items) }
@@ -53,7 +52,7 @@ pub fn put_bulk(payload: &[u8], out: &mut Vec<u8>) -> Result<(), AllocError>
     Ok(())
 }
 
-/// Appends the one spelling of the value. Where memory is refused, a part of it may have been appended.
+/// Appends the one spelling of the value. Where memory is refused, a part may have been appended.
 #[cycle(text)]
 pub(crate) fn append_value(value: &Value, out: &mut Vec<u8>) -> Result<(), AllocError>
     ensures ok { OnOk result (out.new.items ≡ out.old.items ++ text (tree_of value.now)) }
@@ -101,12 +100,12 @@ fn append_bulk(payload: &[u8], out: &mut Vec<u8>) -> Result<(), AllocError>
     out.extend_from_slice(b"\r\n")
 }
 
-// Appends a type byte and the line of a number, which are put together before they are copied.
+// Appends a type byte and a number's line in one copy.
 fn append_count(kind: u8, count: u64, out: &mut Vec<u8>) -> Result<(), AllocError>
     ensures ok { OnOk result (out.new.items ≡ out.old.items ++ line kind (decimal count)) }
     ensures err { OnErr result (Extends out.old.items out.new.items) }
 {
-    // Most numbers have one digit or two.
+    // (most numbers have one or two digits)
     if count < 10 {
         return out.extend_from_slice(&[kind, b'0' + count as u8, b'\r', b'\n']);
     }
@@ -130,9 +129,9 @@ fn append_line(kind: u8, bytes: &[u8], out: &mut Vec<u8>) -> Result<(), AllocErr
 }
 
 impl Value {
-    /// How many bytes the value's one spelling has, where the greatest number of 64 bits stands for any more.
+    /// The length of the value's one spelling; the greatest `u64` stands for any more.
     ///
-    /// The value needn't be plain: the bytes of its strings count, whatever they are.
+    /// The value needn't be plain: all bytes of its strings count.
     #[cycle(length)]
     pub fn text_len(&self) -> u64
         ensures { result ≡ told_offset (length (text (tree_of self.now))) }
@@ -165,8 +164,7 @@ fn members_len(values: &Values) -> u64
     total
 }
 
-/// The length of a bulk string's text, of so many bytes of payload, where the greatest number of 64 bits stands for any
-/// more.
+/// The length of a bulk string's text with this many bytes of payload; the greatest `u64` stands for any more.
 pub fn bulk_len(payload: u64) -> u64
     ensures { result ≡ told_offset (length (decimal payload) + 3 + payload + 2) }
 {
@@ -175,14 +173,14 @@ pub fn bulk_len(payload: u64) -> u64
         .saturating_add(2)
 }
 
-// The length of a line with its type and its end, of so many bytes between them.
+// The length of a line with its type byte and its end, and this many bytes between.
 fn line_len(bytes: u64) -> u64
     ensures { result ≡ told_offset (bytes + 3) }
 {
     bytes.saturating_add(3)
 }
 
-// How many digits the number has, and a minus sign where it is negative.
+// The number of digits, with a minus sign if the number is negative.
 fn signed_digits(n: i64) -> u64
     ensures { result ≡ length (signed_decimal n) }
 {
@@ -190,7 +188,7 @@ fn signed_digits(n: i64) -> u64
     if n < 0 { count + 1 } else { count }
 }
 
-// How many digits the number has.
+// The number of digits.
 fn digits(n: u64) -> u64
     ensures { result ≡ length (decimal n) }
 {

@@ -11,16 +11,16 @@ use bytes::Bytes;
 use std::alloc::{AllocError, Global};
 use std::marker::Model;
 
-// How many bytes a block has at most that texts share.
+// The most bytes of a block that texts share.
 pub(crate) const MAX_TEXT_BLOCK: usize = 16_384;
 
-// How many bytes a text has at most that shares one.
+// The most bytes of a text that shares a block.
 const MAX_SHORT: usize = 1_024;
 
-/// Where texts are written: short ones one behind the other, in blocks of memory that they share.
+/// Writes texts. Short ones share blocks of memory.
 ///
-/// A text of more than 1,024 bytes has a block of its own. A shared one has at most 16,384 bytes, and goes with the last of
-/// its texts. Where a text lies changes nothing of it, so that contracts see no difference between two of these.
+/// A text of more than 1,024 bytes has a block of its own. A shared block has at most 16,384 bytes, and is freed with
+/// the last of its texts. Where a text lies doesn't change it, so all `Texts` look alike to contracts.
 #[derive(Drop)]
 pub struct Texts {
     alloc: Global,
@@ -47,8 +47,8 @@ impl Texts {
         }
     }
 
-    /// The one spelling of the value, which has to be plain: `Value::is_plain` tells. `text_len` is what `Value::text_len`
-    /// says of it: memory for so many bytes is asked for at once, and with a wrong number the text is the same.
+    /// The one spelling of the value, which must be plain (`Value::is_plain`). `text_len` is its `Value::text_len`:
+    /// that much memory is reserved at once. A wrong number doesn't change the text.
     ///
     /// Refused only for want of memory.
     pub fn text_of(&mut self, value: &Value, text_len: u64) -> Result<Bytes, AllocError>
@@ -66,7 +66,7 @@ impl Texts {
         self.room.copy_of(self.draft.as_slice())
     }
 
-    /// A text that is written already. A short one is copied to the block that is shared.
+    /// Keeps a text that is written already. A short one is copied to the shared block.
     ///
     /// Refused only for want of memory.
     pub fn hold(&mut self, text: Vec<u8>) -> Result<Bytes, AllocError>

@@ -62,7 +62,7 @@ impl Value {
     ghost use Rattle.resp_core.specs.Value.{tree_of};
     ghost use Rattle.resp_core.specs.Tree.{is_plain_tree};
 
-    /// Whether no simple string and no error in it has a CR or an LF, so that it can be written.
+    /// Whether it can be written: no simple string and no error in it has a CR or an LF.
     #[cycle(plain)]
     pub fn is_plain(&self) -> bool
         ensures { result ≡ is_plain_tree (tree_of self.now) }
@@ -76,7 +76,7 @@ impl Value {
 }
 
 impl Value {
-    /// An equal value, whose payloads share their bytes with this one.
+    /// An equal value that shares the bytes of its payloads with this one.
     ///
     /// Refused 101 (no memory).
     #[cycle(share)]
@@ -120,7 +120,7 @@ fn are_plain(values: &Values) -> bool
     true
 }
 
-// No CR and no LF.
+// Whether there is no CR and no LF.
 fn is_line(bytes: &[u8]) -> bool
     ensures { result ≡ list_all is_text_byte bytes.now }
 {

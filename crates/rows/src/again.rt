@@ -1,7 +1,7 @@
-//! Calls that are made once more.
+//! Calls that are tried twice.
 
-/// The answer of a call, which is made once more where it fails, since memory may have been refused. What is called has
-/// to be as it was after a failure.
+/// Makes a call, and once more if it fails, since memory may have been refused. A failed call has to leave everything
+/// as it was.
 macro_rules! again {
     ($call:expr) => {
         match $call {

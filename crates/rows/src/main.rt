@@ -1,8 +1,9 @@
-//! Rows of examples as data: a script on standard input, and beside each of its lines what the proxy's crates answer.
+//! Examples as data: reads a script from standard input, and prints beside each line what the proxy's crates answer.
 //!
-//! A row is a line `row NAME SUBJECT ARGUMENTS..` and the lines below it, one action each. The program prints every line
-//! as it stands, and behind an action ` => ` and its answer. So its output, cut at each ` => `, is its input. Blank lines
-//! and lines that begin with `#` are copied.
+//! A row is a line `row NAME SUBJECT ARGUMENTS..` and the lines below it, one action each. Every line is printed as it
+//! stands, and after an action ` => ` and its answer. So the output, cut at each ` => `, is the input. Blank lines and
+//! lines that begin with `#` are copied. It stands on the core and the parts below it. Begin with `script.rt`, then
+//! `subject.rt`.
 #![tactic(auto)]
 
 mod again;

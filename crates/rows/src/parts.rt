@@ -1,4 +1,4 @@
-//! The parts that a proxy is made of, each on its own.
+//! Rows of single parts of the proxy.
 
 pub mod ejection;
 pub mod files;

@@ -1,5 +1,5 @@
-//! A plain and slow program of the proxy, for tests: it computes each answer from the list of all steps, as the definitions
-//! of a legal history say it.
+//! A plain and slow reference proxy for tests. It computes each answer from the list of all steps, as the definitions
+//! of a legal history state it.
 
 mod answering;
 mod arrival;

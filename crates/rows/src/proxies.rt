@@ -1,4 +1,4 @@
-//! The core and the plain program side by side: each action is made on both, and their answers have to be the same.
+//! The core and the plain program side by side: each action is made on both, and their answers must be equal.
 
 mod agreement;
 pub mod answers;
@@ -33,18 +33,18 @@ use std::mem;
 // The pass of a row's events, until an action names another.
 const FIRST_PASS: u64 = 7;
 
-// What is told of a proxy that was made.
+// Printed for a proxy that was made.
 const MADE: &str = "made";
 
 /// The core, the plain program, or both, on one setting.
 #[derive(Drop)]
 pub struct Proxies {
     core: Option<Core>,
-    // The core that goes on from this one, or that this one goes on from.
+    // The core made by `hand_over`, or the one that this one starts from.
     other: Option<Core>,
     plain: Option<Reference>,
     pass: u64,
-    // The events of a run that hasn't ended.
+    // The events of an unfinished run.
     run: Option<Run>,
 }
 
@@ -84,12 +84,15 @@ impl Proxies {
         Ok(())
     }
 
-    /// Makes one action: an event, a question, or one of these.
+    /// Makes one action: an event, a question, or one of these:
     ///
-    /// `new ARGUMENTS` begins anew, `pass N` is the pass of all events behind it, the events between `run` and `end` are
-    /// taken by one call, `random SEED EVENTS` makes so many random events, `random_runs SEEDS EVENTS` as many on fresh
-    /// proxies for each seed, and `refusals` tells all refusals. `hand_over ARGUMENTS` makes a core that goes on from
-    /// this one on the setting of these arguments, and `other` turns to that core, and back.
+    /// - `new ARGUMENTS` starts again;
+    /// - `pass N` sets the pass of all later events;
+    /// - the events between `run` and `end` are taken by one call;
+    /// - `random SEED EVENTS` makes this many random events;
+    /// - `random_runs SEEDS EVENTS` makes this many on fresh proxies for each seed;
+    /// - `refusals` lists all refusals;
+    /// - `hand_over ARGUMENTS` makes a core from this one's state on another setting, and `other` switches between the two.
     pub(crate) fn act(&mut self, alloc: Global, line: &str) -> Result<String> {
         let (name, rest) = first_word(line);
         match name {
@@ -107,7 +110,7 @@ impl Proxies {
         }
     }
 
-    // Begins anew where nothing is wrong with the setting.
+    // Starts again, if the setting has no error.
     fn begin(&mut self, alloc: Global, arguments: &str) -> Result<String> {
         let setting = Setting::read(alloc, arguments)?;
         let core = begun(alloc, &mut self.core, setting.core(alloc));
@@ -116,7 +119,7 @@ impl Proxies {
         agreement(alloc, core, plain)
     }
 
-    // Makes a core that goes on from this one, and tells how long this one's journal is.
+    // Makes a core that starts from this one's state, and returns the length of this one's journal.
     fn hand_over(&mut self, alloc: Global, arguments: &str) -> Result<String> {
         let Some(core) = &self.core else {
             bail!("only a core hands over");
@@ -177,7 +180,7 @@ impl Proxies {
         }
     }
 
-    /// How many steps there are behind random events, or the first of them whose answers differ.
+    /// The number of steps after random events, or the first event whose answers differ.
     pub(crate) fn run_randomly(
         &mut self,
         alloc: Global,
@@ -210,7 +213,7 @@ impl Proxies {
     }
 }
 
-// Puts the new proxy in the place of the old one, if there is one and nothing is wrong with the setting.
+// Replaces the proxy by a new one, if there is a proxy and the setting has no error.
 fn begun<P: Drop>(
     alloc: Global,
     proxy: &mut Option<P>,
@@ -228,7 +231,7 @@ fn begun<P: Drop>(
     }
 }
 
-// What the proxy makes of the event of the line, if there is a proxy.
+// The result of the line's event, if there is a proxy.
 fn taken_by<P: Proxy>(
     alloc: Global,
     proxy: &mut Option<P>,

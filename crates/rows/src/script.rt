@@ -1,4 +1,4 @@
-//! The script: rows, their actions, and what is printed beside them.
+//! The script: rows, their actions, and the answers printed beside them.
 
 use crate::again::again;
 use crate::series::Series;
@@ -7,7 +7,7 @@ use crate::text::{first_word, number};
 use anyhow::{Context, Result, bail};
 use std::alloc::Global;
 
-/// Prints each line of the script, and behind an action ` => ` and its answer.
+/// Prints each line of the script, and after an action ` => ` and its answer.
 pub(crate) fn play(rt: &impl Print, alloc: Global, text: &str) -> Result<()> {
     let mut subject = None;
     let played = play_lines(rt, alloc, text, &mut subject);
@@ -36,7 +36,7 @@ fn play_lines(
     Ok(())
 }
 
-// The answer to the line; none to a line that begins a row, and to one that asks nothing.
+// The answer to a line; empty for one that begins a row or isn't an action.
 fn read_line(alloc: Global, subject: &mut Option<Subject>, line: &str) -> Result<String> {
     if line.is_empty() || line.starts_with('#') {
         return Ok(String::new(alloc));
@@ -55,7 +55,7 @@ fn read_line(alloc: Global, subject: &mut Option<Subject>, line: &str) -> Result
     }
 }
 
-// Makes an action so many times: the words are how often, and the action.
+// Makes an action several times, by the words `TIMES ACTION`.
 fn repeated(alloc: Global, subject: &mut Subject, words: &str) -> Result<String> {
     let (times, action) = first_word(words);
     let times: u64 = number(times)?;

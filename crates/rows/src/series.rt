@@ -1,11 +1,11 @@
-//! The answers to an action that is made many times.
+//! The answers to a repeated action.
 
 use crate::again::again;
 use crate::shown::shown;
 use anyhow::Result;
 use std::alloc::Global;
 
-/// Answers in their order, told by runs: how many are equal, or differ in that their first number counts up.
+/// Answers in their order, printed by runs. Those of a run are equal, or their first numbers count up.
 #[derive(Drop)]
 pub struct Series {
     alloc: Global,
@@ -14,7 +14,7 @@ pub struct Series {
     run: Option<Run>,
 }
 
-// Answers that are equal, or that count up.
+// Equal answers, or answers that count up.
 #[derive(Drop)]
 struct Run {
     first: String,
@@ -44,7 +44,7 @@ impl Series {
         }
     }
 
-    // Begins a run with the answer, which ends the run that there is.
+    // Begins a run with the answer, and ends the present one.
     fn begin(&mut self, answer: String) -> Result<()> {
         let fresh = Run::of(self.alloc, answer)?;
         if let Some(run) = self.run.replace(fresh) {
@@ -55,7 +55,7 @@ impl Series {
         Ok(())
     }
 
-    /// Each run as its length and its answers, the first and the last where they count up.
+    /// Each run's length with its answer, or the first and the last where they count up.
     pub(crate) fn text(self) -> Result<String> {
         let Series { alloc, ended, run } = self;
         let mut text = ended;
@@ -76,7 +76,7 @@ impl Run {
         })
     }
 
-    // Whether the answer is one more of the run.
+    // Whether the answer belongs to the run.
     fn goes_on_with(&self, answer: &str) -> bool {
         let last = self.last.as_str();
         if self.count > 1 && self.counts_up {
@@ -92,7 +92,7 @@ impl Run {
         self.count = self.count.saturating_add(1);
     }
 
-    // Appends the run behind others.
+    // Appends the run to the text.
     fn tell(&self, alloc: Global, text: &mut String) -> Result<()> {
         let told = self.text(alloc)?;
         if !text.is_empty() {
@@ -112,7 +112,7 @@ impl Run {
     }
 }
 
-// Whether the answers differ in their first numbers alone, and the second's is the first's and one.
+// Whether the answers differ only in their first numbers, and the second's is greater by one.
 fn is_next(one: &str, other: &str) -> bool {
     match (Numbered::of(one), Numbered::of(other)) {
         (Some(one), Some(other)) => {
@@ -124,7 +124,7 @@ fn is_next(one: &str, other: &str) -> bool {
     }
 }
 
-// A text, taken apart round its first number.
+// A text split at its first number.
 #[derive(Clone, Copy)]
 struct Numbered<'a> {
     before: &'a [u8],
@@ -147,7 +147,7 @@ impl<'a> Numbered<'a> {
     }
 }
 
-// The text up to its first digit, or to its first byte that is none, and what stands behind.
+// The text up to its first digit, or up to its first other byte, and the rest.
 fn cut_at(text: &[u8], digit: bool) -> (&[u8], &[u8]) {
     for at in 0..text.len() {
         if text[at].is_ascii_digit() == digit {
@@ -157,7 +157,7 @@ fn cut_at(text: &[u8], digit: bool) -> (&[u8], &[u8]) {
     text.split_at(text.len())
 }
 
-// The number that the digits are; the greatest where it has no room.
+// The number of the digits; the greatest number if it doesn't fit.
 fn number_of(digits: &[u8]) -> u64 {
     let mut number = 0u64;
     for digit in digits {

@@ -6,7 +6,7 @@ use anyhow::Result;
 use std::alloc::Global;
 use std::fmt::{Debug, Display};
 
-/// What is printed of an answer.
+/// The printed form of an answer.
 pub(crate) fn shown(alloc: Global, answer: impl Display + Drop) -> Result<String> {
     Ok(again!(answer.to_string(alloc))?)
 }
@@ -18,13 +18,13 @@ pub(crate) fn escaped(alloc: Global, bytes: &[u8]) -> Result<String> {
     Ok(text)
 }
 
-/// A refusal in words: its number, and its name and fields as they stand in the code.
+/// A refusal in words: its number, then its name and fields as in the code.
 pub(crate) fn refusal_words(alloc: Global, number: u16, refusal: &impl Debug) -> Result<String> {
     let shown = shown(alloc, format_args!("{number} {refusal:?}"))?;
     again!(without_marks(alloc, shown.as_str()))
 }
 
-// The words that are no brace, without the colons behind them.
+// The words without braces, and without the colons behind them.
 fn without_marks(alloc: Global, words: &str) -> Result<String> {
     let mut text = String::new(alloc);
     for word in words.split_whitespace() {

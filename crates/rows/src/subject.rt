@@ -1,4 +1,4 @@
-//! What a row is about.
+//! The subject of a row.
 
 use crate::parts::reader::ReaderSubject;
 use crate::parts::{
@@ -15,8 +15,7 @@ use std::alloc::Global;
 use stub_server::Stub;
 use upstream_pipe::Pipe;
 
-/// What the actions of a row are made on. What has a state stands in a block of its own, so that who holds a subject
-/// needn't know how large the largest of them is.
+/// The subject of a row's actions. Those with a state are boxed, so that a subject's size doesn't depend on the largest.
 #[derive(Drop)]
 pub enum Subject {
     /// The core, the plain program, or both.
@@ -35,11 +34,11 @@ pub enum Subject {
     Journal(Box<Journal<u64, u64>>),
     /// The host in memory, which has no keys at first.
     Stub(Box<Stub>),
-    /// The ring that the row made last, and keys.
+    /// The row's latest ring, and keys.
     Ring(Box<Option<Ring>>),
     /// Success rates.
     Rates,
-    /// Outlier detection: the ejector that the row made last.
+    /// Outlier detection: the row's latest ejector.
     Ejector(Box<Option<Ejector>>),
     /// Settings files.
     Files,
@@ -48,7 +47,7 @@ pub enum Subject {
 }
 
 impl Subject {
-    /// Begins a row, by the words behind its name: the subject and its arguments.
+    /// Begins a row by the words behind its name: the subject and its arguments.
     pub(crate) fn open(alloc: Global, words: &str) -> Result<Subject> {
         let (name, arguments) = first_word(words);
         match name {
@@ -81,7 +80,7 @@ impl Subject {
         })
     }
 
-    /// Makes one action, and gives its answer in words.
+    /// Makes one action, and returns its answer in words.
     pub(crate) fn act(&mut self, alloc: Global, line: &str) -> Result<String> {
         match self {
             Subject::Proxies(proxies) => proxies.act(alloc, line),

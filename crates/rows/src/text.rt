@@ -1,4 +1,4 @@
-//! Words and numbers of the script, and bytes as they stand in it.
+//! Words, numbers and bytes of the script.
 //!
 //! A byte stands for itself, or is written `\r`, `\n`, `\\` or `\xNN` with two hexadecimal digits.
 
@@ -6,17 +6,17 @@ use anyhow::{Result, bail};
 use std::alloc::Global;
 use std::str::FromStr;
 
-/// The first word of a line, and what stands behind the space that follows it.
+/// The first word of a line, and the text behind its space.
 pub(crate) fn first_word(line: &str) -> (&str, &str) {
     line.split_once(' ').unwrap_or((line, ""))
 }
 
-/// The failure where a word names nothing of this kind.
+/// The error for a word that names nothing of this kind.
 pub(crate) fn unknown<T>(kind: &str, word: &str) -> Result<T> {
     bail!("no {kind} is named {word:?}")
 }
 
-/// The number that a word is.
+/// The number in a word.
 pub(crate) fn number<N: FromStr>(word: &str) -> Result<N>
 where
     N::Err: Drop,
@@ -27,7 +27,7 @@ where
     }
 }
 
-/// The bytes that a word stands for; `""` is the empty word.
+/// The bytes of a word; `""` is the empty word.
 pub(crate) fn word_bytes(alloc: Global, word: &str) -> Result<Vec<u8>> {
     if word == "\"\"" {
         return Ok(Vec::new(alloc));
@@ -35,7 +35,7 @@ pub(crate) fn word_bytes(alloc: Global, word: &str) -> Result<Vec<u8>> {
     unescaped(alloc, word)
 }
 
-/// The bytes that a text with escapes stands for.
+/// The bytes of a text with escapes.
 pub(crate) fn unescaped(alloc: Global, text: &str) -> Result<Vec<u8>> {
     let mut bytes = Vec::new(alloc);
     let mut escape = Escape::Outside;
@@ -66,7 +66,7 @@ pub(crate) fn put_escaped(text: &mut String, bytes: &[u8]) -> Result<()> {
     Ok(())
 }
 
-// How much of an escape was read.
+// The part of an escape that was read.
 #[derive(Clone, Copy)]
 enum Escape {
     Outside,
@@ -79,7 +79,7 @@ enum Escape {
 }
 
 impl Escape {
-    // How much was read with this byte, and the byte that is whole with it.
+    // The state after this byte, and the byte that it completes.
     fn read(self, byte: u8) -> Result<(Escape, Option<u8>)> {
         match (self, byte) {
             (Escape::Outside, b'\\') => Ok((Escape::Begun, None)),

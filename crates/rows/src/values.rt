@@ -7,17 +7,17 @@ use proxy_core::Request;
 use resp_core::{Limits, Reader, Value, Values};
 use std::alloc::Global;
 
-// The members of a request of so many bytes are bulk strings of 65,536 bytes as they are written, but the first.
+// A request of a given length has this many members. All but the first are written in 65,536 bytes each.
 const BIG_MEMBERS: usize = 1_024;
 
 // The payload of such a member.
 const BIG_PAYLOAD: usize = 65_526;
 
-// The bytes of such a request but for the first member's payload: 7 for its count, 1,023 members, and 10 round the
-// payload of the first, whose length has five digits.
+// The bytes of such a request without the first member's payload: 7 for the count, 1,023 members, and 10 around the
+// first payload, whose length has five digits.
 const BIG_REST: usize = 7 + 1_023 * 65_536 + 10;
 
-/// The value of a text in RESP2 with escapes, or behind `simple` a simple string of any bytes.
+/// The value of a RESP2 text with escapes; after `simple`, a simple string of any bytes.
 pub(crate) fn value_of(alloc: Global, text: &str) -> Result<Value> {
     match text.strip_prefix("simple ") {
         Some(line) => Ok(Value::Simple(bytes_of(alloc, line)?)),
@@ -57,8 +57,8 @@ pub(crate) fn fed_reader(alloc: Global, text: &str) -> Result<Reader> {
     }
 }
 
-/// The request of the words behind a connection: `broken`, `value VALUE`, `many NAME KEYS`, `bytes LENGTH`, or the words
-/// of a command.
+/// The request in the words behind a connection: `broken`, `value VALUE`, `many NAME KEYS`, `bytes LENGTH`, or the
+/// words of a command.
 pub(crate) fn request_of(alloc: Global, words: &str) -> Result<Request> {
     let (kind, rest) = first_word(words);
     match kind {
@@ -84,7 +84,7 @@ pub(crate) fn bulk(alloc: Global, word: &str) -> Result<Value> {
     Ok(Value::Bulk(Bytes::from_vec(word_bytes(alloc, word)?)?))
 }
 
-// The command of this name with the key `a` so many times.
+// The command of this name with the key `a` repeated.
 fn many(alloc: Global, words: &str) -> Result<Request> {
     let (name, keys) = first_word(words);
     let mut members = Vec::new(alloc);
@@ -93,7 +93,7 @@ fn many(alloc: Global, words: &str) -> Result<Request> {
     Ok(Request::Read(Value::List(Values(members))))
 }
 
-// A list of bulk strings of zeros, whose text has so many bytes.
+// A list of bulk strings of zeros, whose text has this length.
 fn big(alloc: Global, length: usize) -> Result<Request> {
     let Some(first) = length.checked_sub(BIG_REST) else {
         bail!("a request of so few bytes");
@@ -112,7 +112,7 @@ fn big(alloc: Global, length: usize) -> Result<Request> {
     Ok(Request::Read(Value::List(Values(members))))
 }
 
-/// Appends a value so many times.
+/// Appends a value `count` times.
 pub(crate) fn put_copies(
     alloc: Global,
     members: &mut Vec<Value>,

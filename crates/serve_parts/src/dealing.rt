@@ -1,11 +1,11 @@
-//! Which worker gets what: new sockets in turn, and hosts by their numbers.
+//! Assigns new sockets to workers in turn, and hosts by their numbers.
 ghost use Rattle.std.specs.Prelude.{◌≡◌, ◌<◌, ◌+◌, ◌%◌, IfOk};
 ghost use Rattle.serve_parts.specs.Turns.{hosts_of};
 
 use std::alloc::{AllocError, Global};
 use std::marker::Model;
 
-/// Whose turn it is, of so many who take turns.
+/// Round robin over a number of workers.
 #[derive(Drop)]
 pub struct Rota {
     next: usize,
@@ -24,7 +24,7 @@ impl Model for Rota {
 }
 
 impl Rota {
-    /// Of so many, or of one where there is none, it is the first one's turn.
+    /// Starts with the first of `count`, or of one if that is 0.
     pub fn new(count: usize) -> Rota
         ensures next { result.next ≡ 0 }
         ensures count { 0 < count → result.count ≡ count }
@@ -36,7 +36,7 @@ impl Rota {
         }
     }
 
-    /// The one whose turn it is. Then it is the next one's, and behind the last the first one's.
+    /// Returns the one whose turn it is. The first one follows the last.
     pub fn take(&mut self) -> usize
         ensures turn { result ≡ self.old.next }
         ensures next { self.new.next ≡ (self.old.next + 1) % self.old.count }
@@ -48,7 +48,7 @@ impl Rota {
     }
 }
 
-/// The numbers of a worker's hosts, of so many: each one that leaves the worker's place behind, once, and no other, from the
+/// The numbers of a worker's hosts: those below `hosts` whose remainder by `workers` is its place, each once, from the
 /// lowest on.
 ///
 /// Refused where there is no memory.

@@ -1,4 +1,4 @@
-//! A writer that is given large pieces.
+//! A buffered writer that writes large pieces.
 ghost use Rattle.std.specs.Prelude.{◌≡◌, ◌≢◌, ◌⊎◌, ◌≤◌, ◌*◌, max, ◌==◌, true, false, ℕ, [], ◌++◌, length, take, IfOk, IfErr, OnOk, OnErr, IsErr};
 ghost use Rattle.std.specs.Io.{WritesAtMost};
 ghost use Rattle.std.specs.Io.KnownBytes.{WriteAppends};
@@ -10,27 +10,27 @@ use std::io::{ErrorKind, Write};
 use std::marker::Model;
 use std::{io, mem};
 
-/// So many bytes or more are written before further ones are gathered, and a text of so many isn't gathered at all.
+/// Gathered bytes are written from this many on before more are gathered, and a text of this length isn't gathered at all.
 pub const MAX_GATHERED: usize = 65_536;
 
-// A write that is interrupted so often in a row has failed.
+// A write interrupted this often in a row has failed.
 const MAX_TRIES: u32 = 1_000;
 
-/// A writer, and the bytes that it is still to be given.
+/// A writer, and the bytes gathered for it.
 ///
-/// A write that is interrupted is made again; 1,000 interruptions in a row are a failed write. A write that takes nothing of
-/// what it was given has failed too. One that takes less than it was given says that the writer takes no more for now.
+/// An interrupted write is made again; 1,000 interruptions in a row are a failed write. A write that takes nothing has
+/// failed too. After one that takes less than it was given, the writer takes no more for now.
 ///
-/// Contracts see what the writer took, as far as it tells, what is gathered, whether the writer may take something, and
-/// whether a write failed.
+/// Contracts see the bytes that the writer took, as far as it reports them, the gathered bytes, whether the writer may
+/// take more, and whether a write failed.
 #[derive(Drop)]
 pub struct Gatherer<W: Write> {
     alloc: Global,
     writer: W,
     bytes: Vec<u8>,
-    // So many of them, in front, are written.
+    // The number of bytes in front that are written.
     written: usize,
-    // Whether the writer may take something.
+    // Whether the writer may take more.
     is_open: bool,
     is_broken: bool,
 }
@@ -73,7 +73,7 @@ fn is_interrupted(told: &io::Result<usize>) -> bool
     }
 }
 
-// One write, made again where it is interrupted.
+// Writes once, again where it is interrupted.
 fn write_once<W: Write>(writer: &mut W, bytes: &[u8]) -> io::Result<usize>
     ensures bound { WritesAtMost result bytes.now }
     ensures bytes { WriteAppends (W.contents writer.old) (W.contents writer.new) result bytes.now }
@@ -90,7 +90,7 @@ fn write_once<W: Write>(writer: &mut W, bytes: &[u8]) -> io::Result<usize>
 }
 
 impl<W: Write> Gatherer<W> {
-    /// Nothing is gathered, and the writer may take something.
+    /// Nothing is gathered, and the writer may take bytes.
     pub fn new(alloc: Global, writer: W) -> Gatherer<W>
         ensures held { result.held ≡ W.contents writer }
         ensures gathered { result.gathered ≡ [] }
@@ -107,21 +107,21 @@ impl<W: Write> Gatherer<W> {
         }
     }
 
-    /// The writer, to ask it what it is. What is written past the gatherer would come before what is gathered.
+    /// The writer, for questions. Bytes written past the gatherer would overtake gathered ones.
     pub fn writer(&self) -> &W
         ensures { W.contents result.now ≡ self.now.held }
     {
         &self.writer
     }
 
-    /// The writer may take something again.
+    /// The writer may take bytes again.
     pub fn reopen(&mut self)
         ensures { self.new ≡ record self.old { is_open = true } }
     {
         self.is_open = true;
     }
 
-    /// From here on it is as if a write had failed.
+    /// From here on, behaves as after a failed write.
     pub fn break_off(&mut self)
         ensures { self.new ≡ record self.old { is_broken = true } }
     {
@@ -142,14 +142,14 @@ impl<W: Write> Gatherer<W> {
         self.count() == 0
     }
 
-    /// Whether bytes are gathered that the writer may take.
+    /// Whether bytes are gathered and the writer may take some.
     pub fn may_write(&self) -> bool
         ensures { result ≡ may_write self.now }
     {
         self.is_open && !self.is_broken && !self.is_empty()
     }
 
-    /// Gathers in this room from here on, where nothing is gathered. What stood in the room is dropped.
+    /// Gathers in this buffer from here on, unless bytes are gathered. The buffer's old content is dropped.
     pub fn borrow_room(&mut self, room: &mut Vec<u8>)
         ensures { self.new ≡ self.old }
     {
@@ -161,8 +161,8 @@ impl<W: Write> Gatherer<W> {
         }
     }
 
-    /// Writes what is gathered, as far as the writer takes it: then nothing is gathered, or the writer takes no more for now
-    /// (until `reopen`), or a write has failed. Where all of it was taken, the room is given back. Once a write has failed
+    /// Writes gathered bytes as far as the writer takes them. Afterwards nothing is gathered, or the writer takes no
+    /// more until `reopen`, or a write has failed. The buffer is returned once all is taken. After a failed write
     /// nothing is written and nothing changes.
     pub fn write_out(&mut self, room: &mut Vec<u8>)
         ensures goes_out { GoesOut self.old self.new [] }
@@ -181,7 +181,7 @@ impl<W: Write> Gatherer<W> {
         self.bytes = Vec::new(self.alloc);
     }
 
-    // One write of what is gathered, of which there is something. A writer that took less takes no more for now.
+    // Writes gathered bytes once; there are some. A writer that took less takes no more for now.
     fn write_some(&mut self)
         ensures goes_out { GoesOut self.old self.new [] }
         ensures ends { may_write self.new ≡ false }
@@ -197,7 +197,7 @@ impl<W: Write> Gatherer<W> {
         }
     }
 
-    // Takes note of why a write took nothing.
+    // Records why a write took nothing.
     fn note_refused(&mut self, kind: ErrorKind)
         ensures held { self.new.held ≡ self.old.held }
         ensures gathered { self.new.gathered ≡ self.old.gathered }
@@ -223,7 +223,7 @@ impl<W: Write> Gatherer<W> {
         }
     }
 
-    // Moves what isn't written to the front, once much is written.
+    // Moves unwritten bytes to the front, once many are written.
     fn close_up(&mut self)
         ensures { self.new ≡ self.old }
     {
@@ -233,14 +233,14 @@ impl<W: Write> Gatherer<W> {
         }
     }
 
-    // How many bytes are gathered.
+    // The number of gathered bytes.
     fn count(&self) -> usize
         ensures { result ≡ length self.now.gathered }
     {
         self.bytes.len() - self.written
     }
 
-    // Writes past what is gathered, of which there is nothing.
+    // Writes bytes directly; nothing is gathered.
     fn write_through(&mut self, bytes: &[u8]) -> io::Result<usize>
         requires { self.old.gathered ≡ [] }
         ensures bound { WritesAtMost result bytes.now }
@@ -269,7 +269,7 @@ impl<W: Write> Gatherer<W> {
         }
     }
 
-    // Gathers these bytes behind the others.
+    // Gathers bytes behind the others.
     fn gather(&mut self, bytes: &[u8]) -> Result<(), AllocError>
         ensures ok { OnOk result (self.new
             ≡ record self.old { gathered = self.old.gathered ++ bytes.now }) }
@@ -281,7 +281,7 @@ impl<W: Write> Gatherer<W> {
         }
     }
 
-    // Writes first where so many bytes more are too many.
+    // Writes first if this many more bytes are too many.
     fn make_room(&mut self, count: usize)
         ensures goes_out { GoesOut self.old self.new [] }
         ensures full { MAX_GATHERED ≤ length self.new.gathered → may_write self.new ≡ false }
@@ -292,13 +292,13 @@ impl<W: Write> Gatherer<W> {
         }
     }
 
-    /// Takes these bytes, all of them where they are fewer than 65,536. They are gathered behind the others; a text that is
-    /// longer, or for which there is no memory, is written at once, behind the others, as far as the writer takes it. What is
-    /// gathered is at most 131,072 bytes.
+    /// Takes these bytes; all of them if they are fewer than 65,536. They are gathered behind the others. A longer
+    /// text, or one for which there is no memory, is written at once behind the others, as far as the writer takes it.
+    /// At most 131,072 bytes are gathered.
     ///
-    /// Answers `WouldBlock`, and has taken nothing, where the writer takes no more for now, and 65,536 bytes are gathered or the
-    /// text isn't gathered. Any other error says that a write has failed, now or before: nothing was taken, and nothing is taken
-    /// later. 0 for a text that isn't empty says the same.
+    /// Returns `WouldBlock`, having taken nothing, if the writer takes no more for now and 65,536 bytes are gathered or
+    /// the text isn't gathered. Any other error, or 0 for a text that isn't empty, means that a write has failed, now
+    /// or before: nothing was taken, and nothing will be.
     pub fn write(&mut self, bytes: &[u8]) -> io::Result<usize>
         ensures bound { WritesAtMost result bytes.now }
         ensures ok { IfOk result (λ n. GoesOut self.old self.new (take n bytes.now)) }
@@ -330,7 +330,7 @@ impl<W: Write> Gatherer<W> {
         }
     }
 
-    // A text that isn't gathered.
+    // Writes a text that isn't gathered.
     fn write_long(&mut self, bytes: &[u8]) -> io::Result<usize>
         ensures bound { WritesAtMost result bytes.now }
         ensures ok { IfOk result (λ n. GoesOut self.old self.new (take n bytes.now)) }

@@ -1,5 +1,6 @@
-//! What `redproxy serve` stands on that needs no socket: a writer that is given large pieces; who gets which client and which
-//! host; how often in a row memory was refused; which sockets are taken, and when all is done; and what signals ask.
+//! The parts of `redproxy serve` that need no socket. They are a buffered writer, the assignment of clients and hosts
+//! to workers, refusals of memory in a row, the choice of sockets and of the end, and the reading of signals. It stands
+//! on no other crate. Begin with `gatherer.rt`.
 #![tactic(auto)]
 
 mod dealing;

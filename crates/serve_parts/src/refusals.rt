@@ -1,12 +1,12 @@
-//! Refusals of memory in a row.
+//! Consecutive refusals of memory.
 ghost use Rattle.std.specs.Prelude.{◌≡◌, ◌↔◌, ◌≤◌, ◌+◌, ◌-◌, ◌^◌, min, IsTrue};
 
 use std::marker::Model;
 
-/// After so many refusals of memory in a row, of one thing that is tried again, the serving ends.
+/// The server ends after this many refusals of memory in a row, to one thing that is tried again.
 pub const MAX_REFUSALS: u32 = 1_000;
 
-/// How often in a row memory was refused to one thing that is tried again.
+/// The number of refusals of memory in a row, to one thing that is tried again.
 #[derive(Drop)]
 pub struct Refusals {
     in_row: u32,
@@ -21,15 +21,14 @@ impl Model for Refusals {
 }
 
 impl Refusals {
-    /// It was refused at no time.
+    /// No refusal.
     pub fn new() -> Refusals
         ensures { result ≡ 0 }
     {
         Refusals { in_row: 0 }
     }
 
-    /// Memory was refused to it once more. True says that this was so `MAX_REFUSALS` times in a row or more: the serving is to
-    /// end.
+    /// Counts a refusal. True: these were `MAX_REFUSALS` in a row or more, and the server must end.
     pub fn refused(&mut self) -> bool
         ensures in_row { self.new ≡ min (self.old + 1) (2 ^ 32 - 1) }
         ensures ends { IsTrue result ↔ (MAX_REFUSALS ≤ self.old + 1) }
@@ -38,7 +37,7 @@ impl Refusals {
         self.in_row >= MAX_REFUSALS
     }
 
-    /// It succeeded: with the next refusal the row begins anew.
+    /// Counts a success: the next refusal is the first in a row.
     pub fn succeeded(&mut self)
         ensures { self.new ≡ 0 }
     {

@@ -1,8 +1,8 @@
-//! Signals that wait for the process, as `/proc/self/status` tells them.
+//! Signals that wait for the process, as `/proc/self/status` shows them.
 //!
-//! A process that was started with a signal blocked, as by `env --block-signal=TERM`, isn't ended by it: the signal waits. The
-//! system tells those that wait in the line `ShdPnd`, and those that are blocked in the line `SigBlk`, each as a hexadecimal
-//! number in which signal n is bit n - 1.
+//! A process started with a signal blocked, as by `env --block-signal=TERM`, isn't ended by it: the signal waits.
+//! Waiting signals are in the line `ShdPnd`, blocked ones in the line `SigBlk`, each as a hexadecimal number in which
+//! signal n is bit n - 1.
 
 const INT: u64 = 1 << 1;
 
@@ -12,18 +12,18 @@ const WAITING: &[u8] = b"\nShdPnd:\t";
 
 const BLOCKED: &[u8] = b"\nSigBlk:\t";
 
-/// What was asked of the process by SIGTERM and SIGINT.
+/// What SIGTERM and SIGINT ask of the process.
 #[derive(Clone, Copy, Debug, PartialEq, Eq)]
 pub enum Asked {
     /// Neither waits.
     Nothing,
-    /// One of them waits: the process is to end in order.
+    /// One of them waits: the process must drain and end.
     Drain,
-    /// Both wait: the process is to end at once.
+    /// Both wait: the process must end at once.
     Quit,
 }
 
-/// What SIGTERM and SIGINT ask of the process whose status this is. Where the status doesn't tell, nothing is asked.
+/// What SIGTERM and SIGINT ask of the process with this status. Without these lines nothing is asked.
 pub fn asked_by_signals(status: &[u8]) -> Asked {
     let waiting = number_behind(status, WAITING) & (INT | TERM);
     if waiting == INT | TERM {
@@ -35,7 +35,7 @@ pub fn asked_by_signals(status: &[u8]) -> Asked {
     }
 }
 
-/// Whether SIGTERM would wait for the process whose status this is, and not end it.
+/// Whether SIGTERM would wait for the process with this status instead of ending it.
 pub fn is_term_blocked(status: &[u8]) -> bool {
     number_behind(status, BLOCKED) & TERM != 0
 }
@@ -47,7 +47,7 @@ fn number_behind(status: &[u8], name: &[u8]) -> u64 {
     }
 }
 
-// What stands behind the first place where the text is.
+// The text behind the first occurrence of `text`.
 fn behind<'a>(status: &'a [u8], text: &[u8]) -> Option<&'a [u8]> {
     for start in 0..status.len() {
         if let Some(rest) = status[start..].strip_prefix(text) {
@@ -57,7 +57,7 @@ fn behind<'a>(status: &'a [u8], text: &[u8]) -> Option<&'a [u8]> {
     None
 }
 
-// The hexadecimal number at the front, of at most 16 digits.
+// The hexadecimal number at the front, at most 16 digits long.
 fn number(digits: &[u8]) -> u64 {
     let mut sum = 0u64;
     for digit in digits.iter().take(16) {

@@ -1,16 +1,16 @@
-//! The sockets of clients: which are taken, and when the serving is done.
+//! The clients' sockets: which are accepted, and when the server is done.
 ghost use Rattle.std.specs.Prelude.{◌≡◌, ◌↔◌, IsTrue};
 ghost use Rattle.std.specs.Bool.{OnTrue, OnFalse};
 
 use std::marker::Model;
 
-/// So many sockets of clients are open at a time, over all generations.
+/// At most this many clients' sockets are open at a time, in all generations together.
 pub const MAX_SOCKETS: u64 = 4_096;
 
-/// The sockets of clients of one run of `redproxy serve`, counted over all its generations.
+/// The clients' sockets of one run of `redproxy serve`, in all its generations.
 ///
-/// A socket is open from `accept` to `let_go`. Its connection is closed before that, once; a socket that goes over from one
-/// generation to the next stays open, and its connection isn't closed.
+/// A socket is open from `accept` to `let_go`. Its connection is closed once, before that. A socket that goes over to
+/// the next generation stays open, and its connection isn't closed.
 #[derive(Debug, Drop)]
 pub struct Sockets {
     most: u64,
@@ -47,7 +47,7 @@ impl Sockets {
       AreDone,
     };
 
-    /// None is open and none was closed. After `most` closed connections the serving is done; 0 is never.
+    /// No socket has been open. The server is done after `most` closed connections; 0 is never.
     pub fn new(most: u64) -> Sockets
         ensures { result ≡ no_sockets most }
     {
@@ -59,8 +59,8 @@ impl Sockets {
         }
     }
 
-    /// A new socket came. `true`: it is taken, and open from here on. `false`: nothing changes, and it is to be closed, since
-    /// `MAX_SOCKETS` are open, or none is taken any more.
+    /// Counts a new socket. `true`: it is accepted and open. `false`: nothing changes, and it is to be closed, since
+    /// `MAX_SOCKETS` are open or none is accepted any more.
     pub fn accept(&mut self) -> bool
         ensures taken { IsTrue result ↔ MayOpen self.old }
         ensures counted { OnTrue result (self.new ≡ one_more_open self.old) }
@@ -73,42 +73,42 @@ impl Sockets {
         may_open
     }
 
-    /// A socket was let go. Ignored where none is open.
+    /// Counts a dropped socket. Ignored if none is open.
     pub fn let_go(&mut self)
         ensures { self.new ≡ one_less_open self.old }
     {
         self.count = self.count.saturating_sub(1);
     }
 
-    /// The connection of a socket was closed. At 2^64 - 1 the count stays.
+    /// Counts a closed connection. At 2^64 - 1 the count stays.
     pub fn close(&mut self)
         ensures { self.new ≡ one_more_closed self.old }
     {
         self.closed = self.closed.saturating_add(1);
     }
 
-    /// From here on no new socket is taken, and the serving is done once none is open.
+    /// Accepts no new socket from here on; the server is done once none is open.
     pub fn drain(&mut self)
         ensures { self.new ≡ draining self.old }
     {
         self.is_draining = true;
     }
 
-    /// Whether the serving is done: as many connections have closed as are waited for, or it drains and no socket is open.
+    /// Whether the server is done: `most` connections have closed, or it drains and no socket is open.
     pub fn are_done(&self) -> bool
         ensures { IsTrue result ↔ AreDone self.now }
     {
         (self.most != 0 && self.closed >= self.most) || (self.is_draining && self.count == 0)
     }
 
-    /// How many sockets are open.
+    /// The number of open sockets.
     pub fn count(&self) -> u64
         ensures { result ≡ self.now.count }
     {
         self.count
     }
 
-    /// How many connections have closed.
+    /// The number of closed connections.
     pub fn closed(&self) -> u64
         ensures { result ≡ self.now.closed }
     {

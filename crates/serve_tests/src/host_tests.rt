@@ -1,4 +1,4 @@
-//! Clients before two hosts in memory, each behind a socket.
+//! Clients before two stubs, each behind a socket.
 use crate::rig::{anywhere, say, serve};
 use mio::net::TcpListener;
 use proxy_serve::Marks;
@@ -12,7 +12,7 @@ use std::thread::{Threads, join};
 use std::{io, net};
 use stub_server::{Stub, StubLink};
 
-// A host that serves one link, until that ends, and tells whether anything was asked.
+// A host that serves one link until that ends. True: it was asked something.
 fn host<R: AllocGlobal + Wait>(rt: &R, listener: &net::TcpListener) -> io::Result<bool> {
     let alloc = rt.alloc();
     let (stream, _) = listener.accept()?;
@@ -30,7 +30,7 @@ fn host<R: AllocGlobal + Wait>(rt: &R, listener: &net::TcpListener) -> io::Resul
         }
         was_asked = true;
         requests.write_all(&piece[..count])?;
-        // (it ends where no reply waits)
+        // (this ends when no reply waits)
         let _ = replies.read_to_end(&mut said);
         wire.write_all(&said)?;
         said.clear();
@@ -38,7 +38,7 @@ fn host<R: AllocGlobal + Wait>(rt: &R, listener: &net::TcpListener) -> io::Resul
     Ok(was_asked)
 }
 
-// Two hosts, one beside the other: whether both were asked.
+// Two hosts at the same time. True: both were asked.
 fn host_both<R: AllocGlobal + Threads + Wait + Sync>(
     rt: &R,
     one: &net::TcpListener,
@@ -48,7 +48,7 @@ fn host_both<R: AllocGlobal + Threads + Wait + Sync>(
     Ok(first? && second?)
 }
 
-// Serves two connections before these hosts, and tells whether it ended well. A host that nobody asked is let go.
+// Serves two connections before these hosts. True: it ended well. A connection at the end releases a host that wasn't asked.
 fn serve_before<
     R: AllocGlobal
         + Threads
@@ -71,7 +71,7 @@ fn serve_before<
     Ok(has_served)
 }
 
-// A SET of 100 keys, each to a value of its own, and a GET of each; and the replies to them.
+// The requests that SET 100 keys, each to its own value, and GET each, and the replies.
 fn sets_and_gets(alloc: Global, first: u32) -> io::Result<(Vec<u8>, Vec<u8>)> {
     let (mut asked, mut wanted) = (Vec::new(alloc), Vec::new(alloc));
     for key in first..first.saturating_add(100) {
@@ -87,7 +87,7 @@ fn sets_and_gets(alloc: Global, first: u32) -> io::Result<(Vec<u8>, Vec<u8>)> {
     Ok((asked, wanted))
 }
 
-// A client that makes these commands: whether the replies are just those.
+// A client that sends these commands. True: it got exactly these replies.
 fn set_and_get<R: Net<Listener = net::TcpListener, Stream = TcpStream> + AllocGlobal>(
     rt: &R,
     address: SocketAddr,
@@ -97,8 +97,8 @@ fn set_and_get<R: Net<Listener = net::TcpListener, Stream = TcpStream> + AllocGl
     Ok(say(rt, address, &asked)? == wanted)
 }
 
-// Serves two such clients at the same time before two hosts: whether both hosts were asked, the serving ended well, and each
-// client got its replies; and the last line.
+// Serves two such clients at the same time before two hosts. Returns whether both hosts were asked, the server ended
+// well and each client got its replies; and the last line.
 fn play<
     R: AllocGlobal
         + Threads

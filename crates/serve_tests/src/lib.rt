@@ -1,5 +1,6 @@
-//! The tests of serving that need marks of their own, or that the gate is to run, with all ends in one process: clients and hosts
-//! on sockets of the loopback; and what an operator's page says of values that no serving brings about.
+//! Tests of `serve` that need marks of their own, or that the gate has to run, with all ends in one process on sockets
+//! of the loopback. Others test the operator's page for values that no run produces. It stands on `proxy_serve`. Begin
+//! with `rig.rt`.
 #![tactic(auto)]
 
 #[cfg(test)]

@@ -1,4 +1,4 @@
-//! What the page of numbers says where no serving brings it about: values of a histogram that are known, and labels with escapes.
+//! The page of numbers for values that no run produces: a histogram of known values, and labels with escapes.
 ghost use Rattle.http_server.specs.Response.{IsBlank};
 
 use admin_pages::{About, Admin, Look, Snapshot};
@@ -11,7 +11,7 @@ use std::alloc::Global;
 use std::str;
 use std::test::Fail;
 
-// These took 33,336 ms together; one is above the greatest bound.
+// Their sum is 33,336 ms; one is above the greatest bound.
 const DURATIONS_MS: [u64; 8] = [0, 1, 2, 3, 30, 300, 3_000, 30_000];
 
 const LINES: [&str; 2] = [
@@ -51,7 +51,7 @@ fn snapshot() -> Snapshot {
     }
 }
 
-// Asks for the page.
+// A request for the page.
 fn request(alloc: Global) -> Result<Request<Bytes>, Fail> {
     Ok(Request::get(alloc, "/metrics").body(Bytes::new())?)
 }

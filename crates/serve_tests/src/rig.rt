@@ -1,4 +1,4 @@
-//! A serving with all its ends in one process.
+//! A server with all its ends in one process.
 use mio::net::TcpListener;
 use proxy_config::Config;
 use proxy_serve::{Marks, serve_run};
@@ -13,12 +13,12 @@ pub(crate) const PING: &[u8] = b"*1\r\n$4\r\nPING\r\n";
 
 pub(crate) const PONG: &[u8] = b"+PONG\r\n";
 
-/// A port of the loopback that is free.
+/// A free port of the loopback.
 pub(crate) fn anywhere() -> SocketAddr {
     SocketAddr::from((Ipv4Addr::LOCALHOST, 0))
 }
 
-/// Serves so many connections by these settings, and tells whether it ended well.
+/// Serves this many connections by these settings. True: it ended well.
 pub(crate) fn serve<
     R: AllocGlobal
         + Threads
@@ -43,7 +43,7 @@ pub(crate) fn serve<
     }
 }
 
-/// A client that sends a text, closes its sending half, and reads to the end: what came.
+/// A client that sends a text, closes its sending half, and reads to the end. Returns what came.
 pub(crate) fn say<R: Net<Listener = net::TcpListener, Stream = TcpStream> + AllocGlobal>(
     rt: &R,
     address: SocketAddr,

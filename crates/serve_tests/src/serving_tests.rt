@@ -1,4 +1,4 @@
-//! Generations of few steps, and of as many as a journal holds, with all ends in one process.
+//! Generations of few steps, and of a full journal, with all ends in one process.
 use crate::rig::{PING, PONG, anywhere, say, serve};
 use mio::net::TcpListener;
 use proxy_serve::Marks;
@@ -13,7 +13,7 @@ use std::{io, net};
 
 const SETTINGS: &[u8] = b"{\"hosts\":[\"127.0.0.1:1\"],\"workers\":2}";
 
-// Reads so many bytes. False says that the connection ended before.
+// Reads this many bytes. False: the connection ended before.
 fn hears(mut wire: &TcpStream, bytes: usize) -> bool {
     let mut piece = [0u8; 4_096];
     let mut got = 0usize;
@@ -29,7 +29,7 @@ fn hears(mut wire: &TcpStream, bytes: usize) -> bool {
     true
 }
 
-// A client that asks so often, each time once so many bytes have come back: how often they came before the end.
+// A client that asks `times` times, each time after an answer of this length. Returns the number of answers.
 fn ask<R: Net<Listener = net::TcpListener, Stream = TcpStream> + AllocGlobal>(
     rt: &R,
     address: SocketAddr,
@@ -46,7 +46,7 @@ fn ask<R: Net<Listener = net::TcpListener, Stream = TcpStream> + AllocGlobal>(
     Ok(times)
 }
 
-// Clients, one after the other, each of which asks at most so often.
+// Clients, one after another, each of which asks at most this many times.
 fn ask_each<R: Net<Listener = net::TcpListener, Stream = TcpStream> + AllocGlobal>(
     rt: &R,
     address: SocketAddr,
@@ -60,8 +60,8 @@ fn ask_each<R: Net<Listener = net::TcpListener, Stream = TcpStream> + AllocGloba
     Ok(all)
 }
 
-// Serves such clients by these marks, one after the other of each list, and of the two lists side by side: how often each was
-// answered, those of the second list last, and the last line.
+// Serves such clients with these marks: those of each list one after another, the two lists side by side. Returns the
+// number of answers of each, those of the second list last, and the last line.
 fn run<
     R: AllocGlobal
         + Threads
@@ -99,7 +99,7 @@ fn run<
     Ok((all, line))
 }
 
-// How many commands the last line tells as accepted and handed out, if they are as many and no host was asked.
+// The number of commands that the last line counts as accepted and as handed out, if these are equal and no host was asked.
 fn handed(line: &[u8]) -> Option<u32> {
     let mut words = std::str::from_utf8(line).ok()?.split(' ');
     let accepted = words.nth(1)?;
@@ -117,7 +117,7 @@ const FEW: Marks = Marks {
     bytes: 58_720_256,
 };
 
-// So many times a client asks. Its generation drains long before, also where the thread that looks at marks is kept waiting,
+// A client asks this many times. Its generation drains long before, even if the thread that looks at marks is delayed,
 // and its socket goes on in the next one.
 const TIMES: u32 = 2_000;
 
@@ -145,7 +145,7 @@ fn pings(alloc: Global, times: usize) -> Result<Vec<u8>, Fail> {
     Ok(all)
 }
 
-// Two clients at a time that pipeline: each socket goes on over many generations.
+// Two pipelining clients at a time: each socket goes on over many generations.
 #[test]
 fn pipelining_clients_go_on(rt: HostRuntime) -> Result<(), Fail> {
     let asked = pings(rt.alloc(), 10)?;
@@ -156,8 +156,8 @@ fn pipelining_clients_go_on(rt: HostRuntime) -> Result<(), Fail> {
     Ok(())
 }
 
-// Without marks a generation takes in what its journal has room for, 262,144 steps: four for a connection, and two for each PING.
-// What it doesn't take in goes over to the next one, with its socket.
+// Without marks a generation accepts what its journal has room for, 262,144 steps: four for a connection, two for each
+// PING. The rest goes over to the next one, with its socket.
 #[test]
 fn full_journal_is_followed_by_another(rt: HostRuntime) -> Result<(), Fail> {
     let marks = Marks {
@@ -172,7 +172,7 @@ fn full_journal_is_followed_by_another(rt: HostRuntime) -> Result<(), Fail> {
     Ok(())
 }
 
-// Three clients of twenty commands each, two of them side by side.
+// Three clients with twenty commands each, two of them side by side.
 #[test]
 fn three_clients_get_twenty_each(rt: HostRuntime) -> Result<(), Fail> {
     let (answered, line) = run(&rt, FEW, (PING, PONG.len()), (&[20, 20], &[20]))?;
@@ -181,7 +181,7 @@ fn three_clients_get_twenty_each(rt: HostRuntime) -> Result<(), Fail> {
     Ok(())
 }
 
-// Serves one connection, whose client sends this and closes its sending half: what it got up to the end, and the last line.
+// Serves one connection, whose client sends this and closes its sending half. Returns the client's replies and the last line.
 fn close_half<
     R: AllocGlobal
         + Threads

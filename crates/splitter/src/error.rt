@@ -43,7 +43,7 @@ impl<T: Drop> From<AllocFailed<T>> for SplitError {
     }
 }
 
-// What values are written for and shared for here is refused for want of memory alone.
+// Writing and sharing values is refused here only for want of memory.
 impl From<RespError> for SplitError {
     ghost from_gives = { λ _ e. e ≡ NoMemory };
 

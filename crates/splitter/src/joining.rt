@@ -1,4 +1,4 @@
-//! The value that the values of a command's parts become.
+//! Joins the values of a command's parts.
 ghost use Rattle.std.specs.Prelude.{◌≡◌, ◌++◌, IfOk, IfErr, length, map, not, count_by, codes};
 ghost use Rattle.std.specs.Fmt.{decimal};
 ghost use Rattle.resp_core.specs.Tree.{list, trees_of};
@@ -11,10 +11,10 @@ use bytes::Bytes;
 use resp_core::{Value, Values};
 use std::alloc::Global;
 
-/// The value that the values of a command's parts become, in the order of the parts.
+/// Joins the values of a command's parts, in the order of the parts.
 ///
-/// There has to be a value at least, and just one for `Same`. Payloads share their bytes with the values. Refused 701 (no
-/// memory).
+/// There must be at least one value, and exactly one for `Same`. Payloads share their bytes with the values. Refused
+/// 701 (no memory).
 pub fn join(alloc: Global, how: Join, values: &[Value]) -> Result<Value, SplitError>
     requires { MayJoin how (length values.now) }
     ensures value { IfOk result (λ v. tree_of v ≡ join_of how (map tree_of values.now)) }
@@ -31,7 +31,7 @@ pub fn join(alloc: Global, how: Join, values: &[Value]) -> Result<Value, SplitEr
     }
 }
 
-// How many of the values aren't simple `OK`.
+// The number of values that aren't simple `OK`.
 fn undone_count(values: &[Value]) -> usize
     ensures { result ≡ count_by (λ t. not (is_done t)) (map tree_of values.now) }
 {
@@ -44,7 +44,7 @@ fn undone_count(values: &[Value]) -> usize
     count
 }
 
-// How many of the values are no integers.
+// The number of values that are no integers.
 fn unwhole_count(values: &[Value]) -> usize
     ensures { result ≡ count_by (λ t. not (is_whole t)) (map tree_of values.now) }
 {
@@ -69,7 +69,7 @@ fn in_places(alloc: Global, values: &[Value]) -> Result<Values, SplitError>
     Ok(Values(places))
 }
 
-// The value, where it is a bulk string, a null bulk string or an error.
+// The value itself if it is a bulk string, a null bulk string or an error.
 fn in_place(alloc: Global, value: &Value) -> Result<Value, SplitError>
     ensures value { IfOk result (λ v. tree_of v ≡ in_place (tree_of value.now)) }
     ensures err { IfErr result (λ e. e ≡ SplitError.NoMemory) }
@@ -102,7 +102,7 @@ fn is_whole(value: &Value) -> bool
     matches!(value, Value::Whole(_))
 }
 
-// The value where no part failed, and else the error that tells how many did.
+// The value if no part failed, else the error with the number of failed parts.
 fn unless_failed(alloc: Global, failed: usize, value: Value) -> Result<Value, SplitError>
     ensures value { IfOk result (λ v. tree_of v ≡ unless_failed failed (tree_of value)) }
     ensures err { IfErr result (λ e. e ≡ SplitError.NoMemory) }
@@ -114,7 +114,7 @@ fn unless_failed(alloc: Global, failed: usize, value: Value) -> Result<Value, Sp
     finished_with(alloc, failed)
 }
 
-// The error that tells how many parts failed.
+// The error with the number of failed parts.
 fn finished_with(alloc: Global, failed: usize) -> Result<Value, SplitError>
     ensures value { IfOk result (λ v. tree_of v ≡ finished_with failed) }
     ensures err { IfErr result (λ e. e ≡ SplitError.NoMemory) }
@@ -126,7 +126,7 @@ fn finished_with(alloc: Global, failed: usize) -> Result<Value, SplitError>
     Ok(Value::Fault(Bytes::from_vec(text)?))
 }
 
-// The sum of the integers among the values: fewer than 2^64 of 64 bits fit 128 bits.
+// The sum of the integers among the values: fewer than 2^64 numbers of 64 bits fit 128 bits.
 fn total(values: &[Value]) -> i128
     ensures { result ≡ total (map tree_of values.now) }
 {
@@ -137,7 +137,7 @@ fn total(values: &[Value]) -> i128
     sum
 }
 
-// The number that an integer is, and 0 for any other value.
+// The number of an integer, and 0 for any other value.
 fn number(value: &Value) -> i64
     ensures { result ≡ number_of (tree_of value.now) }
 {
@@ -147,7 +147,7 @@ fn number(value: &Value) -> i64
     }
 }
 
-// The sum as it is told: an integer of 64 bits.
+// The sum as an integer of 64 bits, or an error.
 fn told_sum(sum: i128) -> Value
     ensures { tree_of result ≡ told_sum sum }
 {

@@ -1,4 +1,4 @@
-//! The texts of the proxy's own answers to commands that it can't plan.
+//! The texts of the proxy's own errors.
 ghost use Rattle.std.specs.Prelude.{◌≡◌, ◌++◌, IfOk, IfErr, OnOk};
 ghost use Rattle.command_table.specs.Entry.{row_of};
 ghost use Rattle.splitter.specs.Plan.{shown_name, shown_byte, unsupported_text, wrong_number};
@@ -8,10 +8,10 @@ use bytes::Bytes;
 use command_table::Entry;
 use std::alloc::{AllocError, Global};
 
-// The bytes of an unknown name that are shown.
+// The number of bytes of an unknown name that are shown.
 const SHOWN: usize = 64;
 
-/// The text that tells of an unknown name.
+/// The error text for an unknown name.
 pub(crate) fn unsupported(alloc: Global, name: &[u8]) -> Result<Bytes, SplitError>
     ensures text { IfOk result (λ text. text ≡ unsupported_text name.now) }
     ensures err { IfErr result (λ e. e ≡ SplitError.NoMemory) }
@@ -44,7 +44,7 @@ fn shown_byte(byte: u8) -> u8
     }
 }
 
-/// The text that tells of a wrong number of words.
+/// The error text for a wrong number of words.
 pub(crate) fn wrong_number(alloc: Global, entry: Entry) -> Result<Bytes, SplitError>
     ensures text { IfOk result (λ text. text ≡ wrong_number (row_of entry)) }
     ensures err { IfErr result (λ e. e ≡ SplitError.NoMemory) }

@@ -1,4 +1,4 @@
-//! The parts of a command, each with its key and the text that its host gets.
+//! The parts of a command, each with its key and the text for its host.
 ghost use Rattle.std.specs.Prelude.{◌≡◌, ◌<◌, ◌++◌, ◌∷◌, [], IfOk, IfErr, OnOk, true, codes, drop, length, map};
 ghost use Rattle.resp_core.specs.Tree.{bulk, is_plain_tree};
 ghost use Rattle.resp_core.specs.Value.{tree_of};
@@ -17,8 +17,8 @@ use itoa::Buffer;
 use resp_core::{Texts, Value, Values, bulk_len, put_bulk};
 use std::alloc::{AllocError, Global};
 
-/// A command that goes whole to the host of its word `key_at`. The value has to be a command, of these words; its text has
-/// so many bytes.
+/// The one part of a command that goes to the host of its word `key_at`. The value must be the command with these
+/// words; `text_len` is the length of its text.
 pub(crate) fn whole_part<'a>(
     texts: &mut Texts,
     command: &Value,
@@ -39,7 +39,7 @@ pub(crate) fn whole_part<'a>(
     })
 }
 
-/// A part for each word behind the first: a command of this name and that word, which is the part's key.
+/// A part for each word behind the name: a command of this name and that word, which is the key.
 pub(crate) fn key_parts(
     alloc: Global,
     texts: &mut Texts,
@@ -59,7 +59,7 @@ pub(crate) fn key_parts(
     Ok(PartPlans(parts))
 }
 
-/// A part for each two words behind the first, a key and its value: a SET of them.
+/// A part for each two words behind the name, a key and a value: a SET of both.
 pub(crate) fn pair_parts(
     alloc: Global,
     texts: &mut Texts,
@@ -81,7 +81,7 @@ pub(crate) fn pair_parts(
     Ok(PartPlans(parts))
 }
 
-// The text of a command of so many words, up to and with its name.
+// The text of a command of this many words, up to the end of its name.
 fn head(alloc: Global, words: usize, name: Bytes) -> Result<Vec<u8>, SplitError>
     ensures text { IfOk result (λ head. head.items ≡ head_of words name) }
     ensures err { IfErr result (λ e. e ≡ SplitError.NoMemory) }
@@ -94,7 +94,7 @@ fn head(alloc: Global, words: usize, name: Bytes) -> Result<Vec<u8>, SplitError>
     Ok(head)
 }
 
-// The beginning of a command's text, with room for words of so many bytes behind it.
+// The beginning of a command's text, with room for this many bytes of words.
 fn begun(alloc: Global, head: &[u8], words: u64) -> Result<Vec<u8>, AllocError>
     ensures { IfOk result (λ text. text.items ≡ head.now) }
 {
@@ -103,7 +103,7 @@ fn begun(alloc: Global, head: &[u8], words: u64) -> Result<Vec<u8>, AllocError>
     Ok(text)
 }
 
-// The part of a command of a key alone, whose text begins like this.
+// The part of a command with one key, whose text begins with `head`.
 fn key_part(
     alloc: Global,
     texts: &mut Texts,
@@ -121,7 +121,7 @@ fn key_part(
     })
 }
 
-// The part of a command of a key and its value, whose text begins like this.
+// The part of a command with a key and its value, whose text begins with `head`.
 fn pair_part(
     alloc: Global,
     texts: &mut Texts,

@@ -1,4 +1,4 @@
-//! What the proxy does with a request.
+//! Plans requests.
 ghost use Rattle.std.specs.Prelude.{◌≡◌, IfOk, IfErr, Contains, true, length, map};
 ghost use Rattle.std.specs.Str.{str_to_ascii_uppercase};
 ghost use Rattle.resp_core.specs.Value.{tree_of};
@@ -21,7 +21,7 @@ use std::alloc::Global;
 
 /// The plan of a request, by the table of commands.
 ///
-/// It looks at the request alone. Keys, and what ECHO answers, share their bytes with the request. Refused 701 (no
+/// It depends on the request alone. Keys, and the reply of ECHO, share their bytes with the request. Refused 701 (no
 /// memory).
 pub fn plan(alloc: Global, request: &Request) -> Result<Plan, SplitError>
     ensures plan { IfOk result (λ p. plan_in p ≡ plan_of (request_of request.now)) }
@@ -42,9 +42,8 @@ pub fn plan(alloc: Global, request: &Request) -> Result<Plan, SplitError>
     }
 }
 
-/// The same, for one request of many: the texts of the parts are written to `texts`, and a command that stays whole lends
-/// its key. `text_len` is what `Request::text_len` says, and with a wrong number the plan is the same. Refused 701 (no
-/// memory).
+/// The same, for one request of many: the parts' texts are written to `texts`, and a command that stays whole lends
+/// its key. `text_len` is `Request::text_len`; a wrong number doesn't change the plan. Refused 701 (no memory).
 pub fn plan_with<'a>(
     alloc: Global,
     texts: &mut Texts,
@@ -69,7 +68,7 @@ pub fn plan_with<'a>(
     }
 }
 
-// The plan of a command, which is this value, of these words.
+// The plan of a command, which is this value with these words.
 fn plan_command<'a>(
     alloc: Global,
     texts: &mut Texts,
@@ -100,7 +99,7 @@ fn plan_command<'a>(
     plan_known(alloc, texts, entry, command, text_len, words)
 }
 
-// Whether the command may have so many words.
+// Whether the command may have this many words.
 fn takes(entry: Entry, words: usize) -> bool
     ensures { result ≡ takes entry.kind entry.least words }
 {
@@ -111,7 +110,7 @@ fn takes(entry: Entry, words: usize) -> bool
     }
 }
 
-// The plan of a command of the table that has a right number of words.
+// The plan of a command of the table with a right number of words.
 fn plan_known<'a>(
     alloc: Global,
     texts: &mut Texts,

@@ -4,7 +4,7 @@ use bytes::Bytes;
 use resp_core::Value;
 use std::marker::Model;
 
-/// Which answer the proxy gives itself.
+/// An answer of the proxy's own.
 #[derive(Clone, Copy, Debug, PartialEq, Eq, Hash, Drop)]
 pub enum Local {
     /// PING of one word: simple `PONG`.
@@ -25,25 +25,25 @@ pub enum Local {
     Broken,
 }
 
-/// How the values of a command's parts become one value.
+/// How the values of a command's parts are joined.
 #[derive(Clone, Copy, Debug, PartialEq, Eq, Hash, Drop)]
 pub enum Join {
-    /// The value of the one part, whatever it is.
+    /// The value of the only part, whatever it is.
     Same,
-    /// An array of the values, each a bulk string, a null bulk string or an error, and the error `upstream protocol error`
-    /// in the place of any other.
+    /// An array of the values, each a bulk string, a null bulk string or an error; any other is replaced by the error
+    /// `upstream protocol error`.
     Get,
-    /// Simple `OK` if each value is that, and else the error `finished with <n> error(s)`, n the number of others.
+    /// Simple `OK` if each value is that, else the error `finished with <n> error(s)`, where n is the number of others.
     Set,
-    /// The sum if all values are integers and the sum is in the signed 64-bit range. The error
-    /// `finished with <n> error(s)`, n the number of others, if there are any, and else `upstream protocol error`.
+    /// The sum of the values. If any aren't integers, the error `finished with <n> error(s)`, where n is their number.
+    /// If the sum is outside the signed 64-bit range, the error `upstream protocol error`.
     Sum,
 }
 
 /// A part of a command: a command of its own, for the host that owns its key.
 #[derive(Drop)]
 pub struct PartPlan {
-    /// The key that says which host the part goes to.
+    /// The key, by which the part's host is chosen.
     pub key: Bytes,
     /// The part's text: its words as an array of bulk strings, in the one spelling.
     pub text: Bytes,
@@ -73,17 +73,17 @@ pub enum Plan {
     Parts {
         /// How the values are joined.
         how: Join,
-        /// The parts, at least one; just one where `how` is `Same`.
+        /// The parts: at least one, and exactly one if `how` is `Same`.
         list: PartPlans,
     },
 }
 
-/// What the proxy does with one request of many: its plan, where a command that stays whole lends its key.
+/// The plan of one request of many, in which a command that stays whole lends its key.
 #[derive(Drop)]
 pub enum Planned<'a> {
-    /// One host answers the whole command, and what it answers is the reply.
+    /// One host answers the whole command, and its reply is the reply.
     Whole {
-        /// The key that says which host, a word of the request.
+        /// The key, by which the host is chosen: a word of the request.
         key: &'a Bytes,
         /// The command's text: its words as an array of bulk strings, in the one spelling.
         text: Bytes,

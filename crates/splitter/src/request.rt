@@ -1,10 +1,10 @@
-//! What a client asks.
+//! Requests of clients.
 ghost use Rattle.std.specs.Prelude.{◌≡◌};
 ghost use Rattle.resp_core.specs.Stream.{told_offset};
 
 use resp_core::Value;
 
-/// What a client's stream asks: a value, or bytes that are no text of one.
+/// A request of a client's stream: a value, or bytes that are no text of one.
 #[derive(Drop)]
 pub enum Request {
     /// A value, which may be a command.
@@ -16,8 +16,7 @@ pub enum Request {
 impl Request {
     ghost use Rattle.splitter.specs.Request.{length_of};
 
-    /// How many bytes the text of the value has in its one spelling, where the greatest number of 64 bits stands for any
-    /// more: 0 for bytes that are no text.
+    /// The length of the value's one spelling; the greatest `u64` stands for any more. 0 for bytes that are no text.
     pub fn text_len(&self) -> u64
         ensures { result ≡ told_offset (length_of self.now) }
     {

@@ -4,27 +4,27 @@ ghost use Rattle.std.specs.Option.{option_map};
 ghost use Rattle.stub_server.specs.Command.{rows, command_in, command_named};
 ghost use Rattle.stub_server.specs.Row.{row_of};
 
-/// What a request asks of the map.
+/// The operation of a command.
 #[derive(Clone, Copy, Debug, PartialEq, Eq)]
 pub enum Command {
     /// GET: the value of a key.
     Get,
     /// SET: a key has this value from now on.
     Set,
-    /// DEL and UNLINK: the keys are taken out.
+    /// DEL and UNLINK: the keys are removed.
     Del,
-    /// EXISTS and TOUCH: how many words are keys.
+    /// EXISTS and TOUCH: the number of words that are keys.
     Exists,
     /// INCR: the number at a key grows by one.
     Incr,
 }
 
-/// A name, in lower case, and what it asks.
+/// A name, in lower case, and its command.
 #[derive(Clone, Copy, Debug, PartialEq, Eq)]
 pub struct NamedCommand {
     /// The name, in lower case.
     pub name: &'static str,
-    /// What it asks.
+    /// The command.
     pub command: Command,
 }
 
@@ -59,7 +59,7 @@ const NAMED: [NamedCommand; 7] = [
     },
 ];
 
-/// The command of this name, compared without ASCII case, or `None` where the stub has none.
+/// The command of this name, compared without ASCII case, or `None`.
 pub(crate) fn command_named(name: &[u8]) -> Option<Command>
     ensures { result ≡ command_named name.now }
 {
@@ -73,7 +73,7 @@ fn all_named() -> &'static [NamedCommand]
     &NAMED
 }
 
-// The first of these commands that has this name.
+// The first of these commands with this name.
 fn command_among(named: &[NamedCommand], name: &[u8]) -> Option<Command>
     ensures { result ≡ command_in (map row_of named.now) name.now }
 {
@@ -88,7 +88,7 @@ fn command_among(named: &[NamedCommand], name: &[u8]) -> Option<Command>
 impl Command {
     ghost use Rattle.stub_server.specs.Command.{takes};
 
-    /// Whether the command may have so many words, its name among them.
+    /// Whether the command may have this many words, with its name.
     pub(crate) fn takes(self, words: usize) -> bool
         ensures { result ≡ takes self words }
     {

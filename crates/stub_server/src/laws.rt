@@ -1,22 +1,22 @@
-//! Laws of the map and of numbers, each the contract of a function that does nothing: whoever stands on them calls it.
+//! Laws of the map and of numbers. Each is the contract of a function that does nothing; its users call it.
 ghost use Rattle.stub_server.specs.Laws.{SetKeyHasItsValue, RemovedKeyHasNoValue, KeysStayDistinct, NumberHasOneSpelling};
 
-/// After a value was set at a key it is that key's value, and all other keys have the values that they had.
+/// A key that was set has its new value, and all other keys keep theirs.
 pub fn a_set_key_has_its_value()
     ensures { SetKeyHasItsValue }
 {}
 
-/// After keys were taken out they have no value, and all other keys have the values that they had.
+/// Removed keys have no value, and all other keys keep theirs.
 pub fn a_removed_key_has_no_value()
     ensures { RemovedKeyHasNoValue }
 {}
 
-/// Each key stands once in the map, after each request.
+/// After each request each key is in the map at most once.
 pub fn keys_stay_distinct()
     ensures { KeysStayDistinct }
 {}
 
-/// The bytes in which a number is found are the decimal spelling of that number and of no other.
+/// Bytes that are read as a number are the decimal spelling of that number and of no other.
 pub fn a_number_has_one_spelling()
     ensures { NumberHasOneSpelling }
 {}

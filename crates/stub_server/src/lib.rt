@@ -1,9 +1,9 @@
 //! A Redis host in memory, for tests and for `redproxy local`.
 //!
-//! A `Stub` answers requests by a small table of commands over a map from keys to byte strings, which is empty at first,
-//! or does with them what a script says. The commands and their meanings are those of the Redis commands of the same
-//! names; which of them the table has, and the texts of its errors, are this project's own. A `StubLink` has two ends in
-//! memory: requests are written to one, and replies are read from the other.
+//! A `Stub` answers requests by a small table of commands over a map from keys to byte strings, which is empty at
+//! first. A script can change that. The commands have their Redis meanings; their choice and the texts of errors are
+//! this project's own. A `StubLink` has two ends in memory: requests are written to one, and replies read from the
+//! other. It stands on `resp_core`. Begin with `stub.rt`, then `link.rt`.
 #![tactic(auto)]
 
 mod command;

@@ -18,21 +18,21 @@ pub struct StubLink {
     stub: Stub,
 }
 
-/// The end from which the stub's replies are read.
+/// The end that replies are read from.
 ///
-/// A read gives bytes that stand behind those given before. With none it answers `WouldBlock`, and the end of the input
-/// once the link has ended and all replies before that were read. No other error is answered.
+/// A read returns the next bytes. It returns `WouldBlock` if there are none, and the end of the input once the link has
+/// ended and all replies were read. It has no other error.
 #[derive(Drop)]
 pub struct StubReader {
     session: Arc<Mutex<Session>>,
 }
 
-/// The end to which requests are written, in the texts that a client may send.
+/// The end that requests are written to, in texts that a client may send.
 ///
-/// A write takes at most `MAX_TAKEN` bytes and serves the requests that are whole by then, by the stub's script. One for
-/// which there is no memory, or no room, waits for a later read or write: no request is served while `MAX_UNREAD` bytes of
-/// replies or more are unread. While one waits no byte is taken, and a write answers `WouldBlock`. Once the link has ended,
-/// by `Act::Drop` or at a byte that fits no text, it answers `BrokenPipe`. No other error is answered.
+/// A write takes at most `MAX_TAKEN` bytes and serves the complete requests by the stub's script. A request without
+/// memory or room waits for a later read or write: none is served while `MAX_UNREAD` or more bytes of replies are
+/// unread. While one waits, a write takes no byte and returns `WouldBlock`. Once the link has ended, by `Act::Drop` or
+/// at a byte that fits no text, it returns `BrokenPipe`. It has no other error.
 #[derive(Drop)]
 pub struct StubWriter {
     session: Arc<Mutex<Session>>,
@@ -46,11 +46,11 @@ impl StubLink {
         StubLink { alloc, stub }
     }
 
-    /// The two ends of the link. A call of one while a call of the other runs, in another thread, answers `WouldBlock`.
+    /// The two ends of the link. A call of one during a call of the other, in another thread, returns `WouldBlock`.
     ///
-    /// They hold the stub, at most `MAX_TAKEN` bytes of requests that wait behind an unfinished one of at most 8,388,608,
-    /// and less than `MAX_UNREAD` unread bytes of replies with one reply behind them. Refused 1501 (no memory), and then
-    /// the link comes back.
+    /// They hold the stub, and at most `MAX_TAKEN` bytes of requests behind an unfinished one of at most 8,388,608.
+    /// They also hold less than `MAX_UNREAD` unread bytes of replies, with one reply behind them. Refused 1501 (no
+    /// memory): the link comes back.
     pub fn ends(self, alloc: Global) -> Result<(StubReader, StubWriter), (StubError, StubLink)>
         ensures err { IfErr result (λ e. (e.0 ≡ StubError.NoMemory) × (e.1 ≡ self)) }
     {
@@ -60,7 +60,7 @@ impl StubLink {
         let Ok(other) = Arc::try_clone(&session) else {
             return Err((StubError::NoMemory, self));
         };
-        // Nobody else can have the lock yet.
+        // (nothing else can have the lock yet)
         match session.try_lock() {
             Some(mut shared) => shared.stub = self.stub,
             None => return Err((StubError::NoMemory, self)),

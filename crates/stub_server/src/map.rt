@@ -32,9 +32,9 @@ pub(crate) fn value_at<'a>(entries: &'a [Entry], key: &[u8]) -> Option<&'a Bytes
     None
 }
 
-/// Puts the value at the key: in the place of the value that the key has, or behind all others.
+/// Sets the key's value: replaces its present one, or adds it behind all others.
 ///
-/// Refused 1501 (no memory), and then the map is as it was.
+/// Refused 1501 (no memory): the map is unchanged.
 pub(crate) fn put(entries: &mut Vec<Entry>, key: Bytes, value: Bytes) -> Result<(), StubError>
     ensures ok { OnOk result (entries.new.items ≡ with_value key value entries.old.items) }
     ensures err { OnErr result (entries.new.items ≡ entries.old.items) }
@@ -47,7 +47,7 @@ pub(crate) fn put(entries: &mut Vec<Entry>, key: Bytes, value: Bytes) -> Result<
     Ok(())
 }
 
-/// How many entries have one of these keys.
+/// The number of entries with one of these keys.
 pub(crate) fn count_among(entries: &[Entry], keys: &[Value]) -> usize
     ensures { result ≡ count_among (map payload_of (map tree_of keys.now)) entries.now }
 {
@@ -57,7 +57,7 @@ pub(crate) fn count_among(entries: &[Entry], keys: &[Value]) -> usize
         .count()
 }
 
-/// Takes out the entries of these keys. It takes no memory.
+/// Removes the entries of these keys. It takes no memory.
 pub(crate) fn take_out(entries: &mut Vec<Entry>, keys: &[Value])
     ensures { entries.new.items ≡ map_without
         (map payload_of (map tree_of keys.now)) entries.old.items }
@@ -65,7 +65,7 @@ pub(crate) fn take_out(entries: &mut Vec<Entry>, keys: &[Value])
     entries.retain(|entry| !is_among(keys, entry.key.as_slice()));
 }
 
-/// How many of these words are keys of the map, repeats counted.
+/// The number of these words that are keys of the map, repeats counted.
 #[tactic(auto, using(crate::proofs::MapLemmas::count_by_map))]
 pub(crate) fn count_keys(entries: &[Entry], words: &[Value]) -> usize
     ensures { result ≡ count_keys entries.now (map payload_of (map tree_of words.now)) }
@@ -88,14 +88,14 @@ fn is_among(words: &[Value], key: &[u8]) -> bool
     false
 }
 
-// Where the entry of the key stands.
+// The index of the key's entry.
 fn place_of(entries: &[Entry], key: &[u8]) -> Option<usize>
     ensures { result ≡ position (is_of key.now) entries.now }
 {
     entries.iter().position(|entry| entry.key.as_slice() == key)
 }
 
-// Whether the key is one of the map.
+// Whether the key is in the map.
 fn is_key(entries: &[Entry], key: &[u8]) -> bool
     ensures { result ≡ is_key entries.now key.now }
 {

@@ -7,10 +7,10 @@ use crate::error::StubError;
 use bytes::Bytes;
 use std::alloc::Global;
 
-/// The signed 64-bit number whose one spelling these bytes are, or `None`.
+/// The signed 64-bit number with these bytes as its one spelling, or `None`.
 ///
-/// The one spelling is decimal, with `-` before a number below zero, without a plus sign and without leading zeros, and
-/// zero is `0`. Refused 1501 (no memory).
+/// The one spelling is decimal, with `-` before a negative number, without a plus sign and without leading zeros; zero
+/// is `0`. Refused 1501 (no memory).
 pub(crate) fn number_in(alloc: Global, bytes: &[u8]) -> Result<Option<i64>, StubError>
     ensures number { IfOk result (λ number. number ≡ number_in bytes.now) }
     ensures memory { IfErr result (λ e. e ≡ StubError.NoMemory) }

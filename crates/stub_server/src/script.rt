@@ -1,24 +1,24 @@
-//! Scripts: what a stub does with the requests that come next.
+//! Scripts: how a stub handles the next requests.
 ghost use Rattle.std.specs.Prelude.{◌≡◌};
 ghost use Rattle.stub_server.specs.Script.{act_of, acts_after};
 
 use std::alloc::Global;
 use std::marker::Model;
 
-/// What a stub does with one request.
+/// How a stub handles one request.
 #[derive(Clone, Copy, Debug, PartialEq, Eq, Drop)]
 pub enum Act {
     /// It answers by the table of commands.
     Reply,
     /// It leaves this request and all later ones unanswered.
     Hold,
-    /// It ends the link: no later request is served, and what was said before can still be read.
+    /// It ends the link: no later request is served, and earlier replies can still be read.
     Drop,
     /// It writes `?\r\n`, which is no reply.
     Garble,
 }
 
-/// The acts that are left, which contracts see as a list.
+/// The remaining acts, which contracts see as a list.
 #[derive(Drop)]
 pub struct Script {
     acts: Vec<Act>,
@@ -37,14 +37,14 @@ impl Model for Script {
 }
 
 impl Script {
-    // These acts, one after the other.
+    // These acts, one after another.
     pub(crate) fn new(acts: Vec<Act>) -> Script
         ensures { result ≡ acts.items }
     {
         Script { acts, done: 0 }
     }
 
-    // What is done with the next request.
+    // The act for the next request.
     pub(crate) fn act(&self) -> Act
         ensures { result ≡ act_of self.now }
     {
@@ -54,7 +54,7 @@ impl Script {
         }
     }
 
-    // The request has come.
+    // Goes on to the next request's act.
     pub(crate) fn advance(&mut self)
         ensures { self.new ≡ acts_after self.old }
     {

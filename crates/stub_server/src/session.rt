@@ -1,4 +1,4 @@
-//! What the two ends of a link share: the stub, and what stands between it and them.
+//! The shared state of a link's two ends: the stub, its requests and its replies.
 ghost use Rattle.std.specs.Prelude.{◌≡◌, ◌≤◌, ◌<◌, ◌⊎◌, IfOk, IfErr, OnOk, length, true};
 ghost use Rattle.stub_server.specs.Session.{left_of, steps_of};
 
@@ -14,32 +14,32 @@ use std::mem;
 /// The most bytes that one write takes.
 pub const MAX_TAKEN: usize = 65_536;
 
-// What is done next.
+// The next step.
 #[derive(Drop)]
 pub(crate) enum Next {
-    // A request is read.
+    // Read a request.
     Read,
-    // This one is served.
+    // Serve this one.
     Serve(Value),
-    // This reply is put behind the others.
+    // Append this reply.
     Say(Reply),
-    // A line that is no reply is put there.
+    // Append a line that is no reply.
     Garble,
 }
 
-// A stub, the requests that were written to it, and the replies that nobody has read yet.
+// A stub, the requests written to it, and the unread replies.
 #[derive(Drop)]
 pub(crate) struct Session {
     pub(crate) stub: Stub,
     requests: Reader,
     next: Next,
     replies: Unread,
-    // No request is read any more.
+    // No further request is read.
     is_over: bool,
 }
 
 impl Session {
-    // A link over an empty stub, to which nothing was written.
+    // A link to an empty stub, before any request.
     pub(crate) fn new(alloc: Global) -> Session {
         Session {
             stub: Stub::new(alloc),
@@ -50,9 +50,9 @@ impl Session {
         }
     }
 
-    // Takes bytes of requests, and serves those that are whole: how many bytes.
+    // Takes bytes of requests, and serves the complete ones. Returns the number of bytes taken.
     //
-    // None are taken while requests that came before wait, for memory or for room for their replies.
+    // None are taken while earlier requests wait for memory or for room for their replies.
     pub(crate) fn write(&mut self, bytes: &[u8]) -> Result<usize, ErrorKind>
         ensures taken { IfOk result (λ n. n ≤ length bytes.now) }
         ensures kinds { IfErr result
@@ -70,7 +70,7 @@ impl Session {
         Ok(taken)
     }
 
-    // Serves what waits, and gives bytes of replies: how many, and none only at the end.
+    // Serves waiting requests, and moves bytes of replies. Returns their number, 0 only at the end.
     pub(crate) fn read(&mut self, buffer: &mut [u8]) -> Result<usize, ErrorKind>
         ensures given { IfOk result (λ n. n ≤ length buffer.new) }
         ensures kinds { IfErr result (λ kind. kind ≡ ErrorKind.WouldBlock) }
@@ -83,7 +83,7 @@ impl Session {
         Err(ErrorKind::WouldBlock)
     }
 
-    // Serves the requests that came, as long as there is memory and room for replies: whether none is left.
+    // Serves requests while there is memory and room for replies. True: none is left.
     fn serve_all(&mut self) -> bool {
         while self.replies.len() < MAX_UNREAD {
             match self.go_on() {
@@ -95,7 +95,7 @@ impl Session {
         false
     }
 
-    // Makes the next step: whether there was one. Where memory is refused it is made again.
+    // Makes the next step. False: there was none. A step without memory is made again later.
     fn go_on(&mut self) -> Result<bool, StubError>
         ensures falls { IfOk result (λ went. went ≡ true → left_of self.new < left_of self.old) }
     {
@@ -116,7 +116,7 @@ impl Session {
         }
     }
 
-    // Reads the next request: whether one has come.
+    // Reads the next request. False: none has come.
     fn read_request(&mut self) -> Result<bool, StubError>
         requires next { self.old.next ≡ Next.Read }
         ensures falls { IfOk result (λ came. came ≡ true → left_of self.new < left_of self.old) }
@@ -157,7 +157,7 @@ impl Session {
         }
     }
 
-    // What the stub's response to a request leads to.
+    // The next step after the stub's response to a request.
     fn serve_by_script(&mut self, request: &Value) -> Result<Next, StubError>
         ensures requests { (self.new.requests ≡ self.old.requests)
             × (self.new.next ≡ self.old.next) }
@@ -174,7 +174,7 @@ impl Session {
         }
     }
 
-    // Puts a reply behind the others.
+    // Appends a reply.
     fn say(&mut self, reply: Reply) -> Result<(), StubError>
         requires next { self.old.next ≡ Next.Read }
         ensures requests { self.new.requests ≡ self.old.requests }
@@ -192,7 +192,7 @@ impl Session {
         }
     }
 
-    // Puts a line that is no reply behind the replies.
+    // Appends a line that is no reply.
     fn garble(&mut self) -> Result<(), StubError>
         requires next { self.old.next ≡ Next.Read }
         ensures requests { self.new.requests ≡ self.old.requests }
@@ -205,7 +205,7 @@ impl Session {
         said
     }
 
-    // Sets what is done next.
+    // Sets the next step.
     fn then(&mut self, next: Next)
         ensures { self.new ≡ record self.old { next = next } }
     {

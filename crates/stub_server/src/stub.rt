@@ -19,8 +19,7 @@ use resp_core::{Value, Values};
 use std::alloc::Global;
 use std::marker::Model;
 
-/// A Redis host in memory: a map from keys to byte strings, the answers to requests, and a script by which requests are
-/// served.
+/// A Redis host in memory: a map from keys to byte strings, the answers to requests, and a script for handling them.
 #[derive(Drop)]
 pub struct Stub {
     alloc: Global,
@@ -36,7 +35,7 @@ impl Model for Stub {
     ghost view = { λ s. record { map = s.entries.items; script = s.script } };
 }
 
-/// What a request is given.
+/// The response to a request.
 #[derive(Drop)]
 pub enum Response {
     /// The answer.
@@ -50,7 +49,7 @@ pub enum Response {
 }
 
 impl Stub {
-    /// A stub whose map and whose script are empty.
+    /// A stub with an empty map and an empty script.
     pub fn new(alloc: Global) -> Stub
         ensures map { result.map ≡ [] }
         ensures script { result.script ≡ [] }
@@ -62,9 +61,9 @@ impl Stub {
         }
     }
 
-    /// Serves the requests that come next by these acts, one each, and those behind them by `Act::Reply`.
+    /// Handles the next requests by these acts, one each, and later ones by `Act::Reply`.
     ///
-    /// What a script before left over is forgotten: requests that it would still hold are served by this one.
+    /// The rest of an earlier script is forgotten: this one serves requests that it would still hold.
     pub fn script(&mut self, acts: Vec<Act>)
         ensures script { self.new.script ≡ acts.items }
         ensures map { self.new.map ≡ self.old.map }
@@ -72,10 +71,9 @@ impl Stub {
         self.script = Script::new(acts);
     }
 
-    /// Serves a request as the next act of the script says: with the answer that `answer` gives, or without one, and then
-    /// the map stays as it is.
+    /// Handles a request by the script's next act: as `answer` does, or without an answer and a change of the map.
     ///
-    /// `Act::Hold` is the act of all later requests too. Refused 1501 (no memory), and then nothing has changed.
+    /// `Act::Hold` is also the act of all later requests. Refused 1501 (no memory): nothing has changed.
     pub fn serve(&mut self, request: &Value) -> Result<Response, StubError>
         ensures response { IfOk result
             (λ response. IsResponse (act_of self.old.script) self.old.map
@@ -97,20 +95,20 @@ impl Stub {
         Ok(response)
     }
 
-    /// The answer to the request, and the map after it, by the table of commands:
+    /// Answers the request by the table of commands, and changes the map:
     ///
     /// - GET key: the value as a bulk string, or the null bulk string.
     /// - SET key value: simple `OK`; the key has this value from now on.
-    /// - DEL or UNLINK key ..: how many keys are taken out of the map, as an integer.
-    /// - EXISTS or TOUCH key ..: how many of the words are keys, repeats counted, as an integer.
-    /// - INCR key: the number at the key grows by one, and is the answer, an integer. A missing key counts as 0. The
-    ///   value has to be the one decimal spelling of a signed 64-bit number below the greatest, or the answer is the
-    ///   error `ERR value is not an integer or out of range`.
+    /// - DEL or UNLINK key ..: the number of keys removed from the map, as an integer.
+    /// - EXISTS or TOUCH key ..: the number of words that are keys, repeats counted, as an integer.
+    /// - INCR key: raises the number at the key by one and returns it, an integer. A missing key counts as 0. The value
+    ///   must be the one decimal spelling of a signed 64-bit number below the greatest; otherwise the answer is the error
+    ///   `ERR value is not an integer or out of range`.
     /// - One of these with another number of words: the error `ERR wrong number of arguments`.
     /// - Any other request: the error `ERR unknown command`.
     ///
-    /// Names are compared without ASCII case. The script is neither asked nor changed. Refused 1501 (no memory), and then
-    /// the map is as it was.
+    /// Names are compared without ASCII case. The script is neither read nor changed. Refused 1501 (no memory): the map
+    /// is unchanged.
     pub fn answer(&mut self, request: &Value) -> Result<Value, StubError>
         ensures answer { IfOk result
             (λ answer. tree_of answer ≡ answer_of self.old.map (tree_of request.now)) }
@@ -127,7 +125,7 @@ impl Stub {
     }
 }
 
-// The answer to a request of these words.
+// The answer to a request with these words.
 fn answer_words(alloc: Global, entries: &mut Vec<Entry>, words: &Values) -> Result<Value, StubError>
     requires { are_words words.now ≡ true }
     ensures answer { IfOk result
@@ -237,7 +235,7 @@ fn increment(alloc: Global, entries: &mut Vec<Entry>, key: &Bytes) -> Result<Val
     Ok(Value::Whole(next))
 }
 
-// The number at the key, 0 where the key is missing, or `None` where the value is no number.
+// The number at the key, 0 if the key is missing, or `None` if the value is no number.
 fn number_at(alloc: Global, entries: &[Entry], key: &[u8]) -> Result<Option<i64>, StubError>
     ensures number { IfOk result (λ number. number ≡ number_at key.now entries.now) }
     ensures memory { IfErr result (λ e. e ≡ StubError.NoMemory) }
@@ -250,7 +248,7 @@ fn number_at(alloc: Global, entries: &[Entry], key: &[u8]) -> Result<Option<i64>
 
 // A count as an answer.
 //
-// Memory has no room for more entries or words than an integer can count.
+// Memory has room for fewer entries and words than an integer can count.
 fn count_answer(count: usize) -> Result<Value, StubError>
     ensures answer { IfOk result (λ answer. tree_of answer ≡ whole (pos count)) }
     ensures memory { IfErr result (λ e. e ≡ StubError.NoMemory) }

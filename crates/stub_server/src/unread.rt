@@ -1,4 +1,4 @@
-//! Texts of replies that wait for their reader.
+//! Unread texts of replies.
 ghost use Rattle.std.specs.Prelude.{◌≡◌, ◌++◌, [], OnOk, OnErr, IfErr, length, min, take, drop, codes};
 ghost use Rattle.resp_core.specs.Value.{tree_of};
 ghost use Rattle.resp_core.specs.Text.{text};
@@ -9,18 +9,18 @@ use resp_core::put_text;
 use std::alloc::Global;
 use std::marker::Model;
 
-/// While a link holds so many unread bytes of replies or more, it answers no request.
+/// While this many bytes of replies are unread, a link answers no request.
 pub const MAX_UNREAD: usize = 65_536;
 
-// Bytes of a buffer that is kept while no byte is unread.
+// The most bytes of a buffer that is kept while no byte is unread.
 const MAX_IDLE: usize = 131_072;
 
-/// The bytes of replies that were not read yet, which contracts see as a list.
+/// The unread bytes of replies, which contracts see as a list.
 #[derive(Drop)]
 pub struct Unread {
     alloc: Global,
     texts: Vec<u8>,
-    // How many bytes of the texts were read.
+    // The number of bytes in front that were read.
     given: usize,
 }
 
@@ -35,7 +35,7 @@ impl Model for Unread {
 }
 
 impl Unread {
-    // With no bytes.
+    // No unread bytes.
     pub(crate) fn new(alloc: Global) -> Unread
         ensures { result ≡ [] }
     {
@@ -75,7 +75,7 @@ impl Unread {
         Ok(())
     }
 
-    // Moves the unread bytes to the front, once many others stand there.
+    // Moves the unread bytes to the front, once many read ones are before them.
     fn settle(&mut self)
         ensures { self.new ≡ self.old }
     {
@@ -88,7 +88,7 @@ impl Unread {
         self.given = 0;
     }
 
-    // Gives the first bytes, as many as the buffer has room for: how many.
+    // Moves the first bytes into the buffer, as many as fit. Returns their number.
     pub(crate) fn give(&mut self, buffer: &mut [u8]) -> usize
         ensures count { result ≡ min (length buffer.old) (length self.old) }
         ensures bytes { take result buffer.new ≡ take result self.old }
@@ -102,7 +102,7 @@ impl Unread {
         count
     }
 
-    // Forgets what was read, where that is all, and gives a large buffer back.
+    // Forgets the text once all is read, and drops a large buffer.
     fn clear(&mut self)
         ensures { self.new ≡ self.old }
     {

@@ -5,7 +5,7 @@ ghost use Rattle.resp_core.specs.Command.{are_words, payload_of};
 
 use resp_core::{Value, Values};
 
-/// The words behind the first.
+/// The words after the first.
 pub(crate) fn keys_of(words: &Values) -> &[Value]
     requires { are_words words.now ≡ true }
     ensures { map tree_of result.now ≡ drop 1 words.now }
@@ -13,7 +13,7 @@ pub(crate) fn keys_of(words: &Values) -> &[Value]
     &words.0[1..]
 }
 
-/// The bytes of a bulk string, and no bytes for any other value.
+/// The bytes of a bulk string; none for any other value.
 pub(crate) fn payload(value: &Value) -> &[u8]
     ensures { result.now ≡ payload_of (tree_of value.now) }
 {

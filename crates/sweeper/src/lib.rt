@@ -1,7 +1,8 @@
 //! The pace of sweeps, and one sweep at a time.
 //!
-//! A sweep lets hosts back whose time is over, and puts those aside that answer badly. Who sweeps
-//! asks [`Pace::due`] whether it is time, and calls [`sweep_once`], which makes one turn of a core.
+//! A sweep lets hosts back whose time is over, and ejects hosts that answer badly. [`Pace::due`]
+//! says whether one is due; [`sweep_once`] makes it, as one turn of a core. It stands on
+//! `proxy_core`. Begin with `sweep.rt`.
 #![tactic(auto)]
 
 mod pace;

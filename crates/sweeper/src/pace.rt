@@ -1,7 +1,7 @@
-//! When a sweep is due.
+//! The pace of sweeps.
 ghost use Rattle.std.specs.Prelude.{◌↔◌, ◌-◌, ◌≤◌, IsTrue};
 
-/// How far one sweep is from the next.
+/// The time between sweeps.
 #[derive(Clone, Copy, Debug, PartialEq, Eq)]
 pub struct Pace {
     /// Milliseconds from one sweep to the next. With 0 a sweep is always due.
@@ -9,8 +9,8 @@ pub struct Pace {
 }
 
 impl Pace {
-    /// Whether a sweep is due at the moment `now`, the last one having been at the moment `last`,
-    /// both in milliseconds: the interval is over. It isn't where the clock went back.
+    /// Whether a sweep is due at the moment `now`: the interval has passed since the last one, at
+    /// the moment `last`, both in milliseconds. None is due if the clock went back.
     pub fn due(&self, last: u64, now: u64) -> bool
         ensures { IsTrue result ↔ ((last ≤ now) × (self.now.interval_ms ≤ now - last)) }
     {

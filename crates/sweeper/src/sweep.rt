@@ -11,7 +11,7 @@ use std::sync::Wait;
 use thiserror::Error;
 use ticket_gate::TurnRefusal;
 
-/// Why a sweep was not made.
+/// Why a sweep wasn't made.
 #[derive(Clone, Copy, Debug, PartialEq, Eq, Error)]
 pub enum SweepRefusal {
     /// 1001: memory was refused.
@@ -38,14 +38,14 @@ impl SweepRefusal {
     }
 }
 
-/// Makes one turn, a sweep at this moment in milliseconds, and no other. It tells how many hosts
-/// the sweep returned, put aside, and let stay though they tripped.
+/// Makes one turn: a sweep at this moment in milliseconds. Returns the numbers of hosts that it
+/// returned, ejected, and let stay though they tripped.
 ///
-/// Answered: what the pass sees now is a legal journal, begins with what it saw before and ends
-/// with its step, the sweep at this moment with this answer; of its own steps that is the only new
-/// one. Refused `NoMemory` (1001) or `JournalFull` (1002) where the core refused it: that has its
-/// cause over what the pass sees now, which has no further step of it. Refused `Spent` (1202) where
-/// no ticket is left: the pass has seen nothing new.
+/// Answered: the pass now sees a legal journal, which begins with what it saw before and ends with
+/// this sweep and this answer. Of its own steps only that one is new. Refused `NoMemory` (1001) or
+/// `JournalFull` (1002) by the core: that has its cause over what the pass now sees, which has no
+/// further step of the pass. Refused `Spent` (1202) where no ticket is left: the pass has seen
+/// nothing new.
 pub fn sweep_once<R: Wait, T: CoreTurns>(
     rt: &R,
     turns: &mut T,
@@ -78,7 +78,7 @@ pub fn sweep_once<R: Wait, T: CoreTurns>(
     }
 }
 
-// The turn of a sweep. Where it was refused for want of tickets, there is no cause.
+// The turn of a sweep. A refusal for want of tickets has no cause.
 fn ask_sweep<R: Wait, T: CoreTurns>(
     rt: &R,
     turns: &mut T,

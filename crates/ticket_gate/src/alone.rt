@@ -25,7 +25,7 @@ impl<S: Recorded> Model for Alone<S> {
 }
 
 impl<S: Recorded> Alone<S> {
-    /// Takes a state with an empty journal, for the pass with this number.
+    /// Takes a state with an empty journal for the pass with this number.
     pub fn new(state: S, pass: u64) -> Alone<S>
         requires { S.journal state ≡ [] }
         ensures { result ≡ alone_with state pass }
@@ -40,7 +40,7 @@ impl<S: Recorded> Alone<S> {
         &self.state
     }
 
-    /// Gives the state. Its journal is legal, and all its steps are of this pass.
+    /// Returns the state. Its journal is legal, and all its steps are of this pass.
     pub fn into_state(self) -> S
         ensures state { result ≡ self.state }
         ensures is_legal { S.legal (S.setting result) (S.journal result) }
@@ -51,7 +51,7 @@ impl<S: Recorded> Alone<S> {
     }
 }
 
-/// No turn is refused for want of a ticket: `turn` is refused by the state alone.
+/// No turn is refused for want of a ticket: only the state refuses `turn`.
 impl<S: Recorded> Turns for Alone<S> {
     type Event = S::Event;
 
@@ -77,7 +77,7 @@ impl<S: Recorded> Turns for Alone<S> {
 
     ghost spent = { λ a. ⊥ };
 
-    // Inlined, so that an event and its answer are moved once less.
+    // Inlined, which saves a move of event and answer.
     #[inline(always)]
     fn turn<R: Wait>(
         &mut self,

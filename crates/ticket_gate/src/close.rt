@@ -7,11 +7,11 @@ use crate::gate::{DRAWN, Gate, Pass, SERVING, STATE};
 use crate::recorded::Recorded;
 
 impl<S: Recorded> Gate<S> {
-    /// Ends the gate, and gives its state where each ticket that was drawn has been served.
+    /// Ends the gate, and returns its state if each ticket drawn has been served.
     ///
     /// The state has the gate's setting. Its journal is legal, begins with what the pass has seen,
-    /// and holds of the pass the steps that it has seen and no others. Once all calls at the gate
-    /// have returned, no ticket is out.
+    /// and has exactly the pass's steps that it has seen. Once all calls at the gate have returned,
+    /// no ticket is out.
     pub fn close(self, pass: Pass<S>) -> Option<S>
     where
         S: Drop,

@@ -23,11 +23,11 @@ impl<S: Recorded> Gate<S> {
         (Spare { seat }, Spare { seat: other })
     }
 
-    /// Gives a spare place a number from 0 to 255 that no other pass of this gate has. The new
-    /// pass has seen nothing of the journal.
+    /// Gives a spare place a number from 0 to 255 that no other pass of this gate has. The new pass
+    /// has seen nothing of the journal.
     ///
-    /// It tries again while other threads enrol. Where 256 passes are enrolled the answer is
-    /// `Crowded` (1203) with the spare place.
+    /// It tries again while other threads enrol. If 256 passes are enrolled, it returns `Crowded`
+    /// (1203) with the spare place.
     pub fn enrol<R: Wait>(
         &self,
         rt: &R,

@@ -1,4 +1,4 @@
-//! The way into a gate: at once, or with a ticket of one's own.
+//! The way into a gate: at once, or with a ticket.
 ghost use Rattle.std.specs.Prelude.{◌≡◌, ◌-◌, ◌^◌, ◌<◌, IfOk, IfErr, MatchOption};
 ghost use Rattle.ticket_gate.specs.Gate.{IsAtRest};
 ghost use Rattle.ticket_gate.specs.Visit.{KeepsSeen, MayEnter, HoldsTicket, IsInside};
@@ -10,20 +10,20 @@ use crate::steps::{DrawTicket, EnterAtOnce, LookAtServing, ReadDrawn};
 use crossbeam_utils::Backoff;
 use std::sync::Wait;
 
-/// How often a turn tries to enter at once before it draws a ticket.
+/// The most tries to enter at once before a turn draws a ticket.
 pub const MAX_TRIES: u32 = 16;
 
 /// Why a place didn't enter at once.
 #[derive(Clone, Copy)]
 pub(crate) enum EntryRefusal {
-    /// The ticket that was served, and the number of the next one to be drawn, which is greater.
+    /// The ticket served, and the next number to be drawn, which is greater.
     Busy { served: u64, drawn: u64 },
     /// All tickets were drawn.
     Spent,
 }
 
 impl<S: Recorded> Gate<S> {
-    // Enters where nobody holds or awaits the gate, and gives the ticket.
+    // Enters if nothing holds or awaits the gate, and returns the ticket.
     #[inline(always)]
     pub(crate) fn enter_at_once(&self, seat: &mut Place<S>) -> Result<u64, EntryRefusal>
         requires { MayEnter self.now.id seat.old }
@@ -46,7 +46,7 @@ impl<S: Recorded> Gate<S> {
         Ok(served)
     }
 
-    // Tries to enter at once a few times. None where it didn't come in.
+    // Tries to enter at once a few times. `None`: it didn't enter.
     fn enter_soon(&self, seat: &mut Place<S>) -> Option<u64>
         requires { MayEnter self.now.id seat.old }
         ensures gate { seat.new.table_id ≡ seat.old.table_id }
@@ -65,7 +65,7 @@ impl<S: Recorded> Gate<S> {
         None
     }
 
-    // Draws a ticket. None where all are drawn.
+    // Draws a ticket. `None`: all are drawn.
     fn draw<R: Wait>(&self, rt: &R, seat: &mut Place<S>) -> Option<u64>
         requires { MayEnter self.now.id seat.old }
         ensures gate { seat.new.table_id ≡ seat.old.table_id }
@@ -104,7 +104,7 @@ impl<S: Recorded> Gate<S> {
         unreachable!()
     }
 
-    // Enters, and gives the ticket. None where all tickets are drawn.
+    // Enters, and returns the ticket. `None`: all tickets are drawn.
     #[inline(always)]
     pub(crate) fn enter<R: Wait>(&self, rt: &R, seat: &mut Place<S>) -> Option<u64>
         requires { MayEnter self.now.id seat.old }

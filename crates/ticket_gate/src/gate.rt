@@ -14,7 +14,7 @@ use std::snapshot::Snapshot;
 /// The word that counts the tickets drawn.
 pub(crate) const DRAWN: usize = 0;
 
-/// The word with the ticket that is served.
+/// The word with the ticket served.
 pub(crate) const SERVING: usize = 1;
 
 /// The word that counts the numbers given to passes.
@@ -23,7 +23,7 @@ pub(crate) const ENROLLED: usize = 2;
 /// The slot with the state, which is empty only while a place inside works on it.
 pub(crate) const STATE: usize = 0;
 
-/// What a seat at a gate of this state knows.
+/// The view of a seat at a gate of this state.
 pub type SeatView<S> = View<
     <S as Recorded>::Event,
     <S as Recorded>::Answer,
@@ -32,7 +32,7 @@ pub type SeatView<S> = View<
 
 pub(crate) type Place<S> = Seat<Option<S>, SeatView<S>>;
 
-/// What a gate was made with: its state, which takes no bytes here, and its first ticket.
+/// A gate's opening: its state, which takes no bytes here, and its first ticket.
 type Opening<S> = (Snapshot<S>, u64);
 
 /// The rule that each atomic step keeps.
@@ -46,7 +46,7 @@ impl<S: Recorded> TableRule<Option<S>, SeatView<S>, Opening<S>> for TicketRule {
     ghost first = { λ key. first_view (S.setting key.0.value) key.1 };
 }
 
-/// A ticket lock round a state. Contracts see which gate it is, and the setting of its state.
+/// A ticket lock around a state. Contracts see its identity, and the setting of its state.
 #[derive(Drop)]
 pub struct Gate<S: Recorded> {
     pub(crate) table: Table<Option<S>, SeatView<S>, Opening<S>, TicketRule, Global>,
@@ -63,7 +63,7 @@ impl<S: Recorded> Model for Gate<S> {
     ghost invariant = { λ g. IsGateSized g.table.shared.table_id };
 }
 
-/// A place at a gate for one thread, which has no number yet. It takes no bytes.
+/// A place at a gate for one thread, without a number. It takes no bytes.
 #[derive(Drop)]
 pub struct Spare<S: Recorded> {
     pub(crate) seat: Place<S>,
@@ -77,8 +77,8 @@ impl<S: Recorded> Model for Spare<S> {
     ghost invariant = { λ s. IsAtRest s.seat × HasNoNumber s.seat };
 }
 
-/// A place at a gate with a number of its own, which no other pass of the gate has. Contracts see
-/// its number and what it has seen of the journal.
+/// A place at a gate with a number that no other pass of the gate has. Contracts see its number and
+/// what it has seen of the journal.
 #[derive(Drop)]
 pub struct Pass<S: Recorded> {
     pub(crate) number: u64,
@@ -94,7 +94,7 @@ impl<S: Recorded> Model for Pass<S> {
 }
 
 impl<S: Recorded> Pass<S> {
-    /// The number of the pass, by which its steps stand in the journal.
+    /// The number of the pass, which its steps in the journal have.
     pub fn number(&self) -> u64
         ensures { result ≡ self.now.number }
     {
@@ -103,10 +103,9 @@ impl<S: Recorded> Pass<S> {
 }
 
 impl<S: Recorded> Gate<S> {
-    /// A gate round a state with an empty journal, and its first spare place.
-    /// The first ticket is 0.
+    /// A gate around a state with an empty journal, and its first spare place. Tickets begin at 0.
     ///
-    /// Where memory is refused the answer is `NoMemory` (1204) with the state, as it was.
+    /// Where memory is refused it returns `NoMemory` (1204) with the state unchanged.
     pub fn new(alloc: Global, state: S) -> Result<(Gate<S>, Spare<S>), (GateRefusal, S)>
         requires { S.journal state ≡ [] }
         ensures gate { IfOk result (λ made. (made.0.setting ≡ S.setting state)
@@ -118,7 +117,7 @@ impl<S: Recorded> Gate<S> {
         Gate::new_at(alloc, state, 0)
     }
 
-    /// As `new`, but the first ticket is `first`: the spare place has found both words of the
+    /// Like `new`, with the first ticket `first`: the spare place has found both words of the
     /// tickets at that number, below which they never fall. Tickets end before the greatest `u64`.
     pub fn new_at(
         alloc: Global,

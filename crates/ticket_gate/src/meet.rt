@@ -1,4 +1,4 @@
-//! Two passes compare what they have seen.
+//! Compares what two passes have seen.
 ghost use Rattle.std.specs.Prelude.{◌≡◌};
 ghost use Rattle.ticket_gate.specs.Gate.{IsPassOf, IsSamePass};
 ghost use Rattle.ticket_gate.specs.Journal.{Meets};
@@ -8,9 +8,9 @@ use crate::recorded::Recorded;
 use crate::steps::{ComparePasses, PairPasses};
 
 impl<S: Recorded> Gate<S> {
-    /// Gives both passes back in their order, and what they have seen is now known to be of one
-    /// journal: their numbers differ, one journal begins with the other, and the longer one is
-    /// legal and holds of each pass exactly the steps that the pass has seen.
+    /// Returns both passes in their order. What they have seen is now known to be of one journal.
+    /// Their numbers differ, and one journal begins with the other. The longer one is legal, and
+    /// has exactly the steps of each pass that it has seen.
     ///
     /// No number and no seen journal changes. It takes no memory and never waits.
     pub fn meet(&self, first: Pass<S>, second: Pass<S>) -> (Pass<S>, Pass<S>)

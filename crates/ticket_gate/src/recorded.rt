@@ -3,26 +3,26 @@ ghost use Rattle.std.specs.Prelude.{◌≡◌, List, [], ◌∷◌, ◌++◌, If
 ghost use Rattle.journal_core.specs.declared.step.Step.{Step as StepOf};
 ghost use Rattle.journal_core.specs.Journal.{step_by};
 
-/// A state that changes in turns and keeps a journal of them. A step of the journal is the number
-/// of the pass that made the turn, the event and the answer.
+/// A state that changes in turns and keeps a journal of them. A step is the number of the pass that
+/// made the turn, the event and the answer.
 ///
-/// An answered turn adds exactly its own step, and what the setting allows stays so. A refused
-/// turn leaves the journal as it was, hands the event back, and its cause holds. No turn changes
-/// the setting. What a look at the state tells is a function of its setting and its journal.
+/// An answered turn adds exactly its own step, and the journal stays one that the setting allows. A
+/// refused turn leaves the journal unchanged, hands the event back, and its cause holds. No turn
+/// changes the setting. A sight of the state is a function of its setting and its journal.
 pub trait Recorded {
-    /// What a turn is made of.
+    /// The event of a turn.
     type Event;
 
-    /// What an answered turn gives.
+    /// The answer of a turn.
     type Answer;
 
     /// Why the state refuses a turn.
     type Refusal;
 
-    /// What the state was made with, which no turn changes.
+    /// What the state was made with; no turn changes it.
     type Setting;
 
-    /// What a look at the state tells.
+    /// The result of a look at the state.
     type Sight;
 
     /// The steps so far, the oldest first.
@@ -31,17 +31,17 @@ pub trait Recorded {
     /// What the state was made with.
     ghost setting: { Self → Self.Setting };
 
-    /// Which journals a setting allows.
+    /// The journals that a setting allows.
     ghost legal: { Self.Setting → List (StepOf Self.Event Self.Answer) → Type 0 };
 
-    /// When a refusal of an event is due, over the journal so far.
+    /// When a refusal of an event is due, after the journal so far.
     ghost cause: { Self.Setting → Self.Refusal → Self.Event → List (StepOf Self.Event Self.Answer)
         → Type 0 };
 
-    /// What a look at a state with this setting and this journal tells.
+    /// The sight of a state with this setting and this journal.
     ghost sight_of: { Self.Setting → List (StepOf Self.Event Self.Answer) → Self.Sight };
 
-    /// A look at the state. It takes no memory.
+    /// Looks at the state. It takes no memory.
     fn sight(&self) -> Self::Sight
         ensures { result ≡ sight_of (setting self.now) (journal self.now) };
 

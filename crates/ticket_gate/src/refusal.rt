@@ -1,4 +1,4 @@
-//! Why a gate refuses a place or a turn.
+//! Why a gate refuses a pass or a turn.
 ghost use Rattle.std.specs.Prelude.{◌≡◌};
 ghost use Rattle.ticket_gate.specs.Refusal.{gate_number, turn_number};
 
@@ -28,24 +28,24 @@ impl GateRefusal {
     }
 }
 
-/// Why a turn was not made. Each case hands the event back.
+/// Why a turn wasn't made. Each case hands the event back.
 #[derive(Debug, Drop, Error)]
 #[error_bound(R: Display)]
 pub enum TurnRefusal<R, E> {
-    /// 1201: another pass holds or awaits the gate. `served` is the ticket that was being served,
-    /// and `drawn` the number of the next ticket to be drawn, which is greater.
+    /// 1201: another pass holds or awaits the gate. `served` is the ticket served, and `drawn` the
+    /// next one to be drawn, which is greater.
     #[error("the gate is busy: ticket {served} is served, and the next to be drawn is {drawn}")]
     Busy { served: u64, drawn: u64, event: E },
     /// 1202: all tickets were drawn. The greatest `u64` is never a ticket.
     #[error("the gate has no ticket left")]
     Spent { event: E },
-    /// The state itself refused the turn. This case has no number of the gate's.
+    /// The state refused the turn. This case has no number of the gate's.
     #[error("{cause}")]
     State { cause: R, event: E },
 }
 
 impl<R, E> TurnRefusal<R, E> {
-    /// 1201 or 1202, and `None` where the state refused.
+    /// 1201 or 1202; `None` if the state refused.
     pub fn number(&self) -> Option<u16>
         ensures { result ≡ turn_number self.now }
     {

@@ -1,4 +1,4 @@
-//! A small state that keeps a journal, as an example and for measurements: a total that is added to.
+//! A small state with a journal, as an example and for measurements: a total with additions.
 ghost use Rattle.std.specs.Prelude.{◌≡◌, ◌≤◌, []};
 ghost use Rattle.ticket_gate.specs.Totals.{AreTotals, amount_sum, steps_in, totals_at_first, totals_before};
 
@@ -6,7 +6,7 @@ use crate::recorded::Recorded;
 use std::alloc::Global;
 use thiserror::Error;
 
-/// One addition: the pass that made it, its amount, and the total that it came to.
+/// One addition: its pass, its amount, and the new total.
 #[derive(Clone, Copy, Debug, PartialEq, Eq)]
 pub struct Addition {
     pub pass: u64,
@@ -14,7 +14,7 @@ pub struct Addition {
     pub total: u64,
 }
 
-/// Why an amount was not added.
+/// Why an amount wasn't added.
 #[derive(Clone, Copy, Debug, PartialEq, Eq, Error)]
 pub enum AdditionRefusal {
     /// The total would pass its limit.
@@ -25,8 +25,8 @@ pub enum AdditionRefusal {
     NoMemory,
 }
 
-/// A total of amounts that stays within a limit, with the journal of its additions.
-/// An event is an amount, and its answer is the total that it came to.
+/// A total of amounts within a limit, with the journal of its additions. An event is an amount, and
+/// its answer is the new total.
 #[derive(Debug, Drop)]
 pub struct RunningTotal {
     limit: u64,
@@ -39,7 +39,7 @@ pub struct RunningTotal {
 impl RunningTotal {
     ghost use Rattle.ticket_gate.specs.RunningTotal.{journal_of, limit_of};
 
-    /// A total of 0 that may rise to `limit`.
+    /// A total of 0 with this limit.
     pub fn new(alloc: Global, limit: u64) -> RunningTotal
         ensures limit { limit_of result ≡ limit }
         ensures empty { journal_of result ≡ [] }

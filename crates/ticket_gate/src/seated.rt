@@ -10,7 +10,7 @@ use crate::turns::Turns;
 use std::marker::Model;
 use std::sync::Wait;
 
-/// A pass at its gate, as a worker uses it.
+/// A pass at its gate, for a worker.
 #[derive(Drop)]
 pub struct Seated<'a, S: Recorded> {
     gate: &'a Gate<S>,
@@ -34,7 +34,7 @@ impl<'a, S: Recorded> Seated<'a, S> {
         Seated { gate, pass }
     }
 
-    /// The pass, with all that it has seen.
+    /// The pass, with everything that it has seen.
     pub fn into_pass(self) -> Pass<S>
         ensures pass { result ≡ self.entry.pass }
         ensures gate { IsPassOf self.entry.gate result }
@@ -52,8 +52,8 @@ impl<'a, S: Recorded> Seated<'a, S> {
 
     /// Looks at the state inside the gate, as `Gate::sight` does, and adds no step to its journal.
     ///
-    /// Answered: the sight is that of the journal which the pass sees now. Refused `Spent` (1202)
-    /// alone, where all tickets were drawn: the pass has seen nothing new.
+    /// Answered: the sight is that of the journal that the pass now sees. Refused only `Spent`
+    /// (1202), once all tickets were drawn: the pass has seen nothing new.
     pub fn sight<R: Wait>(&mut self, rt: &R) -> Result<S::Sight, TurnRefusal<S::Refusal, ()>>
         ensures gate { self.new.gate ≡ self.old.gate }
         ensures same { IsSamePass self.old.pass self.new.pass }

@@ -1,4 +1,4 @@
-//! The atomic steps of the gate, by what each tells the place that makes it. The proofs alone use
+//! The atomic steps of the gate, by what each shows the place that makes it. Only the proofs use
 //! these types.
 ghost use Rattle.ticket_gate.specs.Steps.{ReadsEnrolled, TakesNumber, ReadsDrawn, DrawsTicket, LooksAtServing, EntersAtOnce, ServesNext, ComparesPasses, pair_of, first_of, second_of};
 ghost use Rattle.ticket_gate.specs.Rule.{spent_view};

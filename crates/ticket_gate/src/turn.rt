@@ -1,4 +1,4 @@
-//! Turns at a gate: one turn of the state between the way in and the way out.
+//! Turns at a gate.
 ghost use Rattle.std.specs.Prelude.{◌≡◌, ◌+◌, ◌^◌, ◌<◌, Some, IfOk, IfErr};
 ghost use Rattle.ticket_gate.specs.Gate.{IsPassOf, IsSamePass};
 ghost use Rattle.ticket_gate.specs.Visit.{IsInside, HasMadeTurn};
@@ -41,14 +41,13 @@ impl<S: Recorded> Gate<S> {
         outcome
     }
 
-    /// Makes one turn: it tries to enter at once, as `try_turn` does, up to
-    /// [`MAX_TRIES`](crate::MAX_TRIES) times, and else draws a ticket and waits until it is
-    /// served.
+    /// Makes one turn: tries to enter at once, like `try_turn`, up to
+    /// [`MAX_TRIES`](crate::MAX_TRIES) times; then draws a ticket and waits until it is served.
     ///
-    /// Answered: what the pass sees now is legal, begins with what it saw before, and ends with
-    /// its step. Refused `Spent` (1202), where all tickets were drawn: the pass has seen nothing
-    /// new. Refused `State`: the journal has no step of this turn, and the state's cause holds
-    /// over what the pass sees now. Each refusal hands the event back. It is never `Busy`.
+    /// Answered: the pass now sees a legal journal, which begins with what it saw before and ends
+    /// with its step. Refused `Spent` (1202), once all tickets were drawn: the pass has seen
+    /// nothing new. Refused `State`: the journal has no step of this turn, and the state's cause
+    /// holds over what the pass now sees. Each refusal hands the event back. It is never `Busy`.
     #[inline(always)]
     pub fn take_turn<R: Wait>(
         &self,
@@ -73,10 +72,10 @@ impl<S: Recorded> Gate<S> {
         }
     }
 
-    /// Makes one turn where nobody holds or awaits the gate. It never waits.
+    /// Makes one turn if nothing holds or awaits the gate. It never waits.
     ///
-    /// Answered and refused as `take_turn` is, and `Busy` (1201) where more tickets were drawn
-    /// than served: it tells the two numbers that it found, and the pass has seen nothing new.
+    /// Answered and refused like `take_turn`, and `Busy` (1201) if more tickets were drawn than
+    /// served. `Busy` has the two numbers that it found, and the pass has seen nothing new.
     pub fn try_turn(
         &self,
         pass: &mut Pass<S>,

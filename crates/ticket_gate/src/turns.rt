@@ -1,4 +1,4 @@
-//! What a worker needs of a state: turns, whether the state is shared or not.
+//! Turns of a state, whether it is shared or not.
 ghost use Rattle.std.specs.Prelude.{◌≡◌, ℕ, List, IfOk, IfErr};
 ghost use Rattle.journal_core.specs.declared.step.Step.{Step as StepOf};
 ghost use Rattle.ticket_gate.specs.Journal.{AddsTurn};
@@ -7,25 +7,25 @@ ghost use Rattle.ticket_gate.specs.Turns.{RefusesTurn};
 use crate::refusal::TurnRefusal;
 use std::sync::Wait;
 
-/// Turns of one pass, which a worker makes without knowing whether others make turns too.
-/// [`Seated`](crate::Seated) makes them at a gate, [`Alone`](crate::Alone) on a state of its own.
+/// Turns of one pass, whether others make turns too or not. [`Seated`](crate::Seated) makes them at
+/// a gate, [`Alone`](crate::Alone) on a state of its own.
 pub trait Turns {
-    /// What a turn is made of.
+    /// The event of a turn.
     type Event;
 
-    /// What an answered turn gives.
+    /// The answer of a turn.
     type Answer;
 
     /// Why the state refuses a turn.
     type Refusal;
 
-    /// What the state was made with, which no turn changes.
+    /// What the state was made with; no turn changes it.
     type Setting;
 
-    /// Where the turns are made.
+    /// The place of the turns.
     type Home;
 
-    /// Where the turns are made: for a pass at a gate that gate. No turn changes it.
+    /// The place of the turns: the gate of a pass at one. No turn changes it.
     ghost home: { Self → Self.Home };
 
     /// The number of the pass. No turn changes it.
@@ -37,21 +37,21 @@ pub trait Turns {
     /// What the state was made with. No turn changes it.
     ghost setting: { Self → Self.Setting };
 
-    /// Which journals a setting allows.
+    /// The journals that a setting allows.
     ghost legal: { Self.Setting → List (StepOf Self.Event Self.Answer) → Type 0 };
 
-    /// When a refusal of an event by the state is due, over the journal so far.
+    /// When a refusal of an event by the state is due, after the journal so far.
     ghost cause: { Self.Setting → Self.Refusal → Self.Event → List (StepOf Self.Event Self.Answer)
         → Type 0 };
 
-    /// What holds where a turn was refused because no ticket is left.
+    /// What holds after a turn was refused because no ticket is left.
     ghost spent: { Self → Type 0 };
 
-    /// Makes one turn, and waits for it where others hold or await the state.
+    /// Makes one turn, and waits for it while others hold or await the state.
     ///
-    /// Answered: what the pass sees now is legal, begins with what it saw before, and ends with
-    /// its step. Refused `Spent` (1202): no ticket is left, and the pass has seen nothing new.
-    /// Refused `State`: the state's cause holds over what the pass sees now, which has no further
+    /// Answered: the pass now sees a legal journal, which begins with what it saw before and ends
+    /// with its step. Refused `Spent` (1202): no ticket is left, and the pass has seen nothing new.
+    /// Refused `State`: the state's cause holds over what the pass now sees, which has no further
     /// step of it. Each refusal hands the event back. It is never `Busy`.
     fn turn<R: Wait>(
         &mut self,

@@ -1,4 +1,4 @@
-//! What the places at a gate know. The proofs alone speak of it: no value of these types is made.
+//! What the places at a gate know. Only the proofs use these types: no value of them is made.
 use journal_core::Step;
 use std::collections::LinkedList;
 
@@ -12,7 +12,7 @@ pub struct Knowledge<E, A, C> {
     pub inside: bool,
     /// The number that it last found in, or stored in, the word `serving`.
     pub last_served: u64,
-    /// How often it has looked at the word `serving`.
+    /// The number of its looks at the word `serving`.
     pub looks: u64,
     /// The number that it last found in the word `drawn`.
     pub last_drawn: u64,
@@ -24,7 +24,7 @@ pub struct Knowledge<E, A, C> {
     pub setting: Option<C>,
 }
 
-/// What one seat of the table knows: a place, and while two passes meet the other pass too.
+/// What one seat of the table knows: a place, and while two passes meet the other one too.
 pub struct View<E, A, C> {
     pub own: Knowledge<E, A, C>,
     pub other: Option<Knowledge<E, A, C>>,

@@ -1,8 +1,8 @@
 //! One host's pipeline: which reply belongs to which part.
 //!
-//! Parts of commands wait in order, are sent in order, and a host answers them in order (RESP2 pipelining): so the reply
-//! that comes k-th in an epoch belongs to the k-th part that was sent in it, whatever was forgotten in between. An epoch
-//! ends with a fault of the host, and what comes of an older one is refused.
+//! Parts wait in order, are sent in order, and a host answers them in order (RESP2 pipelining). So the k-th reply of an
+//! epoch belongs to the k-th part sent in it, whatever was forgotten in between. A fault of the host ends its epoch;
+//! replies of an older epoch are refused. It stands on `bytes`. Begin with `pipe.rt`.
 #![tactic(auto)]
 
 mod laws;

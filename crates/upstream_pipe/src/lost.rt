@@ -1,12 +1,12 @@
-//! What a fault of a host leaves without a reply.
+//! The parts that a fault of a host leaves without a reply.
 
 use crate::part::Owner;
 
 /// The parts that a fault left without a reply, in their order.
 #[derive(Debug, Drop)]
 pub struct Lost {
-    /// Those that were sent; `None` in the place of one that was forgotten.
+    /// The sent ones; `None` in the place of a forgotten one.
     pub flying: Vec<Option<Owner>>,
-    /// Those that still waited.
+    /// The waiting ones.
     pub waiting: Vec<Owner>,
 }

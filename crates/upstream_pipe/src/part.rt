@@ -1,8 +1,8 @@
-//! Parts of commands, and whose they are.
+//! Parts of commands, and their owners.
 
 use bytes::Bytes;
 
-/// Whose part it is: the part of this number, counted from 0, of a command of a connection.
+/// The owner of a part: its number, counted from 0, in a command of a connection.
 #[derive(Clone, Copy, Debug, PartialEq, Eq, Hash)]
 pub struct Owner {
     /// The connection's number.
@@ -16,8 +16,8 @@ pub struct Owner {
 /// A part of a command, on its way to a host.
 #[derive(Drop)]
 pub struct Part {
-    /// Whose part it is.
+    /// Its owner.
     pub owner: Owner,
-    /// What is written to the host.
+    /// The text for the host.
     pub text: Bytes,
 }

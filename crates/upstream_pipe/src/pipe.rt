@@ -12,18 +12,17 @@ use std::alloc::Global;
 use std::collections::VecDeque;
 use std::marker::Model;
 
-/// How many parts may wait.
+/// The most parts that wait.
 pub const MAX_WAITING: usize = 1_024;
 
-/// The pipe to one host: the parts that wait to be sent, and the owners of those that fly, which were sent in this epoch
-/// and not answered yet.
+/// The pipe to one host: the parts that wait, and the owners of the parts that fly, sent in this epoch without a reply.
 ///
-/// Contracts see these, the epoch, and for how many more parts there is memory.
+/// Contracts see these, the epoch, and the number of further parts that there is memory for.
 #[derive(Drop)]
 pub struct Pipe {
     alloc: Global,
     waiting: VecDeque<Part>,
-    // Its capacity has a place for each part that waits.
+    // Its capacity has a place for each waiting part.
     flying: VecDeque<Option<Owner>>,
     epoch: u64,
 }
@@ -49,7 +48,7 @@ impl Model for Pipe {
 }
 
 impl Pipe {
-    /// A pipe on which nothing waits and nothing flies, in epoch 0.
+    /// An empty pipe, in epoch 0.
     pub fn new(alloc: Global) -> Pipe
         ensures waiting { result.waiting ≡ [] }
         ensures flying { result.flying ≡ [] }
@@ -70,7 +69,7 @@ impl Pipe {
         self.epoch
     }
 
-    /// How many parts wait, at most 1,024. It takes no memory.
+    /// The number of parts that wait, at most 1,024. It takes no memory.
     pub fn waiting(&self) -> usize
         ensures parts { result ≡ length self.now.waiting }
         ensures limit { result ≤ MAX_WAITING }
@@ -78,24 +77,24 @@ impl Pipe {
         self.waiting.len()
     }
 
-    /// How many parts fly, those that were forgotten too. It takes no memory.
+    /// The number of parts that fly, with forgotten ones. It takes no memory.
     pub fn flying(&self) -> usize
         ensures { result ≡ length self.now.flying }
     {
         self.flying.len()
     }
 
-    /// The part that `take` would give. It takes no memory.
+    /// The part that `take` would return. It takes no memory.
     pub fn oldest(&self) -> Option<&Part>
         ensures { option_copied result ≡ slice_get self.now.waiting 0 }
     {
         self.waiting.front()
     }
 
-    /// Makes room for this many parts more, so that the next so many calls of `push` ask for no memory. Where there is
-    /// as much room already, it asks for none and is Ok.
+    /// Makes room for this many more parts, so that the next calls of `push` take no memory. If there is room already,
+    /// it takes none and is Ok.
     ///
-    /// Refused 601 (no memory). The parts are as they were then, and there is no less room.
+    /// Refused 601 (no memory): the parts are unchanged, and there is no less room.
     pub fn room(&mut self, more: usize) -> Result<(), PipeRefusal>
         ensures room { OnOk result (more ≤ self.new.room) }
         ensures reserved { more ≤ self.old.room → IsOk result }
@@ -110,10 +109,9 @@ impl Pipe {
         Ok(())
     }
 
-    /// Lets a part wait behind those that wait, and makes room for it to fly.
+    /// Queues a part, and reserves its place for flying.
     ///
-    /// Refused 602 (full) where 1,024 parts wait, or 601 (no memory), which can't come where there is room. The part
-    /// comes back then.
+    /// Refused 602 (full) if 1,024 parts wait, or 601 (no memory), which can't come if there is room. The part comes back.
     pub fn push(&mut self, part: Part) -> Result<(), (PipeRefusal, Part)>
         ensures waiting { OnOk result (self.new.waiting ≡ self.old.waiting ++ part ∷ []) }
         ensures flying { self.new.flying ≡ self.old.flying }
@@ -140,7 +138,7 @@ impl Pipe {
         }
     }
 
-    /// Takes the oldest part that waits, which flies from now on. `None` where none waits. It takes no memory.
+    /// Takes the oldest waiting part, which flies from now on; `None` if none waits. It takes no memory.
     pub fn take(&mut self) -> Option<Part>
         ensures none { IfNone result ((self.old.waiting ≡ []) × IsAsBefore self.old self.new) }
         ensures waiting { IfSome result (λ part. self.old.waiting ≡ part ∷ self.new.waiting) }
@@ -157,8 +155,8 @@ impl Pipe {
         Some(part)
     }
 
-    /// Takes a reply of this epoch, and tells whose it is: it belongs to the part that was sent `count`-th in the epoch,
-    /// where `count` replies came before. `None` where that part was forgotten. It takes no memory.
+    /// Takes a reply of this epoch, and returns the owner of its part: the one sent `count`-th in the epoch, where
+    /// `count` replies came before. `None` if that part was forgotten. It takes no memory.
     ///
     /// Refused 603 (stale) exactly if the epoch isn't the pipe's, and 604 (unasked) exactly if it is and no part flies.
     pub fn answered(&mut self, epoch: u64) -> Result<Option<Owner>, PipeRefusal>
@@ -187,11 +185,10 @@ impl Pipe {
         Ok(owner)
     }
 
-    /// Ends the epoch by a fault of the host: all parts that fly or wait are lost and handed out, and the epoch is one
-    /// higher.
+    /// Ends the epoch by a fault of the host: all parts that fly or wait are lost and returned, and the epoch rises by one.
     ///
     /// Refused 603 (stale) exactly if the epoch isn't the pipe's, else 605 (epochs spent) exactly if it is the greatest
-    /// `u64`, else 601 (no memory). Where nothing flies or waits it takes no memory, and 601 doesn't come.
+    /// `u64`, else 601 (no memory). If no part flies or waits it takes no memory, and 601 doesn't come.
     pub fn fault(&mut self, epoch: u64) -> Result<Lost, PipeRefusal>
         ensures flying { IfOk result (λ lost. lost.flying.items ≡ self.old.flying) }
         ensures waiting { IfOk result (λ lost. lost.waiting.items ≡ map owner_in self.old.waiting) }
@@ -224,8 +221,8 @@ impl Pipe {
         Ok(Lost { flying, waiting })
     }
 
-    /// Forgets a connection: its parts that wait are dropped, and those that fly keep their places without an owner, so
-    /// that their replies go to nobody. It takes no memory.
+    /// Forgets a connection: its waiting parts are dropped, and its flying ones keep their places without an owner, so
+    /// that their replies are discarded. It takes no memory.
     pub fn forget(&mut self, conn: u64)
         ensures waiting { self.new.waiting ≡ filter (is_kept conn) self.old.waiting }
         ensures flying { self.new.flying ≡ map (forgotten_owner conn) self.old.flying }
@@ -248,7 +245,7 @@ fn forget_waiting(waiting: &mut VecDeque<Part>, conn: u64)
     waiting.retain(|part| part.owner.conn != conn);
 }
 
-// Takes the owner out of each place of the connection.
+// Removes the owner from each place of the connection.
 fn forget_flying(flying: &mut VecDeque<Option<Owner>>, conn: u64)
     ensures items { flying.new.items ≡ map (forgotten_owner conn) flying.old.items }
     ensures len { deque_len flying.new ≡ deque_len flying.old }

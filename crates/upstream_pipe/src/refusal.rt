@@ -14,7 +14,7 @@ pub enum PipeRefusal {
     /// 602: 1,024 parts wait.
     #[error("1024 parts wait already")]
     Full,
-    /// 603: the epoch that was named isn't the pipe's, which is `current`.
+    /// 603: the given epoch isn't the pipe's, which is `current`.
     #[error("the epoch is over: it is {current} now")]
     Stale { current: u64 },
     /// 604: a reply came, and no part flies.

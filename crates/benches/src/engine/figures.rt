@@ -1,4 +1,4 @@
-//! How the cost of a command is measured and printed.
+//! Measures the cost of a command, and prints it.
 ghost use Rattle.std.specs.Prelude.{◌≡◌, [], IfOk};
 
 use super::peers::Peers;
@@ -15,17 +15,17 @@ use std::sync::Wait;
 use std::time::Instant;
 use ticket_gate::Alone;
 
-/// How often what was done in a round.
+/// The counts of a round.
 #[derive(Clone, Copy, Drop)]
 struct Counts {
     steps: Sides,
     reads: Sides,
     writes: Sides,
-    // The turns that were answered, the connection's opening among them.
+    // The answered turns, with the connection's opening.
     turns: u64,
 }
 
-/// What was measured of a load.
+/// The figures of a load.
 #[derive(Clone, Copy, Drop)]
 pub(crate) struct Figures {
     times: Times,
@@ -33,7 +33,7 @@ pub(crate) struct Figures {
 }
 
 impl Figures {
-    /// The least times of so many rounds, and the counts of the last.
+    /// The least times of this many rounds, and the counts of the last one.
     pub(crate) fn measured<R: Wait + Clock>(
         rt: &R,
         alloc: Global,
@@ -49,7 +49,7 @@ impl Figures {
         Ok(figures)
     }
 
-    // Those of one round, on a core of its own.
+    // The figures of one round, on a core of its own.
     fn of_round<R: Wait + Clock>(
         rt: &R,
         alloc: Global,
@@ -59,7 +59,7 @@ impl Figures {
         let peers = Peers::new(load, texts);
         let mut turns = Alone::new(fresh_core(alloc)?, 0);
         let served = serve(rt, alloc, &mut turns, &peers, texts);
-        // (but for the opening of the connection)
+        // (without the connection's opening)
         let answered = turns.state().journal().len().saturating_sub(1) as u64;
         let end_ns = dropping_ns(rt, turns)?;
         let (work_ns, steps) = served?;
@@ -91,7 +91,7 @@ impl Figures {
     }
 }
 
-// A count as what comes on each of so many commands, with two digits behind the point.
+// A count divided by the number of commands, with two decimals.
 #[derive(Clone, Copy, Drop)]
 struct Each(u64, u64);
 
@@ -103,7 +103,7 @@ impl fmt::Display for Each {
     }
 }
 
-// The same of the client's engine and of the host's.
+// The same for the client's engine and the host's.
 #[derive(Clone, Copy, Drop)]
 struct Share(Sides, u64);
 
@@ -114,7 +114,7 @@ impl fmt::Display for Share {
     }
 }
 
-// Serves the client: how long that takes, in nanoseconds, and in how many steps.
+// Serves the client. Returns the nanoseconds and the steps.
 fn serve<R: Wait + Clock>(
     rt: &R,
     alloc: Global,

@@ -1,4 +1,4 @@
-//! The other ends of both connections: a client and a host, and sockets to them in memory.
+//! The two peers of the proxy, a client and a host, with sockets in memory.
 ghost use Rattle.std.specs.Prelude.{◌≤◌, IfOk, length};
 
 use super::scene::Sides;
@@ -8,7 +8,7 @@ use std::cell::Cell;
 use std::io;
 use std::io::{ErrorKind, Read, Write};
 
-/// How often a socket was read and written.
+/// The numbers of reads and writes of a socket.
 #[derive(Drop)]
 pub(crate) struct Calls {
     reads: Cell<u64>,
@@ -36,12 +36,12 @@ fn add(cell: &Cell<usize>, bytes: usize) {
     cell.set(cell.get().saturating_add(bytes));
 }
 
-/// What is left of a text that a peer sends.
+/// The unread rest of a text.
 #[derive(Drop)]
 struct Unread<'a>(&'a [u8]);
 
 impl Unread<'_> {
-    // Reads at most so many bytes.
+    // Reads at most `most` bytes.
     fn read(&mut self, most: usize, buffer: &mut [u8]) -> io::Result<usize>
         ensures given { IfOk result (λ n. n ≤ length buffer.new) }
     {
@@ -56,7 +56,7 @@ impl Unread<'_> {
     }
 }
 
-/// What is written to a peer.
+/// The socket that the proxy writes to.
 #[derive(Drop)]
 pub(crate) struct PeerWriter<'a> {
     calls: &'a Calls,
@@ -75,15 +75,15 @@ impl Write for PeerWriter<'_> {
     }
 }
 
-/// A client, which sends a batch once it has had all replies to the one before.
+/// A client, which sends a batch once it has all replies to the last one.
 #[derive(Drop)]
 pub(crate) struct ClientPeer {
     pub(crate) calls: Calls,
-    // How many bytes the replies to a batch have.
+    // The bytes of the replies to a batch.
     replies_bytes: usize,
-    // How many batches are still to be sent.
+    // The number of batches still to send.
     batches: Cell<u64>,
-    // How many bytes of replies are wanted for the batches that were sent, and how many came.
+    // The bytes of replies due for the batches sent, and the bytes that came.
     wanted: Cell<usize>,
     had: Cell<usize>,
 }
@@ -99,17 +99,17 @@ impl ClientPeer {
         }
     }
 
-    // Whether each batch that was sent has its replies.
+    // Whether each batch sent has its replies.
     fn is_answered(&self) -> bool {
         self.had.get() == self.wanted.get()
     }
 
-    /// Whether all batches were sent and answered.
+    /// Whether all batches are sent and answered.
     pub(crate) fn is_done(&self) -> bool {
         self.batches.get() == 0 && self.is_answered()
     }
 
-    // Sends a batch, if it is time for one.
+    // Takes the next batch, if it is time for one.
     fn sends(&self) -> bool {
         if self.batches.get() == 0 || !self.is_answered() {
             return false;
@@ -119,7 +119,7 @@ impl ClientPeer {
         true
     }
 
-    /// Its socket, from which this batch is read each time.
+    /// The socket that this batch is read from each time.
     pub(crate) fn reader<'a>(&'a self, batch: &'a [u8]) -> ClientReader<'a> {
         ClientReader {
             peer: self,
@@ -128,7 +128,7 @@ impl ClientPeer {
         }
     }
 
-    /// Its socket, to which replies are written.
+    /// The socket that replies are written to.
     pub(crate) fn writer(&self) -> PeerWriter<'_> {
         PeerWriter {
             calls: &self.calls,
@@ -137,7 +137,7 @@ impl ClientPeer {
     }
 }
 
-/// What is read from a client.
+/// The client's socket, for reading.
 #[derive(Drop)]
 pub(crate) struct ClientReader<'a> {
     peer: &'a ClientPeer,
@@ -155,16 +155,16 @@ impl Read for ClientReader<'_> {
     }
 }
 
-/// A host, which answers the requests that have come whole when it is told to.
+/// A host, which answers all complete requests when `answer` is called.
 #[derive(Drop)]
 pub(crate) struct HostPeer {
     pub(crate) calls: Calls,
     request_bytes: usize,
     reply_bytes: usize,
-    // How many bytes of requests came, and how many requests were answered.
+    // The bytes of requests that came, and the number of requests answered.
     had: Cell<usize>,
     answered: Cell<usize>,
-    // How many bytes of replies can be read.
+    // The bytes of replies ready to read.
     ready: Cell<usize>,
 }
 
@@ -180,7 +180,7 @@ impl HostPeer {
         }
     }
 
-    /// Answers all requests that came.
+    /// Answers all requests that have come.
     pub(crate) fn answer(&self) {
         let came = self.had.get().checked_div(self.request_bytes).unwrap_or(0);
         let fresh = came.saturating_sub(self.answered.get());
@@ -188,7 +188,7 @@ impl HostPeer {
         add(&self.ready, fresh.saturating_mul(self.reply_bytes));
     }
 
-    /// Its socket, from which the replies to a batch are read again and again.
+    /// The socket that the replies to a batch are read from again and again.
     pub(crate) fn reader<'a>(&'a self, replies: &'a [u8]) -> HostReader<'a> {
         HostReader {
             peer: self,
@@ -197,7 +197,7 @@ impl HostPeer {
         }
     }
 
-    /// Its socket, to which requests are written.
+    /// The socket that requests are written to.
     pub(crate) fn writer(&self) -> PeerWriter<'_> {
         PeerWriter {
             calls: &self.calls,
@@ -206,7 +206,7 @@ impl HostPeer {
     }
 }
 
-/// What is read from a host.
+/// The host's socket, for reading.
 #[derive(Drop)]
 pub(crate) struct HostReader<'a> {
     peer: &'a HostPeer,
@@ -235,7 +235,7 @@ pub(crate) struct Peers {
 }
 
 impl Peers {
-    /// To which nothing was sent yet.
+    /// Peers before the first batch.
     pub(crate) fn new(load: Load, texts: &Texts) -> Peers {
         Peers {
             client: ClientPeer::new(load, texts),
@@ -243,7 +243,7 @@ impl Peers {
         }
     }
 
-    /// How many reads were made, those that found nothing too.
+    /// The number of reads, with those that found nothing.
     pub(crate) fn reads(&self) -> Sides {
         Sides {
             client: self.client.calls.reads.get(),
@@ -251,7 +251,7 @@ impl Peers {
         }
     }
 
-    /// How many writes were made.
+    /// The number of writes.
     pub(crate) fn writes(&self) -> Sides {
         Sides {
             client: self.client.calls.writes.get(),
@@ -259,7 +259,7 @@ impl Peers {
         }
     }
 
-    /// Fails where the host hadn't all requests, or the client not all replies to them, byte for byte as many.
+    /// Fails unless the host had all requests and the client all replies, by their bytes.
     pub(crate) fn check_done(&self, load: Load, texts: &Texts) -> Result<()> {
         let batches = load.batches as usize;
         let are_done = self.client.is_done()

@@ -9,7 +9,7 @@ use std::alloc::Global;
 use std::sync::Wait;
 use ticket_gate::Alone;
 
-// More steps than any round has: a round that has so many doesn't come to its end.
+// More steps than any round needs: one with this many doesn't end.
 const MAX_STEPS: u64 = 1_000_000;
 
 // No reply is late.
@@ -17,14 +17,14 @@ const REPLY_MS: u64 = 1_000;
 
 const MOMENT: u64 = 1;
 
-/// A number for the client's engine, and one for the host's.
+/// A number for the client's engine and one for the host's.
 #[derive(Clone, Copy, Drop)]
 pub(crate) struct Sides {
     pub(crate) client: u64,
     pub(crate) host: u64,
 }
 
-/// A client's engine, and how many steps it made.
+/// A client's engine, and the number of its steps.
 #[derive(Drop)]
 struct ClientSide<'a> {
     engine: ClientEngine<Tallied<ClientReader<'a>>, Tallied<PeerWriter<'a>>>,
@@ -32,7 +32,7 @@ struct ClientSide<'a> {
 }
 
 impl<'a> ClientSide<'a> {
-    // With the connection open.
+    // Opens the connection.
     fn new<R: Wait>(
         rt: &R,
         alloc: Global,
@@ -62,7 +62,7 @@ impl<'a> ClientSide<'a> {
     }
 }
 
-/// A host's engine, and how many steps it made.
+/// A host's engine, and the number of its steps.
 #[derive(Drop)]
 struct HostSide<'a> {
     engine: HostEngine<Tallied<HostReader<'a>>, Tallied<PeerWriter<'a>>>,
@@ -70,7 +70,7 @@ struct HostSide<'a> {
 }
 
 impl<'a> HostSide<'a> {
-    // With the host linked.
+    // Attaches the link.
     fn new(alloc: Global, peers: &'a Peers, texts: &'a Texts) -> Result<HostSide<'a>> {
         let reader = Tallied::new(peers.host.reader(&texts.replies));
         let writer = Tallied::new(peers.host.writer());
@@ -99,7 +99,7 @@ impl<'a> HostSide<'a> {
     }
 }
 
-/// Both engines, and the peers to which they speak.
+/// Both engines and their peers.
 #[derive(Drop)]
 pub(crate) struct Scene<'a> {
     client: ClientSide<'a>,
@@ -108,7 +108,7 @@ pub(crate) struct Scene<'a> {
 }
 
 impl<'a> Scene<'a> {
-    /// With the connection open and the host linked.
+    /// Opens the connection and attaches the link.
     pub(crate) fn new<R: Wait>(
         rt: &R,
         alloc: Global,
@@ -130,8 +130,8 @@ impl<'a> Scene<'a> {
         }
     }
 
-    /// Makes steps until the client has all its replies: its own while there are any to make, then the host's while there
-    /// are, and those once more when the host has answered; and so on. Gives how many there were.
+    /// Serves the client until it has all replies, and returns the number of steps. In turn, the client's engine steps
+    /// until it is idle, the host's does so too, and again after the host has answered.
     pub(crate) fn serve<R: Wait>(&mut self, rt: &R, turns: &mut Alone<Core>) -> Result<Sides> {
         for _ in 0..MAX_STEPS {
             self.client.run(rt, turns)?;
@@ -143,7 +143,7 @@ impl<'a> Scene<'a> {
         bail!("the round has no end")
     }
 
-    // The host's steps before it answers, and those after.
+    // Steps the host's engine before the host answers and after.
     fn serve_host<R: Wait>(&mut self, rt: &R, turns: &mut Alone<Core>) -> Result<()> {
         self.host.run(rt, turns)?;
         self.peers.host.answer();

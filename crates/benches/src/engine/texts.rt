@@ -1,12 +1,12 @@
-//! What a client asks, and what the host answers.
+//! The client's commands and the host's replies.
 
 use anyhow::Result;
 use std::alloc::Global;
 
-// How many bytes a value has.
+// The bytes of a value.
 const VALUE_BYTES: usize = 64;
 
-// Keys are numbered from here on, so that all are of one length.
+// Keys are numbered from here, so that all have the same length.
 const FIRST_KEY: u64 = 1_000_000_000;
 
 /// A command.
@@ -27,7 +27,7 @@ impl Command {
         }
     }
 
-    // Adds the command for this key, as a client writes it.
+    // Adds this command for a key, as a client writes it.
     fn add_request(self, alloc: Global, out: &mut Vec<u8>, key: &[u8]) -> Result<()> {
         match self {
             Command::Get => out.extend_from_slice(b"*2\r\n$3\r\nGET\r\n")?,
@@ -40,7 +40,7 @@ impl Command {
         }
     }
 
-    // Adds the reply to it, as a server writes it.
+    // Adds its reply, as a server writes it.
     fn add_reply(self, alloc: Global, out: &mut Vec<u8>) -> Result<()> {
         match self {
             Command::Get => add_bulk(alloc, out, &[b'y'; VALUE_BYTES]),
@@ -49,7 +49,8 @@ impl Command {
     }
 }
 
-/// A command, how many of them a client sends before it waits for the replies, and how often it does.
+/// A command, the number of times a client sends it before it waits, and the number of such
+/// batches.
 #[derive(Clone, Copy, Drop)]
 pub(crate) struct Load {
     pub(crate) command: Command,
@@ -58,7 +59,7 @@ pub(crate) struct Load {
 }
 
 impl Load {
-    /// At least one batch, and no more commands than this beside.
+    /// At least one batch, and at most this many commands otherwise.
     pub(crate) fn new(command: Command, pipeline: u64, commands: u64) -> Load {
         Load {
             command,
@@ -67,13 +68,14 @@ impl Load {
         }
     }
 
-    /// How many commands there are.
+    /// The number of commands.
     pub(crate) fn commands(self) -> u64 {
         self.pipeline.saturating_mul(self.batches)
     }
 }
 
-/// The bytes of one batch and of its replies. All requests are of one length, and so are all replies.
+/// The bytes of one batch and of its replies. All requests have the same length, and so have all
+/// replies.
 #[derive(Drop)]
 pub(crate) struct Texts {
     pub(crate) batch: Vec<u8>,
@@ -83,12 +85,12 @@ pub(crate) struct Texts {
 }
 
 impl Texts {
-    /// Those of this load. No two commands of a batch have the same key.
+    /// The texts of this load. No two commands of a batch have the same key.
     pub(crate) fn new(alloc: Global, load: Load) -> Result<Texts> {
         let mut batch = Vec::new(alloc);
         let mut replies = Vec::new(alloc);
         for number in 0..load.pipeline {
-            // Neighbours are far from each other, as keys of clients are.
+            // (neighbours are far from each other, as clients' keys are)
             let spread = number.wrapping_mul(2_654_435_761) % 1_000_000;
             let number = FIRST_KEY.saturating_add(spread);
             let key = format!(in alloc; "key:{number}")?;

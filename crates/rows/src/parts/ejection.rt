@@ -12,7 +12,7 @@ use ejector::{EjectError, Ejector, Settings};
 use std::alloc::Global;
 use std::ops::RangeInclusive;
 
-/// Makes one action on the ejector that a row made last: `new HOSTS KEY=N ..`, or what `told` takes.
+/// Makes one action on the row's latest ejector: `new HOSTS KEY=N ..`, or an action of `told`.
 pub(crate) fn act(alloc: Global, ejector: &mut Option<Ejector>, line: &str) -> Result<String> {
     let (verb, rest) = first_word(line);
     if verb == "new" {
@@ -37,7 +37,7 @@ fn make(alloc: Global, kept: &mut Option<Ejector>, words: &str) -> Result<String
     }
 }
 
-// The default settings but for these fields.
+// The default settings with these fields changed.
 fn settings_of(fields: &str) -> Result<Settings> {
     let mut settings = Settings::default();
     for field in fields.split_whitespace() {
@@ -49,9 +49,9 @@ fn settings_of(fields: &str) -> Result<Settings> {
     Ok(settings)
 }
 
-// What the ejector answers: to `good HOSTS MOMENT`, `bad HOSTS MOMENT` (`HOSTS` is one or the first and the last),
-// `mixed HOST MOMENT` (a good and a bad result), `sweep MOMENT`, `marks SEED MARKS MOMENT`, `go_on` (another ejector takes
-// its place, made from its state), or to what `seen` takes.
+// The ejector's answer to `good HOSTS MOMENT`, `bad HOSTS MOMENT`, `mixed HOST MOMENT` (a good and a bad result),
+// `sweep MOMENT`, `marks SEED MARKS MOMENT`, `go_on`, or an action of `seen`. `HOSTS` is one, or the first and the
+// last. `go_on` replaces it by an ejector that starts from its state.
 fn told(alloc: Global, ejector: &mut Ejector, verb: &str, words: &str) -> Result<String> {
     match verb {
         "good" => results(alloc, ejector, true, words),
@@ -64,7 +64,7 @@ fn told(alloc: Global, ejector: &mut Ejector, verb: &str, words: &str) -> Result
     }
 }
 
-// Puts an ejector in its place that goes on from its state.
+// Replaces the ejector by one that starts from its state.
 fn go_on(alloc: Global, ejector: &mut Ejector) -> Result<String> {
     match again!(Ejector::new_from(alloc, ejector.snapshot())) {
         Ok(next) => {
@@ -75,7 +75,7 @@ fn go_on(alloc: Global, ejector: &mut Ejector) -> Result<String> {
     }
 }
 
-// What leaves the ejector as it is: `is_out HOST`, `usable HOST`, `multiplier HOST`, `all_usable`, `in_panic`, `rules`.
+// Actions that don't change it: `is_out HOST`, `usable HOST`, `multiplier HOST`, `all_usable`, `in_panic`, `rules`.
 fn seen(alloc: Global, ejector: &Ejector, verb: &str, words: &str) -> Result<String> {
     match verb {
         "all_usable" => again!(all_usable(alloc, ejector)),
@@ -97,7 +97,7 @@ fn seen_of(alloc: Global, ejector: &Ejector, verb: &str, host: usize) -> Result<
     }
 }
 
-// A result of one host, or of each from the first to the last.
+// Gives a result of one host, or of each from the first to the last.
 fn results(alloc: Global, ejector: &mut Ejector, ok: bool, words: &str) -> Result<String> {
     let (hosts, moment) = first_word(words);
     let moment = number(moment)?;

@@ -1,4 +1,4 @@
-//! Rows of the settings file: texts of files, and the line or the fault that is told.
+//! Rows of the settings file: a file's text, and the line or error printed for it.
 
 use crate::again::again;
 use crate::series::Series;
@@ -8,9 +8,9 @@ use anyhow::{Result, bail};
 use proxy_config::{ConfigError, check_line};
 use std::alloc::Global;
 
-/// Makes one action: `check TEXT`, `values KEY TEXT TEXT ..` (for each value a file that gives one host, and it at this
-/// key), `cuts TEXT` (each beginning of the text but the whole), `nested N` (N arrays, one in the other, at a key), or
-/// `long N` (a text of N bytes at a key).
+/// Makes one action: `check TEXT`, `values KEY TEXT TEXT ..`, `cuts TEXT`, `nested N` or `long N`. `values` makes for
+/// each value a file with one host and the value at this key. `cuts` takes each proper beginning of the text. `nested`
+/// has N nested arrays at a key, and `long` a text of N bytes.
 pub(crate) fn act(alloc: Global, line: &str) -> Result<String> {
     again!(told(alloc, line))
 }
@@ -27,7 +27,7 @@ fn told(alloc: Global, line: &str) -> Result<String> {
     }
 }
 
-// The line without its end, or the words of the fault.
+// The line without its end, or the words of the error.
 fn told_of(alloc: Global, bytes: &[u8]) -> Result<String> {
     match checked(alloc, bytes)? {
         Ok(line) => escaped(alloc, line.as_bytes()),
@@ -35,7 +35,7 @@ fn told_of(alloc: Global, bytes: &[u8]) -> Result<String> {
     }
 }
 
-// Want of memory is a failure, so that the call is made again.
+// Turns want of memory into a failure, so that the call is made again.
 fn checked(alloc: Global, bytes: &[u8]) -> Result<Result<String, &'static str>> {
     match check_line(alloc, bytes) {
         Ok(line) => Ok(Ok(line)),
@@ -53,7 +53,7 @@ fn many_values(alloc: Global, words: &str) -> Result<String> {
     series.text()
 }
 
-// What is told of a file that gives one host, and this value at this key.
+// The result for a file with one host, and this value at this key.
 fn told_with(alloc: Global, key: &str, value: &str) -> Result<String> {
     let file = format!(in alloc; "{{\"hosts\":[\"127.0.0.1:7001\"],\"{key}\":{value}}}")?;
     told_of(alloc, file.as_bytes())
@@ -80,7 +80,7 @@ fn long(alloc: Global, len: usize) -> Result<String> {
     told_with(alloc, "listen", value.as_str())
 }
 
-// This letter so many times.
+// This letter `count` times.
 fn of_one(alloc: Global, letter: char, count: usize) -> Result<String> {
     let mut text = String::new(alloc);
     for _ in 0..count {

@@ -17,7 +17,7 @@ pub(crate) fn join_of(name: &str) -> Result<Join> {
     }
 }
 
-/// Whether so many values may be joined.
+/// Whether this many values may be joined.
 pub(crate) fn may_join(how: Join, values: usize) -> bool
     ensures { IsTrue result → MayJoin how values }
 {

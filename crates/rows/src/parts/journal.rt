@@ -1,4 +1,4 @@
-//! Rows of a journal, whose events and answers are numbers here.
+//! Rows of a journal whose events and answers are numbers.
 
 use crate::again::again;
 use crate::shown::{refusal_words, shown};
@@ -7,8 +7,7 @@ use anyhow::Result;
 use journal_core::{Journal, JournalError, Step};
 use std::alloc::Global;
 
-/// Makes one action: `room BYTES`, `add PASS EVENT ANSWER BYTES` (behind making room for it), `get STEP`, `len`,
-/// `bytes`.
+/// Makes one action: `room BYTES`, `add PASS EVENT ANSWER BYTES` (after making room), `get STEP`, `len`, `bytes`.
 pub(crate) fn act(alloc: Global, journal: &mut Journal<u64, u64>, line: &str) -> Result<String> {
     let (verb, rest) = first_word(line);
     match verb {

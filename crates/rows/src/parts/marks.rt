@@ -1,6 +1,6 @@
-//! Many marks that look random, and what an ejector makes of them.
+//! Random marks for an ejector, and sums of its answers.
 //!
-//! `outside/ejection_marks.py` makes the same marks, and reckons by the rules what has to come out.
+//! `outside/ejection_marks.py` makes the same marks, and computes the expected sums by the rules.
 
 use crate::proxies::random::Numbers;
 use crate::shown::shown;
@@ -9,7 +9,7 @@ use anyhow::Result;
 use ejector::{Ejector, Swept, Trip};
 use std::alloc::Global;
 
-// What came of results and sweeps, in sums, and a number that each answer and each state on the way goes into.
+// Sums of the results and sweeps, and a number that mixes in each answer and each state on the way.
 #[derive(Clone, Copy)]
 struct Tally {
     results: [u64; 3],
@@ -18,8 +18,7 @@ struct Tally {
     check: u32,
 }
 
-/// Gives the ejector the marks of the words `SEED MARKS MOMENT`, the first at that moment or later, and tells what came of
-/// them.
+/// Gives the ejector the marks of the words `SEED MARKS MOMENT`, the first at that moment or later, and returns their sums.
 pub(crate) fn played(alloc: Global, ejector: &mut Ejector, words: &str) -> Result<String> {
     let (seed, rest) = first_word(words);
     let (marks, moment) = first_word(rest);
@@ -45,7 +44,7 @@ impl Tally {
         }
     }
 
-    // Makes one mark: a sweep, or a result of a host, which is the more often bad the higher the host's number.
+    // Makes one mark: a sweep, or a result of a host. Hosts with higher numbers fail more often.
     fn take(&mut self, ejector: &mut Ejector, numbers: &mut Numbers, moment: u64) {
         if numbers.below(20) == 0 {
             match ejector.sweep(moment) {
@@ -84,7 +83,7 @@ impl Tally {
         }
     }
 
-    // Looks at what the ejector tells of its hosts.
+    // Adds the ejector's present state of each host.
     fn look(&mut self, ejector: &Ejector) {
         self.add(u32::from(ejector.in_panic()));
         for host in 0..ejector.rules().hosts {

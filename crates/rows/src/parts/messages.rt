@@ -1,4 +1,4 @@
-//! Rows of refusals: each by its number, with its text.
+//! Rows of refusals: their numbers and texts.
 
 use crate::again::again;
 use anyhow::{Result, bail};
@@ -20,7 +20,7 @@ macro_rules! messages {
     };
 }
 
-/// Gives the refusals of what the line names: `reader`, `ring`, `ejector`, `pipe`, `splitter`, `queue`, `journal`, `stub`.
+/// Returns the refusals of one crate: `reader`, `ring`, `ejector`, `pipe`, `splitter`, `queue`, `journal`, `stub`.
 pub(crate) fn act(alloc: Global, line: &str) -> Result<String> {
     again!(refusals_of(alloc, line))
 }

@@ -1,10 +1,10 @@
-//! Long streams in few words.
+//! Short notations of long streams.
 
 use crate::text::{number, word_bytes};
 use anyhow::Result;
 use std::alloc::Global;
 
-/// How often a word stands there, and the word: `7*a` is `a` seven times.
+/// The count and the word of a repetition: `7*a` is `a` seven times.
 pub(crate) fn repeated(word: &str) -> (usize, &str) {
     match word.split_once('*') {
         Some((count, piece)) => match count.parse::<usize>() {
@@ -15,8 +15,8 @@ pub(crate) fn repeated(word: &str) -> (usize, &str) {
     }
 }
 
-/// The stream of these words, one behind the other. Each is bytes with escapes or `bulk:LENGTH`, a bulk string of so
-/// many bytes, and may be repeated.
+/// Concatenates the streams of these words. Each is bytes with escapes or `bulk:LENGTH`, a bulk string of that length,
+/// and may be repeated.
 pub(crate) fn stream_of(alloc: Global, words: &str) -> Result<Vec<u8>> {
     let mut stream = Vec::new(alloc);
     for word in words.split(' ') {
@@ -37,7 +37,7 @@ fn put_piece(alloc: Global, stream: &mut Vec<u8>, word: &str) -> Result<()> {
     Ok(())
 }
 
-// A bulk string of so many bytes.
+// A bulk string of this length.
 fn bulk_string(alloc: Global, length: usize) -> Result<Vec<u8>> {
     let mut text = format!(in alloc; "${length}\r\n")?.into_bytes();
     text.resize(text.len().saturating_add(length), 7)?;

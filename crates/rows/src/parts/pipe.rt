@@ -9,8 +9,8 @@ use std::alloc::Global;
 use std::fmt::{Display, Formatter, Result as FmtResult, Write};
 use upstream_pipe::{Lost, Owner, Part, Pipe, PipeRefusal};
 
-/// Makes one action: `push CONNECTION COMMAND PART TEXT`, `take`, `answered EPOCH`, `fault EPOCH`, `forget
-/// CONNECTION`, `room PARTS`, `epoch`, `waiting`, `flying`, `oldest`. An owner is told by its three numbers.
+/// Makes one action: `push CONNECTION COMMAND PART TEXT`, `take`, `answered EPOCH`, `fault EPOCH`, `forget CONNECTION`,
+/// `room PARTS`, `epoch`, `waiting`, `flying`, `oldest`. An owner is printed as its three numbers.
 pub(crate) fn act(alloc: Global, pipe: &mut Pipe, line: &str) -> Result<String> {
     let (verb, rest) = first_word(line);
     match verb {
@@ -24,7 +24,7 @@ pub(crate) fn act(alloc: Global, pipe: &mut Pipe, line: &str) -> Result<String> 
     }
 }
 
-// What leaves the pipe as it is.
+// Actions that don't change the pipe.
 fn told(alloc: Global, pipe: &Pipe, verb: &str) -> Result<String> {
     match verb {
         "epoch" => shown(alloc, pipe.epoch()),
@@ -35,7 +35,7 @@ fn told(alloc: Global, pipe: &Pipe, verb: &str) -> Result<String> {
     }
 }
 
-// A refused part comes back, and is told.
+// A refused part comes back and is printed.
 fn push(alloc: Global, pipe: &mut Pipe, words: &str) -> Result<String> {
     let part = again!(part_of(alloc, words))?;
     let pushed = match pipe.push(part) {
@@ -95,7 +95,7 @@ fn part_of(alloc: Global, words: &str) -> Result<Part> {
     Ok(Part { owner, text })
 }
 
-// An owner as it is told; none where it was forgotten.
+// An owner as it is printed; `None` once it is forgotten.
 #[derive(Clone, Copy)]
 struct Shown(Option<Owner>);
 
@@ -130,7 +130,7 @@ fn back(alloc: Global, refusal: PipeRefusal, part: Part) -> Result<String> {
     shown(alloc, format_args!("{refusal}, back comes {part}"))
 }
 
-// The owners of what flew and of what waited.
+// The owners of the parts that flew and that waited.
 fn lost_text(alloc: Global, lost: Lost) -> Result<String> {
     let flying = again!(flying_text(alloc, lost.flying.as_slice()))?;
     let waiting = again!(waiting_text(alloc, lost.waiting.as_slice()))?;

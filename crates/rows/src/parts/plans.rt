@@ -12,7 +12,7 @@ use resp_core::{Value, Values};
 use splitter::{Join, Local, PartPlan, Plan, Request, join, plan};
 use std::alloc::Global;
 
-// Of a command with more parts only the first and the last are told.
+// Of a command with more parts only the first and the last are printed.
 const SHOWN: usize = 8;
 
 /// Makes one action: `plan WORDS`, where `7*a` is seven words `a`; `value VALUE` or `broken`, the plan of that request;

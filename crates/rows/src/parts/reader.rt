@@ -1,4 +1,4 @@
-//! Rows of a reader: what it gives of a stream, however the stream is cut, and what is told of values.
+//! Rows of a reader: the values of a stream, however it is cut, and facts about values.
 
 use super::pieces::stream_of;
 use super::spelling::spelled_or_nothing;
@@ -10,10 +10,10 @@ use anyhow::Result;
 use resp_core::{Limits, Reader, RespError, Value, put_text};
 use std::alloc::Global;
 
-// What has more bytes is told by its length.
+// Longer values are printed by their length.
 const SHOWN: usize = 200;
 
-/// A reader to which a row feeds pieces, and the limits of the row's streams.
+/// A row's reader, and the limits of its streams.
 #[derive(Drop)]
 pub struct ReaderSubject {
     limits: Limits,
@@ -34,8 +34,8 @@ impl ReaderSubject {
         })
     }
 
-    /// Makes one action: `feed BYTES`, `next`, `held`, `read PIECES` (a stream of its own), `measure VALUE`,
-    /// `simple BYTES`, `error BYTES`, `words VALUE`.
+    /// Makes one action: `feed BYTES`, `next`, `held`, `read PIECES` (a stream of its own), `measure VALUE`, `simple
+    /// BYTES`, `error BYTES`, `words VALUE`.
     pub(crate) fn act(&mut self, alloc: Global, line: &str) -> Result<String> {
         let (verb, rest) = first_word(line);
         match verb {
@@ -45,7 +45,7 @@ impl ReaderSubject {
         }
     }
 
-    // What leaves the row's reader as it is.
+    // Actions that don't change the row's reader.
     fn told(&self, alloc: Global, verb: &str, rest: &str) -> Result<String> {
         match verb {
             "held" => shown(alloc, format_args!("{} bytes", self.reader.held())),
@@ -73,8 +73,8 @@ impl ReaderSubject {
         }
     }
 
-    // Reads a stream whole, in pieces of several lengths, and a short one cut in two at each place: all have to give the
-    // same.
+    // Reads a stream whole, in pieces of several lengths, and a short one also cut in two at each place. All must give
+    // the same.
     fn read(&self, alloc: Global, words: &str) -> Result<String> {
         let stream = stream_of(alloc, words)?;
         let stream = stream.as_slice();
@@ -88,7 +88,7 @@ impl ReaderSubject {
         Ok(told)
     }
 
-    // A length of pieces in which the stream isn't read so.
+    // A piece length for which the stream reads differently.
     fn differing_length(&self, alloc: Global, stream: &[u8], told: &str) -> Result<Option<usize>> {
         for length in piece_lengths(stream.len()) {
             let text = self.read_in_pieces(alloc, stream, *length)?;
@@ -99,7 +99,7 @@ impl ReaderSubject {
         Ok(None)
     }
 
-    // A place such that the stream, cut in two there, isn't read so.
+    // A place such that the stream, cut in two there, reads differently.
     fn differing_place(&self, alloc: Global, stream: &[u8], told: &str) -> Result<Option<usize>> {
         for place in 0..places(stream.len()) {
             let text = self.read_cut_at(alloc, stream, place)?;
@@ -125,7 +125,7 @@ impl ReaderSubject {
     }
 }
 
-// The lengths of the pieces in which a stream of so many bytes is read: a long one is cut in few pieces.
+// The piece lengths to read a stream of this many bytes in: a long one is cut into few pieces.
 fn piece_lengths(bytes: usize) -> &'static [usize] {
     match bytes {
         0..=1_000 => &[1, 2, 7, 1_000],
@@ -134,12 +134,12 @@ fn piece_lengths(bytes: usize) -> &'static [usize] {
     }
 }
 
-// How many places of a stream of so many bytes it is cut in two at.
+// The number of places to cut a stream of this many bytes at.
 fn places(bytes: usize) -> usize {
     if bytes <= SHOWN { bytes } else { 0 }
 }
 
-// A reader, and what it gave of a stream: the values, written one behind the other, and then the refusal, if one came.
+// A reader, and what it made of a stream: the spellings of its values, and then the refusal, if there was one.
 #[derive(Drop)]
 struct Reading {
     reader: Reader,
@@ -148,7 +148,7 @@ struct Reading {
 }
 
 impl Reading {
-    // Of nothing.
+    // Before any bytes.
     fn new(alloc: Global, limits: Limits) -> Reading {
         Reading {
             reader: Reader::new(alloc, limits),
@@ -157,7 +157,7 @@ impl Reading {
         }
     }
 
-    // What is told of the stream where it comes in pieces of this length.
+    // The result of the stream in pieces of this length.
     fn of_pieces(&mut self, alloc: Global, stream: &[u8], length: usize) -> Result<String> {
         for piece in stream.chunks(length.max(1)) {
             self.take_piece(alloc, piece)?;
@@ -165,7 +165,7 @@ impl Reading {
         self.text(alloc, stream)
     }
 
-    // What is told of the stream where it is cut in two at this place.
+    // The result of the stream cut in two at this place.
     fn of_two(&mut self, alloc: Global, stream: &[u8], place: usize) -> Result<String> {
         let (front, back) = stream.split_at(place.min(stream.len()));
         self.take_piece(alloc, front)?;
@@ -173,7 +173,7 @@ impl Reading {
         self.text(alloc, stream)
     }
 
-    // Feeds one piece and takes what came with it, if the reader takes any more.
+    // Feeds one piece and takes its values, unless the reader takes no more.
     fn take_piece(&mut self, alloc: Global, piece: &[u8]) -> Result<()> {
         match again!(self.reader.feed(piece)) {
             Ok(()) => self.take_values(alloc, piece.len()),
@@ -181,7 +181,7 @@ impl Reading {
         }
     }
 
-    // Takes the values that have come, which are no more than the bytes of the piece and one.
+    // Takes the values that have come: at most one more than the piece has bytes.
     fn take_values(&mut self, alloc: Global, most: usize) -> Result<()> {
         for _ in 0..=most {
             match again!(self.reader.next_value()) {
@@ -196,7 +196,7 @@ impl Reading {
         Ok(())
     }
 
-    // Writes a value that shares its bytes with this one.
+    // Writes a value that shares its bytes with the reader's.
     fn write(&mut self, alloc: Global, value: Value) -> Result<()> {
         let shared = value.share(alloc);
         drop(value);
@@ -213,7 +213,7 @@ impl Reading {
         Ok(())
     }
 
-    // What was written, by its length where it is long, and then the refusal.
+    // The values, by their length if they are long, and then the refusal.
     fn text(&self, alloc: Global, stream: &[u8]) -> Result<String> {
         match self.refusal {
             Some(refusal) => {
@@ -225,7 +225,7 @@ impl Reading {
         }
     }
 
-    // What was written, if anything was, and then the refusal.
+    // The values, if any, and then the refusal.
     fn text_and(&self, alloc: Global, stream: &[u8], refusal: String) -> Result<String> {
         if self.written.is_empty() {
             return Ok(refusal);

@@ -8,14 +8,14 @@ use anyhow::{Result, bail};
 use ketama::{HostName, Ring, RingError, point_of_key};
 use std::alloc::Global;
 
-/// Makes one action on the ring that a row made last: `name BYTES`, `point KEY`, `tagged KEY` (its point by its tag), `of_points HOSTS
-/// POINT:HOST,..`, `build NAME,.. WEIGHT,..`, `many HOSTS WEIGHT`, `owner POINT`, `owner POINT out HOST ..`, or
-/// `key KEY`, which tells the key's point and owner, and whether it stays where host 1 goes out.
+/// Makes one action on the row's latest ring: `name BYTES`, `point KEY`, `tagged KEY` (its point by its tag),
+/// `of_points HOSTS POINT:HOST,..`, `build NAME,.. WEIGHT,..`, `many HOSTS WEIGHT`, `owner POINT`, `owner POINT out
+/// HOST ..`, or `key KEY`: the key's point and owner, and whether it stays when host 1 is out.
 pub(crate) fn act(alloc: Global, ring: &mut Option<Ring>, line: &str) -> Result<String> {
     again!(told(alloc, ring, line))
 }
 
-// An action that is made twice leaves what it leaves when it is made once.
+// Making an action twice leaves the same state as making it once.
 fn told(alloc: Global, ring: &mut Option<Ring>, line: &str) -> Result<String> {
     let (verb, rest) = first_word(line);
     match verb {
@@ -31,7 +31,7 @@ fn told(alloc: Global, ring: &mut Option<Ring>, line: &str) -> Result<String> {
     }
 }
 
-// Keeps a ring, and tells its hosts and digests, or why there is none.
+// Keeps a ring, and returns its hosts and digests, or the reason why there is none.
 fn keep(
     alloc: Global,
     kept: &mut Option<Ring>,
@@ -66,7 +66,7 @@ fn key(alloc: Global, ring: &Option<Ring>, word: &str) -> Result<String> {
     )
 }
 
-// The owner of a point where these hosts are out.
+// The owner of a point while these hosts are out.
 fn owner_without(
     alloc: Global,
     ring: &Option<Ring>,
@@ -81,7 +81,7 @@ fn owner_without(
     Ok(ring.owner(point, usable.as_slice()))
 }
 
-// The words are `out` and the hosts.
+// Puts hosts out by the words `out HOST ..`.
 fn put_out(usable: &mut [bool], words: &str) -> Result<()> {
     for word in words.split_whitespace().skip(1) {
         let host: usize = number(word)?;
@@ -138,14 +138,14 @@ fn names_of(alloc: Global, text: &str) -> Result<Vec<HostName>> {
     Ok(names)
 }
 
-// Hosts `host-0`, `host-1` and so on, all of one weight.
+// The ring of hosts `host-0`, `host-1` and so on, all of one weight.
 fn equal_ring(alloc: Global, words: &str) -> Result<Result<Ring, RingError>> {
     let (hosts, weight) = first_word(words);
     let weights = vec![in alloc; number(weight)?; number(hosts)?]?;
     with_memory(numbered_ring(alloc, weights.as_slice()))
 }
 
-// Want of memory is a failure, so that the call is made again.
+// Turns want of memory into a failure, so that the call is made again.
 fn with_memory(made: Result<Ring, RingError>) -> Result<Result<Ring, RingError>> {
     match made {
         Err(RingError::NoMemory) => bail!("out of memory"),

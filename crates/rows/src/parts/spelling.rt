@@ -17,14 +17,14 @@ pub(crate) fn spelling(alloc: Global, value: &Value) -> Result<String> {
     escaped(alloc, bytes.as_slice())
 }
 
-/// The same of a value that nobody needs any more.
+/// The same, for a value that is then dropped.
 pub(crate) fn spelled(alloc: Global, value: Value) -> Result<String> {
     let text = again!(spelling(alloc, &value));
     drop(value);
     text
 }
 
-/// The same, or that there is none.
+/// The same, or the word for none.
 pub(crate) fn spelled_or_nothing(alloc: Global, value: Option<Value>) -> Result<String> {
     match value {
         Some(value) => spelled(alloc, value),
@@ -32,7 +32,7 @@ pub(crate) fn spelled_or_nothing(alloc: Global, value: Option<Value>) -> Result<
     }
 }
 
-/// The values of a text with escapes, as far as they are whole.
+/// The complete values of a text with escapes.
 pub(crate) fn values_of(alloc: Global, text: &str) -> Result<Vec<Value>> {
     let mut reader = fed_reader(alloc, text)?;
     let values = all_values(alloc, &mut reader, text.len());
@@ -40,7 +40,7 @@ pub(crate) fn values_of(alloc: Global, text: &str) -> Result<Vec<Value>> {
     values
 }
 
-// The values that have come, which are no more than the bytes.
+// The values that have come: at most one for each byte.
 fn all_values(alloc: Global, reader: &mut Reader, most: usize) -> Result<Vec<Value>> {
     let mut values = Vec::new(alloc);
     for _ in 0..most {

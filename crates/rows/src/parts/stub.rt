@@ -10,8 +10,8 @@ use resp_core::Value;
 use std::alloc::Global;
 use stub_server::{Act, Response, Stub};
 
-/// Makes one action: `ask WORDS` or `value VALUE`, a request whose answer is told; `script ACTS`; or `serve WORDS`, a
-/// request that is served by the script, of which the answer is told, or what stands for none.
+/// Makes one action: `ask WORDS` or `value VALUE` (a request, and its answer), `script ACTS`, or `serve WORDS`: a
+/// request served by the script, and its answer or what stands for none.
 pub(crate) fn act(alloc: Global, stub: &mut Stub, line: &str) -> Result<String> {
     let (verb, rest) = first_word(line);
     match verb {

@@ -1,4 +1,4 @@
-//! Rows of the table of commands: names, and what the table knows of them.
+//! Rows of the command table: names, and their entries.
 
 use crate::again::again;
 use crate::series::Series;
@@ -8,7 +8,7 @@ use anyhow::Result;
 use command_table::look;
 use std::alloc::Global;
 
-/// Makes one action: `look NAME`, or `alike NAMES`, which tells how many names in a row are known alike.
+/// Makes one action: `look NAME`, or `alike NAMES`, which counts neighbouring names with equal entries.
 pub(crate) fn act(alloc: Global, line: &str) -> Result<String> {
     let (verb, rest) = first_word(line);
     match verb {
@@ -18,7 +18,7 @@ pub(crate) fn act(alloc: Global, line: &str) -> Result<String> {
     }
 }
 
-// What the table knows of a name: its kind, its name in the table, and its numbers.
+// A name's entry: its kind, its name in the table, and its numbers.
 fn entry_text(alloc: Global, word: &str) -> Result<String> {
     let name = word_bytes(alloc, word)?;
     match look(name.as_slice()) {
@@ -41,7 +41,7 @@ fn runs(alloc: Global, names: &str) -> Result<String> {
     series.text()
 }
 
-// The same without the name, which has to be the table's but for its case.
+// The same without the name, which must equal the table's but for case.
 fn kind_text(alloc: Global, name: &str) -> Result<String> {
     match look(name.as_bytes()) {
         None => shown(alloc, "None"),

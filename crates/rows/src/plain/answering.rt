@@ -87,14 +87,14 @@ fn counted(index: u64, placed: &[Part]) -> Answer
     }
 }
 
-// How many of the parts have no host.
+// The number of parts without a host.
 fn hostless(placed: &[Part]) -> u64
     ensures { result ≡ count_by is_hostless (parts_of placed.now) }
 {
     placed.iter().filter(|part| part.host.is_none()).count() as u64
 }
 
-// How many of the parts have a host for which too many waited.
+// The number of parts whose host had too many waiting.
 fn busy(placed: &[Part]) -> u64
     ensures { result ≡ count_by is_busy (parts_of placed.now) }
 {
@@ -139,7 +139,7 @@ pub(crate) fn matched(ejector: &mut Ejector, host: usize, t: u64) -> Result<Answ
     })
 }
 
-// What a result does to its host.
+// The effect of a result on its host.
 fn trip(ejector: &mut Ejector, host: usize, ok: bool, t: u64) -> Result<Trip, AllocError>
     requires { host < ejector.old.rules.hosts }
     ensures { IfOk result (λ trip. (O : State) (marks : List Mark)
@@ -191,7 +191,7 @@ pub(crate) fn swept(ejector: &mut Ejector, t: u64) -> Result<Answer, AllocError>
     }
 }
 
-/// The answer where the next reply of a connection is handed out: its text.
+/// The answer that hands out the next reply of a connection: its text.
 pub(crate) fn handed_out(
     alloc: Global,
     steps: &[Turn],

@@ -1,4 +1,4 @@
-//! How the parts of a command are placed at its arrival: each gets its host for good, or a value at once.
+//! Where the parts of a command go at its arrival: each gets its host for good, or a value at once.
 ghost use Rattle.std.specs.Prelude.{◌≡◌, [], List, Option, None, Some, IfOk, length, map, filter, nat_lt, if◌then◌else◌};
 ghost use Rattle.std.specs.Option.{option_map};
 ghost use Rattle.ejector.specs.declared.mark.Mark.{Mark};
@@ -21,8 +21,8 @@ use splitter::{PartPlan, PartPlans};
 use std::alloc::{AllocError, Global};
 use upstream_pipe::MAX_WAITING;
 
-/// The parts of a command of the connection, placed one after the other. `tags` says whether a key that has a tag is
-/// placed by its tag alone.
+/// Places the parts of the connection's command one after another. `tags` says whether a key with a tag is placed by
+/// the tag alone.
 pub(crate) fn placed_parts(
     alloc: Global,
     ring: &Ring,
@@ -58,7 +58,7 @@ fn find_usable(ejector: &Ejector, usable: &mut [bool])
     }
 }
 
-// The parts of a command, placed one after the other among the usable hosts.
+// Places the parts of a command one after another on the usable hosts.
 fn place_all(
     alloc: Global,
     ring: &Ring,
@@ -117,7 +117,7 @@ fn placed_part(
     })
 }
 
-// The epoch of the host, and whether the next part of a command gets a value at once there: as many parts as may wait do.
+// The host's epoch, and `Busy` if as many parts as may wait for it already do.
 fn at_host(steps: &[Turn], replay: &Replay, placed: &[Part], host: usize) -> (u64, Option<AtOnce>)
     ensures epoch { result.0 ≡ epoch host (history_of steps.now) }
     ensures local { option_map value_at_once result.1
@@ -134,7 +134,7 @@ fn at_host(steps: &[Turn], replay: &Replay, placed: &[Part], host: usize) -> (u6
     }
 }
 
-// How many of the parts belong to the pipe of the host in the epoch.
+// The number of parts in the host's pipe in this epoch.
 fn count_of(parts: &[Part], host: usize, epoch: u64) -> u64
     ensures { result ≡ length (filter (is_of host epoch) (parts_of parts.now)) }
 {

@@ -24,7 +24,7 @@ pub(crate) fn is_open(steps: &[Turn], conn: u64) -> bool
     conn < times(steps, Wanted::Opening) && !has(steps, Wanted::Closing(conn))
 }
 
-/// How many commands of the connection are accepted and not handed out.
+/// The number of the connection's commands that are accepted and not handed out.
 pub(crate) fn left(steps: &[Turn], conn: u64) -> u64
     ensures { result
         ≡ accepted_count conn (history_of steps.now) - handed_count conn (history_of steps.now) }
@@ -32,7 +32,7 @@ pub(crate) fn left(steps: &[Turn], conn: u64) -> u64
     times(steps, Wanted::Arrival(conn)).saturating_sub(times(steps, Wanted::Handing(conn)))
 }
 
-/// Why no connection is opened, if none is.
+/// The cause to refuse a connection, if there is one.
 pub(crate) fn opening_cause(steps: &[Turn]) -> Option<Refusal>
     ensures { (S : Setting) (replay : Replay)
         → result ≡ own_cause S (past_of_scan steps.now [] replay) Opened }
@@ -44,7 +44,7 @@ pub(crate) fn opening_cause(steps: &[Turn]) -> Option<Refusal>
     None
 }
 
-/// Why a request isn't accepted, if it isn't.
+/// The cause to refuse a request, if there is one.
 pub(crate) fn arrival_cause(steps: &[Turn], conn: u64) -> Option<Refusal>
     ensures { (S : Setting) (replay : Replay) (request : Request)
         → result ≡ own_cause S (past_of_scan steps.now [] replay) (Arrived conn request) }
@@ -60,7 +60,7 @@ pub(crate) fn arrival_cause(steps: &[Turn], conn: u64) -> Option<Refusal>
     }
 }
 
-/// Why a connection doesn't finish, if it doesn't.
+/// The cause to refuse the connection's finish, if there is one.
 pub(crate) fn finish_cause(steps: &[Turn], conn: u64) -> Option<Refusal>
     ensures { (S : Setting) (replay : Replay)
         → result ≡ own_cause S (past_of_scan steps.now [] replay) (Finished conn) }
@@ -74,7 +74,7 @@ pub(crate) fn finish_cause(steps: &[Turn], conn: u64) -> Option<Refusal>
     }
 }
 
-/// Why no part is taken, if none is.
+/// The cause to refuse taking a part, if there is one.
 pub(crate) fn take_cause(
     host_count: usize,
     steps: &[Turn],
@@ -93,7 +93,7 @@ pub(crate) fn take_cause(
     }
 }
 
-/// Why a reply isn't taken, if it isn't.
+/// The cause to refuse a reply, if there is one.
 pub(crate) fn answer_cause(
     host_count: usize,
     steps: &[Turn],
@@ -120,7 +120,7 @@ pub(crate) fn answer_cause(
     }
 }
 
-/// Why a fault isn't taken, if it isn't.
+/// The cause to refuse a fault, if there is one.
 pub(crate) fn fault_cause(
     host_count: usize,
     steps: &[Turn],
@@ -140,7 +140,7 @@ pub(crate) fn fault_cause(
     }
 }
 
-/// Why a connection isn't closed, if it isn't.
+/// The cause to refuse a close, if there is one.
 pub(crate) fn close_cause(steps: &[Turn], conn: u64) -> Option<Refusal>
     ensures { (S : Setting) (replay : Replay)
         → result ≡ own_cause S (past_of_scan steps.now [] replay) (Closed conn) }

@@ -8,7 +8,7 @@ use std::alloc::AllocError;
 pub(crate) enum AtOnce {
     /// No usable host owns its key.
     NoHost,
-    /// As many parts as may wait for its host did.
+    /// As many parts as may wait for its host already did.
     Busy,
 }
 

@@ -1,7 +1,7 @@
-//! How many bytes of payload a history keeps, and whether it has room for one more step.
+//! The payload bytes of a history, and whether it has room for one more step.
 //!
-//! The payload of a step is the text of the value or request that came with its event, and the text of its answer. A
-//! number of 64 bits tells it, where the greatest stands for any more.
+//! A step's payload is the text of its event's value or request, and the text of its answer. It is counted in 64 bits,
+//! of which the greatest number stands for any more.
 ghost use Rattle.std.specs.Prelude.{◌≡◌};
 ghost use Rattle.resp_core.specs.Stream.{told_offset};
 ghost use Rattle.proxy_history.specs.Payload.{length_of_request, length_of_event, length_of_answer, payload_of, payload, has_room};
@@ -12,7 +12,7 @@ use journal_core::{MAX_BYTES, MAX_STEPS};
 use proxy_history::{Answer, Event};
 use splitter::Request;
 
-/// How many bytes of payload the steps have.
+/// The payload bytes of the steps.
 pub(crate) fn payload(steps: &[Turn]) -> u64
     ensures { result ≡ told_offset (payload (history_of steps.now)) }
 {
@@ -23,15 +23,15 @@ pub(crate) fn payload(steps: &[Turn]) -> u64
     total
 }
 
-/// How many bytes of payload a step with the event and the answer has.
+/// The payload bytes of a step with this event and answer.
 pub(crate) fn payload_of(event: &Event, answer: &Answer) -> u64
     ensures { result ≡ told_offset (payload_of event.now answer.now) }
 {
     length_of_event(event).saturating_add(length_of_answer(answer))
 }
 
-/// Whether a step with the event and the answer has room behind the steps: 262,144 steps may be kept, and 67,108,864
-/// bytes of payload.
+/// Whether a step with this event and answer fits behind the steps: at most 262,144 steps and 67,108,864 payload bytes
+/// are kept.
 pub(crate) fn has_room(steps: &[Turn], event: &Event, answer: &Answer) -> bool
     ensures { result ≡ has_room (history_of steps.now) event.now answer.now }
 {

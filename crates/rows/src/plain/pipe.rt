@@ -1,4 +1,4 @@
-//! What waits for a host, what was sent to it, and how much of that flies.
+//! The parts that wait for a host, were sent to it, and fly.
 ghost use Rattle.std.specs.Prelude.{◌≡◌, ◌<◌, ◌^◌, [], List, Some, None, length};
 ghost use Rattle.std.specs.List.{list_any};
 ghost use Rattle.std.specs.Option.{option_map, option_copied};
@@ -46,7 +46,7 @@ pub(crate) fn waits(steps: &[Turn], replay: &Replay, host: usize, part: &Part) -
         && !has(steps, Wanted::Closing(part.conn))
 }
 
-/// How many parts wait for the host.
+/// The number of parts that wait for the host.
 pub(crate) fn waiting(steps: &[Turn], replay: &Replay, host: usize) -> u64
     ensures value { result ≡ length (waiting_parts host (past_of_scan steps.now [] replay.now)) }
     ensures few { result < 2 ^ 63 }
@@ -73,7 +73,7 @@ pub(crate) fn first_waiting<'a>(steps: &[Turn], replay: &'a Replay, host: usize)
     None
 }
 
-/// How many parts were sent to the host in the epoch.
+/// The number of parts sent to the host in the epoch.
 pub(crate) fn sent(replay: &Replay, host: usize, epoch: u64) -> u64
     ensures value { (steps : List Step)
         → result ≡ length (sent_to host epoch (past_of_scan steps [] replay.now)) }
@@ -88,7 +88,7 @@ pub(crate) fn sent(replay: &Replay, host: usize, epoch: u64) -> u64
     count
 }
 
-/// How many parts that were sent to the host in its present epoch have no reply.
+/// The number of parts sent to the host in its present epoch that have no reply.
 pub(crate) fn flying(steps: &[Turn], replay: &Replay, host: usize) -> u64
     ensures value { result ≡ flying_count host (past_of_scan steps.now [] replay.now) }
     ensures few { result < 2 ^ 63 }
@@ -97,7 +97,7 @@ pub(crate) fn flying(steps: &[Turn], replay: &Replay, host: usize) -> u64
     sent(replay, host, epoch).saturating_sub(replies(steps, host, epoch))
 }
 
-/// In which place of what was sent to the host in the part's epoch the part stands.
+/// The part's position among those sent to the host in the part's epoch.
 pub(crate) fn place(replay: &Replay, host: usize, part: &Part) -> Option<u64>
     ensures { (steps : List Step)
         → result ≡ place_in (part_of part.now)

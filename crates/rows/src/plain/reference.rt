@@ -1,5 +1,5 @@
-//! A plain program that answers events as a legal history does. It is for tests: it goes through all its steps again for
-//! each event, and keeps nothing else.
+//! A plain program that answers events as a legal history does. For each event it goes through all its steps again, and
+//! it keeps nothing else.
 ghost use Rattle.std.specs.Prelude.{◌≡◌, ◌⊎◌, ◌∷◌, ℕ, List, None, is_some, [], IfOk, OnOk, OnErr, IfErr, IsErrOf, MatchOption};
 ghost use Rattle.ejector.specs.Settings.{first_fault};
 ghost use Rattle.ejector.specs.declared.mark.Mark.{Mark};
@@ -65,8 +65,7 @@ impl Model for Reference {
 impl Reference {
     /// A proxy to which nothing has happened.
     ///
-    /// Refused 1011 with the first setting that is out of its range, `hosts` where the ring has none; 1001 comes only
-    /// where no setting is.
+    /// Refused 1011 with the first setting out of its range, or `hosts` where the ring has none; 1001 only if all are in range.
     pub(crate) fn new(alloc: Global, ring: Ring, settings: Settings) -> Result<Reference, Refusal>
         ensures made { IfOk result (λ r. (r.setting ≡ setting_of ring settings) × (r.steps ≡ [])) }
         ensures refused { MatchOption (first_fault (rules_of ring settings))
@@ -87,8 +86,8 @@ impl Reference {
 
     /// Takes one event of the pass `pass`, and adds its step with the answer that a legal history has there.
     ///
-    /// Refused by the first cause of the event's own that holds (1003 to 1010, 1012, 1013), else with 1002 where the journal
-    /// would be full, and with 1001 where memory was refused. The event comes back then, and nothing has changed.
+    /// Refused by the first cause of the event's own that holds (1003 to 1010, 1012, 1013), else with 1002 where the
+    /// journal would be full. Refused 1001 where memory was refused. The event comes back, and nothing has changed.
     pub(crate) fn turn(&mut self, pass: u64, event: Event) -> Result<(), (Refusal, Event)>
         ensures step { OnOk result ((s : TurnStep) × IsStep self.old self.new pass event s) }
         ensures event { IfErr result (λ r. r.1 ≡ event) }
@@ -158,7 +157,7 @@ fn next_answer(
     }
 }
 
-// The first cause of the event's own that holds.
+// The first cause of the event's own kind that holds.
 fn own_cause(
     alloc: Global,
     hosts: usize,
@@ -188,7 +187,7 @@ fn own_cause(
     })
 }
 
-// Why no reply is handed out, if none is.
+// The cause to refuse handing out a reply, if there is one.
 fn hand_cause(
     alloc: Global,
     steps: &[Turn],
@@ -241,7 +240,7 @@ fn has_outcome(
     }
 }
 
-// The answer to an event that has no cause of its own to be refused.
+// The answer to an event that no cause of its own refuses.
 fn answer_to(
     alloc: Global,
     ring: &Ring,

@@ -1,4 +1,4 @@
-//! What a history determines, found by going through its steps, the oldest first.
+//! What a history determines, found by going through its steps from the oldest on.
 ghost use Rattle.std.specs.Prelude.{◌≡◌, ◌<◌, ◌∷◌, ◌++◌, [], List, None, IfOk, OnOk};
 ghost use Rattle.ejector.specs.declared.mark.Mark.{Mark};
 ghost use Rattle.ejector.specs.Settings.{first_fault};
@@ -32,7 +32,7 @@ pub(crate) struct Replay {
     pub ejector: Ejector,
 }
 
-/// What the history of the steps determines. A result of a host that isn't there is left out.
+/// What the steps' history determines. Results of unknown hosts are left out.
 pub(crate) fn replayed(
     alloc: Global,
     ring: &Ring,
@@ -62,7 +62,7 @@ pub(crate) fn replayed(
     Ok(replay)
 }
 
-// The outlier detection to which nothing was told yet.
+// Outlier detection before any result.
 fn ejector(alloc: Global, ring: &Ring, settings: Settings) -> Result<Ejector, AllocError>
     requires { first_fault (rules_of ring.now settings) ≡ None }
     ensures { IfOk result (λ e. (e.rules ≡ rules_of ring.now settings)
@@ -74,7 +74,7 @@ fn ejector(alloc: Global, ring: &Ring, settings: Settings) -> Result<Ejector, Al
     }
 }
 
-// Takes one more event, which came behind the steps.
+// Adds one more event behind the steps.
 fn grow(
     alloc: Global,
     ring: &Ring,
@@ -163,7 +163,7 @@ fn copied(part: &Part) -> Result<Part, AllocError>
     })
 }
 
-// Tells outlier detection of the event, if it is one of its marks.
+// Gives outlier detection the event, if it is one of its marks.
 fn take_mark(
     hosts: usize,
     steps: &[Turn],
@@ -197,7 +197,7 @@ fn take_mark(
     }
 }
 
-// Whether such a fault is none of the host's: its link ended while nothing waited for it and nothing flew to it.
+// Whether the host isn't blamed for such a fault: its link ended while no part waited for it or flew.
 pub(crate) fn is_excused(steps: &[Turn], replay: &Replay, host: usize, kind: Kind) -> bool
     ensures { result ≡ is_excused (past_of_scan steps.now [] replay.now) host kind }
 {
@@ -207,7 +207,7 @@ pub(crate) fn is_excused(steps: &[Turn], replay: &Replay, host: usize, kind: Kin
     }
 }
 
-// Tells outlier detection of a result of the host, if there is such a host.
+// Gives outlier detection a result of the host, if there is such a host.
 fn take_result(
     ejector: &mut Ejector,
     hosts: usize,

@@ -1,4 +1,4 @@
-//! What is counted among the steps of a history, which stand in a list, the oldest first.
+//! Counts among the steps of a history, which are a list, the oldest first.
 ghost use Rattle.std.specs.Prelude.{◌≡◌, length};
 ghost use Rattle.std.specs.Option.{option_map, option_copied};
 ghost use Rattle.resp_core.specs.Value.{tree_of};
@@ -32,7 +32,7 @@ pub(crate) enum Wanted {
     Finishing(u64),
 }
 
-/// How many steps have an event that is wanted.
+/// The number of steps with an event that is wanted.
 pub(crate) fn times(steps: &[Turn], wanted: Wanted) -> u64
     ensures { result ≡ times (is_wanted wanted) (history_of steps.now) }
 {
@@ -122,7 +122,7 @@ fn request_of(event: &Event, conn: u64) -> Option<&Request>
     }
 }
 
-/// How many replies of the host came in the epoch.
+/// The number of the host's replies in the epoch.
 pub(crate) fn replies(steps: &[Turn], host: usize, epoch: u64) -> u64
     ensures { result ≡ length (replies_from host epoch (history_of steps.now)) }
 {
@@ -135,7 +135,7 @@ pub(crate) fn replies(steps: &[Turn], host: usize, epoch: u64) -> u64
     count
 }
 
-/// The reply of the host that came in this place of the epoch.
+/// The host's reply at this place of the epoch.
 pub(crate) fn reply_at(steps: &[Turn], host: usize, epoch: u64, place: u64) -> Option<&Value>
     ensures { option_map tree_of (option_copied result) ≡ slice_get
         (replies_from host epoch (history_of steps.now)) place }

@@ -1,4 +1,4 @@
-//! What each part and each command came to.
+//! The value of each part and the outcome of each command.
 ghost use Rattle.std.specs.Prelude.{◌≡◌, [], IfOk, IfErr, IfSome, map, option_map, length};
 ghost use Rattle.std.specs.Option.{option_and_then, option_copied};
 ghost use Rattle.resp_core.specs.Text.{text};
@@ -19,8 +19,8 @@ use resp_core::{RespError, Value, put_text};
 use splitter::{Join, Plan, SplitError, join, plan};
 use std::alloc::Global;
 
-/// The value of the part, once it has one: what it got at its arrival, else the reply in its place, else the failure of its
-/// host. Its payloads share their bytes with the reply. Refused 101 (no memory).
+/// The part's value, once it has one: what it got at its arrival, else the reply in its place, else its host's failure.
+/// Payloads share their bytes with the reply. Refused 101 (no memory).
 pub(crate) fn value_of(
     alloc: Global,
     steps: &[Turn],
@@ -47,7 +47,7 @@ pub(crate) fn value_of(
     Ok(None)
 }
 
-// What a part got at its arrival.
+// The value of a part that got one at its arrival.
 fn value_at_once(at_once: AtOnce) -> Value
     ensures { tree_of result ≡ value_at_once at_once }
 {
@@ -76,7 +76,7 @@ fn reply_to<'a>(steps: &'a [Turn], replay: &Replay, host: usize, part: &Part) ->
 
 /// The outcome of command `index` of the connection, once it has one. Refused 701 (no memory).
 ///
-/// The replay has to be that of the steps.
+/// The replay must be that of the steps.
 pub(crate) fn outcome(
     alloc: Global,
     steps: &[Turn],
@@ -101,7 +101,7 @@ pub(crate) fn outcome(
     }
 }
 
-// The values joined, where there are any.
+// The joined values, if there are any.
 fn joined(alloc: Global, how: Join, values: Option<Vec<Value>>) -> Result<Option<Value>, SplitError>
     requires { IfSome values (λ values. MayJoin how (length values.items)) }
     ensures value { IfOk result

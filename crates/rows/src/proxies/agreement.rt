@@ -1,10 +1,10 @@
-//! Whether the core and the plain program give one answer.
+//! Compares the answers of the core and the plain program.
 
 use crate::shown::shown;
 use anyhow::Result;
 use std::alloc::Global;
 
-/// The one answer of those on which an action was made, or both answers where they differ.
+/// The answer of those proxies that gave one, or both answers if they differ.
 pub(crate) fn agreement(
     alloc: Global,
     core: Result<Option<String>>,
@@ -18,7 +18,7 @@ pub(crate) fn agreement(
     }
 }
 
-/// The one answer of both, or the two.
+/// The common answer, or the two.
 pub(crate) fn agreed(alloc: Global, core: String, plain: String) -> Result<String> {
     if core.as_str() == plain.as_str() {
         Ok(core)

@@ -33,7 +33,7 @@ pub(crate) fn answer_text(alloc: Global, answer: &Answer) -> Result<String> {
     }
 }
 
-// The answer that the proxy gives itself, or how many parts there are, without a host and busy.
+// The proxy's own answer, or the numbers of all parts, of those without a host, and of busy ones.
 fn accepted(
     alloc: Global,
     index: u64,

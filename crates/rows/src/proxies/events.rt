@@ -6,8 +6,8 @@ use anyhow::Result;
 use proxy_core::{Event, Kind};
 use std::alloc::Global;
 
-/// The event of a line: its name and its fields in their order, the moment of an answer before its value and that of a
-/// fault behind its kind.
+/// The event of a line: its name and its fields in their order. An answer's moment stands before its value, a fault's
+/// behind its kind.
 pub(crate) fn event_of(alloc: Global, line: &str) -> Result<Event> {
     let (name, fields) = first_word(line);
     match name {
@@ -60,7 +60,7 @@ fn taken(host: &str) -> Result<Event> {
     Ok(Event::Taken { host })
 }
 
-// The event of this name whose only field is a connection or a moment.
+// An event whose only field is a connection or a moment.
 fn event_of_number(name: &str, field: u64) -> Result<Event> {
     match name {
         "Finished" => Ok(Event::Finished { conn: field }),

@@ -1,4 +1,4 @@
-//! What comes of an event, in words.
+//! The outcome of an event, in words.
 
 use super::answers::{answer_text, refusal_text};
 use super::proxy::Proxy;
@@ -8,9 +8,9 @@ use anyhow::Result;
 use proxy_core::{Answer, Event, Refusal, Step};
 use std::alloc::Global;
 
-/// Takes an event, once more where it found no memory, and gives the answer or the refusal in words.
+/// Takes an event, again if it found no memory, and returns the answer or the refusal in words.
 ///
-/// An answer has to stand in a step of this pass that was added, and a refusal may add none: else the words tell so.
+/// An answer must have added one step of this pass, and a refusal none; otherwise the words say so.
 pub(crate) fn outcome<P: Proxy>(
     alloc: Global,
     proxy: &mut P,
@@ -57,7 +57,7 @@ fn told<P: Proxy>(
     Ok(text)
 }
 
-// The refusal, or the answer, which stands in the step where the call doesn't tell it.
+// The refusal, or the answer: from the step if the call doesn't return it.
 fn turn_text(
     alloc: Global,
     turn: &Result<Option<Answer>, Refusal>,
@@ -71,7 +71,7 @@ fn turn_text(
     }
 }
 
-// What is wrong with the steps that were added.
+// The fault of the added steps.
 fn fault(
     turn: &Result<Option<Answer>, Refusal>,
     step: Option<&Step<Event, Answer>>,

@@ -1,14 +1,14 @@
-//! What the core and the plain program have in common.
+//! The common interface of the core and the plain program.
 
 use crate::plain::Reference;
 use proxy_core::{Answer, Core, Event, Refusal, Refused, Step};
 
-/// A proxy that takes events one after another, and keeps a step for each that it answered.
+/// A proxy that takes one event after another, and keeps a step for each that it answered.
 pub trait Proxy {
-    /// Takes an event of a pass. Where it is answered, it gives the answer, if the call tells it beside the step.
+    /// Takes an event of a pass. Returns the answer if the call has it beside the step.
     fn turn(&mut self, pass: u64, event: Event) -> Result<Option<Answer>, (Refusal, Event)>;
 
-    /// How many steps there are.
+    /// The number of steps.
     fn steps(&self) -> usize;
 
     /// Step `i`, counted from 0 at the oldest.

@@ -1,4 +1,4 @@
-//! What is asked of the core beside events.
+//! Questions to the core beside events.
 
 use super::proxy::Proxy;
 use crate::plain::Reference;
@@ -9,7 +9,7 @@ use proxy_core::Core;
 use proxy_stats::{Counts, HostCounts, counts};
 use std::alloc::Global;
 
-// What is asked.
+// Their names.
 const QUESTIONS: [&str; 9] = [
     "hosts",
     "epoch",
@@ -27,8 +27,8 @@ pub(crate) fn is_question(name: &str) -> bool {
     QUESTIONS.contains(&name)
 }
 
-/// The answer of the core, if there is one, to `hosts`, `epoch HOST`, `is_out HOST`, `in_panic`, `journal`, `pass_of STEP`, `counts`, `twice` (the
-/// counts joined with themselves) or `counts_of HOST`.
+/// The core's answer, if there is a core, to `hosts`, `epoch HOST`, `is_out HOST`, `in_panic`, `journal`, `pass_of
+/// STEP`, `counts`, `twice` (the counts joined with themselves) or `counts_of HOST`.
 pub(crate) fn core_answer(
     alloc: Global,
     core: &Option<Core>,
@@ -121,7 +121,7 @@ fn host_text(alloc: Global, counts: Option<&HostCounts>) -> Result<String> {
     )
 }
 
-/// The answer of the plain program, if there is one, to `pass_of STEP`. It answers no other question.
+/// The plain program's answer, if there is one, to `pass_of STEP`. It answers no other question.
 pub(crate) fn plain_answer(
     alloc: Global,
     plain: &Option<Reference>,

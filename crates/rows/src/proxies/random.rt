@@ -1,4 +1,4 @@
-//! Random events on the core and on the plain program, whose answers have to be the same.
+//! Random events for the core and the plain program, whose answers must be equal.
 
 use crate::values::{command, value_of};
 use anyhow::Result;
@@ -35,7 +35,7 @@ const REPLIES: [&str; 6] = [
 pub struct Numbers(pub u64);
 
 impl Numbers {
-    /// One of the numbers below n, and 0 where there is none.
+    /// A number below n, or 0 if n is 0.
     pub(crate) fn below(&mut self, n: u64) -> u64 {
         let mut x = self.0;
         x ^= x << 13;
@@ -85,7 +85,7 @@ impl Numbers {
         }
     }
 
-    // One of three hosts, and now and then one that there is not.
+    // One of three hosts, and now and then an unknown one.
     fn host(&mut self) -> usize {
         if self.chance(30) {
             3
@@ -94,7 +94,7 @@ impl Numbers {
         }
     }
 
-    /// An event of a few connections and of three hosts, of which these are the epochs.
+    /// An event of a few connections and three hosts with these epochs.
     pub(crate) fn event(&mut self, alloc: Global, epochs: [u64; 3], t: u64) -> Result<Event> {
         let conn = self.below(4);
         let host = self.host();
@@ -124,7 +124,8 @@ impl Numbers {
         })
     }
 
-    /// Settings by which hosts go out and come back soon, and three hosts panic where two are out.
+    /// Settings that eject hosts early and let them return soon; three hosts panic when two are
+    /// out.
     pub(crate) fn settings(&mut self) -> Settings {
         Settings {
             tags: self.chance(2),

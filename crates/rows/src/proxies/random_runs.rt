@@ -17,17 +17,17 @@ use std::alloc::Global;
 // The pass of random events.
 const PASS: u64 = 3;
 
-/// Random events, by the numbers from a seed on, at the moments 0, 1, 2 and so on.
+/// Random events at the moments 0, 1, 2 and so on.
 #[derive(Clone, Copy)]
 pub struct Randomly {
-    /// Where the numbers begin.
+    /// The first state of the random numbers.
     pub numbers: Numbers,
-    /// How many events there are.
+    /// The number of events.
     pub events: u64,
 }
 
 impl Randomly {
-    /// Makes the events on both, up to the first whose answers differ: which it is and both answers, if there is one.
+    /// Makes the events on both. Returns the first whose answers differ, with both answers, if there is one.
     pub(crate) fn first_difference(
         self,
         alloc: Global,
@@ -57,7 +57,7 @@ fn difference(alloc: Global, t: u64, core: String, plain: String) -> Result<Opti
     Ok(Some(shown(alloc, format_args!("event {t} {text}"))?))
 }
 
-// From what a random event is made.
+// The source of a random event.
 #[derive(Clone, Copy)]
 struct Draw {
     numbers: Numbers,
@@ -66,7 +66,7 @@ struct Draw {
 }
 
 impl Draw {
-    // What the proxy makes of the event, and the numbers behind it.
+    // The proxy's outcome for the event, and the numbers after it.
     fn taken_by<P: Proxy>(self, alloc: Global, proxy: &mut P) -> Result<(String, Numbers)> {
         let (event, rest) = again!(self.event(alloc))?;
         Ok((outcome(alloc, proxy, PASS, event)?, rest))
@@ -88,8 +88,8 @@ fn epochs(core: &Core) -> [u64; 3] {
     }
 }
 
-/// Makes random events on fresh proxies for each of the seeds from 1 on, each with random settings: the words are how many
-/// seeds and how many events. Tells how many were answered, or the first whose answers differ.
+/// Makes random events on fresh proxies with random settings, for each seed from 1 on; the words are the numbers of
+/// seeds and of events. Returns the number of answered events, or the first whose answers differ.
 pub(crate) fn run_each(alloc: Global, words: &str) -> Result<String> {
     let (seeds, events) = first_word(words);
     let (seeds, events): (u64, u64) = (number(seeds)?, number(events)?);
@@ -107,7 +107,7 @@ pub(crate) fn run_each(alloc: Global, words: &str) -> Result<String> {
     )
 }
 
-// How many of a seed's events were answered, or the first whose answers differ.
+// The number of a seed's answered events, or the first event whose answers differ.
 fn run_seed(alloc: Global, seed: u64, events: u64) -> Result<Result<usize, String>> {
     let mut numbers = Numbers(0x9e37_79b9_7f4a_7c15 ^ (seed << 20));
     let setting = Setting::of(alloc, numbers.settings())?;

@@ -1,4 +1,4 @@
-//! A list of events that are taken by one call.
+//! A list of events for one call.
 
 use super::answers::{answer_text, put_answer, refusal_text};
 use super::events::event_of;
@@ -9,7 +9,7 @@ use anyhow::Result;
 use proxy_core::{Answer, Core, Event, Refusal};
 use std::alloc::Global;
 
-/// Events as their lines have them, each with its pass.
+/// Events as lines, each with its pass.
 #[derive(Drop)]
 pub struct Run {
     lines: Vec<(u64, String)>,
@@ -29,8 +29,8 @@ impl Run {
         Ok(())
     }
 
-    /// Gives the events to the core, if there is one, in one call, again where there was no memory for it: the answers in
-    /// words.
+    /// Gives all events to the core, if there is one, in one call, made again where memory was refused. Returns the
+    /// answers in words.
     pub(crate) fn on_core(&self, alloc: Global, core: &mut Option<Core>) -> Result<Option<String>> {
         let Some(core) = core else {
             return Ok(None);
@@ -53,7 +53,7 @@ impl Run {
         Ok(pairs)
     }
 
-    /// Gives the events to the plain program, if there is one, one after another: the answers in words.
+    /// Gives the events to the plain program, if there is one, one after another. Returns the answers in words.
     pub(crate) fn on_plain(
         &self,
         alloc: Global,

@@ -1,4 +1,4 @@
-//! On what a row's proxies stand: the ring and the settings.
+//! The ring and the settings of a row's proxies.
 
 use crate::plain::Reference;
 use crate::text::{number, unknown};
@@ -11,7 +11,7 @@ use std::mem;
 // On this ring the key `abc` belongs to host 0, `a` to host 1 and the empty key to host 2.
 const POINTS: &[(u32, usize)] = &[(2_555_380_112, 0), (3_111_502_092, 1), (3_649_838_548, 2)];
 
-/// What the ring is made from, and the settings.
+/// The ring's source, and the settings.
 #[derive(Drop)]
 pub struct Setting {
     hosts: usize,
@@ -21,7 +21,7 @@ pub struct Setting {
 }
 
 impl Setting {
-    /// Three hosts with a point each, and these settings.
+    /// Three hosts with one point each, and these settings.
     pub(crate) fn of(alloc: Global, settings: Settings) -> Result<Setting> {
         Ok(Setting {
             hosts: 3,
@@ -31,9 +31,9 @@ impl Setting {
         })
     }
 
-    /// The setting of a row's arguments, of which each is `tags`, `hosts=N`, `points=POINT:HOST,..` (`points=none` for
-    /// none), `weights=N,..` (hosts `host-0`, `host-1` and so on of these weights, in place of points) or `KEY=N` with
-    /// a key of the settings. What isn't given is as in `of` and as in the default settings.
+    /// The setting of a row's arguments. Each is `tags`, `hosts=N`, `points=POINT:HOST,..` (`points=none` for none),
+    /// `weights=N,..` (hosts `host-0`, `host-1` and so on of these weights, in place of points), or `KEY=N` with a key
+    /// of the settings. Missing ones are as in `of` and in the default settings.
     pub(crate) fn read(alloc: Global, arguments: &str) -> Result<Setting> {
         let mut setting = Setting::of(alloc, Settings::default())?;
         for argument in arguments.split_whitespace() {
@@ -71,7 +71,7 @@ impl Setting {
         Core::new(alloc, self.ring(alloc)?, self.settings)
     }
 
-    /// A core on this setting that goes on from another, made again where there was no memory.
+    /// A core on this setting that starts from another's state, made again where there was no memory.
     pub(crate) fn core_from(&self, alloc: Global, core: &Core) -> Result<Core, Refusal> {
         match self.one_core_from(alloc, core.hand_over()) {
             Err(Refusal::NoMemory) => self.one_core_from(alloc, core.hand_over()),
@@ -95,7 +95,7 @@ impl Setting {
         Reference::new(alloc, self.ring(alloc)?, self.settings)
     }
 
-    // The script's rings fit their hosts, so that only memory can be missing.
+    // The script's rings fit their hosts, so only memory can be missing.
     fn ring(&self, alloc: Global) -> Result<Ring, Refusal> {
         let ring = match &self.weights {
             Some(weights) => numbered_ring(alloc, weights.as_slice()),
