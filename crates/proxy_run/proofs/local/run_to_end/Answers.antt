@@ -7,6 +7,3 @@ returns-clause-runs g c = (
   c.run_client-ran.ensures.goes,
   c.run_client-ran.ensures.ended,
 )
-
-pub returns-in_err-writer-clause-err : goal.returns-in_err-writer-clause-err
-returns-in_err-writer-clause-err g c = rw c.from_residual.ensures c.in_err-writer.ensures.err
