@@ -1,4 +1,4 @@
-/* Sockets that send the same commands again and again and compare all that comes with what has to come, for tests/generations.
+/* Sockets that send the same commands again and again and compare all that comes with what has to come, for tests/askers.py.
  *
  *     asker PORT SOCKETS ROUNDS ASKED WANTED COUNTS
  *
@@ -33,7 +33,7 @@
 
 enum { ROOM = 1 << 18, EVENTS = 256, PATIENCE = 60, APART = 37 };
 
-static const char *const NAMED[] = {"-upstream failure\r\n", "-no upstream host\r\n"};
+static const char *const NAMED[] = {"-upstream failure\r\n", "-no upstream host\r\n", "-proxy busy\r\n"};
 
 /* Values one behind the other, twice: whoever begins at any of them has all the others behind it. */
 struct text {
