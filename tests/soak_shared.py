@@ -142,10 +142,12 @@ class Led:
             self.resting -= 1
 
     def lead(self, members):
-        """Starts threads, waits until all have ended, and prints the counts."""
+        """Starts threads, waits until all have ended, prints the counts and ends the program."""
         self.members = len(members)
         for member in members:
             member.start()
         for member in members:
             member.join()
         self.say(at="end", counts=self.counts)
+        # (the thread that waits for a word could keep an ordinary end)
+        os._exit(0)
