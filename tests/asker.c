@@ -1,4 +1,4 @@
-/* Sockets that send commands again and again and compare each byte that comes with the byte that is due, for tests/generations
+/* Sockets that send commands again and again and compare each byte that comes with the byte that is due, for tests/askers.py
  * and bench/compare.
  *
  *     asker [OPTION..] PORT SOCKETS ROUNDS ASKED WANTED COUNTS
@@ -44,7 +44,7 @@
 
 enum { ROOM = 1 << 18, EVENTS = 256, PATIENCE = 60, APART = 37, MAX_THREADS = 64 };
 
-static const char *const NAMED[] = {"-upstream failure\r\n", "-no upstream host\r\n"};
+static const char *const NAMED[] = {"-upstream failure\r\n", "-no upstream host\r\n", "-proxy busy\r\n"};
 
 /* Values one behind the other, twice: a round that begins at any of them has all the others behind it. A piece is a value that
  * is no array, or the head of an array. */

@@ -153,15 +153,25 @@ class Proxy:
         self.errors.seek(0)
         return self.errors.read()
 
-    def owner(self, key):
-        """Which server owns a key: libketama's ring."""
+    def place(self, key):
+        """Where a key is on libketama's ring of the servers."""
         if not hasattr(self, "ring"):
             digests = [40 * len(self.names) * weight // sum(self.weights) for weight in self.weights]
             self.ring = sorted(
                 (int.from_bytes(hashlib.md5(f"{name}-{n}".encode()).digest()[4 * k:4 * k + 4], "little"), host)
                 for host, name in enumerate(self.names) for n in range(digests[host]) for k in range(4))
         point = int.from_bytes(hashlib.md5(key.encode()).digest()[:4], "little")
-        return self.ring[bisect.bisect_left(self.ring, (point, -1)) % len(self.ring)][1]
+        return bisect.bisect_left(self.ring, (point, -1)) % len(self.ring)
+
+    def owner(self, key):
+        """Which server owns a key."""
+        place = self.place(key)
+        return self.ring[place][1]
+
+    def owners(self, key):
+        """All servers in the order in which they get a key: the first that isn't put aside has it."""
+        place = self.place(key)
+        yield from dict.fromkeys(host for _, host in self.ring[place:] + self.ring[:place])
 
     def key_of(self, host, word="key"):
         return next(key for key in (f"{word}{n}" for n in range(100_000)) if self.owner(key) == host)
