@@ -1,3 +1,4 @@
+use Rattle.std.proofs.Common.{rules}
 use Rattle.proxy_run.proofs.local.run_to_end.Goals as goal
 
 pub returns-clause-runs : goal.returns-clause-runs
@@ -7,3 +8,6 @@ returns-clause-runs g c = (
   c.run_client-ran.ensures.goes,
   c.run_client-ran.ensures.ended,
 )
+
+pub returns-in_err-writer-clause-err : goal.returns-in_err-writer-clause-err
+returns-in_err-writer-clause-err g c = search (rules, c.in_err-writer.ensures.err)
