@@ -30,7 +30,7 @@ free_steps l = capped (l.lent + l.freed) - l.spent
 abbrev pub loan_after : StepKind → LoanState → LoanState
 loan_after k l = record { lent = l.lent; spent = capped (l.spent + capped (cost_of k)); freed = capped (l.freed + freed_of k) }
 
--- a loan once so many steps more were lent to it
+-- a loan once this many more steps were lent to it
 abbrev pub borrowed : ℕ → LoanState → LoanState
 borrowed steps l = record l { lent = capped (l.lent + steps) }
 
@@ -38,7 +38,7 @@ borrowed steps l = record l { lent = capped (l.lent + steps) }
 abbrev pub no_budget : BudgetState
 no_budget = record { spent = 0; lent = 0 }
 
--- a budget once so many steps more were lent
+-- a budget once this many more steps were lent
 abbrev pub lent_more : ℕ → BudgetState → BudgetState
 lent_more steps b = record b { lent = b.lent + steps }
 

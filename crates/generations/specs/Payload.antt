@@ -33,14 +33,14 @@ kept_bytes p = p.used + (p.came - p.handed)
 abbrev pub owed_bytes : PayloadState → ℕ → ℕ
 owed_bytes p owed = max (owed * average_of p * 3 / 2) (4 * MAX_REPLY_BYTES)
 
--- A further command has room, of a client with so many unfinished bytes: what is kept, what the owed steps may bring, and
--- those bytes and as many of their answer fit. Where nothing is owed and there is no payload, it always has.
+-- A further command of a client with n unfinished bytes has room: what is kept, what the owed steps may bring, and n bytes of
+-- the command and n of its answer fit. Where nothing is owed and there is no payload, it always has.
 abbrev pub HasRoomForCommand : PayloadState → ℕ → ℕ → Type 0
 HasRoomForCommand p owed unfinished =
     (kept_bytes p + owed_bytes p owed + 2 * unfinished ≤ MAX_BYTES) ⊎ ((owed ≡ 0) × (p.used ≡ 0))
 
--- Hosts' replies have room of which so many bytes have come: what is kept, those bytes and one more read, as many to hand them
--- out, and the texts of errors fit.
+-- Hosts' replies of which n bytes have come have room: what is kept, n bytes and one more read, as many to hand them out, and
+-- the texts of errors fit.
 abbrev pub HasRoomForReply : PayloadState → ℕ → Type 0
 HasRoomForReply p unfinished = kept_bytes p + 2 * (unfinished + MAX_READ_BYTES) + MAX_ERROR_BYTES ≤ MAX_BYTES
 

@@ -15,7 +15,7 @@ pub record JournalState (E A : Type 0) : Type 0 where
   pub bytes : ℕ
   pub room : Option ℕ
 
--- one more step with so many bytes of payload would pass a limit
+-- one more step with this many bytes of payload would pass a limit
 abbrev pub IsFull : {E A : Type 0} → JournalState E A → ℕ → Type 0
 IsFull journal bytes = (MAX_STEPS ≤ length journal.steps) ⊎ (MAX_BYTES < journal.bytes + bytes)
 

@@ -20,7 +20,7 @@ command_code =
     code_by (Join × List (Option Tree)) (coded× the_row.coded (coded_list (coded_option tree_code))) (λ c. (c.how, c.values))
     (λ p. record { how = p.0; values = p.1 }) (λ _. refl)
 
--- a command of so many parts, of which none has a value yet
+-- a command of n parts, of which none has a value yet
 abbrev pub awaiting_command : Join → ℕ → AwaitedCommand
 awaiting_command how parts = record { how = how; values = replicate parts None }
 

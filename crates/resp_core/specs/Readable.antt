@@ -5,7 +5,7 @@ use Rattle.resp_core.specs.Text.{text}
 use Rattle.resp_core.specs.Grammar.{max_text, max_depth}
 use Rattle.resp_core.specs.Within.{IsWithin}
 
--- what a reader can give: the value keeps the limits, with lists of at most so many members, it is plain, and its one spelling
+-- what a reader can give: the value keeps the limits, with lists of at most this many members, it is plain, and its one spelling
 -- is no longer than a value's text may be
 pub record IsReadable (most : ℕ) (t : Tree) : Type 0 where
   pub within : IsWithin most max_depth t

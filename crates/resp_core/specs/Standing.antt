@@ -28,7 +28,7 @@ unread_by (Some e) p = 0
 abbrev pub unread_bytes : ReaderState → ℕ
 unread_bytes r = unread_by r.refusal r.progress
 
--- the bytes are the texts of these values, each of at most as many bytes as a text may have, and then so many others
+-- the bytes are the texts of these values, each of at most as many bytes as a text may have, and then n others
 pub record Leaves (most : ℕ) (b : List ℕ) (ts : List Tree) (n : ℕ) : Type 0 where
   pub rest : List ℕ
   pub splits : Splits most b ts rest

@@ -7,6 +7,6 @@ pub record Turns : Type 0 where
   pub next : ℕ
   pub count : ℕ
 
--- the numbers of a worker's hosts, of so many: those that leave the worker's place behind, each once, from the lowest on
+-- the numbers of a worker's hosts, of all hosts: those that leave the worker's place behind, each once, from the lowest on
 abbrev pub hosts_of : ℕ → ℕ → ℕ → List ℕ
 hosts_of place workers hosts = filter (λ h. h % workers == place) (range_with_len 0 hosts)

@@ -11,7 +11,7 @@ pub record PipeState : Type 0 where
   pub epoch : ℕ
   pub room : ℕ
 
--- These parts were sent in this epoch, and so many of them were answered: the others fly, in their order.
+-- These parts were sent in this epoch, and `count` of them were answered: the others fly, in their order.
 pub record HasSent (p : PipeState) (sent : List (Option Owner)) (count : ℕ) : Type 0 where
   pub some : count ≤ length sent
   pub flying : p.flying ≡ drop count sent
