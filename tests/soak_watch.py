@@ -75,8 +75,7 @@ class Ejections:
 
     An ejection lasts `base_ms` times a multiplier, which isn't greater than the number of the host's ejections, and it ends at a
     sweep. A host that still fails is ejected anew, so its time counts from the end of its fault. A line is missing where a host
-    comes or goes just at a change of generation, so numbers tell too. They have to say twice in a row that a host is in, since a
-    page may know nothing of a generation that has just opened.
+    comes or goes just at a change of generation, so numbers tell too.
     """
 
     def __init__(self, proxy, troubles, settings):
@@ -87,8 +86,6 @@ class Ejections:
         self.lines, self.rest = open(proxy.errors.name, encoding="utf-8"), ""
         # The moment of each present ejection, each host's ejections by lines, and all by numbers; the longest, in seconds.
         self.out, self.lined, self.total, self.longest = {}, Counter(), 0, 0
-        # The hosts that were in by the last numbers.
-        self.were_in = set(self.names)
 
     def look(self, found):
         """Takes the lines that came, and numbers of the page, which are newer."""
@@ -102,13 +99,11 @@ class Ejections:
             elif event == "is back":
                 self.is_back(host, now)
         self.total = int(found["redproxy_ejections_total"])
-        are_in = {host for host in self.names if not found[f'redproxy_host_out{{host="{host}"}}']}
         for host in self.names:
-            if host not in are_in:
+            if found[f'redproxy_host_out{{host="{host}"}}']:
                 self.out.setdefault(host, now)
-            elif host in self.were_in:
+            else:
                 self.is_back(host, now)
-        self.were_in = are_in
 
     def is_back(self, host, now):
         """An ejection is over, if there was one."""

@@ -87,10 +87,16 @@ impl<'a> SweepThread<'a> {
         if !self.generation.wait_for_all(rt) {
             return;
         }
-        self.open(rt);
-        if let Err(stop) = self.sweep_on(rt) {
+        if let Err(stop) = self.open_and_sweep(rt) {
             self.generation.server().end(rt, stop);
         }
+    }
+
+    // The operator's pages show what the newest open generation recorded last, so it looks before it opens.
+    fn open_and_sweep<R: Wait + Clock + Eprint>(&mut self, rt: &R) -> Result<(), Stop> {
+        self.note_first(rt)?;
+        self.open(rt);
+        self.sweep_on(rt)
     }
 
     fn open<R: Wait + Clock>(&mut self, rt: &R) {
@@ -103,7 +109,6 @@ impl<'a> SweepThread<'a> {
 
     fn sweep_on<R: Wait + Clock + Eprint>(&mut self, rt: &R) -> Result<(), Stop> {
         let (server, number) = (self.generation.server(), self.generation.number());
-        self.note_first(rt)?;
         for _ in rt.forever() {
             if !server.runs() {
                 return Ok(());
