@@ -8,7 +8,6 @@
 
 mod again;
 mod parts;
-mod plain;
 mod proxies;
 mod script;
 mod series;

@@ -22,7 +22,7 @@ use self::random_runs::{Randomly, run_each};
 use self::run::Run;
 use self::setting::Setting;
 use crate::again::again;
-use crate::plain::Reference;
+use test_reference::Reference;
 use crate::shown::shown;
 use crate::text::{first_word, number};
 use anyhow::{Result, bail};

@@ -1,6 +1,6 @@
 //! The common interface of the core and the plain program.
 
-use crate::plain::Reference;
+use test_reference::Reference;
 use proxy_core::{Answer, Core, Event, Refusal, Refused, Step};
 
 /// A proxy that takes one event after another, and keeps a step for each that it answered.

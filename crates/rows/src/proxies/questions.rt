@@ -1,7 +1,7 @@
 //! Questions to the core beside events.
 
 use super::proxy::Proxy;
-use crate::plain::Reference;
+use test_reference::Reference;
 use crate::shown::shown;
 use crate::text::{first_word, number, unknown};
 use anyhow::{Result, bail};

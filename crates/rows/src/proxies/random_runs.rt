@@ -7,7 +7,7 @@ use super::proxy::Proxy;
 use super::random::Numbers;
 use super::setting::Setting;
 use crate::again::again;
-use crate::plain::Reference;
+use test_reference::Reference;
 use crate::shown::shown;
 use crate::text::{first_word, number};
 use anyhow::Result;

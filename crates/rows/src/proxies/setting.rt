@@ -1,6 +1,6 @@
 //! The ring and the settings of a row's proxies.
 
-use crate::plain::Reference;
+use test_reference::Reference;
 use crate::text::{number, unknown};
 use anyhow::{Result, bail};
 use ketama::{HostName, Ring, RingError};

@@ -1,0 +1,10 @@
+use Rattle.std.proofs.Common.{◌≡◌, ◌≤◌, take, length}
+use Rattle.proxy_history.specs.Replies.{replies_from}
+use Rattle.test_reference.specs.Scan.{history_of}
+use Rattle.test_reference.proofs.scan.reply_at.Given as goal
+
+abbrev pub invariant-loop-step : goal.invariant-loop-step
+invariant-loop-step l = record {
+  before : l.before ≡ length (replies_from l.fn.host l.fn.epoch (history_of (take l.step-index l.fn.steps)));
+  few : l.before ≤ l.fn.place;
+}

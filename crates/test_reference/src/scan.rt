@@ -1,0 +1,168 @@
+//! Counts among the steps of a history, which are a list, the oldest first.
+ghost use Rattle.std.specs.Prelude.{◌≡◌, length};
+ghost use Rattle.std.specs.Option.{option_map, option_copied};
+ghost use Rattle.resp_core.specs.Value.{tree_of};
+ghost use Rattle.std.specs.Prelude.{slice_get, min, ◌^◌, ◌-◌};
+ghost use Rattle.splitter.specs.Plan.{is_last, plan_of};
+ghost use Rattle.splitter.specs.Request.{request_of};
+ghost use Rattle.proxy_history.specs.History.{times, has, requests, request_by, plan_for};
+ghost use Rattle.proxy_history.specs.Replies.{replies_from, reply_by};
+ghost use Rattle.test_reference.specs.Scan.{is_wanted, is_quit_row, history_of};
+ghost use Rattle.list_words.specs.Lists.{list_of};
+ghost use Rattle.command_table.specs.Table.{row_named};
+
+use command_table::{Kind, look};
+use journal_core::Step;
+use proxy_history::{Answer, Event};
+use resp_core::Value;
+use splitter::Request;
+
+/// A step of the proxy.
+pub(crate) type Turn = Step<Event, Answer>;
+
+/// Which events are counted.
+#[derive(Clone, Copy)]
+pub(crate) enum Wanted {
+    Opening,
+    AnyClosing,
+    Arrival(u64),
+    Handing(u64),
+    Fault(usize),
+    Closing(u64),
+    Finishing(u64),
+}
+
+/// The number of steps with an event that is wanted.
+pub(crate) fn times(steps: &[Turn], wanted: Wanted) -> u64
+    ensures { result ≡ times (is_wanted wanted) (history_of steps.now) }
+{
+    let mut count = 0;
+    for step in steps {
+        if is_wanted(wanted, &step.event) {
+            count += 1;
+        }
+    }
+    count
+}
+
+/// Whether a step has such an event.
+pub(crate) fn has(steps: &[Turn], wanted: Wanted) -> bool
+    ensures { result ≡ has (is_wanted wanted) (history_of steps.now) }
+{
+    times(steps, wanted) > 0
+}
+
+fn is_wanted(wanted: Wanted, event: &Event) -> bool
+    ensures { result ≡ is_wanted wanted event.now }
+{
+    match (wanted, event) {
+        (Wanted::Opening, Event::Opened) => true,
+        (Wanted::AnyClosing, Event::Closed { .. }) => true,
+        (Wanted::Arrival(wanted), Event::Arrived { conn, .. }) => *conn == wanted,
+        (Wanted::Handing(wanted), Event::Handed { conn }) => *conn == wanted,
+        (Wanted::Fault(wanted), Event::Failed { host, .. }) => *host == wanted,
+        (Wanted::Closing(wanted), Event::Closed { conn }) => *conn == wanted,
+        (Wanted::Finishing(wanted), Event::Finished { conn }) => *conn == wanted,
+        (Wanted::Finishing(wanted), Event::Arrived { conn, request }) => {
+            *conn == wanted && is_leaving(request)
+        }
+        _ => false,
+    }
+}
+
+// Whether the connection finishes with the request: QUIT does, and bytes that are no text of a value.
+fn is_leaving(request: &Request) -> bool
+    ensures { result ≡ is_last (plan_for request.now) }
+{
+    match request {
+        Request::Broken => true,
+        Request::Read(value) => match value.words() {
+            Some(words) => is_quit(words.word(0).as_slice()),
+            None => false,
+        },
+    }
+}
+
+// Whether the name is that of QUIT.
+fn is_quit(name: &[u8]) -> bool
+    ensures { result ≡ is_quit_row (row_named name.now) }
+{
+    match look(name) {
+        Some(entry) => entry.kind == Kind::Quit,
+        None => false,
+    }
+}
+
+/// The request of command `index` of the connection.
+pub(crate) fn request_at(steps: &[Turn], conn: u64, index: u64) -> Option<&Request>
+    ensures { option_copied result ≡ slice_get (requests conn (history_of steps.now)) index }
+{
+    let mut before = 0;
+    for step in steps {
+        if let Some(request) = request_of(&step.event, conn) {
+            if before == index {
+                return Some(request);
+            }
+            before += 1;
+        }
+    }
+    None
+}
+
+// The request that arrives, if it is of the connection.
+fn request_of(event: &Event, conn: u64) -> Option<&Request>
+    ensures { list_of (option_copied result) ≡ request_by conn event.now }
+{
+    match event {
+        Event::Arrived {
+            conn: arrived,
+            request,
+        } if *arrived == conn => Some(request),
+        _ => None,
+    }
+}
+
+/// The number of the host's replies in the epoch.
+pub(crate) fn replies(steps: &[Turn], host: usize, epoch: u64) -> u64
+    ensures { result ≡ length (replies_from host epoch (history_of steps.now)) }
+{
+    let mut count = 0;
+    for step in steps {
+        if reply_of(&step.event, host, epoch).is_some() {
+            count += 1;
+        }
+    }
+    count
+}
+
+/// The host's reply at this place of the epoch.
+pub(crate) fn reply_at(steps: &[Turn], host: usize, epoch: u64, place: u64) -> Option<&Value>
+    ensures { option_map tree_of (option_copied result) ≡ slice_get
+        (replies_from host epoch (history_of steps.now)) place }
+{
+    let mut before = 0;
+    for step in steps {
+        if let Some(value) = reply_of(&step.event, host, epoch) {
+            if before == place {
+                return Some(value);
+            }
+            before += 1;
+        }
+    }
+    None
+}
+
+// The reply that comes, if it is of the host and the epoch.
+fn reply_of(event: &Event, host: usize, epoch: u64) -> Option<&Value>
+    ensures { list_of (option_map tree_of (option_copied result)) ≡ reply_by host epoch event.now }
+{
+    match event {
+        Event::Answered {
+            host: answered,
+            epoch: current,
+            value,
+            ..
+        } if *answered == host && *current == epoch => Some(value),
+        _ => None,
+    }
+}
