@@ -4,7 +4,7 @@ ghost use Rattle.admin_pages.specs.Numbers.{number_of, host_number, journal_numb
 
 use crate::metric::{HostNumber, JournalNumber, Number};
 use crate::snapshot::{Look, Snapshot};
-use ketama::MAX_HOSTS;
+use limits::MAX_HOSTS;
 
 impl Number {
     /// The number.

@@ -2,7 +2,8 @@
 ghost use Rattle.std.specs.Prelude.{◌≡◌, ◌<◌};
 
 use histogram::Histogram;
-use ketama::MAX_HOSTS;
+
+use limits::MAX_HOSTS;
 use proxy_config::Host;
 use proxy_stats::{Counts, Load};
 

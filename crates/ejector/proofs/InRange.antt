@@ -1,7 +1,7 @@
 -- Where no field is out of its range.
 use Rattle.std.proofs.Common.{◌≡◌, ℕ, ◌≤◌, nat_le, Bool, true, false, None, List, [], ◌∷◌, refl}
 use Rattle.std.proofs.lemmas.Bool.{and_parts, leb-true}
-use Rattle.rate_core.specs.declared.outlier.TheConstants.{MAX_HOSTS}
+use Rattle.limits.specs.declared.hosts.TheConstants.{MAX_HOSTS}
 use Rattle.ejector.specs.declared.settings.Field.{Field}
 use Rattle.ejector.specs.declared.settings.Rules.{Rules}
 use Rattle.ejector.specs.Settings.{first_fault, first_failing, is_within, field_tests, IsInRange}

@@ -1,6 +1,6 @@
 -- The settings of outlier detection, and their ranges.
 use Rattle.std.specs.Prelude.{ℕ, Bool, false, not, ◌==◌, ◌≤◌, ◌&&◌, nat_le, if◌then◌else◌, List, [], ◌∷◌, Option, Some, None}
-use Rattle.rate_core.specs.declared.outlier.TheConstants.{MAX_HOSTS}
+use Rattle.limits.specs.declared.hosts.TheConstants.{MAX_HOSTS}
 use Rattle.ejector.specs.declared.settings.Settings.{Settings}
 use Rattle.ejector.specs.declared.settings.Rules.{Rules}
 use Rattle.ejector.specs.declared.settings.Field.{Field}

@@ -17,7 +17,8 @@ use crate::host::{FRESH, HostState};
 use crate::settings::{Rules, Settings};
 use crate::snapshot::EjectState;
 use crate::sweep::take_sweep;
-use rate_core::MAX_HOSTS;
+
+use limits::MAX_HOSTS;
 use std::alloc::Global;
 use std::marker::Model;
 

@@ -2,7 +2,7 @@
 ghost use Rattle.std.specs.Prelude.{◌≡◌};
 ghost use Rattle.ejector.specs.Settings.{default_settings, is_within, first_failing, first_fault, first_difference, settings_tests, settings_comparisons};
 
-use rate_core::MAX_HOSTS;
+use limits::MAX_HOSTS;
 use std::fmt;
 
 /// The settings of outlier detection, as in a settings file.

@@ -6,7 +6,8 @@ ghost use Rattle.ejector.specs.State.{is_out};
 
 use crate::host::{FRESH, HostState};
 use crate::settings::Rules;
-use rate_core::MAX_HOSTS;
+
+use limits::MAX_HOSTS;
 use std::marker::Model;
 
 /// An ejector's state for another one, with its number of hosts and its settings.

@@ -10,7 +10,8 @@ use crate::answer::Swept;
 use crate::counting::{may_eject, out_count, tripped};
 use crate::host::HostState;
 use crate::settings::Rules;
-use rate_core::{MAX_HOSTS, is_outlier, rate};
+use limits::MAX_HOSTS;
+use rate_core::{is_outlier, rate};
 
 /// Whether an ejection is over at the clock `now`.
 fn is_time_over(rules: &Rules, now: u64, host: HostState) -> bool

@@ -3,16 +3,11 @@ ghost use Rattle.std.specs.Prelude.{◌≡◌, ◌↔◌, ◌≤◌, ◌+◌, �
 ghost use Rattle.std.specs.Bool.{OnTrue, OnFalse};
 
 use crate::step_kind::StepKind;
+use limits::MAX_COMMAND_STEPS;
 use std::marker::Model;
 
-/// The most steps of a journal.
-pub const MAX_STEPS: u64 = 262_144;
-
-/// The most bytes of payload of a journal.
-pub const MAX_BYTES: u64 = 67_108_864;
-
-/// The most steps of one command: accepting 1,023 parts, sending and answering each, and handing out.
-pub const MAX_COMMAND_STEPS: u64 = 2_048;
+/// The most steps of a journal, as a count of steps.
+pub const MAX_STEPS: u64 = limits::MAX_STEPS as u64;
 
 /// The steps lent to a worker by its generation's budget, and those it spent.
 #[derive(Debug, Drop)]

@@ -13,11 +13,9 @@ mod opened;
 mod payload;
 mod step_kind;
 
-pub use budget::{Budget, Loan, MAX_BYTES, MAX_COMMAND_STEPS, MAX_STEPS};
+pub use budget::{Budget, Loan, MAX_STEPS};
 pub use laws::{generations_follow, owed_steps_fit};
-pub use lifecycle::{Due, GIVING_UP_MS, Generations, Phase};
+pub use lifecycle::{Due, Generations, Phase};
 pub use marks::Marks;
-pub use payload::{
-    FAR_BYTES, FAR_STEPS, MAX_ERROR_BYTES, MAX_READ_BYTES, MAX_REPLY_BYTES, Payload,
-};
+pub use payload::{FAR_BYTES, FAR_STEPS, MAX_ERROR_BYTES, MAX_READ_BYTES, Payload};
 pub use step_kind::StepKind;

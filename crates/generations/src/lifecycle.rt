@@ -6,19 +6,8 @@ ghost use Rattle.generations.specs.History.{MayHappen};
 ghost use Rattle.generations.specs.Moments.{HavePassed};
 
 use crate::opened::Open;
+use limits::{GIVING_UP_MS, MAX_DRAINING_MS, STILL_MS};
 use std::mem;
-
-/// An older generation is given up for at least this many milliseconds before it is stopped: its clients are answered
-/// by name, and their sockets go over.
-pub const GIVING_UP_MS: u64 = 100;
-
-/// An older generation is given up only if no host has answered its commands for this many milliseconds, or it has
-/// drained for `MAX_DRAINING_MS`.
-pub const STILL_MS: u64 = 100;
-
-/// An older generation may drain for this many milliseconds while hosts answer its commands and the newest one is near
-/// its marks.
-pub const MAX_DRAINING_MS: u64 = 1_000;
 
 /// The task of a generation.
 #[derive(Clone, Copy, Debug, PartialEq, Eq)]

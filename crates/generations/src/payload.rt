@@ -1,11 +1,8 @@
 //! The payload of one journal: the commands and replies that it has room for.
 ghost use Rattle.std.specs.Prelude.{◌≡◌, ◌↔◌, ◌≤◌, ◌+◌, ◌-◌, ◌*◌, IsTrue};
 
-use crate::budget::MAX_BYTES;
+use limits::{MAX_BYTES, MAX_REPLY_BYTES};
 use std::marker::Model;
-
-/// The most bytes of a host's reply.
-pub const MAX_REPLY_BYTES: u64 = 8_388_608;
 
 /// The most bytes of one read from a host.
 pub const MAX_READ_BYTES: u64 = 16_384;

@@ -6,14 +6,9 @@ ghost use Rattle.journal_core.specs.Journal.{IsFull};
 use crate::blocks::Blocks;
 use crate::error::JournalError;
 use crate::step::Step;
+use limits::{MAX_BYTES, MAX_STEPS};
 use std::alloc::Global;
 use std::marker::Model;
-
-/// The most steps of a journal.
-pub const MAX_STEPS: usize = 262_144;
-
-/// The most bytes of payload of a journal's steps.
-pub const MAX_BYTES: u64 = 67_108_864;
 
 /// Steps in the order in which they were made, with their bytes of payload. None is ever changed or removed.
 ///

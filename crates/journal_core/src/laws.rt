@@ -1,7 +1,7 @@
 //! The limits of a journal, as the contract of a function that does nothing.
 ghost use Rattle.std.specs.Prelude.{◌≡◌};
 
-use crate::journal::{MAX_BYTES, MAX_STEPS};
+use limits::{MAX_BYTES, MAX_STEPS};
 
 /// A journal has at most 262,144 steps and 67,108,864 bytes of payload.
 pub fn steps_and_bytes_are_limited()

@@ -12,6 +12,6 @@ mod laws;
 mod step;
 
 pub use error::JournalError;
-pub use journal::{Journal, MAX_BYTES, MAX_STEPS};
+pub use journal::Journal;
 pub use laws::steps_and_bytes_are_limited;
 pub use step::Step;

@@ -1,5 +1,5 @@
 use Rattle.std.specs.Prelude.{◌≡◌, ℕ, ◌<◌, ◌≤◌, List, All, AllPairs}
-use Rattle.rate_core.specs.declared.outlier.TheConstants.{MAX_HOSTS}
+use Rattle.limits.specs.declared.hosts.TheConstants.{MAX_HOSTS}
 
 -- what a ring is to its callers (libketama calls it a continuum): how many hosts it has, from how many
 -- digests it was made, and its pairs of a point and a host, of which only the membership counts

@@ -3,7 +3,7 @@
 //! Each host has points on a ring of 32-bit numbers, made from the MD5 of its name and a number. A key has one point,
 //! from its own MD5. Its host is that of the first point at or above it; past the last point, that of the first point
 //! of all. With equal weights, hosts, points and owners are those of any other client of libketama that uses MD5 (RFC
-//! 1321). A heavier host has more of the points. It stands on `md5` and `rate_core`. Begin with `ring.rt`.
+//! 1321). A heavier host has more of the points. It stands on `md5` and `limits`. Begin with `ring.rt`.
 //!
 //! ```text
 //! let names = [HostName::read(alloc, b"127.0.0.1:7001")?, HostName::read(alloc, b"127.0.0.1:7002")?];
@@ -14,10 +14,9 @@
 
 pub use error::RingError;
 pub use key::point_of_key;
-pub use name::{HostName, MAX_NAME_LEN};
-pub use rate_core::MAX_HOSTS;
+pub use name::HostName;
 pub use ring::Ring;
-pub use share::{DIGESTS_OF_HOST, MAX_WEIGHT};
+pub use share::DIGESTS_OF_HOST;
 
 mod error;
 mod key;

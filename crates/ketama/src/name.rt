@@ -3,11 +3,9 @@ ghost use Rattle.std.specs.Prelude.{◌≡◌, ◌↔◌, ◌≤◌, List, lengt
 ghost use Rattle.ketama.specs.HostName.{IsHostName};
 
 use crate::error::RingError;
+use limits::MAX_NAME_LEN;
 use std::alloc::Global;
 use std::marker::Model;
-
-/// The longest host's name, in bytes.
-pub const MAX_NAME_LEN: usize = 255;
 
 /// The name of a host: 1 to 255 visible ASCII characters, such as `127.0.0.1:6379`.
 ///

@@ -8,8 +8,9 @@ use crate::error::RingError;
 use crate::name::HostName;
 use crate::owner::{Pair, owner};
 use crate::point::{pairs_of, put_in_order};
-use crate::share::{MAX_WEIGHT, digest_counts, sum};
-use rate_core::MAX_HOSTS;
+use crate::share::{digest_counts, sum};
+
+use limits::{MAX_HOSTS, MAX_WEIGHT};
 use std::alloc::Global;
 use std::marker::Model;
 

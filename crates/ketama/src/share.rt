@@ -2,14 +2,11 @@
 ghost use Rattle.std.specs.Prelude.{◌≡◌, ◌<◌, ◌≤◌, ◌^◌, All, IfOk, length, sum};
 ghost use Rattle.ketama.specs.Ketama.{AreWeights, digest_counts};
 
-use rate_core::MAX_HOSTS;
+use limits::MAX_HOSTS;
 use std::alloc::{AllocError, Global};
 
 /// A ring has this many digests for each of its hosts, shared out by weight.
 pub const DIGESTS_OF_HOST: u32 = 40;
-
-/// The greatest weight of a host.
-pub const MAX_WEIGHT: u32 = 100;
 
 /// The number of digests of each host, by all weights.
 pub(crate) fn digest_counts(alloc: Global, weights: &[u32]) -> Result<Vec<u32>, AllocError>

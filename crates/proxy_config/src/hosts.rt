@@ -9,7 +9,8 @@ ghost use Rattle.proxy_config.specs.Told.{FirstAre, IsFault};
 
 use crate::config::Host;
 use crate::error::ConfigError;
-use ketama::{HostName, MAX_HOSTS, RingError};
+use ketama::{HostName, RingError};
+use limits::MAX_HOSTS;
 use serde_json::Value;
 use std::alloc::Global;
 use std::net::SocketAddr;

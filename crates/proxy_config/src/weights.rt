@@ -8,7 +8,8 @@ ghost use Rattle.proxy_config.specs.Told.{FirstAre, IsFault};
 
 use crate::config::Host;
 use crate::error::ConfigError;
-use ketama::MAX_WEIGHT;
+
+use limits::MAX_WEIGHT;
 use serde_json::Value;
 use std::alloc::Global;
 

@@ -29,9 +29,10 @@ use crate::machine::{Done, Machine, make_room};
 use crate::place::{Accepted, Placed, next_place};
 use crate::refused::Refused;
 use bytes::Bytes;
-use ketama::{MAX_HOSTS, point_of_key};
+use ketama::point_of_key;
+use limits::{MAX_COMMANDS, MAX_HOSTS};
 use proxy_history::{Answer, Event, Refusal};
-use reply_queue::MAX_COMMANDS;
+
 use resp_core::Value;
 use splitter::{Join, Local, PartPlan, PartPlans, Plan, Planned, Request, plan_with};
 use std::alloc::AllocError;

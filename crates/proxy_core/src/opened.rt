@@ -8,7 +8,8 @@ ghost use Rattle.proxy_core.specs.Machine.{memory_in, IsDone, IsSame, HasCauseIn
 
 use crate::machine::{Done, Machine, make_room};
 use crate::refused::Refused;
-use proxy_history::{Answer, Event, MAX_CONNECTIONS, Refusal};
+use limits::MAX_CONNECTIONS;
+use proxy_history::{Answer, Event, Refusal};
 
 impl Machine {
     /// A turn in which a connection is opened.

@@ -8,10 +8,10 @@ ghost use Rattle.proxy_core.specs.Arrivals.{answer_of};
 use crate::local::{no_upstream_host, proxy_busy};
 use crate::pipelines::Pipelines;
 use bytes::Bytes;
+use limits::MAX_WAITING;
 use proxy_history::Answer;
 use resp_core::Value;
 use splitter::Local;
-use upstream_pipe::MAX_WAITING;
 
 /// The final place of a part.
 #[derive(Clone, Copy)]

@@ -6,7 +6,7 @@ use Rattle.resp_core.specs.Tree.{Tree}
 use Rattle.resp_core.specs.Laws as resp
 use Rattle.resp_core.specs.Offset.{offset_of, number_of}
 use Rattle.resp_core.specs.Stream.{Splits, HasRefusal}
-use Rattle.resp_core.specs.declared.reader.TheConstants.{CLIENT_MEMBERS}
+use Rattle.limits.specs.declared.messages.TheConstants.{CLIENT_MEMBERS}
 use Rattle.resp_core.proofs.CallerLemmas as resp_core
 use Rattle.resp_core.specs.declared.error.RespError.{RespError}
 use Rattle.splitter.specs.Request.{Request, read}

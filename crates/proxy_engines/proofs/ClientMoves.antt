@@ -4,7 +4,7 @@ use Rattle.std.specs.Prelude.{IfSome, IfNone, IfOk, Result, Ok, Err, ◌||◌}
 use Rattle.std.specs.Io.KnownBytes.{Consumes, Appends}
 use Rattle.std.proofs.lemmas.List.{map-append}
 use Rattle.std.proofs.lemmas.List.Elements.{filter-append}
-use Rattle.resp_core.specs.declared.reader.TheConstants.{CLIENT_MEMBERS}
+use Rattle.limits.specs.declared.messages.TheConstants.{CLIENT_MEMBERS}
 use Rattle.splitter.specs.Request.{Request, request_of}
 use Rattle.splitter.specs.Requests.{finishes}
 use Rattle.splitter.specs.Plan.{is_last}

@@ -11,7 +11,7 @@ use Rattle.resp_core.specs.Value.{tree_of}
 use Rattle.resp_core.specs.Standing.{ReaderState}
 use Rattle.resp_core.specs.declared.value.Value.{Value}
 use Rattle.resp_core.specs.declared.error.RespError.{RespError}
-use Rattle.resp_core.specs.declared.reader.TheConstants.{HOST_MEMBERS}
+use Rattle.limits.specs.declared.messages.TheConstants.{HOST_MEMBERS}
 use Rattle.ticket_gate.specs.Journal.{StartsWith}
 use Rattle.splitter.specs.Request.{Request, read, broken}
 use Rattle.proxy_history.specs.Setting.{max_steps}

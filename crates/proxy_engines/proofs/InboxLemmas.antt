@@ -6,7 +6,7 @@ use Rattle.resp_core.specs.Tree.{Tree}
 use Rattle.resp_core.specs.Standing.{Stands, StandsBehind}
 use Rattle.resp_core.proofs.CallerLemmas.{splits_fed}
 use Rattle.resp_core.specs.declared.error.RespError.{RespError}
-use Rattle.resp_core.specs.declared.reader.TheConstants.{CLIENT_MEMBERS}
+use Rattle.limits.specs.declared.messages.TheConstants.{CLIENT_MEMBERS}
 use Rattle.splitter.specs.Request.{Request as Asked, read, broken}
 use Rattle.splitter.specs.Requests.{AreRequests as Asks}
 use Rattle.splitter.proofs.CallerLemmas as splits

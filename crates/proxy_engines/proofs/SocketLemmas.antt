@@ -5,7 +5,7 @@ use Rattle.std.proofs.lemmas.Bool.{cases_Bool}
 use Rattle.std.proofs.lemmas.List.{map-append}
 use Rattle.resp_core.specs.Tree.{Tree}
 use Rattle.resp_core.specs.Stream.{Splits}
-use Rattle.resp_core.specs.declared.reader.TheConstants.{CLIENT_MEMBERS}
+use Rattle.limits.specs.declared.messages.TheConstants.{CLIENT_MEMBERS}
 use Rattle.resp_core.proofs.CallerLemmas as resp_core
 use Rattle.splitter.specs.Request.{Request, read}
 use Rattle.splitter.specs.Requests.{AreRequests, finishes, up_to_last}

@@ -6,7 +6,7 @@ use Rattle.resp_core.specs.Laws as resp
 use Rattle.resp_core.specs.Standing.{ReaderState, Stands}
 use Rattle.resp_core.specs.Stream.{HasNoRefusal, Splits}
 use Rattle.resp_core.specs.declared.error.RespError.{RespError}
-use Rattle.resp_core.specs.declared.reader.TheConstants.{CLIENT_MEMBERS}
+use Rattle.limits.specs.declared.messages.TheConstants.{CLIENT_MEMBERS}
 use Rattle.splitter.specs.Request.{Request, read, broken, request_of}
 use Rattle.splitter.specs.declared.request.Request.{Request as Request'}
 use Rattle.splitter.specs.Requests.{end_of}

@@ -4,7 +4,7 @@ use Rattle.std.specs.Io.KnownBytes.{Consumes, Appends}
 use Rattle.resp_core.specs.Tree.{Tree}
 use Rattle.resp_core.specs.Value.{tree_of}
 use Rattle.resp_core.specs.declared.value.Value.{Value}
-use Rattle.resp_core.specs.declared.reader.TheConstants.{HOST_MEMBERS}
+use Rattle.limits.specs.declared.messages.TheConstants.{HOST_MEMBERS}
 use Rattle.splitter.specs.Request.{Request, read}
 use Rattle.proxy_history.specs.History.{History, Step, times, is_fault, epoch}
 use Rattle.proxy_history.specs.Replies.{replies_from}

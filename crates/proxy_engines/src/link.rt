@@ -1,6 +1,6 @@
 //! A link to a host.
 ghost use Rattle.std.specs.Prelude.{◌≡◌, ◌≢◌, ◌⊎◌, ℕ, [], Option, Some, None, IfOk, IfErr, OnErr, true, false};
-ghost use Rattle.resp_core.specs.declared.reader.TheConstants.{HOST_MEMBERS};
+ghost use Rattle.limits.specs.declared.messages.TheConstants.{HOST_MEMBERS};
 ghost use Rattle.proxy_history.specs.History.{History};
 ghost use Rattle.proxy_history.specs.declared.event.Event.{Event};
 ghost use Rattle.proxy_history.specs.declared.refusal.Refusal.{Refusal};

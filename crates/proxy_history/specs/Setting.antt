@@ -1,13 +1,13 @@
 -- What stays the same as long as a proxy runs: its ring, and the rules of its outlier detection with the state that it found.
 use Rattle.std.specs.Prelude.{ℕ, List}
-use Rattle.upstream_pipe.specs.declared.pipe.TheConstants.{MAX_WAITING}
-use Rattle.reply_queue.specs.declared.queue.TheConstants.{MAX_COMMANDS}
-use Rattle.journal_core.specs.declared.journal.TheConstants.{MAX_STEPS, MAX_BYTES}
+use Rattle.limits.specs.declared.queues.TheConstants.{MAX_WAITING}
+use Rattle.limits.specs.declared.queues.TheConstants.{MAX_COMMANDS}
+use Rattle.limits.specs.declared.generations.TheConstants.{MAX_STEPS, MAX_BYTES}
 use Rattle.ketama.specs.Continuum.{Continuum}
 use Rattle.ketama.specs.Key.{point_of}
 use Rattle.ejector.specs.declared.settings.Rules.{Rules}
 use Rattle.ejector.specs.State.{State}
-use Rattle.proxy_history.specs.declared.limits.TheConstants.{MAX_CONNECTIONS}
+use Rattle.limits.specs.declared.queues.TheConstants.{MAX_CONNECTIONS}
 
 -- the ring, the rules of outlier detection, and the state that it began with
 pub record Setting : Type 0 where

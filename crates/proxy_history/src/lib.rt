@@ -13,7 +13,7 @@
 mod answer;
 mod event;
 mod laws;
-mod limits;
+mod connections;
 mod own_laws;
 mod refusal;
 
@@ -30,7 +30,7 @@ pub use laws::{
     replies_were_asked, sent_parts_arrived, unopened_have_no_steps, unsent_parts_wait,
     upstream_is_what_was_sent, values_are_own, waiting_is_in_order,
 };
-pub use limits::{MAX_CONNECTIONS, connections_are_limited};
+pub use connections::connections_are_limited;
 pub use own_laws::{
     connection_steps_tell_all, host_steps_tell_all, orders_hold_the_same, others_leave_connections,
     others_leave_hosts, seen_beginnings_are_legal, seen_is_read_in_order, seen_steps_follow,

@@ -8,6 +8,7 @@ use crate::stop::Stop;
 use crate::worker::now;
 use admin_pages::{About, Admin as Answers, Order, Snapshot};
 use http_server::{Config as Limits, Connection};
+use limits::{MAX_BODY, MAX_HEAD, MAX_VISITORS, VISIT_MS};
 use mio::net::{TcpListener, TcpStream};
 use mio::{Events, Interest, Poll, Token};
 use proxy_config::Config;
@@ -21,19 +22,8 @@ use std::time::Duration;
 
 const LISTENER: Token = Token(usize::MAX);
 
-// At most this many visitors are connected. A further one displaces the one that has been idle longest.
-const MAX_VISITORS: usize = 64;
-
-// Close a visit after this many milliseconds without progress.
-const VISIT_MS: u64 = 10_000;
-
 // At most this many reads and writes of one visitor are made in a round.
 const MAX_MOVES: u32 = 16;
-
-// The greatest size of a head, of a body, and of one read, in bytes.
-const MAX_HEAD: usize = 4_096;
-
-const MAX_BODY: usize = 1_024;
 
 const READ_SIZE: usize = 1_024;
 

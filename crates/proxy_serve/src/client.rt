@@ -5,6 +5,7 @@ use crate::generation_state::{GenerationState, LARGE, LARGE_STEP};
 use crate::socket::{SharedSocket, Socket, SocketReader, SocketWriter, ends, shared};
 use exit_status::Ending;
 use histogram::{Histogram, Unanswered};
+use limits::{LINGER_MS, MAX_SPARED};
 use mio::event::Event as Readiness;
 use mio::net::TcpStream;
 use mio::{Registry, Token};
@@ -18,13 +19,6 @@ use std::sync::Wait;
 
 // The most steps of one connection in a round, so that one pipeline doesn't starve the others.
 const MAX_STEPS: u32 = 256;
-
-// Connections with a smaller unfinished command are never closed for the sum of all.
-const MAX_SPARED: u64 = 16_384;
-
-// A closed connection's input is read and discarded for this many milliseconds: closing a socket with unread bytes
-// would lose the last answers.
-const LINGER_MS: u64 = 1_000;
 
 type Engine = ClientEngine<Tallied<SocketReader>, Tallied<SocketWriter>>;
 

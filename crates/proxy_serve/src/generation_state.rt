@@ -3,7 +3,8 @@
 use crate::counted_turns::CountedTurns;
 use crate::ledger::Ledger;
 use crate::server::Server;
-use generations::{MAX_COMMAND_STEPS, Phase};
+use generations::Phase;
+use limits::{MAX_COMMAND_STEPS, MAX_PARTS_AT_ONCE, MAX_START_MS, MAX_UNFINISHED, MAX_UNSEEN};
 use mio::Waker;
 use proxy_core::CoreTurns;
 use std::rt::Clock;
@@ -11,12 +12,6 @@ use std::sync::atomic::{AtomicBool, AtomicU8, AtomicU64, Ordering};
 use std::sync::{Mutex, Wait};
 use std::thread;
 use std::time::Duration;
-
-// Take in no further commands once some worker hasn't looked at this many parts. A host can queue 1,024.
-const MAX_UNSEEN: u64 = 256;
-
-// The most parts that all workers together may queue between two checks of that.
-const MAX_PARTS_AT_ONCE: u64 = 512;
 
 /// Payload of this many bytes is reported to the other workers before room in the journal is decided.
 pub(crate) const LARGE: u64 = 65_536;
@@ -26,12 +21,6 @@ pub(crate) const LARGE_STEP: u64 = 8_192;
 
 // At most this many steps of a journal are lent to all workers together; each worker is lent at least a command's.
 const MAX_LENT: u64 = 65_536;
-
-// Connections that add to their unfinished commands are ended once all of these have this many bytes together.
-const MAX_UNFINISHED: u64 = 67_108_864;
-
-// The threads of a generation wait this many milliseconds for each other at its start.
-const MAX_START_MS: u32 = 1_000;
 
 // The start of a generation: its threads gather, they have begun, or some were missing.
 const GATHERS: u8 = 0;

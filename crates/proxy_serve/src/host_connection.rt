@@ -6,6 +6,7 @@ use crate::counted_turns::{CountedTurns, TurnCounts};
 use crate::generation_state::{GenerationState, LARGE};
 use crate::socket::{SharedSocket, Socket, SocketReader, SocketWriter, shared};
 use exit_status::Ending;
+use limits::{CONNECTING_MS, TELL_MS};
 use mio::event::Event as Readiness;
 use mio::net::TcpStream;
 use mio::{Interest, Registry, Token};
@@ -24,13 +25,6 @@ const MAX_STEPS: u32 = 4_096;
 
 // A host is looked at after this many milliseconds at the latest, so that a late reply is noticed.
 const LOOK_MS: u64 = 10;
-
-// A link that is connecting holds clients back for this many milliseconds: nothing goes out until it is up, and only
-// 1,024 parts can wait. One that takes longer doesn't hold clients back.
-const CONNECTING_MS: u64 = 20;
-
-// Log again after this many milliseconds that a host can't be reached.
-const TELL_MS: u64 = 1_000;
 
 type Engine = HostEngine<Tallied<SocketReader>, Tallied<SocketWriter>>;
 

@@ -8,6 +8,7 @@ use crate::stop::Stop;
 use admin_pages::Snapshot;
 use generations::{Due, Generations, Phase};
 use histogram::Histogram;
+use limits::MAX_FAILURES;
 use mio::Waker;
 use mio::net::TcpStream;
 use proxy_config::Config;
@@ -18,9 +19,6 @@ use std::alloc::{AllocFailed, Global};
 use std::collections::VecDeque;
 use std::sync::atomic::{AtomicBool, Ordering};
 use std::sync::{Mutex, MutexGuard, Wait};
-
-// End the server after this many generations in a row could not be opened.
-const MAX_FAILURES: u32 = 1_000;
 
 /// What a generation starts from.
 #[derive(Drop)]

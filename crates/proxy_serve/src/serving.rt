@@ -10,6 +10,7 @@ use crate::stop::Stop;
 use crate::worker::now;
 use exit_status::Ending;
 use generations::Marks;
+use limits::SIGNAL_MS;
 use mio::net::TcpListener;
 use mio::{Events, Interest, Poll, Token, Waker};
 use proxy_config::Config;
@@ -31,9 +32,6 @@ const WAKER: Token = Token(1);
 
 // The most sockets accepted at once.
 const MAX_TAKEN: u32 = 1_024;
-
-// Pending signals are looked for once in this many milliseconds.
-const SIGNAL_MS: u64 = 100;
 
 // The most bytes read of the process's status.
 const MAX_STATUS: usize = 4_096;

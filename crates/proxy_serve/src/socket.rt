@@ -2,6 +2,7 @@
 ghost use Rattle.std.specs.Prelude.{List, ℕ};
 ghost use Rattle.std.specs.Io.{ReadsAtMost, WritesAtMost};
 
+use limits::MAX_LAST;
 use mio::event::Event;
 use mio::net::TcpStream;
 use mio::unix::SourceFd;
@@ -17,9 +18,6 @@ use std::rc::Rc;
 
 // The most reads of a closed connection's socket in a round.
 const MAX_THROWN: u32 = 64;
-
-// The most bytes still read of an input that is to end behind what has come.
-const MAX_LAST: u64 = 1_048_576;
 
 /// A socket, what is known of it, and its unwritten bytes.
 pub(crate) struct Socket {

@@ -4,7 +4,7 @@ ghost use Rattle.proxy_history.specs.Setting.{hosts};
 ghost use Rattle.proxy_history.specs.Proxy.{history_in};
 ghost use Rattle.proxy_stats.specs.Load.{host_load_of, load_of};
 
-use ketama::MAX_HOSTS;
+use limits::MAX_HOSTS;
 use proxy_core::Core;
 
 /// The load of one host.

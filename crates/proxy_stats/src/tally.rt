@@ -3,7 +3,7 @@ ghost use Rattle.std.specs.Prelude.{◌≡◌, ◌<◌, ◌+◌, ℕ, slice_inde
 ghost use Rattle.proxy_stats.specs.Sums.{capped_sum, AreJoined, AreHostsJoined};
 ghost use Rattle.proxy_stats.specs.declared.tally.HostCounts.{HostCounts};
 
-use ketama::MAX_HOSTS;
+use limits::MAX_HOSTS;
 
 /// The number of kinds of the proxy's own answers.
 pub const LOCAL_KINDS: usize = 7;

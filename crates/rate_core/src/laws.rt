@@ -4,7 +4,7 @@
 ghost use Rattle.std.specs.Prelude.{◌≡◌};
 ghost use Rattle.rate_core.specs.Laws.{FarBelowIsByDeviation, SpreadIsVariance};
 
-use crate::outlier::MAX_HOSTS;
+use limits::MAX_HOSTS;
 
 /// `n` times the sum of squares, minus the square of the sum, is `n * n` times the variance.
 pub fn spread_is_variance()

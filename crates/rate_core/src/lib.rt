@@ -9,5 +9,5 @@ mod outlier;
 mod share;
 
 pub use laws::{far_below_is_by_deviation, hosts_are_limited, spread_is_variance};
-pub use outlier::{MAX_HOSTS, is_outlier};
+pub use outlier::is_outlier;
 pub use share::rate;

@@ -3,8 +3,7 @@ ghost use Rattle.std.specs.Prelude.{◌≡◌, ◌<◌, ◌≤◌, length, sum, 
 ghost use Rattle.std.specs.Option.{ForSome};
 ghost use Rattle.rate_core.specs.Outlier.{is_outlier, known_rates, square};
 
-/// The most hosts whose rates are compared, and of a ring or an ejector.
-pub const MAX_HOSTS: usize = 64;
+use limits::MAX_HOSTS;
 
 /// The number of known rates, their sum, and the sum of their squares.
 #[derive(Clone, Copy)]

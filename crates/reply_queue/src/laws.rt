@@ -2,7 +2,7 @@
 ghost use Rattle.std.specs.Prelude.{◌≡◌};
 ghost use Rattle.reply_queue.specs.Laws.{PartHasItsValue, OtherPartsStay, NewestHasItsIndex, OthersKeepTheirIndex};
 
-use crate::queue::MAX_COMMANDS;
+use limits::MAX_COMMANDS;
 
 /// A part that gets its value keeps it, and no other part of any command changes.
 pub fn one_part_changes()

@@ -12,5 +12,5 @@ mod queue;
 mod refusal;
 
 pub use laws::{commands_are_limited, indices_stay, one_part_changes};
-pub use queue::{MAX_COMMANDS, Queue};
+pub use queue::Queue;
 pub use refusal::QueueRefusal;

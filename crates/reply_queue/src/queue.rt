@@ -8,14 +8,12 @@ ghost use Rattle.reply_queue.specs.Queue.{IsOpen, with_part, front_reply, same_f
 
 use crate::command::Command;
 use crate::refusal::QueueRefusal;
+use limits::MAX_COMMANDS;
 use resp_core::Value;
 use splitter::Join;
 use std::alloc::Global;
 use std::collections::VecDeque;
 use std::marker::Model;
-
-/// The most commands accepted and not popped.
-pub const MAX_COMMANDS: usize = 1_024;
 
 /// The commands of one connection that are accepted and not popped, the oldest first.
 ///
@@ -36,7 +34,7 @@ impl Model for Queue {
 
     ghost coded = { queue_code };
 
-    ghost use Rattle.reply_queue.specs.declared.queue.TheConstants.{MAX_COMMANDS};
+    ghost use Rattle.limits.specs.declared.queues.TheConstants.{MAX_COMMANDS};
 
     ghost view = { λ q. record { popped = q.popped; commands = q.commands.items } };
 

@@ -3,8 +3,9 @@ ghost use Rattle.std.specs.Prelude.{◌≡◌};
 ghost use Rattle.resp_core.specs.Laws.{NoTextBeginsAnother, TextIsRead, SpellingIsShortest, ReadValuesArePlain, CommandsArePlain, OneReading, EachStreamHolds, OneHolding, RefusalStays, OneRefusedByte, OneNumber, OneRefusal, ValuesStay, TextIsReadBack, TextIsReadNext, ValuesGoOn};
 
 use crate::progress::{MAX_COPY_BLOCK, MAX_IDLE, MAX_KEPT};
-use crate::reader::{CLIENT_MEMBERS, HOST_MEMBERS, Limits};
+use crate::reader::Limits;
 use crate::texts::MAX_TEXT_BLOCK;
+use limits::{CLIENT_MEMBERS, HOST_MEMBERS};
 
 /// No text begins another, so a stream can be read without looking ahead.
 pub fn no_text_begins_another()

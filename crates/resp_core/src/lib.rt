@@ -12,7 +12,6 @@ mod digits;
 mod error;
 mod head;
 mod laws;
-mod limits;
 mod parse;
 mod progress;
 mod reader;
@@ -28,7 +27,7 @@ pub use laws::{
     refusal_stays, spelling_is_shortest, text_is_read, text_is_read_back, values_go_on,
     values_stay,
 };
-pub use reader::{CLIENT_MEMBERS, HOST_MEMBERS, Limits, Reader};
+pub use reader::{Limits, Reader};
 pub use text::{bulk_len, put_bulk, put_text};
 pub use texts::Texts;
 pub use value::{Value, Values};

@@ -6,7 +6,7 @@ ghost use Rattle.resp_core.specs.Tree.{bulk};
 ghost use Rattle.resp_core.specs.Reading.{byte_at, end_at, text_at, payload_at};
 
 use crate::error::Refusal;
-use crate::limits::MAX_LINE;
+use limits::MAX_LINE;
 
 // Why nothing complete was read.
 #[derive(Drop)]

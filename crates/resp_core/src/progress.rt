@@ -9,11 +9,12 @@ ghost use Rattle.resp_core.specs.declared.error.Refusal.TheVariants.{TooLong, To
 use crate::begun::{Begun, put};
 use crate::error::Refusal;
 use crate::head::{Found, Head, Line, Next, Refused, read_head};
-use crate::limits::{MAX_DEPTH, MAX_TEXT};
+
 use crate::parse::{Stop, take_payload, take_text};
 use crate::room::Room;
 use crate::value::{Value, Values};
 use bytes::{Bytes, BytesMut};
+use limits::{MAX_DEPTH, MAX_TEXT};
 use std::alloc::{AllocError, Global};
 use std::mem;
 

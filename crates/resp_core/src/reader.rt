@@ -11,6 +11,7 @@ ghost use Rattle.resp_core.specs.Grammar.{max_text};
 use crate::error::RespError;
 use crate::progress::{Halt, Progress};
 use crate::value::Value;
+use limits::{CLIENT_MEMBERS, HOST_MEMBERS};
 use std::alloc::Global;
 use std::marker::Model;
 
@@ -24,12 +25,6 @@ pub struct Limits {
     /// The most members of an array.
     pub array: u32,
 }
-
-/// The most members of an array that a client may send.
-pub const CLIENT_MEMBERS: u32 = 1_024;
-
-/// The most members of an array in a host's reply.
-pub const HOST_MEMBERS: u32 = 65_536;
 
 impl Limits {
     /// A client's commands: arrays of at most 1,024 members.

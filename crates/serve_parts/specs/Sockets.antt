@@ -1,6 +1,6 @@
 -- The sockets of clients of one run: how many are open, and when the serving is done.
 use Rattle.std.specs.Prelude.{◌≡◌, ◌≢◌, ◌≤◌, ◌<◌, ◌+◌, ◌-◌, ◌^◌, ◌⊎◌, min, true, false, ℕ, Bool}
-use Rattle.serve_parts.specs.declared.sockets.TheConstants.{MAX_SOCKETS}
+use Rattle.limits.specs.declared.queues.TheConstants.{MAX_SOCKETS}
 
 -- After how many closed connections the serving is done, where 0 is never; how many sockets are open, and how many
 -- connections have closed; and whether no further socket is taken.

@@ -5,13 +5,11 @@ ghost use Rattle.std.specs.Io.KnownBytes.{WriteAppends};
 ghost use Rattle.std.specs.IoError.{error_kind};
 ghost use Rattle.serve_parts.specs.Outgoing.{GoesOut, may_write};
 
+use limits::MAX_GATHERED;
 use std::alloc::{AllocError, Global};
 use std::io::{ErrorKind, Write};
 use std::marker::Model;
 use std::{io, mem};
-
-/// Gathered bytes are written from this many on before more are gathered, and a text of this length isn't gathered at all.
-pub const MAX_GATHERED: usize = 65_536;
 
 // A write interrupted this often in a row has failed.
 const MAX_TRIES: u32 = 1_000;

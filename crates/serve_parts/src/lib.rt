@@ -11,8 +11,8 @@ mod signals;
 mod sockets;
 
 pub use dealing::{Rota, own_hosts};
-pub use gatherer::{Gatherer, MAX_GATHERED};
+pub use gatherer::Gatherer;
 pub use laws::gathered_is_limited;
-pub use refusals::{MAX_REFUSALS, Refusals};
+pub use refusals::Refusals;
 pub use signals::{Asked, asked_by_signals, is_term_blocked};
-pub use sockets::{MAX_SOCKETS, Sockets};
+pub use sockets::Sockets;

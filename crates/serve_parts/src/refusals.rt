@@ -1,10 +1,8 @@
 //! Consecutive refusals of memory.
 ghost use Rattle.std.specs.Prelude.{◌≡◌, ◌↔◌, ◌≤◌, ◌+◌, ◌-◌, ◌^◌, min, IsTrue};
 
+use limits::MAX_REFUSALS;
 use std::marker::Model;
-
-/// The server ends after this many refusals of memory in a row, to one thing that is tried again.
-pub const MAX_REFUSALS: u32 = 1_000;
 
 /// The number of refusals of memory in a row, to one thing that is tried again.
 #[derive(Drop)]

@@ -2,10 +2,8 @@
 ghost use Rattle.std.specs.Prelude.{◌≡◌, ◌↔◌, IsTrue};
 ghost use Rattle.std.specs.Bool.{OnTrue, OnFalse};
 
+use limits::MAX_SOCKETS;
 use std::marker::Model;
-
-/// At most this many clients' sockets are open at a time, in all generations together.
-pub const MAX_SOCKETS: u64 = 4_096;
 
 /// The clients' sockets of one run of `redproxy serve`, in all its generations.
 ///
@@ -21,7 +19,7 @@ pub struct Sockets {
 
 impl Model for Sockets {
     ghost use Rattle.std.specs.Prelude.{◌≤◌};
-    ghost use Rattle.serve_parts.specs.declared.sockets.TheConstants.{MAX_SOCKETS};
+    ghost use Rattle.limits.specs.declared.queues.TheConstants.{MAX_SOCKETS};
     ghost use Rattle.serve_parts.specs.Sockets.{SocketCounts};
 
     ghost Value = { SocketCounts };

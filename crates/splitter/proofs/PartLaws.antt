@@ -18,7 +18,7 @@ use Rattle.command_table.specs.Table.{Row, rows, row_named}
 use Rattle.command_table.specs.declared.Kind.{Kind}
 use Rattle.command_table.specs.declared.Kind.TheVariants.{Ping, Echo, Quit, One, SplitGet, SplitSet, SplitSum}
 use Rattle.command_table.proofs.CallerLemmas.{found_stands_in_table}
-use Rattle.resp_core.specs.declared.reader.TheConstants.{CLIENT_MEMBERS}
+use Rattle.limits.specs.declared.messages.TheConstants.{CLIENT_MEMBERS}
 use Rattle.splitter.specs.declared.plans.Join.{Join}
 use Rattle.splitter.specs.declared.plans.Join.TheVariants.{Same, Get, Set, Sum}
 use Rattle.splitter.specs.declared.plans.PartPlan.{PartPlan}

@@ -7,7 +7,7 @@ use Rattle.resp_core.specs.Grammar.{max_text, max_depth}
 use Rattle.resp_core.specs.Within.{IsWithin}
 use Rattle.resp_core.specs.Command.{is_command}
 use Rattle.resp_core.specs.Laws.{Holds}
-use Rattle.resp_core.specs.declared.reader.TheConstants.{CLIENT_MEMBERS}
+use Rattle.limits.specs.declared.messages.TheConstants.{CLIENT_MEMBERS}
 use Rattle.splitter.specs.declared.plans.Join.{Join}
 use Rattle.splitter.specs.declared.plans.PartPlan.{PartPlan}
 use Rattle.splitter.specs.Request.{Request, read}

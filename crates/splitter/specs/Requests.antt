@@ -2,7 +2,7 @@
 use Rattle.std.specs.Prelude.{◌≡◌, ℕ, Bool, true, false, if◌then◌else◌, List, [], ◌∷◌, ◌++◌, map}
 use Rattle.resp_core.specs.Tree.{Tree}
 use Rattle.resp_core.specs.Laws.{Holds}
-use Rattle.resp_core.specs.declared.reader.TheConstants.{CLIENT_MEMBERS}
+use Rattle.limits.specs.declared.messages.TheConstants.{CLIENT_MEMBERS}
 use Rattle.splitter.specs.Request.{Request, read, broken}
 use Rattle.splitter.specs.Plan.{plan_of, is_last}
 

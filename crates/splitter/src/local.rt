@@ -6,10 +6,8 @@ ghost use Rattle.splitter.specs.Plan.{shown_name, shown_byte, unsupported_text, 
 use crate::error::SplitError;
 use bytes::Bytes;
 use command_table::Entry;
+use limits::MAX_SHOWN;
 use std::alloc::{AllocError, Global};
-
-// The number of bytes of an unknown name that are shown.
-const SHOWN: usize = 64;
 
 /// The error text for an unknown name.
 pub(crate) fn unsupported(alloc: Global, name: &[u8]) -> Result<Bytes, SplitError>
@@ -27,7 +25,7 @@ pub(crate) fn unsupported(alloc: Global, name: &[u8]) -> Result<Bytes, SplitErro
 fn append_shown(text: &mut Vec<u8>, name: &[u8]) -> Result<(), AllocError>
     ensures { OnOk result (text.new.items ≡ text.old.items ++ shown_name name.now) }
 {
-    for byte in &name[..name.len().min(SHOWN)] {
+    for byte in &name[..name.len().min(MAX_SHOWN)] {
         text.push(shown_byte(*byte))?;
     }
     Ok(())

@@ -16,10 +16,10 @@ use crate::pipe::{is_of, waiting};
 use crate::replay::Replay;
 use crate::scan::{Turn, Wanted, times};
 use ejector::Ejector;
-use ketama::{MAX_HOSTS, Ring, point_of_key};
+use ketama::{Ring, point_of_key};
+use limits::{MAX_HOSTS, MAX_WAITING};
 use splitter::{PartPlan, PartPlans};
 use std::alloc::{AllocError, Global};
-use upstream_pipe::MAX_WAITING;
 
 /// Places the parts of the connection's command one after another. `tags` says whether a key with a tag is placed by
 /// the tag alone.

@@ -13,8 +13,9 @@ ghost use Rattle.splitter.specs.declared.request.Request.{Request};
 use crate::pipe::{flying, waiting};
 use crate::replay::Replay;
 use crate::scan::{Turn, Wanted, has, times};
-use proxy_history::{MAX_CONNECTIONS, Refusal};
-use reply_queue::MAX_COMMANDS;
+use limits::{MAX_COMMANDS, MAX_CONNECTIONS};
+use proxy_history::Refusal;
+
 use resp_core::Value;
 
 /// Whether the connection is open.

@@ -7,10 +7,8 @@ use crate::gate::{ENROLLED, Gate, Pass, Spare};
 use crate::recorded::Recorded;
 use crate::refusal::GateRefusal;
 use crate::steps::{HalveSpare, ReadEnrolled, TakeNumber};
+use limits::MAX_PASSES;
 use std::sync::Wait;
-
-/// The most passes of one gate.
-const MAX_PASSES: u64 = 256;
 
 impl<S: Recorded> Gate<S> {
     /// Makes two spare places of one. It takes no memory and never waits.

@@ -14,5 +14,5 @@ mod refusal;
 pub use laws::waiting_is_limited;
 pub use lost::Lost;
 pub use part::{Owner, Part};
-pub use pipe::{MAX_WAITING, Pipe};
+pub use pipe::Pipe;
 pub use refusal::PipeRefusal;

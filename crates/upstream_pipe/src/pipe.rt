@@ -8,12 +8,10 @@ ghost use Rattle.upstream_pipe.specs.Pipe.{HasSent, IsAsBefore, owner_in, is_kep
 use crate::lost::Lost;
 use crate::part::{Owner, Part};
 use crate::refusal::PipeRefusal;
+use limits::MAX_WAITING;
 use std::alloc::Global;
 use std::collections::VecDeque;
 use std::marker::Model;
-
-/// The most parts that wait.
-pub const MAX_WAITING: usize = 1_024;
 
 /// The pipe to one host: the parts that wait, and the owners of the parts that fly, sent in this epoch without a reply.
 ///
@@ -31,7 +29,7 @@ impl Model for Pipe {
     ghost use Rattle.std.specs.Prelude.{◌+◌, ◌-◌, ◌≤◌, min};
     ghost use Rattle.std.specs.VecDeque.{deque_len, deque_capacity};
     ghost use Rattle.upstream_pipe.specs.Pipe.{PipeState};
-    ghost use Rattle.upstream_pipe.specs.declared.pipe.TheConstants.{MAX_WAITING};
+    ghost use Rattle.limits.specs.declared.queues.TheConstants.{MAX_WAITING};
 
     ghost Value = { PipeState };
 

@@ -1,8 +1,7 @@
-//! The limit that no lower crate has.
+//! How many connections are open at a time.
 ghost use Rattle.std.specs.Prelude.{◌≡◌};
 
-/// The most connections open at a time.
-pub const MAX_CONNECTIONS: usize = 4_096;
+use limits::MAX_CONNECTIONS;
 
 /// At most 4,096 connections are open at a time.
 pub fn connections_are_limited()

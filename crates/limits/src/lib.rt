@@ -1,0 +1,29 @@
+//! The limits of the proxy: each one constant, in one place.
+//!
+//! A limit stands here whether one crate keeps it or several do. The crates that keep a limit prove it in their own
+//! contracts. It stands on no other crate. Begin with `laws.rt`, which says how limits fit together.
+#![tactic(auto)]
+
+mod generations;
+mod hosts;
+mod laws;
+mod messages;
+mod queues;
+mod visitors;
+mod workers;
+
+pub use generations::{
+    GIVING_UP_MS, MAX_BYTES, MAX_COMMAND_STEPS, MAX_DRAINING_MS, MAX_FAILURES, MAX_PASSES,
+    MAX_REPLY_BYTES, MAX_START_MS, MAX_STEPS, STILL_MS,
+};
+pub use hosts::{MAX_HOSTS, MAX_NAME_LEN, MAX_WEIGHT};
+pub use laws::limits_fit;
+pub use messages::{
+    CLIENT_MEMBERS, HOST_MEMBERS, MAX_BULK, MAX_DEPTH, MAX_LINE, MAX_TEXT, MAX_SHOWN,
+};
+pub use queues::{MAX_COMMANDS, MAX_CONNECTIONS, MAX_SOCKETS, MAX_WAITING};
+pub use visitors::{MAX_BODY, MAX_HEAD, MAX_VISITORS, VISIT_MS};
+pub use workers::{
+    CONNECTING_MS, LINGER_MS, MAX_GATHERED, MAX_LAST, MAX_PARTS_AT_ONCE, MAX_REFUSALS,
+    MAX_SPARED, MAX_UNFINISHED, MAX_UNSEEN, SIGNAL_MS, TELL_MS,
+};
