@@ -2,7 +2,8 @@
 ghost use Rattle.std.specs.Prelude.{◌≡◌, []};
 
 use std::alloc::Global;
-use ticket_gate::{AdditionRefusal, Recorded, RunningTotal};
+use test_total::{AdditionRefusal, RunningTotal};
+use ticket_gate::Recorded;
 
 /// A running total that does this many rounds of work before each addition.
 #[derive(Drop)]
@@ -13,7 +14,7 @@ pub struct Laden {
 }
 
 impl Laden {
-    ghost use Rattle.ticket_gate.specs.RunningTotal.{journal_of};
+    ghost use Rattle.test_total.specs.RunningTotal.{journal_of};
 
     /// A total of 0 without a limit, whose turns do this many rounds of work.
     pub(crate) fn new(alloc: Global, rounds: u32) -> Laden
@@ -28,7 +29,7 @@ impl Laden {
 
     /// The number of answered turns.
     pub(crate) fn turns(&self) -> usize {
-        self.total.additions().len()
+        self.total.steps().len()
     }
 }
 
@@ -44,8 +45,8 @@ pub(crate) fn stirred(seed: u64, rounds: u32) -> u64 {
 }
 
 impl Recorded for Laden {
-    ghost use Rattle.ticket_gate.specs.RunningTotal.{journal_of, limit_of, IsDue};
-    ghost use Rattle.ticket_gate.specs.Totals.{AreTotals, amount_sum, totals_at_first, totals_before};
+    ghost use Rattle.test_total.specs.RunningTotal.{journal_of, limit_of, IsDue};
+    ghost use Rattle.test_total.specs.Totals.{AreTotals, amount_sum, totals_at_first, totals_before};
 
     type Event = u64;
 

@@ -1,8 +1,8 @@
 //! The gate around a running total: several passes write one journal.
 ghost use Rattle.std.specs.Prelude.{◌≡◌, ◌≤◌, [], IfOk, sum_by};
 ghost use Rattle.ticket_gate.specs.Gate.{IsPassOf, IsSpareOf};
+ghost use Rattle.test_total.specs.RunningTotal.{journal_of, limit_of};
 
-use crate::running_total::{AdditionRefusal, RunningTotal};
 use journal_core::Step;
 use std::alloc::Global;
 use std::sync::atomic::AtomicBool;
@@ -10,6 +10,7 @@ use std::sync::atomic::Ordering::SeqCst;
 use std::sync::{Arc, Wait};
 use std::test::Fail;
 use std::thread;
+use test_total::{AdditionRefusal, RunningTotal};
 use ticket_gate::{Gate, Pass, Recorded, Seated, Spare, TurnRefusal, Turns};
 
 const MAX_LOOKS: u32 = 1_000_000;
@@ -44,9 +45,9 @@ impl Recorded for HeldTotal {
 
     type Sight = u64;
 
-    ghost journal = { λ s. s.total.steps.items };
+    ghost journal = { λ s. journal_of s.total };
 
-    ghost setting = { λ s. s.total.limit };
+    ghost setting = { λ s. limit_of s.total };
 
     ghost legal = { λ limit journal. Unit {0} };
 

@@ -3,11 +3,11 @@ ghost use Rattle.std.specs.Prelude.{IfSome};
 ghost use Rattle.ticket_gate.specs.Gate.{IsPassOf, IsSpareOf};
 
 use crate::gate::{Outcome, answered_turns, count_of, enrol, enrol_both, open, outcome_of};
-use crate::running_total::{AdditionRefusal, RunningTotal};
 use std::alloc::Global;
 use std::fmt::Display;
 use std::sync::Wait;
 use std::test::Fail;
+use test_total::{AdditionRefusal, RunningTotal};
 use ticket_gate::{Alone, Gate, GateRefusal, Pass, Spare, TurnRefusal, Turns};
 
 // An act of two passes, with the expected outcome.

@@ -30,7 +30,6 @@ mod refusal_tests;
 #[cfg(test)]
 mod rig;
 #[cfg(test)]
-mod running_total;
 #[cfg(test)]
 mod stage;
 #[cfg(test)]

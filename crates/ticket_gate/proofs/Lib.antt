@@ -12,5 +12,4 @@ pub mod Sharing
 pub mod Comparing
 pub mod Lifetime
 pub mod Working
-pub mod Totals
 pub mod PlainSentences

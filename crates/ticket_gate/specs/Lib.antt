@@ -7,5 +7,3 @@ pub mod Refusal
 pub mod Entry
 pub mod Visit
 pub mod Turns
-pub mod Totals
-pub mod RunningTotal

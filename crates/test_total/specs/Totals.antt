@@ -1,14 +1,7 @@
--- Journals of a running total. The event of a step is the amount, its answer the total that it came
--- to.
-use Rattle.std.specs.Prelude.{◌≡◌, ℕ, ◌+◌, ◌≤◌, List, [], ◌∷◌, ◌++◌, map, sum_by}
+-- Journals of a running total. The event of a step is the amount, its answer the total that it came to.
+use Rattle.std.specs.Prelude.{◌≡◌, ℕ, ◌+◌, ◌≤◌, List, [], ◌∷◌, ◌++◌, sum_by}
 use Rattle.std.proofs.Common.{ap, ◌∙◌, append_assoc}
 use Rattle.journal_core.specs.declared.step.Step.{Step as StepOf}
-use Rattle.journal_core.specs.Journal.{step_by}
-use Rattle.ticket_gate.specs.declared.running_total.Addition.{Addition}
-
--- the running total's additions, as steps
-abbrev pub steps_in : List Addition → List (StepOf ℕ ℕ)
-steps_in additions = map (λ a. step_by a.pass a.amount a.total) additions
 
 -- the sum of all amounts
 abbrev pub amount_sum : List (StepOf ℕ ℕ) → ℕ

@@ -1,18 +1,11 @@
-//! A small state with a journal, as an example and for measurements: a total with additions.
+//! A total with the journal of its additions.
 ghost use Rattle.std.specs.Prelude.{◌≡◌, ◌≤◌, []};
-ghost use Rattle.ticket_gate.specs.Totals.{AreTotals, amount_sum, steps_in, totals_at_first, totals_before};
+ghost use Rattle.test_total.specs.Totals.{AreTotals, amount_sum, totals_at_first, totals_before};
 
-use crate::recorded::Recorded;
+use journal_core::Step;
 use std::alloc::Global;
 use thiserror::Error;
-
-/// One addition: its pass, its amount, and the new total.
-#[derive(Clone, Copy, Debug, PartialEq, Eq)]
-pub struct Addition {
-    pub pass: u64,
-    pub amount: u64,
-    pub total: u64,
-}
+use ticket_gate::Recorded;
 
 /// Why an amount wasn't added.
 #[derive(Clone, Copy, Debug, PartialEq, Eq, Error)]
@@ -25,19 +18,19 @@ pub enum AdditionRefusal {
     NoMemory,
 }
 
-/// A total of amounts within a limit, with the journal of its additions. An event is an amount, and
-/// its answer is the new total.
-#[derive(Debug, Drop)]
+/// A total of amounts within a limit, with the journal of its additions. An event is an amount, and its answer is the
+/// new total.
+#[derive(Drop)]
 pub struct RunningTotal {
     limit: u64,
     total: u64,
-    additions: Vec<Addition>,
-    ghost totalled: { total ≡ amount_sum (steps_in additions.items) },
+    steps: Vec<Step<u64, u64>>,
+    ghost totalled: { total ≡ amount_sum steps.items },
     ghost within: { total ≤ limit },
 }
 
 impl RunningTotal {
-    ghost use Rattle.ticket_gate.specs.RunningTotal.{journal_of, limit_of};
+    ghost use Rattle.test_total.specs.RunningTotal.{journal_of, limit_of};
 
     /// A total of 0 with this limit.
     pub fn new(alloc: Global, limit: u64) -> RunningTotal
@@ -47,7 +40,7 @@ impl RunningTotal {
         RunningTotal {
             limit,
             total: 0,
-            additions: Vec::new(alloc),
+            steps: Vec::new(alloc),
         }
     }
 
@@ -58,16 +51,16 @@ impl RunningTotal {
         self.total
     }
 
-    /// The additions, the oldest first.
-    pub fn additions(&self) -> &[Addition]
-        ensures { steps_in result.now ≡ journal_of self.now }
+    /// The steps of the journal, the oldest first.
+    pub fn steps(&self) -> &[Step<u64, u64>]
+        ensures { result.now ≡ journal_of self.now }
     {
-        self.additions.as_slice()
+        self.steps.as_slice()
     }
 }
 
 impl Recorded for RunningTotal {
-    ghost use Rattle.ticket_gate.specs.RunningTotal.{journal_of, limit_of, IsDue};
+    ghost use Rattle.test_total.specs.RunningTotal.{journal_of, limit_of, IsDue};
 
     type Event = u64;
 
@@ -99,12 +92,12 @@ impl Recorded for RunningTotal {
             return Err((AdditionRefusal::PastLimit, event));
         }
         let total = self.total + event;
-        let addition = Addition {
+        let step = Step {
             pass,
-            amount: event,
-            total,
+            event,
+            answer: total,
         };
-        match self.additions.push(addition) {
+        match self.steps.push(step) {
             Ok(()) => {
                 self.total = total;
                 Ok(total)

@@ -1,14 +1,14 @@
 -- What contracts see of a running total.
 use Rattle.std.specs.Prelude.{ℕ, ◌+◌, ◌<◌, List}
 use Rattle.journal_core.specs.declared.step.Step.{Step as StepOf}
-use Rattle.ticket_gate.specs.declared.running_total.RunningTotal.{RunningTotal}
-use Rattle.ticket_gate.specs.declared.running_total.AdditionRefusal.{AdditionRefusal}
-use Rattle.ticket_gate.specs.declared.running_total.AdditionRefusal.TheVariants.{PastLimit, NoMemory}
-use Rattle.ticket_gate.specs.Totals.{steps_in, amount_sum}
+use Rattle.test_total.specs.declared.running_total.RunningTotal.{RunningTotal}
+use Rattle.test_total.specs.declared.running_total.AdditionRefusal.{AdditionRefusal}
+use Rattle.test_total.specs.declared.running_total.AdditionRefusal.TheVariants.{PastLimit, NoMemory}
+use Rattle.test_total.specs.Totals.{amount_sum}
 
 -- the journal of the running total
 abbrev pub journal_of : RunningTotal → List (StepOf ℕ ℕ)
-journal_of state = steps_in state.additions.items
+journal_of state = state.steps.items
 
 -- the limit of the running total
 abbrev pub limit_of : RunningTotal → ℕ

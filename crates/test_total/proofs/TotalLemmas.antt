@@ -1,7 +1,7 @@
 -- A running total with one more addition.
 use Rattle.std.proofs.Common.{◌≡◌, ◌⊎◌, ℕ, ◌+◌, ◌≤◌, List, [], ◌∷◌, ◌++◌, refl, sym, ap, ◌∙◌, inl, inr, ⊎_elim, arith}
 use Rattle.journal_core.specs.declared.step.Step.{Step as StepOf}
-use Rattle.ticket_gate.specs.Totals.{AreTotals, amount_sum, nothing_in_empty}
+use Rattle.test_total.specs.Totals.{AreTotals, amount_sum, nothing_in_empty}
 
 -- an element of a list with one more stands in the list, or is the last
 last_or_before : {X : Type 0} (xs : List X) (x : X) (before after : List X) (y : X) → xs ++ x ∷ [] ≡ before ++ y ∷ after → ((before ≡ xs) × (y ≡ x)) ⊎ ((rest : List X) × (xs ≡ before ++ y ∷ rest))

@@ -1,4 +1,0 @@
-use Rattle.ticket_gate.proofs.running_total.RunningTotal.total.Goals as goal
-
-pub returns : goal.returns
-returns c = c.args.self.now.totalled

@@ -1,4 +1,0 @@
-use Rattle.ticket_gate.proofs.running_total.RunningTotalRecorded.sight.Goals as goal
-
-pub returns : goal.returns
-returns c = c.total.ensures
