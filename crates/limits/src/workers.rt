@@ -12,8 +12,9 @@ pub const MAX_UNSEEN: u64 = 256;
 /// The most parts that all workers together may queue between two checks of that.
 pub const MAX_PARTS_AT_ONCE: u64 = 512;
 
-/// Gathered bytes are written from this many on before more are gathered, and a text of this length isn't gathered at all.
-pub const MAX_GATHERED: usize = 65_536;
+/// Buffered bytes are written from this many on before more are buffered, and a text of this length isn't buffered at
+/// all.
+pub const MAX_BUFFERED: usize = 65_536;
 
 /// The server ends after this many refusals of memory in a row, to one thing that is tried again.
 pub const MAX_REFUSALS: u32 = 1_000;

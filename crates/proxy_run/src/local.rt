@@ -17,6 +17,7 @@ ghost use Rattle.proxy_run.specs.Moves.{GoesBeside, HaveRested, IsBeside, RestsI
 use crate::announced::Announced;
 use crate::stubs::{stub_core, stub_engines};
 use exit_status::Ending;
+use limits::MAX_BUFFERED;
 use proxy_core::{Answer, Core, CoreTurns, Step};
 use proxy_engines::{ClientEngine, HostEngine, Progress, ReadTally, Tallied, WriteTally};
 use std::alloc::Global;
@@ -25,10 +26,7 @@ use std::sync::Wait;
 use ticket_gate::Alone;
 
 // The most steps of all engines of a run together.
-pub(crate) const MAX_STEPS: u32 = 1_073_741_824;
-
-// Replies are written once this many bytes are gathered.
-const MAX_GATHERED: usize = 65_536;
+pub(crate) const MAX_ENGINE_STEPS: u32 = 1_073_741_824;
 
 // The pass that makes all turns.
 const PASS: u64 = 0;
@@ -45,7 +43,7 @@ type Client<R, W> = ClientEngine<Announced<Tallied<R>>, Output<W>>;
 /// Serves the one client whose bytes the reader has, and returns the writer, which has the replies.
 ///
 /// Ends Ok after a request that finishes the connection, or at the end of the input. Each read takes at most 16,384
-/// bytes. Its replies are written together: before the next read, once 65,536 bytes are gathered, and at the end,
+/// bytes. Its replies are written together: before the next read, once `MAX_BUFFERED` bytes are buffered, and at the end,
 /// however the run ends.
 ///
 /// Ends with `JournalFull` if the journal takes no further step: 262,144 steps, or 67,108,864 bytes of payload. The
@@ -84,14 +82,14 @@ fn open_client<Rt: Wait, T: CoreTurns, R: Read + Drop, W: Write + Drop>(
     ensures carries { IfOk result (λ e. Carries e
         (own_history T.pass T.seen turns.new) [] []) }
 {
-    let Ok(output) = BufWriter::with_capacity(alloc, MAX_GATHERED, writer) else {
+    let Ok(output) = BufWriter::with_capacity(alloc, MAX_BUFFERED, writer) else {
         return Err(Ending::Memory);
     };
     let reader = Announced::new(Tallied::new(reader));
     Ok(ClientEngine::open(rt, alloc, turns, reader, Tallied::new(output))?)
 }
 
-// Runs the client until it ends, and then writes the gathered bytes in any case. Returns the ending and the writer.
+// Runs the client until it ends, and then writes the buffered bytes in any case. Returns the ending and the writer.
 fn run_to_end<
     Rt: Wait,
     R: ReadTally + Drop,
@@ -119,7 +117,7 @@ fn run_to_end<
     Ok((ran, writer))
 }
 
-// Writes all gathered bytes, and returns the writer.
+// Writes all buffered bytes, and returns the writer.
 fn written_out<W: Write + Drop>(output: Output<W>) -> Result<W, Ending>
     ensures ok { IfOk result (λ w. Keeps (writer_contents W.contents output.inner) (W.contents w)) }
     ensures err { IfErr result (λ e. e ≡ Ending.Socket) }
@@ -153,8 +151,8 @@ fn run_client<
         (own_steps turns.new.pass (journal_of turns.new.state)) }
     ensures ended { OnOk result (client.new.stage ≡ Stage.Closed false) }
 {
-    let mut left = MAX_STEPS;
-    for _ in 0..MAX_STEPS {
+    let mut left = MAX_ENGINE_STEPS;
+    for _ in 0..MAX_ENGINE_STEPS {
         if let Progress::Ended = step_all(rt, turns, client, hosts, &mut left)? {
             return Ok(());
         }
@@ -211,7 +209,7 @@ fn step_all<
     }
 }
 
-// Steps the client once. If it is idle, everything is answered, and gathered bytes are written.
+// Steps the client once. If it is idle, everything is answered, and buffered bytes are written.
 fn step_client<Rt: Wait, T: CoreTurns, R: ReadTally + Drop, W: WriteTally + Drop>(
     rt: &Rt,
     turns: &mut T,
@@ -250,7 +248,7 @@ fn settle<Rt: Wait, T: CoreTurns, P: ReadTally + Drop, Q: WriteTally + Drop>(
     ensures rested { OnOk result (HaveRested (T.cause (T.setting turns.old))
         (T.seen turns.old) (T.seen turns.new) hosts.new) }
 {
-    for _ in 0..MAX_STEPS {
+    for _ in 0..MAX_ENGINE_STEPS {
         if step_hosts(rt, turns, hosts, left)? {
             return Ok(());
         }

@@ -18,7 +18,7 @@ use std::rc::Rc;
 use std::sync::Wait;
 
 // The most steps of one connection in a round, so that one pipeline doesn't starve the others.
-const MAX_STEPS: u32 = 256;
+const MAX_CLIENT_STEPS: u32 = 256;
 
 type Engine = ClientEngine<Tallied<SocketReader>, Tallied<SocketWriter>>;
 
@@ -74,7 +74,7 @@ impl Drop for CarriedSocket {
 }
 
 impl CarriedSocket {
-    /// Writes gathered bytes as far as the socket takes them, and closes the sending half: the newest generation takes
+    /// Writes buffered bytes as far as the socket takes them, and closes the sending half: the newest generation takes
     /// no further connection.
     pub(crate) fn shut_down(&mut self, buffer: &mut Vec<u8>) {
         self.socket.write_out(buffer);
@@ -397,7 +397,7 @@ impl Client {
         }
     }
 
-    /// Steps the engine until it has to wait, and writes what it gathered.
+    /// Steps the engine until it has to wait, and writes what it buffered.
     pub(crate) fn run_once<R: Wait, T: CoreTurns>(
         &mut self,
         rt: &R,
@@ -460,7 +460,7 @@ impl Client {
         }
     }
 
-    // Steps until nothing more can be done, or `MAX_STEPS` are made, or this worker's share of parts has come. A
+    // Steps until nothing more can be done, or `MAX_CLIENT_STEPS` are made, or this worker's share of parts has come. A
     // command is taken in only if the journal has room for all steps that it will owe.
     fn step_engine<R: Wait, T: CoreTurns>(
         &mut self,
@@ -472,7 +472,7 @@ impl Client {
         let most_parts = generation.parts_per_worker();
         // (the number of accepted commands at which there was room for one more)
         let mut room_for = None;
-        for _ in 0..MAX_STEPS {
+        for _ in 0..MAX_CLIENT_STEPS {
             if turns.counts().parts >= most_parts {
                 break;
             }
@@ -601,7 +601,7 @@ impl Client {
             return Stepped::Idle;
         };
         if matches!(self.stage, Stage::Leaving) {
-            if socket.has_gathered() && !socket.is_broken() {
+            if socket.has_buffered() && !socket.is_broken() {
                 return Stepped::Idle;
             }
             socket.shut();

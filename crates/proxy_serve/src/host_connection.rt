@@ -21,7 +21,7 @@ use std::rc::Rc;
 use std::sync::Wait;
 
 // The most steps of one host in a round.
-const MAX_STEPS: u32 = 4_096;
+const MAX_HOST_STEPS: u32 = 4_096;
 
 // A host is looked at after this many milliseconds at the latest, so that a late reply is noticed.
 const LOOK_MS: u64 = 10;
@@ -170,7 +170,7 @@ impl HostConnection {
         }
     }
 
-    /// Steps the engine until it has to wait, writes what it gathered, and connects where a link is needed. True: the
+    /// Steps the engine until it has to wait, writes what it buffered, and connects where a link is needed. True: the
     /// host couldn't be reached, and this is to be logged.
     pub(crate) fn run_once<R: Wait + Net, T: CoreTurns>(
         &mut self,
@@ -237,7 +237,7 @@ impl HostConnection {
         round: HostRound,
     ) -> Result<bool, StepError> {
         let mut is_refused = false;
-        for _ in 0..MAX_STEPS {
+        for _ in 0..MAX_HOST_STEPS {
             match self.step(rt, turns, generation, round)? {
                 Progress::Moved => self.refusals.succeeded(),
                 Progress::NeedsLink if round.gives_up || turns.free_steps() == 0 => {

@@ -15,7 +15,7 @@ use mio::net::TcpListener;
 use mio::{Events, Interest, Poll, Token, Waker};
 use proxy_config::Config;
 use proxy_stats::Counts;
-use serve_parts::{Asked, Rota, asked_by_signals, is_term_blocked};
+use serve_parts::{Asked, RoundRobin, asked_by_signals, is_term_blocked};
 use std::alloc::Global;
 use std::fs::File;
 use std::io::{ErrorKind, Read, Seek, SeekFrom, Write};
@@ -52,7 +52,7 @@ struct Acceptor<'a> {
     address: SocketAddr,
     server: &'a Server,
     // The worker that gets the next socket.
-    rota: Rota,
+    round_robin: RoundRobin,
     signals: Signals,
 }
 
@@ -64,7 +64,7 @@ impl Drop for Acceptor<'_> {
             listener: _,
             address: _,
             server: _,
-            rota: _,
+            round_robin: _,
             signals: _,
         } = self;
     }
@@ -84,7 +84,7 @@ impl<'a> Acceptor<'a> {
             address: listener.local_addr().unwrap_or(address),
             listener: Some(listener),
             server,
-            rota: Rota::new(server.workers()),
+            round_robin: RoundRobin::new(server.workers()),
             signals: Signals { status, looked: 0 },
         }
     }
@@ -142,7 +142,7 @@ impl<'a> Acceptor<'a> {
             match listener.accept() {
                 Ok((stream, _)) => {
                     if self.server.accept(rt) {
-                        self.server.push(rt, self.rota.take(), stream);
+                        self.server.push(rt, self.round_robin.take(), stream);
                     }
                 }
                 Err(error) => {

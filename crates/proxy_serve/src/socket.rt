@@ -7,7 +7,7 @@ use mio::event::Event;
 use mio::net::TcpStream;
 use mio::unix::SourceFd;
 use mio::{Interest, Registry, Token};
-use serve_parts::Gatherer;
+use serve_parts::WriteBuffer;
 use std::alloc::Global;
 use std::cell::RefCell;
 use std::io;
@@ -21,7 +21,7 @@ const MAX_THROWN: u32 = 64;
 
 /// A socket, what is known of it, and its unwritten bytes.
 pub(crate) struct Socket {
-    output: Gatherer<TcpStream>,
+    output: WriteBuffer<TcpStream>,
     is_readable: bool,
     // The peer sends nothing more: the input ends behind the unread bytes.
     is_ended: bool,
@@ -59,7 +59,7 @@ impl Socket {
     /// A socket that may have bytes and may take some.
     pub(crate) fn new(alloc: Global, stream: TcpStream) -> Socket {
         Socket {
-            output: Gatherer::new(alloc, stream),
+            output: WriteBuffer::new(alloc, stream),
             is_readable: true,
             is_ended: false,
             is_short: false,
@@ -78,7 +78,7 @@ impl Socket {
             Interest::READABLE | Interest::WRITABLE,
         )?;
         self.is_readable = true;
-        self.output.reopen();
+        self.output.set_writable();
         self.has_room = self.is_short;
         Ok(())
     }
@@ -98,7 +98,7 @@ impl Socket {
             self.is_ended = true;
         }
         if event.is_writable() || event.is_write_closed() || event.is_error() {
-            self.output.reopen();
+            self.output.set_writable();
             self.has_room = self.is_short;
         }
     }
@@ -127,13 +127,13 @@ impl Socket {
         self.is_readable
     }
 
-    /// Whether the socket may take gathered bytes, or the rest of a text that it took in part.
+    /// Whether the socket may take buffered bytes, or the rest of a text that it took in part.
     pub(crate) fn may_write(&self) -> bool {
         self.has_room || self.output.may_write()
     }
 
-    /// Whether bytes are gathered.
-    pub(crate) fn has_gathered(&self) -> bool {
+    /// Whether bytes are buffered.
+    pub(crate) fn has_buffered(&self) -> bool {
         !self.output.is_empty()
     }
 
@@ -142,12 +142,12 @@ impl Socket {
         self.output.is_broken()
     }
 
-    /// Lends the socket a buffer, unless it has gathered bytes.
+    /// Lends the socket a buffer, unless it has buffered bytes.
     pub(crate) fn lend_buffer(&mut self, buffer: &mut Vec<u8>) {
-        self.output.borrow_room(buffer);
+        self.output.lend_buffer(buffer);
     }
 
-    /// Writes gathered bytes, and returns the buffer once all are taken.
+    /// Writes buffered bytes, and returns the buffer once all are taken.
     pub(crate) fn write_out(&mut self, buffer: &mut Vec<u8>) {
         self.has_room = false;
         self.output.write_out(buffer);

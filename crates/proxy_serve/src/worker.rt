@@ -15,7 +15,7 @@ use mio::net::TcpStream;
 use mio::{Events, Interest, Poll, Token};
 use proxy_config::Config;
 use proxy_stats::CountedSeat;
-use serve_parts::{Refusals, own_hosts};
+use serve_parts::{Refusals, hosts_of_worker};
 use slab::Slab;
 use std::alloc::{AllocError, Global};
 use std::mem;
@@ -139,7 +139,7 @@ fn hosts_of(
     if workers == 0 {
         return Ok(hosts);
     }
-    for host in own_hosts(alloc, place, workers, config.hosts.len())? {
+    for host in hosts_of_worker(alloc, place, workers, config.hosts.len())? {
         if let Some(entry) = config.hosts.get(host) {
             let token = Token(HOSTS.saturating_add(hosts.len()));
             let reply_ms = u64::from(config.reply_ms);
@@ -329,7 +329,7 @@ impl<'a> Worker<'a> {
         }
     }
 
-    // Writes the gathered bytes of connections that are cut short, and counts these as closed.
+    // Writes the buffered bytes of connections that are cut short, and counts these as closed.
     fn close_clients<R: Wait + Eprint>(&mut self, rt: &R) {
         let server = self.generation.server();
         let mut cut = 0u32;
@@ -558,7 +558,7 @@ impl<'a> Worker<'a> {
     }
 
     // Opens a carried-over socket. It waits in the queue again where there is no memory or no step left. Where its
-    // connection can't be opened otherwise, its gathered bytes are written and it is closed.
+    // connection can't be opened otherwise, its buffered bytes are written and it is closed.
     fn open_carried<R: Wait>(&mut self, rt: &R, carried: CarriedSocket) -> Result<Accepted, Stop> {
         let token = Token(self.clients.vacant_key());
         let opened = Client::open_carried(

@@ -1,2 +1,2 @@
-mod OutgoingLemmas
-mod OwnLemmas
+mod WriteBufferLemmas
+mod AssignmentLemmas

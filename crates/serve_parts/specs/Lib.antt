@@ -1,3 +1,3 @@
-pub mod Outgoing
+pub mod WriteBuffer
 pub mod Sockets
-pub mod Turns
+pub mod Assignment
