@@ -6,7 +6,8 @@ import json
 import os
 import re
 
-from sources import CRATES, TOP, constants
+import sources
+from sources import CRATES, TOP
 
 # Settings whose values aren't numbers.
 OTHERS = ("listen", "hosts", "weights", "tags")
@@ -40,17 +41,16 @@ CITED = r"`((?:MAX|LINGER|SIGNAL|TELL|STILL|GIVING|CONNECTING|VISIT)_\w+)`"
 
 
 def limits():
-    return {row[0]: plain(row[1]) for row in rows(OPERATING, "Limits") if "::" in row[0]}
+    return {row[0]: plain(row[1]) for row in rows(OPERATING, "Limits") if row[0] != "Constant"}
 
 
 def differences_of_limits():
-    code, names = constants(), set()
-    for name, value in limits().items():
-        names.add(name.split("::")[1])
-        if code.get(name) != {value}:
-            yield f"OPERATING: {name} is {value}, and the code has {sorted(code.get(name, []))}"
+    code, told = sources.limits(), limits()
+    for name in sorted(code.keys() | told.keys()):
+        if code.get(name) != told.get(name):
+            yield f"OPERATING: {name} is {told.get(name)}, and the code has {code.get(name)}"
     for page in (OPERATING, ("docs", "ERRORS.md"), ARCHITECTURE):
-        for cited in sorted(set(re.findall(CITED, text_of(*page))) - names):
+        for cited in sorted(set(re.findall(CITED, text_of(*page))) - code.keys()):
             yield f"{page[-1]} cites {cited}, which the table of limits lacks"
 
 

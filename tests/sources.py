@@ -31,11 +31,7 @@ def sources(but=PLAIN):
     return [(crate, text) for crate in crates(but) for _, text in files_of(crate, "src", ".rt")]
 
 
-def constants():
-    """The values of each numeric constant, by its name, and by its crate and its name: crates may have different ones of one name."""
-    found = {}
-    for crate, source in sources(but=()):
-        for name, value in re.findall(r"\bconst (\w+): [ui]\w+ = ([\d_]+);", source):
-            for key in (name, f"{crate}::{name}"):
-                found.setdefault(key, set()).add(int(value))
-    return found
+def limits():
+    """The value of each limit, by its name."""
+    return {name: int(value) for _, source in files_of("limits", "src", ".rt")
+            for name, value in re.findall(r"\bconst (\w+): [ui]\w+ = ([\d_]+);", source)}

@@ -1,6 +1,6 @@
 -- What may happen to generations, and when.
 use Rattle.std.specs.Prelude.{◌≡◌, ◌⊎◌, ⊤, ℕ, ◌+◌, ◌<◌, ◌^◌, true, false, Some, None, List, [], ◌∷◌}
-use Rattle.limits.specs.declared.generations.TheConstants.{GIVING_UP_MS, STILL_MS, MAX_DRAINING_MS}
+use Rattle.limits.specs.declared.journals.TheConstants.{GIVING_UP_MS, STILL_MS, MAX_DRAINING_MS}
 use Rattle.generations.specs.Moments.{HavePassed}
 use Rattle.generations.specs.Events.{Event, Taken, Opened, Failed, Near, Full, Progressed, Drained, Swept, newest, draining, has_connections, is_asked, last_number, near_since, still_since, drains_since, opening}
 

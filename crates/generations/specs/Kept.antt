@@ -1,7 +1,7 @@
 -- How open generations are kept.
 use Rattle.std.specs.Prelude.{◌≡◌, ◌⊎◌, ℕ, Option, Some, None}
 use Rattle.generations.specs.declared.lifecycle.Generations.{Generations}
-use Rattle.limits.specs.declared.generations.TheConstants.{GIVING_UP_MS, STILL_MS, MAX_DRAINING_MS}
+use Rattle.limits.specs.declared.journals.TheConstants.{GIVING_UP_MS, STILL_MS, MAX_DRAINING_MS}
 use Rattle.generations.specs.declared.opened.Open.{Open}
 use Rattle.generations.specs.Moments.{HavePassed}
 

@@ -1,6 +1,6 @@
 -- What follows of generations, from what may happen.
 use Rattle.std.specs.Prelude.{◌≡◌, ◌⊎◌, ◌↔◌, ◌<◌, ◌≤◌, ◌+◌, ℕ, true, None, Some, IsSome, List, ◌∷◌, ◌++◌}
-use Rattle.limits.specs.declared.generations.TheConstants.{GIVING_UP_MS}
+use Rattle.limits.specs.declared.journals.TheConstants.{GIVING_UP_MS}
 use Rattle.generations.specs.Events.{Event, Opened, Near, Full, newest, draining, has_connections, is_asked, near_since, asker, last_number}
 use Rattle.generations.specs.History.{IsHistory, IsStill}
 

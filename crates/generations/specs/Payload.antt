@@ -1,8 +1,8 @@
 -- What contracts see of the payload of a journal.
 use Rattle.std.specs.Prelude.{◌≡◌, ◌≤◌, ◌⊎◌, ◌+◌, ◌-◌, ◌*◌, ◌/◌, ℕ, max, nat_lt, ◌==◌, if◌then◌else◌}
 use Rattle.generations.specs.Budget.{capped}
-use Rattle.limits.specs.declared.generations.TheConstants.{MAX_BYTES}
-use Rattle.limits.specs.declared.generations.TheConstants.{MAX_REPLY_BYTES}
+use Rattle.limits.specs.declared.journals.TheConstants.{MAX_BYTES}
+use Rattle.limits.specs.declared.journals.TheConstants.{MAX_REPLY_BYTES}
 use Rattle.generations.specs.declared.payload.TheConstants.{MAX_READ_BYTES, MAX_ERROR_BYTES, FAR_BYTES, FAR_STEPS, FIRST_STEPS}
 
 -- bytes of payload in the journal, bytes of hosts' replies that came, bytes handed out to clients, the steps that have payload,

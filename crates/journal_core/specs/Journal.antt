@@ -1,6 +1,6 @@
 -- What contracts see of a journal, and its limits.
 use Rattle.std.specs.Prelude.{◌≡◌, ◌⊎◌, ◌+◌, ◌<◌, ◌≤◌, ℕ, true, List, Option, Some, None, length}
-use Rattle.limits.specs.declared.generations.TheConstants.{MAX_STEPS, MAX_BYTES}
+use Rattle.limits.specs.declared.journals.TheConstants.{MAX_STEPS, MAX_BYTES}
 use Rattle.journal_core.specs.Blocks.{BlocksState}
 use Rattle.journal_core.specs.declared.step.Step.{Step}
 

@@ -4,22 +4,22 @@
 //! contracts. It stands on no other crate. Begin with `laws.rt`, which says how limits fit together.
 #![tactic(auto)]
 
-mod generations;
 mod hosts;
+mod journals;
 mod laws;
 mod messages;
 mod queues;
 mod visitors;
 mod workers;
 
-pub use generations::{
+pub use journals::{
     GIVING_UP_MS, MAX_BYTES, MAX_COMMAND_STEPS, MAX_DRAINING_MS, MAX_FAILURES, MAX_PASSES,
     MAX_REPLY_BYTES, MAX_START_MS, MAX_STEPS, STILL_MS,
 };
 pub use hosts::{MAX_HOSTS, MAX_NAME_LEN, MAX_WEIGHT};
 pub use laws::limits_fit;
 pub use messages::{
-    CLIENT_MEMBERS, HOST_MEMBERS, MAX_BULK, MAX_DEPTH, MAX_LINE, MAX_TEXT, MAX_SHOWN,
+    MAX_CLIENT_MEMBERS, MAX_HOST_MEMBERS, MAX_BULK, MAX_DEPTH, MAX_LINE, MAX_TEXT, MAX_SHOWN,
 };
 pub use queues::{MAX_COMMANDS, MAX_CONNECTIONS, MAX_SOCKETS, MAX_WAITING};
 pub use visitors::{MAX_BODY, MAX_HEAD, MAX_VISITORS, VISIT_MS};

@@ -1,10 +1,10 @@
 //! Messages of RESP2.
 
 /// The most members of an array that a client may send.
-pub const CLIENT_MEMBERS: u32 = 1_024;
+pub const MAX_CLIENT_MEMBERS: u32 = 1_024;
 
 /// The most members of an array in a host's reply.
-pub const HOST_MEMBERS: u32 = 65_536;
+pub const MAX_HOST_MEMBERS: u32 = 65_536;
 
 /// The most bytes of a bulk string.
 pub const MAX_BULK: u64 = 1_048_576;

@@ -6,7 +6,7 @@ use Rattle.resp_core.specs.Tree.{Tree}
 use Rattle.resp_core.specs.Laws as resp
 use Rattle.resp_core.specs.Offset.{offset_of, number_of}
 use Rattle.resp_core.specs.Stream.{Splits, HasRefusal}
-use Rattle.limits.specs.declared.messages.TheConstants.{CLIENT_MEMBERS}
+use Rattle.limits.specs.declared.messages.TheConstants.{MAX_CLIENT_MEMBERS}
 use Rattle.resp_core.proofs.CallerLemmas as resp_core
 use Rattle.resp_core.specs.declared.error.RespError.{RespError}
 use Rattle.splitter.specs.Request.{Request, read}
@@ -22,15 +22,15 @@ use Rattle.proxy_engines.proofs.ClientMoves.{carries_beside}
 -- WHAT IS ACCEPTED
 
 -- What an end has given is the first of what its bytes ask, whatever comes behind them.
-module _ (i : InboxState) (b more : List ℕ) (given : List Request) (h : Holds i b given) (most : i.values.most ≡ CLIENT_MEMBERS) (rs : List Request) (are : AreRequests (b ++ more) rs) where
+module _ (i : InboxState) (b more : List ℕ) (given : List Request) (h : Holds i b given) (most : i.values.most ≡ MAX_CLIENT_MEMBERS) (rs : List Request) (are : AreRequests (b ++ more) rs) where
   -- no byte is refused yet: the values given are the first of the stream
   where_none : i.values.refusal ≡ None → (others : List Request) × (rs ≡ given ++ others)
   where_none none =
       let (values, is_refused, holds, requests_are) = are in
-      let split : Splits CLIENT_MEMBERS h.fed h.given h.stands.rest = rw most at h.stands.splits in
+      let split : Splits MAX_CLIENT_MEMBERS h.fed h.given h.stands.rest = rw most at h.stands.splits in
       let bytes : b ++ more ≡ h.fed ++ (i.fresh ++ more) = ap (λ z. z ++ more) h.bytes ∙ append_assoc h.fed i.fresh more in
-      let whole : resp.Holds CLIENT_MEMBERS (h.fed ++ (i.fresh ++ more)) values is_refused = subst (λ (z : List ℕ). resp.Holds CLIENT_MEMBERS z values is_refused) bytes holds in
-      let others = resp_core.values_stay CLIENT_MEMBERS h.fed (i.fresh ++ more) h.stands.rest h.given values is_refused split whole in
+      let whole : resp.Holds MAX_CLIENT_MEMBERS (h.fed ++ (i.fresh ++ more)) values is_refused = subst (λ (z : List ℕ). resp.Holds MAX_CLIENT_MEMBERS z values is_refused) bytes holds in
+      let others = resp_core.values_stay MAX_CLIENT_MEMBERS h.fed (i.fresh ++ more) h.stands.rest h.given values is_refused split whole in
       let rest = map read others.0 ++ end_of is_refused in
       let given_are : map read h.given ≡ given = sym (append-nil (map read h.given)) ∙ sym (rw none at h.requests) in (
         rest,
@@ -46,8 +46,8 @@ module _ (i : InboxState) (b more : List ℕ) (given : List Request) (h : Holds 
   where_some x some =
       let fresh : i.fresh ≡ [] = rw some at h.after in
       let bytes : b ≡ h.fed = h.bytes ∙ rw fresh (append-nil h.fed) in
-      let told : HasRefusal CLIENT_MEMBERS b h.given (offset_of x) (number_of x) = rw bytes (rw most at (rw some at h.stands.told)) in
-      let stays = resp_core.refusal_stays CLIENT_MEMBERS b more h.given (offset_of x) (number_of x) told in
+      let told : HasRefusal MAX_CLIENT_MEMBERS b h.given (offset_of x) (number_of x) = rw bytes (rw most at (rw some at h.stands.told)) in
+      let stays = resp_core.refusal_stays MAX_CLIENT_MEMBERS b more h.given (offset_of x) (number_of x) told in
       let all : AreRequests (b ++ more) given = (h.given, true, (offset_of x, number_of x, stays), rw some at h.requests) in
       ([], splits.one_asking (b ++ more) rs given are all ∙ sym (append-nil given))
 
@@ -59,7 +59,7 @@ module _ (i : InboxState) (b more : List ℕ) (given : List Request) (h : Holds 
       by (Some x) is = where_some x is
 
 -- and so where it stands behind values that were given before
-behind_first : (i : InboxState) (b more : List ℕ) (given : List Request) → HoldsBehind i b given → i.values.most ≡ CLIENT_MEMBERS → (rs : List Request) → AreRequests (b ++ more) rs → (others : List Request) × (rs ≡ given ++ others)
+behind_first : (i : InboxState) (b more : List ℕ) (given : List Request) → HoldsBehind i b given → i.values.most ≡ MAX_CLIENT_MEMBERS → (rs : List Request) → AreRequests (b ++ more) rs → (others : List Request) × (rs ≡ given ++ others)
 behind_first i b more given h most rs are =
     let own = splits.each_stream_asks (h.own ++ more) in
     let first = given_first i h.own more h.given h.holds most own.0 own.1 in

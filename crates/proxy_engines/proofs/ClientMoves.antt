@@ -4,7 +4,7 @@ use Rattle.std.specs.Prelude.{IfSome, IfNone, IfOk, Result, Ok, Err, ◌||◌}
 use Rattle.std.specs.Io.KnownBytes.{Consumes, Appends}
 use Rattle.std.proofs.lemmas.List.{map-append}
 use Rattle.std.proofs.lemmas.List.Elements.{filter-append}
-use Rattle.limits.specs.declared.messages.TheConstants.{CLIENT_MEMBERS}
+use Rattle.limits.specs.declared.messages.TheConstants.{MAX_CLIENT_MEMBERS}
 use Rattle.splitter.specs.Request.{Request, request_of}
 use Rattle.splitter.specs.Requests.{finishes}
 use Rattle.splitter.specs.Plan.{is_last}
@@ -498,7 +498,7 @@ module _ (e : Client) (H later : History) (others : connection_steps e.conn late
 
 -- THE BEGINNING
 
-pub opened_carries : (conn pass : ℕ) (i : InboxState) (o : OutboxState) (next : Option Request') (H : History) (b : List ℕ) → connection_steps conn H ≡ [] → o.pending ≡ [] → i.values.most ≡ CLIENT_MEMBERS → HoldsBehind i b (waiting_requests next)
+pub opened_carries : (conn pass : ℕ) (i : InboxState) (o : OutboxState) (next : Option Request') (H : History) (b : List ℕ) → connection_steps conn H ≡ [] → o.pending ≡ [] → i.values.most ≡ MAX_CLIENT_MEMBERS → HoldsBehind i b (waiting_requests next)
     → Carries (record { conn = conn; inbox = i; outbox = o; next = next; accepted = 0; handed = 0; stage = Stage.Open; is_drained = false; is_halted = false }) (step_by pass Event.Opened (Answer.Opened conn) ∷ H) [] b
 opened_carries conn pass i o next H b none empty most holds =
     let same = history.SameOfConnection-connection_steps conn H in

@@ -11,7 +11,7 @@ use Rattle.resp_core.specs.Value.{tree_of}
 use Rattle.resp_core.specs.Standing.{ReaderState}
 use Rattle.resp_core.specs.declared.value.Value.{Value}
 use Rattle.resp_core.specs.declared.error.RespError.{RespError}
-use Rattle.limits.specs.declared.messages.TheConstants.{HOST_MEMBERS}
+use Rattle.limits.specs.declared.messages.TheConstants.{MAX_HOST_MEMBERS}
 use Rattle.ticket_gate.specs.Journal.{StartsWith}
 use Rattle.splitter.specs.Request.{Request, read, broken}
 use Rattle.proxy_history.specs.Setting.{max_steps}
@@ -363,7 +363,7 @@ heard_on l k i H m moved told all input same = record {
   });
 }
 
-pub attached : (l : LineState) (k : LinkState) (H : History) → Holds k.inbox [] [] → k.inbox.values.most ≡ HOST_MEMBERS → k.inbox.values.refusal ≡ None → k.next ≡ None → CarriesHost l None H [] [] → CarriesHost l (Some k) H [] []
+pub attached : (l : LineState) (k : LinkState) (H : History) → Holds k.inbox [] [] → k.inbox.values.most ≡ MAX_HOST_MEMBERS → k.inbox.values.refusal ≡ None → k.next ≡ None → CarriesHost l None H [] [] → CarriesHost l (Some k) H [] []
 attached l k H holds most whole none c = record {
   out_is = c.out_is;
   link_is = record { given = []; holds = holds; most_is = most; given_are = rw (none, whole, c.link_is.0) refl };

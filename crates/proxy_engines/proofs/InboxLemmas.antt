@@ -6,7 +6,7 @@ use Rattle.resp_core.specs.Tree.{Tree}
 use Rattle.resp_core.specs.Standing.{Stands, StandsBehind}
 use Rattle.resp_core.proofs.CallerLemmas.{splits_fed}
 use Rattle.resp_core.specs.declared.error.RespError.{RespError}
-use Rattle.limits.specs.declared.messages.TheConstants.{CLIENT_MEMBERS}
+use Rattle.limits.specs.declared.messages.TheConstants.{MAX_CLIENT_MEMBERS}
 use Rattle.splitter.specs.Request.{Request as Asked, read, broken}
 use Rattle.splitter.specs.Requests.{AreRequests as Asks}
 use Rattle.splitter.proofs.CallerLemmas as splits
@@ -117,14 +117,14 @@ pub behind_read : (i j : InboxState) (came : List ℕ) → ((b : List ℕ) (rs :
 behind_read i j came f b rs h = record {
   first = h.first;
   own = h.own ++ came;
-  splits = splits_fed CLIENT_MEMBERS b h.own came h.first h.splits;
+  splits = splits_fed MAX_CLIENT_MEMBERS b h.own came h.first h.splits;
   given = h.given;
   holds = f h.own h.given h.holds;
   requests = h.requests;
 }
 
 -- where the end has given all of its own, all requests of the whole are given
-pub behind_all : (i : InboxState) (b : List ℕ) (rs : List Asked) → i.values.most ≡ CLIENT_MEMBERS → HasGivenAll i → HoldsBehind i b rs → AreRequests i.values.most b rs
+pub behind_all : (i : InboxState) (b : List ℕ) (rs : List Asked) → i.values.most ≡ MAX_CLIENT_MEMBERS → HasGivenAll i → HoldsBehind i b rs → AreRequests i.values.most b rs
 behind_all i b rs most all h =
     let own : Asks h.own h.given = rw most at (all.all h.own h.given h.holds) in
     let whole : Asks (b ++ []) (map read h.first ++ h.given) = splits.requests_go_on b [] h.own h.first h.given h.splits (rw (append-nil h.own) own) in

@@ -5,7 +5,7 @@ use Rattle.std.proofs.lemmas.Bool.{cases_Bool}
 use Rattle.std.proofs.lemmas.List.{map-append}
 use Rattle.resp_core.specs.Tree.{Tree}
 use Rattle.resp_core.specs.Stream.{Splits}
-use Rattle.limits.specs.declared.messages.TheConstants.{CLIENT_MEMBERS}
+use Rattle.limits.specs.declared.messages.TheConstants.{MAX_CLIENT_MEMBERS}
 use Rattle.resp_core.proofs.CallerLemmas as resp_core
 use Rattle.splitter.specs.Request.{Request, read}
 use Rattle.splitter.specs.Requests.{AreRequests, finishes, up_to_last}
@@ -51,7 +51,7 @@ module _ (e : Client) (H : History) (taken b : List ℕ) (k : Carries e H taken 
   record Given : Type 0 where
     values : List Tree
     rest : List ℕ
-    splits : Splits CLIENT_MEMBERS b values rest
+    splits : Splits MAX_CLIENT_MEMBERS b values rest
     ask : map read values ≡ asked_requests e.conn H ++ waiting_requests e.next
     holds : (left : Option (List ℕ)) (counts : Counts) → Holds (end_with left counts r) rest []
 
@@ -59,8 +59,8 @@ module _ (e : Client) (H : History) (taken b : List ℕ) (k : Carries e H taken 
   given f =
       let h = k.holds in
       let cut = f h.own h.given h.holds in
-      let behind : Splits CLIENT_MEMBERS (h.own ++ []) cut.asked cut.rest = rw (append-nil h.own) (rw k.most_is at cut.splits) in
-      let whole : Splits CLIENT_MEMBERS (b ++ []) (h.first ++ cut.asked) cut.rest = resp_core.splits_then CLIENT_MEMBERS b h.own [] cut.rest h.first cut.asked h.splits behind in
+      let behind : Splits MAX_CLIENT_MEMBERS (h.own ++ []) cut.asked cut.rest = rw (append-nil h.own) (rw k.most_is at cut.splits) in
+      let whole : Splits MAX_CLIENT_MEMBERS (b ++ []) (h.first ++ cut.asked) cut.rest = resp_core.splits_then MAX_CLIENT_MEMBERS b h.own [] cut.rest h.first cut.asked h.splits behind in
       record {
         values = h.first ++ cut.asked;
         rest = cut.rest;
@@ -74,7 +74,7 @@ module _ (e : Client) (H : History) (taken b : List ℕ) (k : Carries e H taken 
       let halted = k.halted_is may.1 in
       let all = given f in
       let asks = ask_apart all.values (asked_requests e.conn H) (waiting_requests e.next) all.ask in
-      let (mid, front, back) = splits_apart CLIENT_MEMBERS b all.rest asks.front asks.back (rw asks.are at all.splits) in
+      let (mid, front, back) = splits_apart MAX_CLIENT_MEMBERS b all.rest asks.front asks.back (rw asks.are at all.splits) in
       let at : IsFinished (asked_requests e.conn H) e.is_halted e.inbox e.next b k.given × IsDone e H = subst (λ (z : Stage). IsAtStage z (IsDone e H) (asked_requests e.conn H) e.is_halted e.inbox e.next b k.given) may.0 k.stage_is in
       record {
         asked = asks.front;
@@ -103,7 +103,7 @@ module _ (e : Client) (H : History) (taken b : List ℕ) (k : Carries e H taken 
 -- what went before, in one
 record Before (ps : List Past) (taken b rest : List ℕ) : Type 0 where
   asked : List Tree
-  splits : Splits CLIENT_MEMBERS b asked rest
+  splits : Splits MAX_CLIENT_MEMBERS b asked rest
   asked_are : asked_before ps ≡ map read asked
   goes_on : NoneFinishes (asked_before ps)
   taken_is : taken ≡ said_before ps
@@ -121,7 +121,7 @@ before (p ∷ ps) taken b rest w =
     let l = w.is_left in
     record {
       asked = x.asked ++ l.asked;
-      splits = rw (w.bytes_are, w.rest_is) (resp_core.splits_then CLIENT_MEMBERS w.came w.left w.got l.rest x.asked l.asked x.splits l.splits);
+      splits = rw (w.bytes_are, w.rest_is) (resp_core.splits_then MAX_CLIENT_MEMBERS w.came w.left w.got l.rest x.asked l.asked x.splits l.splits);
       asked_are = ap (λ z. z ++ asked_requests p.conn p.steps) x.asked_are ∙ ap (λ z. map read x.asked ++ z) l.asked_are ∙ sym (map-append read x.asked l.asked);
       goes_on = splits.none_finishes-append (asked_before ps) (asked_requests p.conn p.steps) x.goes_on l.goes_on;
       taken_is = w.taken_is ∙ ap (λ z. z ++ w.gave) x.taken_is ∙ ap (λ z. said_before ps ++ z) l.taken_is;

@@ -3,7 +3,7 @@ use Rattle.std.specs.Prelude.{◌≡◌, ◌≢◌, ⊤, ◌⊎◌, ℕ, Bool, t
 use Rattle.std.specs.List.{list_any}
 use Rattle.std.specs.Io.KnownBytes.{Consumes, Appends, IsAtEnd}
 use Rattle.resp_core.specs.declared.error.RespError.{RespError}
-use Rattle.limits.specs.declared.messages.TheConstants.{CLIENT_MEMBERS}
+use Rattle.limits.specs.declared.messages.TheConstants.{MAX_CLIENT_MEMBERS}
 use Rattle.splitter.specs.Request.{Request, request_of}
 use Rattle.splitter.specs.Requests.{finishes}
 use Rattle.splitter.specs.declared.request.Request.{Request as Request'}
@@ -147,7 +147,7 @@ pub record Carries (e : Client) (H : History) (taken b : List ℕ) : Type 0 wher
   pub given : List Request
   pub out_is : taken ++ e.outbox.pending ≡ transcript e.conn H
   pub holds : HoldsBehind e.inbox b given
-  pub most_is : e.inbox.values.most ≡ CLIENT_MEMBERS
+  pub most_is : e.inbox.values.most ≡ MAX_CLIENT_MEMBERS
   pub given_are : given ≡ asked_requests e.conn H ++ waiting_requests e.next
   pub accepted_is : e.accepted ≡ accepted_count e.conn H
   pub handed_is : e.handed ≡ handed_count e.conn H

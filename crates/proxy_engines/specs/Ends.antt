@@ -6,7 +6,7 @@ use Rattle.resp_core.specs.Laws as resp
 use Rattle.resp_core.specs.Standing.{ReaderState, Stands}
 use Rattle.resp_core.specs.Stream.{HasNoRefusal, Splits}
 use Rattle.resp_core.specs.declared.error.RespError.{RespError}
-use Rattle.limits.specs.declared.messages.TheConstants.{CLIENT_MEMBERS}
+use Rattle.limits.specs.declared.messages.TheConstants.{MAX_CLIENT_MEMBERS}
 use Rattle.splitter.specs.Request.{Request, read, broken, request_of}
 use Rattle.splitter.specs.declared.request.Request.{Request as Request'}
 use Rattle.splitter.specs.Requests.{end_of}
@@ -53,7 +53,7 @@ pub record Holds (i : InboxState) (b : List ℕ) (rs : List Request) : Type 0 wh
 pub record HoldsBehind (i : InboxState) (b : List ℕ) (rs : List Request) : Type 0 where
   pub first : List Tree
   pub own : List ℕ
-  pub splits : Splits CLIENT_MEMBERS b first own
+  pub splits : Splits MAX_CLIENT_MEMBERS b first own
   pub given : List Request
   pub holds : Holds i own given
   pub requests : rs ≡ map read first ++ given

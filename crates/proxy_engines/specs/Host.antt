@@ -4,7 +4,7 @@ use Rattle.std.specs.Io.KnownBytes.{Consumes, Appends}
 use Rattle.resp_core.specs.Tree.{Tree}
 use Rattle.resp_core.specs.Value.{tree_of}
 use Rattle.resp_core.specs.declared.value.Value.{Value}
-use Rattle.limits.specs.declared.messages.TheConstants.{HOST_MEMBERS}
+use Rattle.limits.specs.declared.messages.TheConstants.{MAX_HOST_MEMBERS}
 use Rattle.splitter.specs.Request.{Request, read}
 use Rattle.proxy_history.specs.History.{History, Step, times, is_fault, epoch}
 use Rattle.proxy_history.specs.Replies.{replies_from}
@@ -45,7 +45,7 @@ waiting_requests (Some v) = read (tree_of v) ∷ []
 pub record HoldsLink (k : LinkState) (came : List Tree) (b : List ℕ) : Type 0 where
   pub given : List Request
   pub holds : Holds k.inbox b given
-  pub most_is : k.inbox.values.most ≡ HOST_MEMBERS
+  pub most_is : k.inbox.values.most ≡ MAX_HOST_MEMBERS
   pub given_are : given ≡ map read came ++ (waiting_requests k.next ++ refusal_requests k.inbox.values.refusal)
 
 -- what a link took, what it was given, and the values that came; without a link nothing

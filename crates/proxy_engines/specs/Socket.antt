@@ -2,7 +2,7 @@
 use Rattle.std.specs.Prelude.{◌≡◌, ℕ, true, false, List, [], ◌∷◌, ◌++◌, Option, map}
 use Rattle.resp_core.specs.Tree.{Tree}
 use Rattle.resp_core.specs.Stream.{Splits}
-use Rattle.limits.specs.declared.messages.TheConstants.{CLIENT_MEMBERS}
+use Rattle.limits.specs.declared.messages.TheConstants.{MAX_CLIENT_MEMBERS}
 use Rattle.splitter.specs.Request.{Request, read}
 use Rattle.splitter.specs.Requests.{AreRequests, up_to_last}
 use Rattle.proxy_history.specs.History.{History, accepted_count, handed_count, is_closed}
@@ -15,7 +15,7 @@ use Rattle.proxy_engines.specs.declared.client.Stage.{Stage}
 
 -- these bytes are a rest: behind whatever reader, an end with it was given them and has given the request that waits alone
 pub record IsRest (r : RestState) (b : List ℕ) : Type 0 where
-  pub most_is : r.values.most ≡ CLIENT_MEMBERS
+  pub most_is : r.values.most ≡ MAX_CLIENT_MEMBERS
   pub holds : (left : Option (List ℕ)) (counts : Counts) → HoldsBehind (end_with left counts r) b (waiting_requests r.next)
 
 -- A connection was closed with all answered, and left this rest. The bytes are the texts of what it asked, none of which
@@ -24,7 +24,7 @@ pub record IsLeft (c : ℕ) (H : History) (taken b : List ℕ) (r : RestState) :
   pub asked : List Tree
   pub rest : List ℕ
   pub asked_are : asked_requests c H ≡ map read asked
-  pub splits : Splits CLIENT_MEMBERS b asked rest
+  pub splits : Splits MAX_CLIENT_MEMBERS b asked rest
   pub goes_on : NoneFinishes (asked_requests c H)
   pub stands : IsRest r rest
   pub taken_is : taken ≡ transcript c H

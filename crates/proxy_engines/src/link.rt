@@ -1,6 +1,6 @@
 //! A link to a host.
 ghost use Rattle.std.specs.Prelude.{◌≡◌, ◌≢◌, ◌⊎◌, ℕ, [], Option, Some, None, IfOk, IfErr, OnErr, true, false};
-ghost use Rattle.limits.specs.declared.messages.TheConstants.{HOST_MEMBERS};
+ghost use Rattle.limits.specs.declared.messages.TheConstants.{MAX_HOST_MEMBERS};
 ghost use Rattle.proxy_history.specs.History.{History};
 ghost use Rattle.proxy_history.specs.declared.event.Event.{Event};
 ghost use Rattle.proxy_history.specs.declared.refusal.Refusal.{Refusal};
@@ -102,7 +102,7 @@ impl<R: ReadTally, W: WriteTally> Link<R, W> {
     /// A link before any read or write. Without memory both ends come back.
     pub(crate) fn new(alloc: Global, reader: R, writer: W) -> Result<Link<R, W>, (R, W)>
         ensures inbox { IfOk result (λ k. (k.inbox.left ≡ R.remaining reader)
-            × (k.inbox.values.most ≡ HOST_MEMBERS) × (k.inbox.values.refusal ≡ None)) }
+            × (k.inbox.values.most ≡ MAX_HOST_MEMBERS) × (k.inbox.values.refusal ≡ None)) }
         ensures holds { IfOk result (λ k. Holds k.inbox [] []) }
         ensures held { IfOk result (λ k. k.held ≡ W.contents writer) }
         ensures next { IfOk result (λ k. k.next ≡ None) }

@@ -2,7 +2,7 @@
 use Rattle.std.specs.Prelude.{ℕ, List}
 use Rattle.limits.specs.declared.queues.TheConstants.{MAX_WAITING}
 use Rattle.limits.specs.declared.queues.TheConstants.{MAX_COMMANDS}
-use Rattle.limits.specs.declared.generations.TheConstants.{MAX_STEPS, MAX_BYTES}
+use Rattle.limits.specs.declared.journals.TheConstants.{MAX_STEPS, MAX_BYTES}
 use Rattle.ketama.specs.Continuum.{Continuum}
 use Rattle.ketama.specs.Key.{point_of}
 use Rattle.ejector.specs.declared.settings.Rules.{Rules}

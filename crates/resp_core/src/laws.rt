@@ -5,7 +5,7 @@ ghost use Rattle.resp_core.specs.Laws.{NoTextBeginsAnother, TextIsRead, Spelling
 use crate::progress::{MAX_COPY_BLOCK, MAX_IDLE, MAX_KEPT};
 use crate::reader::Limits;
 use crate::texts::MAX_TEXT_BLOCK;
-use limits::{CLIENT_MEMBERS, HOST_MEMBERS};
+use limits::{MAX_CLIENT_MEMBERS, MAX_HOST_MEMBERS};
 
 /// No text begins another, so a stream can be read without looking ahead.
 pub fn no_text_begins_another()
@@ -79,8 +79,8 @@ pub fn values_go_on()
 
 /// The most members of an array: 1,024 from a client, 65,536 from a host.
 pub fn members_are_limited()
-    ensures client { (CLIENT_MEMBERS ≡ 1024) × (Limits.CLIENT.array ≡ CLIENT_MEMBERS) }
-    ensures host { (HOST_MEMBERS ≡ 65536) × (Limits.HOST.array ≡ HOST_MEMBERS) }
+    ensures client { (MAX_CLIENT_MEMBERS ≡ 1024) × (Limits.CLIENT.array ≡ MAX_CLIENT_MEMBERS) }
+    ensures host { (MAX_HOST_MEMBERS ≡ 65536) × (Limits.HOST.array ≡ MAX_HOST_MEMBERS) }
 {}
 
 /// Limits of memory kept besides the values. A payload that shares its buffer keeps at most eight times its bytes. A

@@ -11,7 +11,7 @@ ghost use Rattle.resp_core.specs.Grammar.{max_text};
 use crate::error::RespError;
 use crate::progress::{Halt, Progress};
 use crate::value::Value;
-use limits::{CLIENT_MEMBERS, HOST_MEMBERS};
+use limits::{MAX_CLIENT_MEMBERS, MAX_HOST_MEMBERS};
 use std::alloc::Global;
 use std::marker::Model;
 
@@ -29,12 +29,12 @@ pub struct Limits {
 impl Limits {
     /// A client's commands: arrays of at most 1,024 members.
     pub const CLIENT: Limits = Limits {
-        array: CLIENT_MEMBERS,
+        array: MAX_CLIENT_MEMBERS,
     };
 
     /// A host's replies: arrays of at most 65,536 members.
     pub const HOST: Limits = Limits {
-        array: HOST_MEMBERS,
+        array: MAX_HOST_MEMBERS,
     };
 }
 

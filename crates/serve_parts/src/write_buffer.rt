@@ -12,7 +12,7 @@ use std::marker::Model;
 use std::{io, mem};
 
 // A write interrupted this often in a row has failed.
-const MAX_TRIES: u32 = 1_000;
+const MAX_INTERRUPTIONS: u32 = 1_000;
 
 /// A writer, and the bytes buffered for it.
 ///
@@ -77,7 +77,7 @@ fn write_once<W: Write>(writer: &mut W, bytes: &[u8]) -> io::Result<usize>
     ensures bytes { WriteAppends (W.contents writer.old) (W.contents writer.new) result bytes.now }
     ensures interrupted { IfErr result (λ e. error_kind e ≢ ErrorKind.Interrupted) }
 {
-    for _ in 0..MAX_TRIES {
+    for _ in 0..MAX_INTERRUPTIONS {
         let told = writer.write(bytes);
         if !is_interrupted(&told) {
             return told;

@@ -13,7 +13,7 @@ use Rattle.command_table.specs.Table.{Row, rows, row_named}
 use Rattle.command_table.specs.declared.Kind.{Kind}
 use Rattle.command_table.specs.declared.Kind.TheVariants.{Ping, Echo, Quit, One, SplitGet, SplitSet, SplitSum}
 use Rattle.command_table.proofs.CallerLemmas.{found_stands_in_table}
-use Rattle.limits.specs.declared.messages.TheConstants.{CLIENT_MEMBERS}
+use Rattle.limits.specs.declared.messages.TheConstants.{MAX_CLIENT_MEMBERS}
 use Rattle.splitter.specs.declared.plans.Join.{Join}
 use Rattle.splitter.specs.declared.plans.PartPlan.{PartPlan}
 use Rattle.splitter.specs.Request.{read, broken}
@@ -85,14 +85,14 @@ kept_words : (ws : Words) → 0 < length ws → All (Keeps ws) (commands_by_row 
 kept_words [] l = absurd (omega (arith, l))
 kept_words (w0 ∷ rest) l = kept_row (row_named w0) w0 rest refl
 
-of_tree : (t : Tree) (ws : Words) (commands : List Words) → t ≡ command_of ws → All (Keeps ws) commands → IsWithin CLIENT_MEMBERS max_depth t
-    → All (λ words. IsWithin CLIENT_MEMBERS max_depth (command_of words) × (length (text (command_of words)) ≤ length (text t))) commands
+of_tree : (t : Tree) (ws : Words) (commands : List Words) → t ≡ command_of ws → All (Keeps ws) commands → IsWithin MAX_CLIENT_MEMBERS max_depth t
+    → All (λ words. IsWithin MAX_CLIENT_MEMBERS max_depth (command_of words) × (length (text (command_of words)) ≤ length (text t))) commands
 of_tree t ws commands is all within k d l =
-    let (keeps, short) = all k d l (subst (λ (z : Tree). IsWithin CLIENT_MEMBERS max_depth z) is within) in
+    let (keeps, short) = all k d l (subst (λ (z : Tree). IsWithin MAX_CLIENT_MEMBERS max_depth z) is within) in
     (keeps, subst (λ (z : Tree). length (text (command_of (get_or commands k d))) ≤ length (text z)) (sym is) short)
 
 pub commands_keep_limits : CommandsKeepLimits
 commands_keep_limits t within = elim (cases_Bool (is_command t)) [
   | inl h ↦ rw h (of_tree t (words_of t) (commands_by_row (row_named (word (words_of t) 0)) (words_of t)) (command_words t h) (kept_words (words_of t) (some_words t h)) within)
-  | inr h ↦ rw h (all_none (λ words. IsWithin CLIENT_MEMBERS max_depth (command_of words) × (length (text (command_of words)) ≤ length (text t))))
+  | inr h ↦ rw h (all_none (λ words. IsWithin MAX_CLIENT_MEMBERS max_depth (command_of words) × (length (text (command_of words)) ≤ length (text t))))
 ]

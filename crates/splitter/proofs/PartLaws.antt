@@ -18,7 +18,7 @@ use Rattle.command_table.specs.Table.{Row, rows, row_named}
 use Rattle.command_table.specs.declared.Kind.{Kind}
 use Rattle.command_table.specs.declared.Kind.TheVariants.{Ping, Echo, Quit, One, SplitGet, SplitSet, SplitSum}
 use Rattle.command_table.proofs.CallerLemmas.{found_stands_in_table}
-use Rattle.limits.specs.declared.messages.TheConstants.{CLIENT_MEMBERS}
+use Rattle.limits.specs.declared.messages.TheConstants.{MAX_CLIENT_MEMBERS}
 use Rattle.splitter.specs.declared.plans.Join.{Join}
 use Rattle.splitter.specs.declared.plans.Join.TheVariants.{Same, Get, Set, Sum}
 use Rattle.splitter.specs.declared.plans.PartPlan.{PartPlan}
@@ -91,11 +91,11 @@ command_of-is ws l =
 
 -- a part of a command of these words, which keeps the limits that it keeps and is no longer
 abbrev IsPartOf : Words → PartPlan → Type 0
-IsPartOf ws p = (words : Words) × IsPart p words × (IsWithin CLIENT_MEMBERS max_depth (command_of ws) → IsWithin CLIENT_MEMBERS max_depth (command_of words) × (length p.text ≤ length (text (command_of ws))))
+IsPartOf ws p = (words : Words) × IsPart p words × (IsWithin MAX_CLIENT_MEMBERS max_depth (command_of ws) → IsWithin MAX_CLIENT_MEMBERS max_depth (command_of words) × (length p.text ≤ length (text (command_of ws))))
 
 -- these words make a command that keeps the limits that the command of those words keeps, and is no longer
 abbrev pub Keeps : Words → Words → Type 0
-Keeps ws words = IsWithin CLIENT_MEMBERS max_depth (command_of ws) → IsWithin CLIENT_MEMBERS max_depth (command_of words) × (length (text (command_of words)) ≤ length (text (command_of ws)))
+Keeps ws words = IsWithin MAX_CLIENT_MEMBERS max_depth (command_of ws) → IsWithin MAX_CLIENT_MEMBERS max_depth (command_of words) × (length (text (command_of words)) ≤ length (text (command_of ws)))
 
 whole_part : (ws : Words) (at : ℕ) → 0 < at → at < length ws → IsPartOf ws (part_at at ws)
 whole_part ws at low high = (
@@ -116,7 +116,7 @@ unfolding words_len
 words_len-none = refl
 
 -- of a command within limits the number of words has a digit
-counted : (ws : Words) → IsWithin CLIENT_MEMBERS max_depth (command_of ws) → 0 < length (decimal (length ws))
+counted : (ws : Words) → IsWithin MAX_CLIENT_MEMBERS max_depth (command_of ws) → 0 < length (decimal (length ws))
 counted ws h = some_digit (length ws) (omega (arith, h.0, length_members bulk ws))
 
 key_text_short : (w0 : List ℕ) (rest : Words) (name key : List ℕ) → word_len name ≤ word_len w0 → word_len key ≤ words_len rest → 0 < length (decimal (length (w0 ∷ rest))) → length (text (command_of (name ∷ key ∷ []))) ≤ length (text (command_of (w0 ∷ rest)))
@@ -135,7 +135,7 @@ pub record Names (name w0 : List ℕ) : Type 0 where
 -- a key alone
 pub key_keeps : (w0 : List ℕ) (rest : Words) (name : List ℕ) → Names name w0 → (k : ℕ) (d : List ℕ) → k < length rest → Keeps (w0 ∷ rest) (name ∷ get_or rest k d ∷ [])
 key_keeps w0 rest name n k d l = λ h. let (_, (first_within, rest_within)) = h in (
-  (omega arith, (omega (arith, n.small, first_within), (word_within CLIENT_MEMBERS 7 rest k d rest_within l, tt))),
+  (omega arith, (omega (arith, n.small, first_within), (word_within MAX_CLIENT_MEMBERS 7 rest k d rest_within l, tt))),
   key_text_short w0 rest name (get_or rest k d) (n.short first_within) (word_short rest k d l) (counted (w0 ∷ rest) h),
 )
 
@@ -148,7 +148,7 @@ key_part w0 rest name n k d l = (
 
 -- what holds of a key and its value among words
 abbrev pub IsPairIn : Words → List ℕ × List ℕ → Type 0
-IsPairIn ws p = (AreWithin CLIENT_MEMBERS 7 (trees_of (map bulk ws)) → (length p.0 ≤ max_bulk) × (length p.1 ≤ max_bulk)) × (word_len p.0 + word_len p.1 ≤ words_len ws)
+IsPairIn ws p = (AreWithin MAX_CLIENT_MEMBERS 7 (trees_of (map bulk ws)) → (length p.0 ≤ max_bulk) × (length p.1 ≤ max_bulk)) × (word_len p.0 + word_len p.1 ≤ words_len ws)
 
 pair_further : (a b : List ℕ) (ws : Words) (p : List ℕ × List ℕ) → IsPairIn ws p → IsPairIn (a ∷ b ∷ ws) p
 pair_further a b ws p h = (λ g. let (_, (_, rest_within)) = g in h.0 rest_within, omega (arith, h.1, words_len-more a (b ∷ ws), words_len-more b ws))
@@ -292,7 +292,7 @@ pub parts_keep_limits : PartsKeepLimits
 parts_keep_limits t how ps e within k d l =
     let (is, (some, all)) = planned t how ps e in
     let (words, is_part, limits) = all k d l in
-    let (keeps, short) = limits (subst (λ (z : Tree). IsWithin CLIENT_MEMBERS max_depth z) is within) in
+    let (keeps, short) = limits (subst (λ (z : Tree). IsWithin MAX_CLIENT_MEMBERS max_depth z) is within) in
     (words, is_part, keeps, subst (λ (z : Tree). length (get_or ps k d).text ≤ length (text z)) (sym is) short)
 
 -- a command is plain
@@ -300,11 +300,11 @@ pub plain_command : (ws : Words) → is_plain_tree (command_of ws) ≡ true
 plain_command [] = refl
 plain_command (w ∷ ws) = plain_command ws
 
-read_first : (t : Tree) (words : Words) (p : PartPlan) → IsPart p words → IsWithin CLIENT_MEMBERS max_depth (command_of words) → length p.text ≤ length (text t) → length (text t) ≤ max_text → IsReadFirst p.text (command_of words)
+read_first : (t : Tree) (words : Words) (p : PartPlan) → IsPart p words → IsWithin MAX_CLIENT_MEMBERS max_depth (command_of words) → length p.text ≤ length (text t) → length (text t) ≤ max_text → IsReadFirst p.text (command_of words)
 read_first t words p part within short few more ts refused h =
     let is : p.text ≡ text (command_of words) = ap (λ z. z.text) part.part_is in
-    text_is_read_back CLIENT_MEMBERS (command_of words) more ts refused (omega arith) within (plain_command words) (omega (arith, ap length is, short, few))
-    (subst (λ (z : List ℕ). Holds CLIENT_MEMBERS (z ++ more) ts refused) is h)
+    text_is_read_back MAX_CLIENT_MEMBERS (command_of words) more ts refused (omega arith) within (plain_command words) (omega (arith, ap length is, short, few))
+    (subst (λ (z : List ℕ). Holds MAX_CLIENT_MEMBERS (z ++ more) ts refused) is h)
 
 pub parts_are_read_back : PartsAreReadBack
 parts_are_read_back t how ps e within few k d l =

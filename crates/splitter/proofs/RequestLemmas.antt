@@ -2,7 +2,7 @@
 use Rattle.std.proofs.Common.{◌≡◌, true, false, List, [], ◌∷◌, ◌++◌, map, inl, inr, refl, sym, ap, ◌∙◌, append_assoc}
 use Rattle.std.specs.List.{list_any}
 use Rattle.std.proofs.lemmas.Bool.{cases_Bool}
-use Rattle.limits.specs.declared.messages.TheConstants.{CLIENT_MEMBERS}
+use Rattle.limits.specs.declared.messages.TheConstants.{MAX_CLIENT_MEMBERS}
 use Rattle.std.proofs.lemmas.List.{map-append}
 use Rattle.resp_core.proofs.CallerLemmas.{each_stream_holds, one_holding, values_go_on}
 use Rattle.splitter.specs.Request.{Request, read}
@@ -46,17 +46,17 @@ up_to_last-first (x ∷ xs) r others h e =
     ]
 
 pub each_stream_asks : EachStreamAsks
-each_stream_asks b = let (ts, refused, holds) = each_stream_holds CLIENT_MEMBERS b in (map read ts ++ end_of refused, (ts, refused, holds, refl))
+each_stream_asks b = let (ts, refused, holds) = each_stream_holds MAX_CLIENT_MEMBERS b in (map read ts ++ end_of refused, (ts, refused, holds, refl))
 
 pub one_asking : OneAsking
 one_asking b rs qs (ts, refused, holds, is) (us, other, held, same) =
-    let k = one_holding CLIENT_MEMBERS b ts us refused other holds held in
+    let k = one_holding MAX_CLIENT_MEMBERS b ts us refused other holds held in
     is ∙ ap (λ z. map read z ++ end_of refused) k.0 ∙ ap (λ z. map read us ++ end_of z) k.1 ∙ sym same
 
 pub requests_go_on : RequestsGoOn
 requests_go_on b more rest ts rs splits (us, refused, holds, is) = (
   ts ++ us,
   refused,
-  values_go_on CLIENT_MEMBERS b more rest ts us refused splits holds,
+  values_go_on MAX_CLIENT_MEMBERS b more rest ts us refused splits holds,
   ap (λ z. map read ts ++ z) is ∙ sym (append_assoc (map read ts) (map read us) (end_of refused)) ∙ ap (λ z. z ++ end_of refused) (sym (map-append read ts us)),
 )

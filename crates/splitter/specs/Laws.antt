@@ -7,7 +7,7 @@ use Rattle.resp_core.specs.Grammar.{max_text, max_depth}
 use Rattle.resp_core.specs.Within.{IsWithin}
 use Rattle.resp_core.specs.Command.{is_command}
 use Rattle.resp_core.specs.Laws.{Holds}
-use Rattle.limits.specs.declared.messages.TheConstants.{CLIENT_MEMBERS}
+use Rattle.limits.specs.declared.messages.TheConstants.{MAX_CLIENT_MEMBERS}
 use Rattle.splitter.specs.declared.plans.Join.{Join}
 use Rattle.splitter.specs.declared.plans.PartPlan.{PartPlan}
 use Rattle.splitter.specs.Request.{Request, read}
@@ -32,7 +32,7 @@ PartsAreCommands = (t : Tree) (how : Join) (ps : List PartPlan) → plan_of (rea
 
 -- The parts of a command that keeps a client's limits keep them too, and none has a longer text than the command.
 abbrev pub PartsKeepLimits : Type 0
-PartsKeepLimits = (t : Tree) (how : Join) (ps : List PartPlan) → plan_of (read t) ≡ parts how ps → IsWithin CLIENT_MEMBERS max_depth t → All (λ p. (words : Words) × IsPart p words × IsWithin CLIENT_MEMBERS max_depth (command_of words) × (length p.text ≤ length (text t))) ps
+PartsKeepLimits = (t : Tree) (how : Join) (ps : List PartPlan) → plan_of (read t) ≡ parts how ps → IsWithin MAX_CLIENT_MEMBERS max_depth t → All (λ p. (words : Words) × IsPart p words × IsWithin MAX_CLIENT_MEMBERS max_depth (command_of words) × (length p.text ≤ length (text t))) ps
 
 -- Parts are those of the commands that hosts are asked for a request.
 abbrev pub PartsAreOfCommands : Type 0
@@ -40,15 +40,15 @@ PartsAreOfCommands = (r : Request) (how : Join) (ps : List PartPlan) → plan_of
 
 -- The commands that hosts are asked for a command that keeps a client's limits keep them too, and none is longer than it.
 abbrev pub CommandsKeepLimits : Type 0
-CommandsKeepLimits = (t : Tree) → IsWithin CLIENT_MEMBERS max_depth t → All (λ words. IsWithin CLIENT_MEMBERS max_depth (command_of words) × (length (text (command_of words)) ≤ length (text t))) (commands_of (read t))
+CommandsKeepLimits = (t : Tree) → IsWithin MAX_CLIENT_MEMBERS max_depth t → All (λ words. IsWithin MAX_CLIENT_MEMBERS max_depth (command_of words) × (length (text (command_of words)) ≤ length (text t))) (commands_of (read t))
 
 -- whatever follows these bytes in a stream, under a client's limits its first value is this one
 abbrev pub IsReadFirst : List ℕ → Tree → Type 0
-IsReadFirst b t = (more : List ℕ) (ts : List Tree) (refused : Bool) → Holds CLIENT_MEMBERS (b ++ more) ts refused → (others : List Tree) × (ts ≡ t ∷ others)
+IsReadFirst b t = (more : List ℕ) (ts : List Tree) (refused : Bool) → Holds MAX_CLIENT_MEMBERS (b ++ more) ts refused → (others : List Tree) × (ts ≡ t ∷ others)
 
 -- A host that reads with a client's limits reads the text of a part as the part's command.
 abbrev pub PartsAreReadBack : Type 0
-PartsAreReadBack = (t : Tree) (how : Join) (ps : List PartPlan) → plan_of (read t) ≡ parts how ps → IsWithin CLIENT_MEMBERS max_depth t → length (text t) ≤ max_text → All (λ p. (words : Words) × IsPart p words × IsReadFirst p.text (command_of words)) ps
+PartsAreReadBack = (t : Tree) (how : Join) (ps : List PartPlan) → plan_of (read t) ≡ parts how ps → IsWithin MAX_CLIENT_MEMBERS max_depth t → length (text t) ≤ max_text → All (λ p. (words : Words) × IsPart p words × IsReadFirst p.text (command_of words)) ps
 
 -- the value of a plan, if it has one, can be written
 abbrev pub has_plain_value : Plan → Bool
@@ -74,4 +74,4 @@ OneAsking = (b : List ℕ) (rs qs : List Request) → AreRequests b rs → AreRe
 
 -- A client's stream that is cut behind some of its values asks these, and then what the rest asks with whatever follows it.
 abbrev pub RequestsGoOn : Type 0
-RequestsGoOn = (b more rest : List ℕ) (ts : List Tree) (rs : List Request) → Splits CLIENT_MEMBERS b ts rest → AreRequests (rest ++ more) rs → AreRequests (b ++ more) (map read ts ++ rs)
+RequestsGoOn = (b more rest : List ℕ) (ts : List Tree) (rs : List Request) → Splits MAX_CLIENT_MEMBERS b ts rest → AreRequests (rest ++ more) rs → AreRequests (b ++ more) (map read ts ++ rs)

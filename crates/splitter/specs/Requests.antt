@@ -2,7 +2,7 @@
 use Rattle.std.specs.Prelude.{◌≡◌, ℕ, Bool, true, false, if◌then◌else◌, List, [], ◌∷◌, ◌++◌, map}
 use Rattle.resp_core.specs.Tree.{Tree}
 use Rattle.resp_core.specs.Laws.{Holds}
-use Rattle.limits.specs.declared.messages.TheConstants.{CLIENT_MEMBERS}
+use Rattle.limits.specs.declared.messages.TheConstants.{MAX_CLIENT_MEMBERS}
 use Rattle.splitter.specs.Request.{Request, read, broken}
 use Rattle.splitter.specs.Plan.{plan_of, is_last}
 
@@ -13,7 +13,7 @@ end_of true = broken ∷ []
 
 -- the requests of a client's stream: its values in order, and then a broken one where a byte behind them is refused
 abbrev pub AreRequests : List ℕ → List Request → Type 0
-AreRequests b rs = (ts : List Tree) × (refused : Bool) × Holds CLIENT_MEMBERS b ts refused × (rs ≡ map read ts ++ end_of refused)
+AreRequests b rs = (ts : List Tree) × (refused : Bool) × Holds MAX_CLIENT_MEMBERS b ts refused × (rs ≡ map read ts ++ end_of refused)
 
 -- whether a connection finishes with the request: no later one of it is accepted
 abbrev pub finishes : Request → Bool
