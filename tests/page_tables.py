@@ -94,7 +94,7 @@ def differences_of_settings():
 
 
 def differences_of_metrics():
-    code = set(re.findall(r'name: "(redproxy_\w+)"', text_of("crates", "admin_pages", "src", "metric.rt")))
+    code = set(re.findall(r'name: "(redproxy_\w+)"', text_of("crates", "proxy_pages", "src", "metric.rt")))
     told = {row[0].split("{")[0] for row in rows(OPERATING, "Numbers while it runs") if row[0].startswith("redproxy_")}
     for name in sorted(code - told):
         yield f"OPERATING lacks the metric {name}"

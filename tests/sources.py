@@ -5,7 +5,7 @@ import re
 TOP = os.path.dirname(os.path.dirname(os.path.abspath(__file__)))
 CRATES = os.path.join(TOP, "crates")
 # Crates without a public contract of their own.
-PLAIN = ("rows", "benches", "command_line", "proxy_main")
+PLAIN = ("test_scenarios", "test_components", "test_serve", "benches", "proxy_command_line", "proxy_main")
 
 
 def text_of(path):
@@ -22,12 +22,12 @@ def files_of(crate, folder, suffix):
 
 
 def crates(but=()):
-    """The crates but these and test crates."""
-    return [name for name in sorted(os.listdir(CRATES)) if not name.endswith("_tests") and name not in but]
+    """The crates but these."""
+    return [name for name in sorted(os.listdir(CRATES)) if name not in but]
 
 
 def sources(but=PLAIN):
-    """The sources of each crate but these and test crates, as pairs of the crate's name and a text."""
+    """The sources of each crate but these, as pairs of the crate's name and a text."""
     return [(crate, text) for crate in crates(but) for _, text in files_of(crate, "src", ".rt")]
 
 

@@ -3,7 +3,7 @@ use Rattle.std.proofs.Common.{◌≡◌, ℕ, zero, suc, ◌+◌, ◌*◌, ◌<�
 use Rattle.std.specs.List.{range_with_len}
 use Rattle.std.proofs.lemmas.Bool.{cases_Bool, or_cases, and_parts, eqb-true, ltb-true}
 use Rattle.std.proofs.lemmas.List.FromFn.{fill_by_all, length-map-range_with_len}
-use Rattle.list_words.proofs.CallerLemmas.{count_by-map, count_by-range_most, count_by-range_same, count_by-or, count_by-range_one, count_by-range_last}
+use Rattle.list_lemmas.proofs.CallerLemmas.{count_by-map, count_by-range_most, count_by-range_same, count_by-or, count_by-range_one, count_by-range_last}
 use Rattle.ejector.proofs.Ranges.{among_filter}
 use Rattle.ejector.specs.declared.mark.Mark.{Mark}
 use Rattle.ejector.specs.declared.mark.Mark.TheVariants.{Good, Bad, Sweep}

@@ -5,7 +5,7 @@ use Rattle.std.proofs.lemmas.List.{ext_get_or, length-set, get_or-set_same, get_
 use Rattle.std.proofs.lemmas.Simd.{map-map}
 use Rattle.std.proofs.lemmas.List.Sums.{length-filter}
 use Rattle.std.proofs.lemmas.List.FromFn.{length-map-range_with_len, get_or-map-range_with_len}
-use Rattle.list_words.proofs.CallerLemmas.{map-range_same, count_by-map, count_by-range_same}
+use Rattle.list_lemmas.proofs.CallerLemmas.{map-range_same, count_by-map, count_by-range_same}
 use Rattle.ejector.specs.declared.answer.Trip.TheVariants as answer
 use Rattle.ejector.specs.declared.mark.Mark.TheVariants.{Good, Bad, Sweep}
 use Rattle.ejector.specs.declared.host.HostState.{HostState}

@@ -2,7 +2,7 @@
 use Rattle.std.proofs.Common.{◌≡◌, ℕ, zero, suc, ◌+◌, ◌-◌, ◌<◌, ◌≤◌, Bool, true, false, ◌&&◌, ◌||◌, ◌==◌, List, [], ◌∷◌, ◌++◌, length, count_by, replicate, refl, sym, ap, ◌∙◌, subst, inl, inr, arith, if◌then◌else◌}
 use Rattle.std.proofs.lemmas.Bool.{or_cases, eqb-true}
 use Rattle.std.proofs.lemmas.List.{length-replicate, take_all}
-use Rattle.list_words.proofs.CallerLemmas.{map-range_same, count_by-cons}
+use Rattle.list_lemmas.proofs.CallerLemmas.{map-range_same, count_by-cons}
 use Rattle.ejector.specs.declared.mark.Mark.{Mark}
 use Rattle.ejector.specs.declared.host.HostState.{HostState}
 use Rattle.ejector.specs.declared.settings.Rules.{Rules}

@@ -5,7 +5,7 @@ use Rattle.std.proofs.lemmas.Bool.{cases_Bool, or_parts, cases_lt, lt-ltb, le-lt
 use Rattle.std.proofs.lemmas.List.{take_all, length_push, length-take-le, take-append-le, reverse-append}
 use Rattle.std.proofs.lemmas.List.Sums.{sum_by-cons, sum_by_push}
 use Rattle.std.proofs.lemmas.List.FromFn.{get_or-map-range_with_len}
-use Rattle.list_words.proofs.CallerLemmas.{map-range_same}
+use Rattle.list_lemmas.proofs.CallerLemmas.{map-range_same}
 use Rattle.ejector.specs.declared.mark.Mark.{Mark}
 use Rattle.ejector.specs.declared.mark.Mark.TheVariants.{Good, Bad, Sweep}
 use Rattle.ejector.specs.declared.host.HostState.{HostState}

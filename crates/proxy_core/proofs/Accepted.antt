@@ -4,7 +4,7 @@ use Rattle.std.specs.Prelude.{slice_get}
 use Rattle.std.specs.Option.{option_and_then}
 use Rattle.std.proofs.lemmas.Bool.{false_from_ne_true, ltb-true}
 use Rattle.std.proofs.lemmas.List.{take_more, map-append, length-map, length-take-le, append_assoc}
-use Rattle.list_words.proofs.CallerLemmas.{changed_at-append}
+use Rattle.list_lemmas.proofs.CallerLemmas.{changed_at-append}
 use Rattle.resp_core.specs.Tree.{Tree}
 use Rattle.splitter.specs.declared.plans.Join.{Join}
 use Rattle.reply_queue.specs.Command.{AwaitedCommand, with_value}

@@ -3,7 +3,7 @@ use Rattle.std.proofs.Common.{◌≡◌, ◌⊎◌, ℕ, ◌==◌, ◌&&◌, not
 use Rattle.std.specs.List.{list_any}
 use Rattle.std.proofs.lemmas.Bool.{cases_Bool, not-true, eqb-true, and_parts}
 use Rattle.std.proofs.lemmas.List.{append-nil}
-use Rattle.list_words.proofs.CallerLemmas.{Contains-filter, Contains-filter_passing, filter-passes, list_any-true, list_any-member, list_any-none, list_any-false}
+use Rattle.list_lemmas.proofs.CallerLemmas.{Contains-filter, Contains-filter_passing, filter-passes, list_any-true, list_any-member, list_any-none, list_any-false}
 use Rattle.resp_core.specs.Tree.{Tree}
 use Rattle.splitter.specs.declared.request.Request.{Request}
 use Rattle.proxy_history.specs.Setting.{Setting}

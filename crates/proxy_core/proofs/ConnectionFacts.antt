@@ -6,7 +6,7 @@ use Rattle.std.proofs.lemmas.Bool.{cases_Bool, ltb-true, ltb-false}
 use Rattle.std.proofs.lemmas.List.{length-drop}
 use Rattle.std.proofs.lemmas.List.FromFn.{length-map-range_with_len}
 use Rattle.std.proofs.lemmas.Option.{slice_get_past}
-use Rattle.list_words.proofs.CallerLemmas.{slice_get-table, slice_get-past_range}
+use Rattle.list_lemmas.proofs.CallerLemmas.{slice_get-table, slice_get-past_range}
 use Rattle.resp_core.specs.Tree.{null_bulk}
 use Rattle.resp_core.specs.Text.{text}
 use Rattle.splitter.specs.declared.request.Request.{Request}

@@ -1,7 +1,7 @@
 -- The connections where a host answers.
 use Rattle.std.proofs.Common.{◌≡◌, ℕ, List, [], ◌∷◌, map, None, Contains, refl, sym, ap, ◌∙◌, subst, inl, inr}
 use Rattle.std.proofs.lemmas.Bool.{cases_Bool}
-use Rattle.list_words.proofs.CallerLemmas.{Contains-nil, map-range_same, Contains-first, Contains-cases}
+use Rattle.list_lemmas.proofs.CallerLemmas.{Contains-nil, map-range_same, Contains-first, Contains-cases}
 use Rattle.resp_core.specs.Value.{tree_of}
 use Rattle.resp_core.specs.declared.value.Value.{Value}
 use Rattle.upstream_pipe.specs.declared.part.Owner.{Owner}

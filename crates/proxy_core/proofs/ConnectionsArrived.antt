@@ -2,7 +2,7 @@
 use Rattle.std.proofs.Common.{◌≡◌, ℕ, zero, suc, ◌+◌, ◌≤◌, Bool, true, false, ◌==◌, ◌||◌, List, [], ◌∷◌, ◌++◌, length, map, drop, refl, sym, ap, ◌∙◌, inl, inr, arith}
 use Rattle.std.specs.Prelude.{option_map}
 use Rattle.std.proofs.lemmas.Bool.{cases_Bool, and_left, eq-eqb}
-use Rattle.list_words.proofs.CallerLemmas.{changed_at-table}
+use Rattle.list_lemmas.proofs.CallerLemmas.{changed_at-table}
 use Rattle.splitter.specs.Plan.{Plan, here, leave, parts, is_last}
 use Rattle.splitter.specs.Join.{MayJoin}
 use Rattle.splitter.specs.declared.plans.Join.{Join}

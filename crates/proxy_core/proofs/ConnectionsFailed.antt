@@ -2,7 +2,7 @@
 use Rattle.std.proofs.Common.{◌≡◌, ℕ, false, List, [], ◌∷◌, ◌++◌, map, Contains, refl, sym, ap, ◌∙◌, subst}
 use Rattle.std.proofs.lemmas.List.{map-append}
 use Rattle.std.proofs.lemmas.List.Elements.{filter-append}
-use Rattle.list_words.proofs.CallerLemmas.{map-range_same, filter-passes, Contains-first, Contains-later}
+use Rattle.list_lemmas.proofs.CallerLemmas.{map-range_same, filter-passes, Contains-first, Contains-later}
 use Rattle.upstream_pipe.specs.declared.part.Owner.{Owner}
 use Rattle.upstream_pipe.specs.Pipe.{owner_in}
 use Rattle.proxy_history.specs.Setting.{Setting}

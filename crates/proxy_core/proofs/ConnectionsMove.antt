@@ -4,7 +4,7 @@ use Rattle.std.specs.Prelude.{option_map}
 use Rattle.std.proofs.Math.Seq.{drop-nil}
 use Rattle.std.proofs.lemmas.Bool.{cases_Bool, ne_eqb, eq-eqb}
 use Rattle.std.proofs.lemmas.List.FromFn.{map-range_with_len_more}
-use Rattle.list_words.proofs.CallerLemmas.{map-range_same, changed_at-table}
+use Rattle.list_lemmas.proofs.CallerLemmas.{map-range_same, changed_at-table}
 use Rattle.proxy_history.specs.Setting.{Setting}
 use Rattle.proxy_history.specs.History.{History, Step, openings, handed_count, is_closed, is_handing, is_closing, finishes, request_by}
 use Rattle.proxy_history.specs.Part.{Past}

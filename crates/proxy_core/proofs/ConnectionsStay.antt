@@ -3,7 +3,7 @@ use Rattle.std.proofs.Common.{◌≡◌, ℕ, ◌≤◌, nat_lt, List, [], ◌�
 use Rattle.std.specs.Prelude.{option_map}
 use Rattle.std.specs.List.{find, zip, range_with_len}
 use Rattle.std.proofs.lemmas.List.{append-nil}
-use Rattle.list_words.proofs.CallerLemmas.{map-same}
+use Rattle.list_lemmas.proofs.CallerLemmas.{map-same}
 use Rattle.resp_core.specs.Tree.{Tree}
 use Rattle.proxy_history.specs.Setting.{Setting}
 use Rattle.proxy_history.specs.History.{History, Step, openings, epoch}

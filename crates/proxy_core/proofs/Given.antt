@@ -3,7 +3,7 @@ use Rattle.std.proofs.Common.{◌≡◌, ℕ, zero, suc, ◌+◌, ◌-◌, ◌�
 use Rattle.std.specs.List.{list_any}
 use Rattle.std.proofs.lemmas.Bool.{le-ltb}
 use Rattle.std.proofs.lemmas.Option.{slice_get-map}
-use Rattle.list_words.proofs.CallerLemmas.{slice_get-table, Contains-first, Contains-later, list_any-false}
+use Rattle.list_lemmas.proofs.CallerLemmas.{slice_get-table, Contains-first, Contains-later, list_any-false}
 use Rattle.resp_core.specs.Tree.{Tree}
 use Rattle.splitter.specs.Plan.{Plan}
 use Rattle.splitter.specs.declared.request.Request.{Request}

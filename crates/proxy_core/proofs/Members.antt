@@ -2,7 +2,7 @@
 use Rattle.std.proofs.Common.{◌≡◌, ℕ, zero, suc, false, List, [], ◌∷◌, ◌++◌, length, drop, find, zip, None, Contains, refl, ◌∙◌}
 use Rattle.std.proofs.lemmas.Bool.{or_from}
 use Rattle.std.proofs.lemmas.List.Folds.{list_any-append}
-use Rattle.list_words.proofs.CallerLemmas.{Contains-first, Contains-later, Contains-drop, list_any-false, list_any-none}
+use Rattle.list_lemmas.proofs.CallerLemmas.{Contains-first, Contains-later, Contains-drop, list_any-false, list_any-none}
 use Rattle.proxy_history.specs.Part.{Part, is_same}
 use Rattle.proxy_history.specs.Laws.{AreApart}
 use Rattle.proxy_history.proofs.CallerLemmas.{is_same-sym_false as is_other_sym}

@@ -4,7 +4,7 @@ use Rattle.std.specs.Prelude.{option_map}
 use Rattle.std.specs.List.{find, zip, list_any}
 use Rattle.std.proofs.lemmas.Bool.{cases_Bool, and_left, and_parts, or_parts, or_from, eqb-true, ltb-true, false_from_ne_true}
 use Rattle.std.proofs.lemmas.List.Elements.{filter-append}
-use Rattle.list_words.proofs.CallerLemmas.{list_any-filter}
+use Rattle.list_lemmas.proofs.CallerLemmas.{list_any-filter}
 use Rattle.resp_core.specs.Tree.{Tree}
 use Rattle.splitter.specs.declared.plans.PartPlan.{PartPlan}
 use Rattle.proxy_history.specs.Setting.{Setting}

@@ -2,7 +2,7 @@
 use Rattle.std.proofs.Common.{◌≡◌, ℕ, zero, suc, ◌+◌, ◌<◌, ◌≤◌, ◌==◌, ◌&&◌, nat_lt, true, false, List, [], ◌∷◌, ◌++◌, length, filter, Option, Some, None, is_some, Contains, slice_get, option_and_then, option_map, refl, sym, ap, ◌∙◌, subst, inl, inr, arith}
 use Rattle.std.proofs.lemmas.Bool.{cases_Bool, cases_lt, ltb-true, and_parts, and_from, eq-eqb, eqb-true, not-false}
 use Rattle.std.proofs.lemmas.List.Elements.{filter-append}
-use Rattle.list_words.proofs.CallerLemmas.{slice_get-append, Contains-nil, Contains-cases, Contains-filter_passing, slice_get-member}
+use Rattle.list_lemmas.proofs.CallerLemmas.{slice_get-append, Contains-nil, Contains-cases, Contains-filter_passing, slice_get-member}
 use Rattle.resp_core.specs.Tree.{Tree}
 use Rattle.splitter.specs.Plan.{Plan, here, leave, parts}
 use Rattle.splitter.specs.Join.{join_of}

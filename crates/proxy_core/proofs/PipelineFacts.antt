@@ -4,7 +4,7 @@ use Rattle.std.specs.Option.{unwrap_or}
 use Rattle.std.proofs.lemmas.Bool.{cases_Bool, leb-false}
 use Rattle.std.proofs.lemmas.List.{length-map, length-drop, length-append}
 use Rattle.std.proofs.lemmas.List.FromFn.{length-map-range_with_len}
-use Rattle.list_words.proofs.CallerLemmas.{slice_get-table}
+use Rattle.list_lemmas.proofs.CallerLemmas.{slice_get-table}
 use Rattle.resp_core.specs.declared.value.Value.{Value}
 use Rattle.proxy_history.specs.Setting.{Setting, hosts}
 use Rattle.proxy_history.specs.History.{History, openings, epoch, is_opening, is_fault}

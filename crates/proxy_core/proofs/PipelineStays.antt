@@ -2,7 +2,7 @@
 use Rattle.std.proofs.Common.{◌≡◌, ℕ, false, List, [], ◌∷◌, ◌++◌, length, map, filter, drop, Option, refl, ap, ◌∙◌}
 use Rattle.std.proofs.lemmas.List.{append-nil}
 use Rattle.std.proofs.lemmas.List.Elements.{filter-append}
-use Rattle.list_words.proofs.CallerLemmas.{filter-same}
+use Rattle.list_lemmas.proofs.CallerLemmas.{filter-same}
 use Rattle.upstream_pipe.specs.declared.part.Owner.{Owner}
 use Rattle.upstream_pipe.specs.declared.part.Part.{Part as PipePart}
 use Rattle.proxy_history.specs.Setting.{Setting}

@@ -2,7 +2,7 @@
 use Rattle.std.proofs.Common.{◌≡◌, ◌≢◌, ℕ, zero, suc, ◌<◌, List, [], ◌∷◌, map, get_or, slice_set, length, refl, sym, ap, ◌∙◌, arith}
 use Rattle.std.specs.Prelude.{slice_index_or}
 use Rattle.std.proofs.lemmas.List.{length-map}
-use Rattle.list_words.proofs.CallerLemmas.{map-slice_set, map-slice_set-same}
+use Rattle.list_lemmas.proofs.CallerLemmas.{map-slice_set, map-slice_set-same}
 use Rattle.proxy_core.specs.Pipelines.{PipelineState, PipelineTable, state_of, room_of, table_of, pipeline_at, with_pipeline}
 use Rattle.proxy_core.specs.declared.pipeline.Pipeline.{Pipeline}
 

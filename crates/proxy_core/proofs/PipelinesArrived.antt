@@ -3,7 +3,7 @@ use Rattle.std.proofs.Common.{◌≡◌, ℕ, true, false, List, [], ◌∷◌, 
 use Rattle.std.specs.List.{range_with_len}
 use Rattle.std.proofs.lemmas.Bool.{cases_Bool, eq-eqb, and_right}
 use Rattle.std.proofs.lemmas.List.{append-nil, append_assoc, map-append}
-use Rattle.list_words.proofs.CallerLemmas.{map-same, changed_at-table}
+use Rattle.list_lemmas.proofs.CallerLemmas.{map-same, changed_at-table}
 use Rattle.resp_core.specs.Tree.{Tree}
 use Rattle.splitter.specs.Plan.{Plan, here, leave, parts}
 use Rattle.splitter.specs.declared.request.Request.{Request}

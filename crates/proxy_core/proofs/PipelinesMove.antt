@@ -5,7 +5,7 @@ use Rattle.std.proofs.Math.Seq.{drop-nil}
 use Rattle.std.proofs.lemmas.Bool.{cases_Bool, ne_eqb, eq-eqb, both_ways}
 use Rattle.std.proofs.lemmas.List.{append-nil, length-append}
 use Rattle.std.proofs.lemmas.Simd.{map-map}
-use Rattle.list_words.proofs.CallerLemmas.{map-same, changed_at-table}
+use Rattle.list_lemmas.proofs.CallerLemmas.{map-same, changed_at-table}
 use Rattle.resp_core.specs.declared.value.Value.{Value}
 use Rattle.resp_core.specs.Value.{tree_of}
 use Rattle.upstream_pipe.specs.declared.part.Owner.{Owner}

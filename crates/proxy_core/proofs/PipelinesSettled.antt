@@ -1,7 +1,7 @@
 -- A connection of which nothing is left to hand out has no part on any pipe.
 use Rattle.std.proofs.Common.{◌≡◌, ℕ, zero, suc, nat_lt, List, [], ◌∷◌, ◌++◌, length, map, filter, filter_map, Option, Some, None, option_and_then, slice_get, refl, sym, ap, ◌∙◌, inl, inr, subst, arith}
 use Rattle.std.proofs.lemmas.Bool.{cases_Bool, ne_eqb}
-use Rattle.list_words.specs.Lists.{changed_at}
+use Rattle.list_lemmas.specs.Lists.{changed_at}
 use Rattle.resp_core.specs.Tree.{Tree}
 use Rattle.upstream_pipe.specs.declared.part.Owner.{Owner}
 use Rattle.upstream_pipe.specs.declared.part.Part.{Part as PipePart}

@@ -3,7 +3,7 @@ use Rattle.std.proofs.Common.{◌≡◌, ℕ, ◌≤◌, Bool, true, false, not,
 use Rattle.std.specs.List.{list_any}
 use Rattle.std.proofs.lemmas.Bool.{cases_Bool, or_parts, false_from_ne_true, eqb-false}
 use Rattle.std.proofs.lemmas.List.{append-nil, length-append, map-append, drop-append-le}
-use Rattle.list_words.proofs.CallerLemmas.{filter-same, filter-both, list_any-filter, changed_at-table}
+use Rattle.list_lemmas.proofs.CallerLemmas.{filter-same, filter-both, list_any-filter, changed_at-table}
 use Rattle.proxy_history.specs.Setting.{Setting, hosts}
 use Rattle.proxy_history.specs.History.{History, Step, epoch}
 use Rattle.proxy_history.specs.Replies.{replies_from}

@@ -3,7 +3,7 @@ use Rattle.std.proofs.Common.{◌≡◌, ◌≢◌, ℕ, zero, suc, ◌+◌, ◌
 use Rattle.std.proofs.lemmas.Bool.{cases_Bool, eqb-true, eq-eqb, eqb-false}
 use Rattle.std.proofs.lemmas.List.{length-append}
 use Rattle.std.proofs.lemmas.List.Sums.{sum_by-cons}
-use Rattle.list_words.specs.Lists.{changed_at}
+use Rattle.list_lemmas.specs.Lists.{changed_at}
 use Rattle.upstream_pipe.specs.declared.part.Part.{Part as PipePart}
 use Rattle.proxy_core.specs.Places.{AreCounted, waits_at, one_at, count_at}
 use Rattle.proxy_core.specs.Pipelines.{PipelineState, PipelineTable, HasRooms, with_waiting, with_pipeline, pipeline_at}

@@ -2,8 +2,8 @@
 use Rattle.std.proofs.Common.{◌≡◌, ℕ, zero, suc, ◌+◌, ◌-◌, ◌<◌, ◌≤◌, ◌==◌, ◌&&◌, true, false, if◌then◌else◌, List, [], ◌∷◌, map, filter, drop, Option, Some, None, Contains, slice_get, slice_set, option_map, refl, sym, ap, ◌∙◌, subst, inl, inr, arith}
 use Rattle.std.specs.List.{range_with_len}
 use Rattle.std.proofs.lemmas.Bool.{cases_Bool, and_parts, and_left, and_right, eq-eqb, ne_eqb, eqb-true}
-use Rattle.list_words.specs.Lists.{changed_at}
-use Rattle.list_words.proofs.CallerLemmas.{changed_at-drop, Contains-filter, map-range_same, changed_at-table, Contains-first, Contains-later, filter-passes}
+use Rattle.list_lemmas.specs.Lists.{changed_at}
+use Rattle.list_lemmas.proofs.CallerLemmas.{changed_at-drop, Contains-filter, map-range_same, changed_at-table, Contains-first, Contains-later, filter-passes}
 use Rattle.resp_core.specs.Tree.{Tree}
 use Rattle.splitter.specs.Plan.{Plan, here, leave, parts}
 use Rattle.splitter.specs.declared.plans.Join.{Join}

@@ -6,7 +6,7 @@ use Rattle.std.proofs.lemmas.List.{append-nil}
 use Rattle.std.proofs.lemmas.List.Elements.{Contains-append_cases}
 use Rattle.std.proofs.lemmas.List.Folds.{list_any-append}
 use Rattle.std.proofs.Common.{length-drop}
-use Rattle.list_words.proofs.CallerLemmas.{list_any-filter, Contains-nil, Contains-filter, Contains-first, Contains-cases, Contains-drop, Contains-filter_passing, filter-passes, list_any-true, list_any-member, list_any-false, find-zip_none, list_any-unfound}
+use Rattle.list_lemmas.proofs.CallerLemmas.{list_any-filter, Contains-nil, Contains-filter, Contains-first, Contains-cases, Contains-drop, Contains-filter_passing, filter-passes, list_any-true, list_any-member, list_any-false, find-zip_none, list_any-unfound}
 use Rattle.resp_core.specs.Tree.{Tree}
 use Rattle.resp_core.specs.Value.{tree_of}
 use Rattle.resp_core.specs.declared.value.Value.{Value}

@@ -1,7 +1,7 @@
 -- What a history determines of the pipelines to its hosts, and how an event changes it.
 use Rattle.std.specs.Prelude.{ℕ, ◌+◌, ◌<◌, ◌≤◌, get_or, if◌then◌else◌, Option, Some, None, List, [], ◌∷◌, ◌++◌, map, drop, filter, filter_map, length, is_none, unwrap_or, slice_get}
 use Rattle.std.specs.List.{range_with_len}
-use Rattle.list_words.specs.Lists.{changed_at}
+use Rattle.list_lemmas.specs.Lists.{changed_at}
 use Rattle.upstream_pipe.specs.declared.part.Owner.{Owner}
 use Rattle.upstream_pipe.specs.declared.part.Part.{Part as PipePart}
 use Rattle.upstream_pipe.specs.Pipe.{owner_in, is_kept, forgotten_owner}

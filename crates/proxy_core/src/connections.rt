@@ -4,7 +4,7 @@ ghost use Rattle.std.specs.Option.{option_copied, option_map};
 ghost use Rattle.resp_core.specs.Value.{tree_of};
 ghost use Rattle.splitter.specs.Join.{MayJoin};
 ghost use Rattle.splitter.specs.declared.plans.Join.TheVariants.{Same};
-ghost use Rattle.list_words.specs.Lists.{list_of};
+ghost use Rattle.list_lemmas.specs.Lists.{list_of};
 ghost use Rattle.proxy_history.specs.Value.{upstream_failure};
 ghost use Rattle.proxy_core.specs.Places.{value_of_placed};
 ghost use Rattle.proxy_core.specs.Connections.{connection_with_command, AreAwaited, IsAwaited, IsAwaitedIn, MayAccept, answered_part, answered_parts, connections_without, connection_at, finished_connection, fresh_connection, connection_without_front, left_in, next_index, reply_in, with_answer, with_connection};

@@ -1,7 +1,7 @@
 //! The pipeline to a host.
 ghost use Rattle.std.specs.Prelude.{◌≡◌, ◌≢◌, ◌+◌, ◌-◌, ◌<◌, ◌≤◌, ◌^◌, [], length, map, IfOk, IfErr, OnOk, OnErr};
 ghost use Rattle.upstream_pipe.specs.Pipe.{owner_in};
-ghost use Rattle.list_words.specs.Lists.{list_of};
+ghost use Rattle.list_lemmas.specs.Lists.{list_of};
 ghost use Rattle.proxy_history.specs.Setting.{max_waiting};
 ghost use Rattle.proxy_core.specs.Pipelines.{answered_by, failed_pipeline, next_owner, no_pipeline, state_of, taken_from, text_of_oldest, with_waiting, without_connection};
 

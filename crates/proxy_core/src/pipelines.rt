@@ -2,7 +2,7 @@
 ghost use Rattle.std.specs.Prelude.{◌≡◌, ◌≢◌, ℕ, ◌+◌, ◌-◌, ◌<◌, ◌≤◌, ◌^◌, [], length, map, get_or, slice_get, replicate, IfOk, IfErr, OnOk, OnErr};
 ghost use Rattle.std.specs.Option.{option_copied};
 ghost use Rattle.upstream_pipe.specs.Pipe.{owner_in};
-ghost use Rattle.list_words.specs.Lists.{list_of};
+ghost use Rattle.list_lemmas.specs.Lists.{list_of};
 ghost use Rattle.proxy_core.specs.Places.{one_at};
 ghost use Rattle.proxy_core.specs.Arrivals.{HaveRoom, MayWait, pushed_all, pushed_at, piped_as};
 ghost use Rattle.proxy_core.specs.Pipelines.{HasRooms, answered_by, failed_pipeline, next_owner, no_pipeline, taken_from, with_pipeline, without_connection, pipeline_at, text_of_oldest};

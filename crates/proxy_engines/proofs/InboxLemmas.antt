@@ -10,7 +10,7 @@ use Rattle.limits.specs.declared.messages.TheConstants.{MAX_CLIENT_MEMBERS}
 use Rattle.splitter.specs.Request.{Request as Asked, read, broken}
 use Rattle.splitter.specs.Requests.{AreRequests as Asks}
 use Rattle.splitter.proofs.CallerLemmas as splits
-use Rattle.devices.specs.Device.{Counts}
+use Rattle.proxy_devices.specs.Device.{Counts}
 use Rattle.proxy_engines.specs.Ends.{InboxState, RestState, Holds, HoldsBehind, HasGivenAll, AreRequests, IsCut, end_with}
 
 after-none : (i : InboxState) → i.fresh ≡ [] → IfSome i.values.refusal (λ _. i.fresh ≡ [])

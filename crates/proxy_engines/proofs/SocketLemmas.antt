@@ -12,7 +12,7 @@ use Rattle.splitter.specs.Requests.{AreRequests, finishes, up_to_last}
 use Rattle.splitter.proofs.CallerLemmas as splits
 use Rattle.proxy_history.specs.History.{History}
 use Rattle.proxy_history.specs.Output.{transcript}
-use Rattle.devices.specs.Device.{Counts}
+use Rattle.proxy_devices.specs.Device.{Counts}
 use Rattle.proxy_engines.specs.Ends.{RestState, Holds, IsCut, end_with}
 use Rattle.proxy_engines.specs.Client.{Client, Carries, IsFinished, IsAtStage, IsDone, MayGoOn, NoneFinishes, asked_requests, waiting_requests}
 use Rattle.proxy_engines.specs.Socket.{IsLeft, Past, WentOn, CarriesOn, asked_before, said_before, SocketBegins, SocketMoves, SocketStays, SocketGoesOver, SocketAsksInOrder, SocketAnswersInOrder, SocketEndsWhole}

@@ -6,7 +6,7 @@ use Rattle.proxy_history.specs.declared.answer.Answer.{Answer}
 use Rattle.proxy_history.specs.declared.event.Event.{Event}
 use Rattle.proxy_history.specs.declared.refusal.Refusal.{Refusal}
 use Rattle.journal_core.specs.Journal.{step_by}
-use Rattle.devices.specs.Device.{HasFailed}
+use Rattle.proxy_devices.specs.Device.{HasFailed}
 use Rattle.proxy_engines.specs.Turns.{KeepsTurns, own_history}
 use Rattle.proxy_engines.specs.Turned.{IsNumbered}
 use Rattle.proxy_engines.specs.Moves.{AsTold}

@@ -10,7 +10,7 @@ use Rattle.limits.specs.declared.messages.TheConstants.{MAX_CLIENT_MEMBERS}
 use Rattle.splitter.specs.Request.{Request, read, broken, request_of}
 use Rattle.splitter.specs.declared.request.Request.{Request as Request'}
 use Rattle.splitter.specs.Requests.{end_of}
-use Rattle.devices.specs.Device.{Counts}
+use Rattle.proxy_devices.specs.Device.{Counts}
 
 -- a writer's contents, where they are known, its counts, and what is to be written next
 pub record OutboxState : Type 0 where

@@ -6,7 +6,7 @@ use Rattle.proxy_history.specs.declared.event.Event.{Event}
 use Rattle.proxy_history.specs.declared.event.Kind.{Kind}
 use Rattle.proxy_history.specs.declared.refusal.Refusal.{Refusal}
 use Rattle.resp_core.specs.declared.value.Value.{Value}
-use Rattle.devices.specs.Device.{HasRisen}
+use Rattle.proxy_devices.specs.Device.{HasRisen}
 use Rattle.proxy_engines.specs.Ends.{InboxState, HasGivenAll}
 use Rattle.proxy_engines.specs.Host.{LineState, LinkState}
 use Rattle.proxy_engines.specs.Turned.{IsNumbered}

@@ -13,7 +13,7 @@ use Rattle.proxy_history.specs.Own.{host_steps}
 use Rattle.proxy_history.specs.declared.event.Event.{Event}
 use Rattle.proxy_history.specs.declared.event.Kind.{Kind}
 use Rattle.proxy_history.specs.declared.answer.Answer.{Answer}
-use Rattle.devices.specs.Device.{Counts}
+use Rattle.proxy_devices.specs.Device.{Counts}
 use Rattle.proxy_engines.specs.Moves.{has_moved, IsEndOf, last_text, text_sent}
 use Rattle.proxy_engines.specs.Ends.{InboxState, Holds, refusal_requests}
 use Rattle.journal_core.specs.Journal.{step_by}

@@ -4,7 +4,7 @@ use Rattle.resp_core.specs.declared.value.Value.{Value}
 use Rattle.proxy_history.specs.History.{History, Step}
 use Rattle.proxy_history.specs.declared.event.Event.{Event}
 use Rattle.proxy_history.specs.declared.event.Kind.{Kind}
-use Rattle.devices.specs.Device.{HasRisen}
+use Rattle.proxy_devices.specs.Device.{HasRisen}
 use Rattle.proxy_engines.specs.Host.{LineState, LinkState, GoesOn, FailsHost}
 use Rattle.proxy_engines.specs.Turned.{HasHeld}
 use Rattle.proxy_engines.specs.Faults.{IsLate, IsLateOn, IsCauseOf, IsOfNoDevice}

@@ -17,7 +17,7 @@ use crate::client::Progress;
 use crate::error::EngineError;
 use crate::line::Line;
 use crate::link::{Link, Outcome};
-use devices::{ReadTally, WriteTally};
+use proxy_devices::{ReadTally, WriteTally};
 use proxy_core::{CoreTurns, Kind};
 use std::alloc::Global;
 use std::marker::Model;

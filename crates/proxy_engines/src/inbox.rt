@@ -3,10 +3,10 @@ ghost use Rattle.std.specs.Prelude.{true, ◌≡◌, ◌≢◌, ◌≤◌, ◌�
 ghost use Rattle.std.specs.Io.KnownBytes.{Consumes, IsAtEnd};
 ghost use Rattle.resp_core.specs.declared.error.RespError.{RespError};
 ghost use Rattle.splitter.specs.Request.{Request as Asked, request_of};
-ghost use Rattle.devices.specs.Device.{HasFailed, HasPaused, is_moved};
+ghost use Rattle.proxy_devices.specs.Device.{HasFailed, HasPaused, is_moved};
 ghost use Rattle.proxy_engines.specs.Moves.{has_moved};
 
-use devices::{ReadTally, Told};
+use proxy_devices::{ReadTally, Told};
 use resp_core::{Limits, Reader, RespError};
 use splitter::Request;
 use std::alloc::{AllocError, Global};

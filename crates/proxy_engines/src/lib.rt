@@ -7,7 +7,7 @@
 //! [`ClientWork`] steps one client's engine to its end.
 //!
 //! Contracts state the facts of an engine from step to step, over its own caller's steps, and what follows at the end.
-//! It stands on `proxy_core` and `devices`. Begin with `client.rt`, then `host.rt`.
+//! It stands on `proxy_core` and `proxy_devices`. Begin with `client.rt`, then `host.rt`.
 #![tactic(auto)]
 
 mod ask;
@@ -23,7 +23,7 @@ mod threads;
 mod work;
 
 pub use client::{ClientEngine, Progress, Stage};
-pub use devices::{Faulty, ReadTally, Tallied, Tally, Told, WriteTally};
+pub use proxy_devices::{Faulty, ReadTally, Tallied, Tally, Told, WriteTally};
 pub use error::EngineError;
 pub use host::HostEngine;
 pub use inbox::{READ_SIZE, Rest};

@@ -1,11 +1,11 @@
 //! The output that isn't written yet.
 ghost use Rattle.std.specs.Prelude.{◌≡◌, ◌≢◌, ◌==◌, ◌<◌, ◌⊎◌, ℕ, List, length, []};
 ghost use Rattle.std.specs.Io.KnownBytes.{Keeps};
-ghost use Rattle.devices.specs.Device.{HasFailed, HasPaused, is_moved};
+ghost use Rattle.proxy_devices.specs.Device.{HasFailed, HasPaused, is_moved};
 ghost use Rattle.proxy_engines.specs.Moves.{has_moved};
 
 use bytes::Bytes;
-use devices::{Told, WriteTally};
+use proxy_devices::{Told, WriteTally};
 use std::io;
 use std::io::Write;
 use std::marker::Model;

@@ -8,7 +8,7 @@ ghost use Rattle.proxy_engines.specs.declared.error.EngineError.{EngineError};
 
 use crate::client::{ClientEngine, Progress};
 use crate::error::EngineError;
-use devices::{ReadTally, WriteTally};
+use proxy_devices::{ReadTally, WriteTally};
 use proxy_core::CoreTurns;
 use std::sync::Wait;
 use std::thread;

@@ -4,7 +4,7 @@ use Rattle.std.specs.List.{slice_get}
 use Rattle.std.proofs.lemmas.Bool.{ltb-true, ltb-false}
 use Rattle.std.proofs.lemmas.List.{append-nil, append_assoc, length-append}
 use Rattle.std.proofs.lemmas.List.Elements.{Contains-append_left, Contains-append_cases, Contains-push_cases}
-use Rattle.list_words.proofs.CallerLemmas.{Contains-nil, Contains-filter}
+use Rattle.list_lemmas.proofs.CallerLemmas.{Contains-nil, Contains-filter}
 use Rattle.splitter.specs.Plan.{Plan, here, leave, parts}
 use Rattle.splitter.specs.declared.plans.Join.{Join}
 use Rattle.splitter.specs.declared.plans.PartPlan.{PartPlan}

@@ -3,7 +3,7 @@ use Rattle.std.proofs.Common.{◌≡◌, ◌↔◌, ℕ, Bool, true, false, ◌=
 use Rattle.std.specs.List.{list_any}
 use Rattle.std.proofs.lemmas.Bool.{and_parts, both_ways, eqb-true, eq-eqb, false_from_ne_true}
 use Rattle.std.proofs.lemmas.List.Elements.{Contains-append_left, Contains-append_right, Contains-push}
-use Rattle.list_words.proofs.CallerLemmas.{Contains-nil, Contains-cases, Contains-filter, Contains-filter_passing, list_any-true, list_any-member}
+use Rattle.list_lemmas.proofs.CallerLemmas.{Contains-nil, Contains-cases, Contains-filter, Contains-filter_passing, list_any-true, list_any-member}
 use Rattle.proxy_history.specs.Setting.{Setting}
 use Rattle.proxy_history.specs.History.{History, Step, epoch, is_fault}
 use Rattle.proxy_history.specs.Part.{Part, is_of, is_host, is_same}

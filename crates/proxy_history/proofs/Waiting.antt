@@ -4,7 +4,7 @@ use Rattle.std.specs.List.{list_any}
 use Rattle.std.proofs.lemmas.Bool.{or_parts, cases_Bool, eq-eqb, false_from_ne_true}
 use Rattle.std.proofs.lemmas.List.{append-nil}
 use Rattle.std.proofs.lemmas.List.Folds.{list_any-append}
-use Rattle.list_words.proofs.CallerLemmas.{filter-same, filter-both, list_any-filter}
+use Rattle.list_lemmas.proofs.CallerLemmas.{filter-same, filter-both, list_any-filter}
 use Rattle.proxy_history.specs.Setting.{Setting}
 use Rattle.proxy_history.specs.History.{History, epoch, is_closed}
 use Rattle.proxy_history.specs.Part.{Past, Part, is_of, is_host, is_same}

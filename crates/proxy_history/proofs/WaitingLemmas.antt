@@ -3,7 +3,7 @@ use Rattle.std.proofs.Common.{◌≡◌, ℕ, ◌+◌, ◌<◌, ◌≤◌, Bool,
 use Rattle.std.proofs.lemmas.Bool.{cases_Bool}
 use Rattle.std.proofs.lemmas.List.{length-append}
 use Rattle.std.proofs.lemmas.List.Elements.{Contains-append_left, Contains-append_right, Contains-append_cases, Contains-push, Contains-push_cases}
-use Rattle.list_words.proofs.CallerLemmas.{Contains-nil, Contains-filter}
+use Rattle.list_lemmas.proofs.CallerLemmas.{Contains-nil, Contains-filter}
 use Rattle.splitter.specs.Plan.{Plan, here, leave, parts}
 use Rattle.proxy_history.specs.Setting.{Setting}
 use Rattle.proxy_history.specs.History.{History, Step, accepted_count, plan_for}

@@ -1,15 +1,15 @@
 //! `redproxy`: a proxy that clients use as one Redis server. Begin with `run`; `serve` is in
-//! `proxy_serve`, `local` in `proxy_run`.
+//! `proxy_serve`, `local` in `proxy_local`.
 #![tactic(auto)]
 
 ghost use Rattle.std.specs.Prelude.{IfOk};
 ghost use Rattle.proxy_config.specs.RingParts.{AreRingParts};
 
-use command_line::{Asked, KIT, Refused, VERSION};
-use exit_status::Ending;
+use proxy_command_line::{Asked, KIT, Refused, VERSION};
+use proxy_exit_status::Ending;
 use mio::net::TcpListener;
 use proxy_config::{Config, ConfigError, check_line};
-use proxy_run::local_run;
+use proxy_local::local_run;
 use proxy_serve::{Admin, Level, Log, Marks, Options, Stop, serve};
 use std::fs::{File, Files};
 use std::hash::RandomState;
@@ -188,7 +188,7 @@ fn run<
     let Ok(words) = words.collect::<Vec<String>>(rt.alloc()) else {
         return ended(rt, Ending::Memory);
     };
-    match command_line::read(rt.alloc(), words.as_slice()) {
+    match proxy_command_line::read(rt.alloc(), words.as_slice()) {
         Ok(Asked::Local) => run_local(rt),
         Ok(Asked::Check { config }) => run_check(rt, config.as_str()),
         Ok(

@@ -6,9 +6,9 @@ use Rattle.proxy_config.specs.contracts.config.Config as Config
 use Rattle.proxy_core.specs.contracts.handover.Handover as Handover
 use Rattle.proxy_engines.proofs.CallerLemmas.{rest_send}
 use Rattle.proxy_stats.proofs.CallerLemmas.{counts_send}
-use Rattle.admin_pages.proofs.CallerLemmas.{histogram_send, look_send}
-use Rattle.generations.specs.contracts.lifecycle.Due as Due
-use Rattle.generations.specs.contracts.lifecycle.Generations as Generations
+use Rattle.proxy_pages.proofs.CallerLemmas.{histogram_send, look_send}
+use Rattle.proxy_generations.specs.contracts.lifecycle.Due as Due
+use Rattle.proxy_generations.specs.contracts.lifecycle.Generations as Generations
 use Rattle.proxy_serve.specs.contracts.admin.AdminListener as AdminListener
 use Rattle.proxy_serve.specs.contracts.admin.AdminWork as AdminWork
 use Rattle.proxy_serve.specs.contracts.board.Board as Board
@@ -23,7 +23,7 @@ use Rattle.proxy_serve.specs.contracts.ledger.Ledger as Ledger
 use Rattle.proxy_serve.specs.contracts.stats.Living as Living
 use Rattle.proxy_serve.specs.contracts.stats.Stats as Stats
 use Rattle.proxy_serve.specs.contracts.stop.Stop as Stop
-use Rattle.serve_parts.specs.contracts.sockets.Sockets as Sockets
+use Rattle.proxy_serve_core.specs.contracts.sockets.Sockets as Sockets
 
 pub handover_send : IsSend Handover.the_row
 handover_send = search (crosses, sendable) depth 40 fits 20000

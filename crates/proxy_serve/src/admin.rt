@@ -6,7 +6,7 @@ use crate::log::Level;
 use crate::server::Server;
 use crate::stop::Stop;
 use crate::worker::now;
-use admin_pages::{About, Admin as Answers, Order, Snapshot};
+use proxy_pages::{About, Admin as Answers, Order, Snapshot};
 use http_server::{Config as Limits, Connection};
 use limits::{MAX_BODY, MAX_HEAD, MAX_VISITORS, VISIT_MS};
 use mio::net::{TcpListener, TcpStream};

@@ -1,6 +1,6 @@
 //! The present task of each generation, readable without a lock.
 
-use generations::{Generations, Phase};
+use proxy_generations::{Generations, Phase};
 use std::sync::atomic::{AtomicU8, AtomicU64, Ordering};
 
 // Stands for no generation.

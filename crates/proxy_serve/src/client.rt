@@ -3,15 +3,15 @@
 use crate::counted_turns::{CountedTurns, TurnCounts};
 use crate::generation_state::{GenerationState, LARGE, LARGE_STEP};
 use crate::socket::{SharedSocket, Socket, SocketReader, SocketWriter, ends, shared};
-use exit_status::Ending;
-use histogram::{Histogram, Unanswered};
+use proxy_exit_status::Ending;
+use proxy_histogram::{Histogram, Unanswered};
 use limits::{LINGER_MS, MAX_SPARED};
 use mio::event::Event as Readiness;
 use mio::net::TcpStream;
 use mio::{Registry, Token};
 use proxy_core::CoreTurns;
 use proxy_engines::{ClientEngine, EngineError, Progress, Rest, Tallied};
-use serve_parts::Refusals;
+use proxy_serve_core::Refusals;
 use std::alloc::Global;
 use std::cell::RefCell;
 use std::rc::Rc;

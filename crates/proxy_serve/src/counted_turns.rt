@@ -1,7 +1,7 @@
 //! Counts what a worker's turns did.
 
 use crate::ledger::Ledger;
-use generations::{FAR_BYTES, FAR_STEPS, Loan, Payload, StepKind};
+use proxy_generations::{FAR_BYTES, FAR_STEPS, Loan, Payload, StepKind};
 use proxy_core::{Answer, CoreTurns, Event, Refusal};
 use std::mem;
 use std::sync::Wait;

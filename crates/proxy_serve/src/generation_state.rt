@@ -3,7 +3,7 @@
 use crate::counted_turns::CountedTurns;
 use crate::ledger::Ledger;
 use crate::server::Server;
-use generations::Phase;
+use proxy_generations::Phase;
 use limits::{MAX_COMMAND_STEPS, MAX_PARTS_AT_ONCE, MAX_START_MS, MAX_UNFINISHED, MAX_UNSEEN};
 use mio::Waker;
 use proxy_core::CoreTurns;

@@ -1,6 +1,6 @@
 //! The spent and lent steps of a generation's journal, and its payload.
 
-use generations::{Budget, Payload};
+use proxy_generations::{Budget, Payload};
 
 /// What the workers of a generation have reported of its journal.
 #[derive(Drop)]

@@ -27,7 +27,7 @@ mod sweeping;
 mod worker;
 
 pub use admin::Admin;
-pub use generations::Marks;
+pub use proxy_generations::Marks;
 pub use log::{Level, Log};
 pub use serving::{Options, serve, serve_run};
 pub use stop::{Failure, Stop};

@@ -7,7 +7,7 @@ use mio::event::Event;
 use mio::net::TcpStream;
 use mio::unix::SourceFd;
 use mio::{Interest, Registry, Token};
-use serve_parts::WriteBuffer;
+use proxy_serve_core::WriteBuffer;
 use std::alloc::Global;
 use std::cell::RefCell;
 use std::io;

@@ -1,6 +1,6 @@
 //! Why the server ended before it was done.
 
-use exit_status::Ending;
+use proxy_exit_status::Ending;
 use std::alloc::{AllocError, AllocFailed};
 use std::fmt::{self, Display, Formatter};
 use std::io::Error;

@@ -2,7 +2,7 @@
 use Rattle.std.specs.Prelude.{◌≡◌, ◌-◌, ◌+◌, ℕ, nat_lt, if◌then◌else◌, Option, Some, None, List, [], ◌∷◌, slice_get, drop, refl}
 use Rattle.std.specs.Option.{option_and_then}
 use Rattle.std.specs.Coded.{Coded, code_by, coded×, coded_ℕ, coded_list}
-use Rattle.list_words.specs.Lists.{changed_at}
+use Rattle.list_lemmas.specs.Lists.{changed_at}
 use Rattle.resp_core.specs.Tree.{Tree}
 use Rattle.reply_queue.specs.Command.{AwaitedCommand, command_code, with_value, reply_to, same_reply_to}
 

@@ -2,7 +2,7 @@
 use Rattle.std.proofs.Common.{◌≡◌, ◌<◌, ℕ, Bool, true, ◌&&◌, ◌==◌, ltb, Contains, length, refl, subst}
 use Rattle.std.specs.List.{list_all}
 use Rattle.std.proofs.lemmas.Bool.{and_parts, ltb-true, eqb-true}
-use Rattle.list_words.proofs.CallerLemmas.{list_all-get_or}
+use Rattle.list_lemmas.proofs.CallerLemmas.{list_all-get_or}
 use Rattle.command_table.specs.Names.{one_key_names}
 use Rattle.command_table.specs.Table.{Row, rows}
 use Rattle.command_table.specs.declared.Kind.{Kind}

@@ -6,7 +6,7 @@ use Rattle.std.proofs.lemmas.Bool.Decides.{Decides-ltb}
 use Rattle.stub_server.specs.declared.map.Entry.{Entry}
 use Rattle.stub_server.specs.Map.{Map, is_of, with_value}
 -- a lemma that an attribute names has a name without a dash
-pub use Rattle.list_words.proofs.CallerLemmas.{count_by-map as count_by_map}
+pub use Rattle.list_lemmas.proofs.CallerLemmas.{count_by-map as count_by_map}
 
 pub position-place : (p : Entry → Bool) (m : Map) (i : ℕ) → position p m ≡ Some i → (i ≡ position_or_len p m) × (i < length m)
 position-place p m i e =

@@ -3,7 +3,7 @@ use Rattle.std.proofs.Common.{◌≡◌, ◌<◌, ◌==◌, Bool, true, false, L
 use Rattle.std.specs.List.{list_all}
 use Rattle.std.proofs.lemmas.Bool.{cases_Bool, and_parts, eqb-true, leb-false, ltb-true}
 use Rattle.std.proofs.lemmas.List.{length-map}
-use Rattle.list_words.proofs.CallerLemmas.{list_all-get_or}
+use Rattle.list_lemmas.proofs.CallerLemmas.{list_all-get_or}
 use Rattle.resp_core.specs.Tree.{Tree}
 use Rattle.resp_core.specs.Command.{is_bulk, is_command, are_words, payload_of, word, IsArrayOf}
 use Rattle.command_table.specs.Names.{one_key_names}

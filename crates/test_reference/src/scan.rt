@@ -8,7 +8,7 @@ ghost use Rattle.splitter.specs.Request.{request_of};
 ghost use Rattle.proxy_history.specs.History.{times, has, requests, request_by, plan_for};
 ghost use Rattle.proxy_history.specs.Replies.{replies_from, reply_by};
 ghost use Rattle.test_reference.specs.Scan.{is_wanted, is_quit_row, history_of};
-ghost use Rattle.list_words.specs.Lists.{list_of};
+ghost use Rattle.list_lemmas.specs.Lists.{list_of};
 ghost use Rattle.command_table.specs.Table.{row_named};
 
 use command_table::{Kind, look};

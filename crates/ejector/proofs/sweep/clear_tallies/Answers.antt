@@ -1,5 +1,5 @@
 use Rattle.std.proofs.Common.{get_or, set, ap, ◌∙◌}
-use Rattle.list_words.proofs.CallerLemmas.{get_or-mapped_to, set-mapped_to}
+use Rattle.list_lemmas.proofs.CallerLemmas.{get_or-mapped_to, set-mapped_to}
 use Rattle.ejector.specs.State.{fresh_host}
 use Rattle.ejector.specs.Counting.{in_new_interval}
 use Rattle.ejector.proofs.sweep.clear_tallies.Goals as goal

@@ -1,6 +1,6 @@
 use Rattle.std.proofs.Common.{get_or, sym, ap, ◌∙◌, arith}
 use Rattle.std.proofs.lemmas.List.Sums.{count_by_more_yes, count_by_more_no}
-use Rattle.list_words.proofs.CallerLemmas.{get_or-mapped_to, set-mapped_to}
+use Rattle.list_lemmas.proofs.CallerLemmas.{get_or-mapped_to, set-mapped_to}
 use Rattle.ejector.specs.State.{fresh_host}
 use Rattle.ejector.specs.Counting.{with_return, is_returning}
 use Rattle.ejector.proofs.sweep.return_hosts.Goals as goal

@@ -1,5 +1,5 @@
 use Rattle.std.proofs.Common.{◌<◌, true, false, length, get_or, set, sym, ap, ◌∙◌, arith}
-use Rattle.list_words.proofs.CallerLemmas.{count_by-range_more, get_or-made_to, set-made_to, made_to-same}
+use Rattle.list_lemmas.proofs.CallerLemmas.{count_by-range_more, get_or-made_to, set-made_to, made_to-same}
 use Rattle.ejector.specs.State.{fresh_host}
 use Rattle.ejector.specs.Trips.{may_eject}
 use Rattle.ejector.specs.Sweeps.{trips_by}

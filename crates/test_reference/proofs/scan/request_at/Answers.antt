@@ -1,6 +1,6 @@
 use Rattle.std.proofs.Common.{sym, ap, ◌∙◌, arith}
 use Rattle.std.specs.Option.{option_copied}
-use Rattle.list_words.specs.Lists.{list_of}
+use Rattle.list_lemmas.specs.Lists.{list_of}
 use Rattle.proxy_history.specs.History.{request_by}
 use Rattle.test_reference.proofs.Collected.{request_found, request_not_found}
 use Rattle.test_reference.proofs.scan.request_at.Goals as goal

@@ -1,7 +1,7 @@
 use Rattle.std.proofs.Common.{map, slice_set, false, ap, ◌∙◌, arith}
 use Rattle.std.specs.Option.{option_map}
 use Rattle.std.proofs.lemmas.Result.{IfOk-weaker, IfErr-weaker, on_ok_weaker}
-use Rattle.list_words.proofs.CallerLemmas.{slice_set-changed}
+use Rattle.list_lemmas.proofs.CallerLemmas.{slice_set-changed}
 use Rattle.proxy_core.specs.Places.{value_of_placed}
 use Rattle.proxy_core.specs.Connections.{ConnectionTable, connection_at, connection_with_command, next_index}
 use Rattle.proxy_core.proofs.ConnectionTableLemmas.{connection_at-inside, connection_at-place, slice_set-same}

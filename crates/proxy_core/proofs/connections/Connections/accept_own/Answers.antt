@@ -1,7 +1,7 @@
 use Rattle.std.proofs.Common.{slice_set, Some, [], ◌∷◌, ap, ◌∙◌, arith}
 use Rattle.std.specs.Option.{option_map}
 use Rattle.std.proofs.lemmas.Result.{IfOk-weaker, IfErr-weaker, on_ok_weaker}
-use Rattle.list_words.proofs.CallerLemmas.{slice_set-changed}
+use Rattle.list_lemmas.proofs.CallerLemmas.{slice_set-changed}
 use Rattle.resp_core.specs.Value.{tree_of}
 use Rattle.splitter.specs.declared.plans.Join.TheVariants.{Same}
 use Rattle.proxy_core.specs.Connections.{ConnectionTable, connection_at, connection_with_command, next_index}

@@ -1,6 +1,6 @@
 use Rattle.std.proofs.Common.{Option, slice_set, ap, ◌∙◌, arith}
 use Rattle.std.specs.Option.{option_and_then, option_map}
-use Rattle.list_words.proofs.CallerLemmas.{slice_set-changed}
+use Rattle.list_lemmas.proofs.CallerLemmas.{slice_set-changed}
 use Rattle.resp_core.specs.Value.{tree_of}
 use Rattle.proxy_core.specs.Connections.{ConnectionTable, connection_at, with_answer}
 use Rattle.proxy_core.specs.declared.connection.Connection.{Connection}

@@ -1,5 +1,5 @@
 use Rattle.std.proofs.Common.{None, ◌+◌, slice_set, ap, ◌∙◌, sym, arith}
-use Rattle.list_words.proofs.CallerLemmas.{changed_at-past, slice_set-constant}
+use Rattle.list_lemmas.proofs.CallerLemmas.{changed_at-past, slice_set-constant}
 use Rattle.proxy_core.specs.Connections.{ConnectionTable}
 use Rattle.proxy_core.proofs.connections.Connections.close.Goals as goal
 

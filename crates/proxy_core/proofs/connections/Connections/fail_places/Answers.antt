@@ -2,7 +2,7 @@ use Rattle.std.proofs.Common.{◌≡◌, ◌+◌, get_or, drop, filter_map, Opti
 use Rattle.std.proofs.lemmas.List.{drop_more}
 use Rattle.std.proofs.Math.ListN.{drop_of_length-le}
 use Rattle.upstream_pipe.specs.declared.part.Owner.{Owner}
-use Rattle.list_words.specs.Lists.{list_of}
+use Rattle.list_lemmas.specs.Lists.{list_of}
 use Rattle.proxy_history.specs.Value.{upstream_failure}
 use Rattle.proxy_core.specs.declared.connection.Connection.{Connection}
 use Rattle.proxy_core.specs.Connections.{AreAwaited, answered_parts}

@@ -1,6 +1,6 @@
 use Rattle.std.proofs.Common.{slice_set, ap, ◌∙◌, sym, arith}
 use Rattle.std.specs.Option.{option_map}
-use Rattle.list_words.proofs.CallerLemmas.{slice_set-changed, changed_at-past}
+use Rattle.list_lemmas.proofs.CallerLemmas.{slice_set-changed, changed_at-past}
 use Rattle.proxy_core.specs.Connections.{ConnectionTable, connection_without_front}
 use Rattle.proxy_core.proofs.connections.Connections.hand.Goals as goal
 

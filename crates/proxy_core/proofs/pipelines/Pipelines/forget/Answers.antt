@@ -1,6 +1,6 @@
 use Rattle.std.proofs.Common.{refl, ap, ◌∙◌, arith}
-use Rattle.list_words.specs.Lists.{changed_at}
-use Rattle.list_words.proofs.CallerLemmas.{changed_at-mapped_to, mapped_to-all}
+use Rattle.list_lemmas.specs.Lists.{changed_at}
+use Rattle.list_lemmas.proofs.CallerLemmas.{changed_at-mapped_to, mapped_to-all}
 use Rattle.proxy_core.specs.Pipelines.{without_connection}
 use Rattle.proxy_core.proofs.pipelines.Pipelines.forget.Goals as goal
 

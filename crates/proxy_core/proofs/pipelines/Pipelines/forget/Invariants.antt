@@ -1,6 +1,6 @@
 -- Up to here the parts of the connection are forgotten.
 use Rattle.std.proofs.Common.{◌≡◌}
-use Rattle.list_words.specs.Lists.{mapped_to}
+use Rattle.list_lemmas.specs.Lists.{mapped_to}
 use Rattle.proxy_core.specs.Pipelines.{without_connection}
 use Rattle.proxy_core.proofs.pipelines.Pipelines.forget.Given as goal
 

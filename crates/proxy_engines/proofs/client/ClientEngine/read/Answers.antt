@@ -1,6 +1,6 @@
 use Rattle.proxy_engines.proofs.OwnLemmas.{keeps_same}
 use Rattle.proxy_engines.specs.declared.error.EngineError.{EngineError}
-use Rattle.devices.specs.Device.{Counts, HasFailed}
+use Rattle.proxy_devices.specs.Device.{Counts, HasFailed}
 use Rattle.proxy_engines.specs.Client.{Client}
 use Rattle.proxy_engines.proofs.AnswerLemmas.{cut_told, cut_ok, cut_err, if_ok, if_err}
 use Rattle.std.proofs.Common.{true, false, refl, inl, inr, ◌∙◌, ap, rules}

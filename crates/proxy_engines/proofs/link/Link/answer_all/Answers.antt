@@ -1,5 +1,5 @@
 use Rattle.proxy_engines.proofs.OwnLemmas.{keeps_same, keeps_then}
-use Rattle.devices.specs.Device.{Counts}
+use Rattle.proxy_devices.specs.Device.{Counts}
 use Rattle.proxy_engines.proofs.FaultLemmas.{faulty_calm, default_faulty, fault_later, no_fault}
 use Rattle.std.proofs.lemmas.Result.{IfOk-from_err, err_from_is_err_and}
 use Rattle.std.proofs.Common.{◌∙◌, refl, ap}

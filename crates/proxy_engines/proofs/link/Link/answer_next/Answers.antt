@@ -1,6 +1,6 @@
 use Rattle.proxy_engines.proofs.OwnLemmas.{keeps_same}
 use Rattle.proxy_engines.specs.Ends.{InboxState}
-use Rattle.devices.specs.Device.{Counts}
+use Rattle.proxy_devices.specs.Device.{Counts}
 use Rattle.proxy_engines.proofs.MoveLemmas.{any_err, moves-err}
 use Rattle.proxy_engines.proofs.FaultLemmas.{fault_later}
 use Rattle.std.proofs.lemmas.Result.{IfOk-from_err, err_from_is_err_and, IfOk-weaker}

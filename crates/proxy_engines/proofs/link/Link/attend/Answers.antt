@@ -4,7 +4,7 @@ use Rattle.std.proofs.Common.{◌≡◌, ◌⊎◌, ◌∙◌, [], sym, subst, a
 use Rattle.proxy_engines.proofs.HostMoves.{told_both, told_either}
 use Rattle.proxy_history.specs.declared.event.Event.{Event}
 use Rattle.proxy_history.specs.declared.refusal.Refusal.{Refusal}
-use Rattle.devices.specs.Device.{Counts, HasRisen}
+use Rattle.proxy_devices.specs.Device.{Counts, HasRisen}
 use Rattle.proxy_engines.specs.Ends.{InboxState}
 use Rattle.proxy_engines.specs.Turned.{HasHeld}
 use Rattle.proxy_engines.proofs.FaultLemmas.{either_still, idle_then, not_late, faulty_still, faulty_calm, write_fault, fault_later, no_fault}

@@ -1,5 +1,5 @@
 use Rattle.std.proofs.Common.{ap, true, false, inl, inr}
-use Rattle.devices.specs.Device.{Counts}
+use Rattle.proxy_devices.specs.Device.{Counts}
 use Rattle.proxy_engines.specs.Faults.{told_by_outcome}
 use Rattle.proxy_engines.proofs.HostMoves.{heard_on}
 use Rattle.proxy_engines.proofs.MoveLemmas.{as-none}

@@ -1,5 +1,5 @@
 use Rattle.proxy_engines.proofs.OwnLemmas.{keeps_then}
-use Rattle.devices.specs.Device.{Counts}
+use Rattle.proxy_devices.specs.Device.{Counts}
 use Rattle.std.proofs.lemmas.Result.{IfOk-from_err, err_from_is_err_and}
 use Rattle.std.proofs.Common.{◌∙◌, Some, sym, ap}
 use Rattle.proxy_engines.proofs.HostMoves.{told_both, told_either}

@@ -1,5 +1,5 @@
 use Rattle.std.proofs.Common.{◌-◌, slice_set, ap, ◌∙◌}
-use Rattle.list_words.proofs.CallerLemmas.{slice_set-changed}
+use Rattle.list_lemmas.proofs.CallerLemmas.{slice_set-changed}
 use Rattle.resp_core.specs.Value.{tree_of}
 use Rattle.reply_queue.specs.Command.{with_value}
 use Rattle.reply_queue.specs.Queue.{QueueState}

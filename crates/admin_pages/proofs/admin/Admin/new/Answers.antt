@@ -1,5 +1,0 @@
-use Rattle.std.proofs.Common.{refl}
-use Rattle.admin_pages.proofs.admin.Admin.new.Goals as goal
-
-pub returns-clause-order : goal.returns-clause-order
-returns-clause-order c = refl

@@ -1,8 +1,0 @@
-use Rattle.std.proofs.Common.{◌≡◌, ◌++◌, [], codes, slice_index}
-use Rattle.admin_pages.specs.Lines.{labelled_text}
-use Rattle.admin_pages.specs.Pages.{each, answer_word}
-use Rattle.admin_pages.proofs.metrics.push_answers.Given as goal
-
--- the lines so far were appended
-abbrev pub invariant-loop-i : goal.invariant-loop-i
-invariant-loop-i l = l.page.items ≡ l.fn.page.items ++ each l.i (λ i. labelled_text l.name [] (codes "kind") (answer_word i) (slice_index l.counts.local i))

@@ -1,5 +1,0 @@
-use Rattle.std.proofs.Common.{rules}
-use Rattle.devices.proofs.faulty.FaultyRead.read.Goals as goal
-
-pub returns-in_err-most-clause-fails : goal.returns-in_err-most-clause-fails
-returns-in_err-most-clause-fails g c = search rules

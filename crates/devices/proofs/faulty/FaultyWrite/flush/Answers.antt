@@ -1,5 +1,0 @@
-use Rattle.std.proofs.Common.{refl}
-use Rattle.devices.proofs.faulty.FaultyWrite.flush.Goals as goal
-
-pub returns-clause-same : goal.returns-clause-same
-returns-clause-same g c = (refl, refl)

@@ -1,5 +1,0 @@
-use Rattle.std.proofs.Common.{rules}
-use Rattle.devices.proofs.faulty.FaultyWrite.write.Goals as goal
-
-pub returns-clause-spent : goal.returns-clause-spent
-returns-clause-spent g c = search rules

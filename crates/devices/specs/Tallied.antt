@@ -1,7 +1,0 @@
--- The counts of a reader or writer with counts.
-use Rattle.devices.specs.Device.{Counts}
-use Rattle.devices.specs.declared.tally.Tallied.{Tallied}
-
--- the counts of a device
-abbrev pub counts_of : {S : Type 0} → Tallied S → Counts
-counts_of t = record { failed = t.failures; paused = t.pauses }

@@ -1,5 +1,0 @@
-use Rattle.std.proofs.Common.{rules}
-use Rattle.generations.proofs.marks.Marks.are_reached.Goals as goal
-
-pub returns-else-steps-self : goal.returns-else-steps-self
-returns-else-steps-self c = search rules

@@ -1,8 +1,0 @@
-use denote.Param.Send.{sendable}
-use Rattle.std.proofs.Crossing.{crosses}
-use Rattle.proxy_core.proofs.CallerLemmas.{core_send}
-use Rattle.proxy_engines.proofs.CallerLemmas.{bytes_send, reader_send, request_send}
-use Rattle.part_tests.proofs.works.two_workers_meet.Goals as goal
-
-pub run_all-requires-send-K : goal.run_all-requires-send-K
-run_all-requires-send-K g c κs within = search (core_send, request_send, reader_send, bytes_send, crosses, sendable) depth 40

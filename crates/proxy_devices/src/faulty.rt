@@ -1,0 +1,213 @@
+//! Readers and writers that fail for good after a number of bytes.
+ghost use Rattle.std.specs.Prelude.{◌≡◌, ◌≢◌, [], ◌<◌, ◌≤◌, ◌+◌, ◌-◌, ◌^◌, min, length, take, IfErr, IfOk, IsErr, OnErr};
+ghost use Rattle.std.specs.Io.{ReadsAtMost, WritesAtMost};
+ghost use Rattle.std.specs.Io.KnownBytes.{Keeps, ReadConsumes, WriteAppends};
+ghost use Rattle.std.specs.IoError.{error_kind};
+ghost use Rattle.proxy_devices.specs.declared.tally.Told.{Told};
+ghost use Rattle.proxy_devices.specs.Device.{IsRead, IsWritten};
+ghost use Rattle.proxy_devices.specs.Faulty.{moved_count, with_failures};
+
+use crate::tally::{ReadTally, Tally, Told, WriteTally};
+use std::io;
+use std::io::{ErrorKind, Read, Write};
+
+/// Passes a number of bytes of another reader or writer, and then fails at each call. It is for tests in which a
+/// connection or link fails at any byte.
+///
+/// Its counts are the other's, with its own failures.
+#[derive(Drop)]
+pub struct Faulty<S> {
+    inner: S,
+    left: u64,
+    failures: u64,
+}
+
+impl<S> Faulty<S> {
+    /// `after` bytes pass before the first failure.
+    pub fn new(inner: S, after: u64) -> Faulty<S>
+        ensures inner { result.inner ≡ inner }
+        ensures left { result.left ≡ after }
+        ensures failures { result.failures ≡ 0 }
+    {
+        Faulty {
+            inner,
+            left: after,
+            failures: 0,
+        }
+    }
+
+    /// The number of bytes that still pass.
+    pub fn left(&self) -> u64
+        ensures { result ≡ self.now.left }
+    {
+        self.left
+    }
+
+    // The number of bytes, of these, that one call may pass.
+    fn most(&self, bytes: usize) -> usize
+        ensures { result ≡ min bytes self.now.left }
+    {
+        (bytes as u64).min(self.left) as usize
+    }
+
+    // Counts a failure of its own.
+    fn fail(&mut self)
+        ensures { self.new
+            ≡ record self.old { failures = min (self.old.failures + 1) (2 ^ 64 - 1) } }
+    {
+        self.failures = self.failures.saturating_add(1);
+    }
+
+    // Like `most`, but fails and counts the failure where no byte is left.
+    fn passes(&mut self, bytes: usize) -> io::Result<usize>
+        ensures ok { IfOk result (λ n. (n ≡ min bytes self.old.left) × (0 < self.old.left)
+            × (self.new ≡ self.old)) }
+        ensures err { IfErr result (λ e. (self.old.left ≡ 0)
+            × (error_kind e ≡ ErrorKind.ConnectionReset) × (self.new
+            ≡ record self.old { failures = min (self.old.failures + 1) (2 ^ 64 - 1) })) }
+    {
+        if self.left == 0 {
+            self.fail();
+            return Err(io::Error::from(ErrorKind::ConnectionReset));
+        }
+        Ok(self.most(bytes))
+    }
+
+    // Records the other's result.
+    fn pass(&mut self, told: Told)
+        requires { moved_count told ≤ self.old.left }
+        ensures { self.new ≡ record self.old { left = self.old.left - moved_count told } }
+    {
+        if let Told::Moved(n) = told {
+            self.left -= n as u64;
+        }
+    }
+}
+
+impl<S: Tally> Tally for Faulty<S> {
+    ghost counts = { λ f. with_failures f.failures (S.counts f.inner) };
+
+    fn failures(&self) -> u64 {
+        self.inner.failures().saturating_add(self.failures)
+    }
+
+    fn pauses(&self) -> u64 {
+        self.inner.pauses()
+    }
+}
+
+impl<S: ReadTally> Faulty<S> {
+    /// Reads once from the other one, at most the bytes left, into a buffer that isn't empty. Where none are left it
+    /// fails, and the other one isn't called.
+    pub fn read_passed(&mut self, buffer: &mut [u8]) -> Told
+        requires room { 0 < length buffer.old }
+        ensures passes { 0 < self.old.left → IsRead (S.remaining self.old.inner)
+            (S.remaining self.new.inner) (S.counts self.old.inner) (S.counts self.new.inner)
+            (take (min (length buffer.new) self.old.left) buffer.new) result }
+        ensures spent { self.old.left ≡ self.new.left + moved_count result }
+        ensures kept { 0 < self.old.left → self.new.failures ≡ self.old.failures }
+        ensures fails { self.old.left ≡ 0 → (result ≡ Told.Failed) × (self.new
+            ≡ record self.old { failures = min (self.old.failures + 1) (2 ^ 64 - 1) }) }
+    {
+        if self.left == 0 {
+            self.fail();
+            return Told::Failed;
+        }
+        let most = self.most(buffer.len());
+        let told = self.inner.read_told(&mut buffer[..most]);
+        self.pass(told);
+        told
+    }
+}
+
+impl<S: WriteTally> Faulty<S> {
+    /// Writes once to the other one, at most the bytes left, of at least one byte. Where none are left it fails, and
+    /// the other one isn't called.
+    pub fn write_passed(&mut self, bytes: &[u8]) -> Told
+        requires some { bytes.now ≢ [] }
+        ensures passes { 0 < self.old.left → IsWritten (S.contents self.old.inner)
+            (S.contents self.new.inner) (S.counts self.old.inner) (S.counts self.new.inner)
+            (take self.old.left bytes.now) result }
+        ensures spent { self.old.left ≡ self.new.left + moved_count result }
+        ensures kept { 0 < self.old.left → self.new.failures ≡ self.old.failures }
+        ensures fails { self.old.left ≡ 0 → (result ≡ Told.Failed) × (self.new
+            ≡ record self.old { failures = min (self.old.failures + 1) (2 ^ 64 - 1) }) }
+    {
+        if self.left == 0 {
+            self.fail();
+            return Told::Failed;
+        }
+        let most = self.most(bytes.len());
+        let told = self.inner.write_told(&bytes[..most]);
+        self.pass(told);
+        told
+    }
+}
+
+impl<S: Read> Read for Faulty<S> {
+    ghost remaining = { λ f. S.remaining f.inner };
+
+    /// Reads once from the other one, at most the bytes left. Where none are left it fails with `ConnectionReset`, and
+    /// the other one isn't called.
+    fn read(&mut self, buffer: &mut [u8]) -> io::Result<usize>
+        ensures bound { ReadsAtMost result buffer.new }
+        ensures bytes { ReadConsumes (S.remaining self.old.inner) (S.remaining self.new.inner)
+            result buffer.new }
+        ensures spent { IfOk result (λ n. self.old.left ≡ self.new.left + n) }
+        ensures kept { OnErr result (self.new.left ≡ self.old.left) }
+        ensures counts { 0 < self.old.left → self.new.failures ≡ self.old.failures }
+        ensures fails { self.old.left ≡ 0 → IsErr result × (self.new
+            ≡ record self.old { failures = min (self.old.failures + 1) (2 ^ 64 - 1) }) }
+        ensures reset { self.old.left ≡ 0
+            → IfErr result (λ e. error_kind e ≡ ErrorKind.ConnectionReset) }
+    {
+        let most = self.passes(buffer.len())?;
+        let n = self.inner.read(&mut buffer[..most])?;
+        self.left -= n as u64;
+        Ok(n)
+    }
+}
+
+impl<S: Write> Write for Faulty<S> {
+    ghost contents = { λ f. S.contents f.inner };
+
+    /// Writes once to the other one, at most the bytes left. Where none are left it fails with `ConnectionReset`, and
+    /// the other one isn't called.
+    fn write(&mut self, bytes: &[u8]) -> io::Result<usize>
+        ensures bound { WritesAtMost result bytes.now }
+        ensures bytes { WriteAppends (S.contents self.old.inner) (S.contents self.new.inner)
+            result bytes.now }
+        ensures spent { IfOk result (λ n. self.old.left ≡ self.new.left + n) }
+        ensures kept { OnErr result (self.new.left ≡ self.old.left) }
+        ensures counts { 0 < self.old.left → self.new.failures ≡ self.old.failures }
+        ensures fails { self.old.left ≡ 0 → IsErr result × (self.new
+            ≡ record self.old { failures = min (self.old.failures + 1) (2 ^ 64 - 1) }) }
+        ensures reset { self.old.left ≡ 0
+            → IfErr result (λ e. error_kind e ≡ ErrorKind.ConnectionReset) }
+    {
+        let most = self.passes(bytes.len())?;
+        let n = self.inner.write(&bytes[..most])?;
+        self.left -= n as u64;
+        Ok(n)
+    }
+
+    /// Flushes the other one. It isn't counted, and has no failure of its own.
+    fn flush(&mut self) -> io::Result<()>
+        ensures bytes { Keeps (S.contents self.old.inner) (S.contents self.new.inner) }
+        ensures same { (self.new.left ≡ self.old.left) × (self.new.failures ≡ self.old.failures) }
+    {
+        self.inner.flush()
+    }
+}
+
+impl<S: ReadTally> ReadTally for Faulty<S> {
+    fn read_told(&mut self, buffer: &mut [u8]) -> Told {
+        self.read_passed(buffer)
+    }
+}
+
+impl<S: WriteTally> WriteTally for Faulty<S> {
+    fn write_told(&mut self, bytes: &[u8]) -> Told {
+        self.write_passed(bytes)
+    }
+}

@@ -1,0 +1,202 @@
+//! Readers and writers that count their failures and pauses.
+ghost use Rattle.std.specs.Prelude.{◌≡◌, ◌≢◌, ◌<◌, ◌⊎◌, ◌↔◌, [], ℕ, length};
+ghost use Rattle.std.specs.Io.{ReadsAtMost, WritesAtMost};
+ghost use Rattle.std.specs.Io.KnownBytes.{Keeps, ReadConsumes, WriteAppends};
+ghost use Rattle.proxy_devices.specs.Tallied.{counts_of};
+ghost use Rattle.proxy_devices.specs.Device.{Counts, CountsError, CountsRead, CountsWrite, HasFailed, HasPaused, IsPause, IsRead, IsWritten};
+
+use std::io;
+use std::io::{ErrorKind, Read, Write};
+
+/// The counts of a reader or a writer. Each stays at the greatest `u64`; nothing is promised of it then.
+pub trait Tally {
+    /// Its counts.
+    ghost counts: { Self → Counts };
+
+    /// The number of calls that returned an error other than `WouldBlock` and `Interrupted`, and of writes that took nothing.
+    fn failures(&self) -> u64
+        ensures { result ≡ (counts self.now).failed };
+
+    /// The number of calls that returned `WouldBlock` or `Interrupted`.
+    fn pauses(&self) -> u64
+        ensures { result ≡ (counts self.now).paused };
+}
+
+/// The result of one call of a device.
+#[derive(Clone, Copy, Debug, PartialEq, Eq, Drop)]
+pub enum Told {
+    /// At least one byte was read or taken: this many.
+    Moved(usize),
+    /// A read found the end of the input, or a write took nothing.
+    End,
+    /// Nothing for now: `WouldBlock` or `Interrupted`.
+    Paused,
+    /// Another error.
+    Failed,
+}
+
+/// A reader that returns what each read did, and counts.
+pub trait ReadTally: Read + Tally {
+    /// Reads once into a buffer that isn't empty.
+    fn read_told(&mut self, buffer: &mut [u8]) -> Told
+        requires room { 0 < length buffer.old }
+        ensures told { IsRead (Self.remaining self.old) (Self.remaining self.new)
+            (Self.counts self.old) (Self.counts self.new) buffer.new result };
+}
+
+/// A writer that returns what each write did, and counts.
+pub trait WriteTally: Write + Tally {
+    /// Writes once, at least one byte.
+    fn write_told(&mut self, bytes: &[u8]) -> Told
+        requires some { bytes.now ≢ [] }
+        ensures told { IsWritten (Self.contents self.old) (Self.contents self.new)
+            (Self.counts self.old) (Self.counts self.new) bytes.now result };
+}
+
+/// A reader or a writer with its counts.
+#[derive(Drop)]
+pub struct Tallied<S> {
+    inner: S,
+    failures: u64,
+    pauses: u64,
+}
+
+impl<S> Tallied<S> {
+    /// With no counts yet.
+    pub fn new(inner: S) -> Tallied<S>
+        ensures inner { result.inner ≡ inner }
+        ensures failures { result.failures ≡ 0 }
+        ensures pauses { result.pauses ≡ 0 }
+    {
+        Tallied {
+            inner,
+            failures: 0,
+            pauses: 0,
+        }
+    }
+
+    /// The reader or writer, without its counts.
+    pub fn into_inner(self) -> S
+        ensures { result ≡ self.inner }
+    {
+        let Tallied { inner, .. } = self;
+        inner
+    }
+
+    // Counts a failure.
+    fn failed(&mut self)
+        ensures inner { self.new.inner ≡ self.old.inner }
+        ensures counts { HasFailed (counts_of self.old) (counts_of self.new) }
+    {
+        self.failures = self.failures.saturating_add(1);
+    }
+
+    // Counts an error by its kind.
+    fn told(&mut self, kind: ErrorKind) -> Told
+        ensures inner { self.new.inner ≡ self.old.inner }
+        ensures told { ((result ≡ Told.Paused)
+            × HasPaused (counts_of self.old) (counts_of self.new))
+            ⊎ ((result ≡ Told.Failed) × HasFailed (counts_of self.old) (counts_of self.new)) }
+        ensures paused { (result ≡ Told.Paused) ↔ IsPause kind }
+        ensures counts { CountsError kind (counts_of self.old) (counts_of self.new) }
+    {
+        match kind {
+            ErrorKind::WouldBlock | ErrorKind::Interrupted => {
+                self.pauses = self.pauses.saturating_add(1);
+                Told::Paused
+            }
+            _ => {
+                self.failed();
+                Told::Failed
+            }
+        }
+    }
+}
+
+impl<S> Tally for Tallied<S> {
+    ghost counts = { λ t. counts_of t };
+
+    fn failures(&self) -> u64 {
+        self.failures
+    }
+
+    fn pauses(&self) -> u64 {
+        self.pauses
+    }
+}
+
+impl<S: Read> Read for Tallied<S> {
+    ghost remaining = { λ t. S.remaining t.inner };
+
+    /// Reads once, and counts the result.
+    fn read(&mut self, buffer: &mut [u8]) -> io::Result<usize>
+        ensures bound { ReadsAtMost result buffer.new }
+        ensures bytes { ReadConsumes (S.remaining self.old.inner) (S.remaining self.new.inner)
+            result buffer.new }
+        ensures counts { CountsRead result (counts_of self.old) (counts_of self.new) }
+    {
+        match self.inner.read(buffer) {
+            Ok(n) => Ok(n),
+            Err(error) => {
+                let _told = self.told(error.kind());
+                Err(error)
+            }
+        }
+    }
+}
+
+impl<S: Write> Write for Tallied<S> {
+    ghost contents = { λ t. S.contents t.inner };
+
+    /// Writes once, and counts the result.
+    fn write(&mut self, bytes: &[u8]) -> io::Result<usize>
+        ensures bound { WritesAtMost result bytes.now }
+        ensures bytes { WriteAppends (S.contents self.old.inner) (S.contents self.new.inner)
+            result bytes.now }
+        ensures counts { CountsWrite bytes.now result (counts_of self.old) (counts_of self.new) }
+    {
+        match self.inner.write(bytes) {
+            Ok(n) => {
+                if n == 0 && !bytes.is_empty() {
+                    self.failed();
+                }
+                Ok(n)
+            }
+            Err(error) => {
+                let _told = self.told(error.kind());
+                Err(error)
+            }
+        }
+    }
+
+    /// Flushes the writer. It isn't counted.
+    fn flush(&mut self) -> io::Result<()>
+        ensures bytes { Keeps (S.contents self.old.inner) (S.contents self.new.inner) }
+        ensures counts { counts_of self.new ≡ counts_of self.old }
+    {
+        self.inner.flush()
+    }
+}
+
+impl<S: Read> ReadTally for Tallied<S> {
+    fn read_told(&mut self, buffer: &mut [u8]) -> Told {
+        match self.inner.read(buffer) {
+            Ok(0) => Told::End,
+            Ok(n) => Told::Moved(n),
+            Err(error) => self.told(error.kind()),
+        }
+    }
+}
+
+impl<S: Write> WriteTally for Tallied<S> {
+    fn write_told(&mut self, bytes: &[u8]) -> Told {
+        match self.inner.write(bytes) {
+            Ok(0) => {
+                self.failed();
+                Told::End
+            }
+            Ok(n) => Told::Moved(n),
+            Err(error) => self.told(error.kind()),
+        }
+    }
+}

@@ -1,0 +1,81 @@
+//! How the program ends when it can't go on.
+ghost use Rattle.proxy_exit_status.specs.Ending.{ending_of};
+ghost use Rattle.std.specs.Prelude.{◌≡◌};
+ghost use Rattle.proxy_exit_status.specs.declared.ending.Ending.TheVariants.{Memory};
+
+use proxy_engines::EngineError;
+use std::alloc::{AllocError, AllocFailed};
+use thiserror::Error;
+
+/// Why the program ended before its work was done. Its text goes to standard error.
+#[derive(Clone, Copy, Debug, PartialEq, Eq, Drop, Error)]
+pub enum Ending {
+    /// Status 4: the journal has no room for another step.
+    #[error("journal full")]
+    JournalFull,
+    /// Status 5: a standard stream or a socket failed.
+    #[error("socket")]
+    Socket,
+    /// Status 6: memory was refused.
+    #[error("memory")]
+    Memory,
+    /// Status 7: the gate's tickets are spent.
+    #[error("gate spent")]
+    Spent,
+}
+
+// The numbers of a turn refused for want of memory, of room in the journal, and of a ticket.
+const NO_MEMORY: u16 = 1001;
+
+const JOURNAL_FULL: u16 = 1002;
+
+const SPENT: u16 = 1202;
+
+impl Ending {
+    ghost use Rattle.proxy_exit_status.specs.Ending.{status_of};
+
+    /// The program's exit status, 4 to 7.
+    pub fn status(self) -> u8
+        ensures { result ≡ status_of self }
+    {
+        match self {
+            Ending::JournalFull => 4,
+            Ending::Socket => 5,
+            Ending::Memory => 6,
+            Ending::Spent => 7,
+        }
+    }
+}
+
+impl From<AllocError> for Ending {
+    ghost from_gives = { λ _ e. e ≡ Memory };
+
+    fn from(_error: AllocError) -> Ending {
+        Ending::Memory
+    }
+}
+
+impl<T: Drop> From<AllocFailed<T>> for Ending {
+    ghost from_gives = { λ _ e. e ≡ Memory };
+
+    fn from(_error: AllocFailed<T>) -> Ending {
+        Ending::Memory
+    }
+}
+
+impl From<EngineError> for Ending {
+    ghost from_gives = { λ error e. e ≡ ending_of error };
+
+    fn from(error: EngineError) -> Ending {
+        match error {
+            EngineError::NoMemory => Ending::Memory,
+            EngineError::ReadFailed | EngineError::WriteFailed => Ending::Socket,
+            EngineError::TurnRefused { number: NO_MEMORY } => Ending::Memory,
+            EngineError::TurnRefused {
+                number: JOURNAL_FULL,
+            } => Ending::JournalFull,
+            EngineError::TurnRefused { number: SPENT } => Ending::Spent,
+            EngineError::TurnRefused { .. } => Ending::Socket,
+        }
+    }
+}

@@ -1,0 +1,20 @@
+-- How open generations are kept.
+use Rattle.std.specs.Prelude.{◌≡◌, ◌⊎◌, ℕ, Option, Some, None}
+use Rattle.proxy_generations.specs.declared.lifecycle.Generations.{Generations}
+use Rattle.limits.specs.declared.journals.TheConstants.{GIVING_UP_MS, STILL_MS, MAX_DRAINING_MS}
+use Rattle.proxy_generations.specs.declared.opened.Open.{Open}
+use Rattle.proxy_generations.specs.Moments.{HavePassed}
+
+-- an open one has this number
+abbrev pub IsNumber : Option Open → ℕ → Type 0
+IsNumber None n = ⊥
+IsNumber (Some kept) n = kept.number ≡ n
+
+-- no older one is kept, or by this moment it had its time for giving up
+abbrev pub HadTime : {H : Type 0} → Generations H → ℕ → Type 0
+HadTime m now = (m.older ≡ None) ⊎ HavePassed m.near_since GIVING_UP_MS now
+
+-- no older one is kept, or by this moment it is still
+abbrev pub MayBeLeft : {H : Type 0} → Generations H → ℕ → Type 0
+MayBeLeft m now = (m.older ≡ None)
+    ⊎ (HavePassed m.still_since STILL_MS now ⊎ HavePassed m.drains_since MAX_DRAINING_MS now)

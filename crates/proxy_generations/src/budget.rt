@@ -1,0 +1,146 @@
+//! The steps of one journal: a generation accepts no command that it can't finish.
+ghost use Rattle.std.specs.Prelude.{◌≡◌, ◌↔◌, ◌≤◌, ◌+◌, ◌-◌, IsTrue};
+ghost use Rattle.std.specs.Bool.{OnTrue, OnFalse};
+
+use crate::step_kind::StepKind;
+use limits::MAX_COMMAND_STEPS;
+use std::marker::Model;
+
+/// The most steps of a journal, as a count of steps.
+pub const MAX_STEPS: u64 = limits::MAX_STEPS as u64;
+
+/// The steps lent to a worker by its generation's budget, and those it spent.
+#[derive(Debug, Drop)]
+pub struct Loan {
+    lent: u64,
+    spent: u64,
+    freed: u64,
+}
+
+impl Model for Loan {
+    ghost use Rattle.proxy_generations.specs.Budget.{LoanState};
+
+    ghost Value = { LoanState };
+
+    ghost view = { λ l. record { lent = l.lent; spent = l.spent; freed = l.freed } };
+}
+
+impl Loan {
+    ghost use Rattle.proxy_generations.specs.Budget.{no_loan, free_steps, borrowed, loan_after};
+
+    /// Nothing is lent and nothing spent.
+    pub fn new() -> Loan
+        ensures { result ≡ no_loan }
+    {
+        Loan {
+            lent: 0,
+            spent: 0,
+            freed: 0,
+        }
+    }
+
+    /// The steps that may still be spent: those lent and those set free, less those spent; 0 where more was spent.
+    #[inline(always)]
+    pub fn free(&self) -> u64
+        ensures { result ≡ free_steps self.now }
+    {
+        self.lent
+            .saturating_add(self.freed)
+            .saturating_sub(self.spent)
+    }
+
+    /// Whether any command may still be accepted: `MAX_COMMAND_STEPS` steps are free.
+    pub fn has_room_for_a_command(&self) -> bool
+        ensures { IsTrue result ↔ (MAX_COMMAND_STEPS ≤ free_steps self.now) }
+    {
+        self.free() >= MAX_COMMAND_STEPS
+    }
+
+    /// Adds lent steps; to be called once `Budget::lend` has lent them.
+    pub fn borrow(&mut self, steps: u64)
+        ensures { self.new ≡ borrowed steps self.old }
+    {
+        self.lent = self.lent.saturating_add(steps);
+    }
+
+    /// Records a step: its cost is spent, and the steps that it sets free may be spent again.
+    ///
+    /// Spending goes on past what is free; steps set free later make up for that first.
+    #[inline(always)]
+    pub fn note(&mut self, kind: StepKind)
+        ensures { self.new ≡ loan_after kind self.old }
+    {
+        self.spent = self.spent.saturating_add(kind.cost());
+        self.freed = self.freed.saturating_add(kind.freed());
+    }
+}
+
+/// The steps of one journal: those spent for good, and those lent to workers.
+///
+/// Their sum is at most `MAX_STEPS`.
+#[derive(Debug, Drop)]
+pub struct Budget {
+    spent: u64,
+    lent: u64,
+}
+
+impl Model for Budget {
+    ghost use Rattle.std.specs.Prelude.{◌+◌, ◌≤◌};
+    ghost use Rattle.proxy_generations.specs.declared.budget.TheConstants.{MAX_STEPS};
+    ghost use Rattle.proxy_generations.specs.Budget.{BudgetState};
+
+    ghost Value = { BudgetState };
+
+    ghost view = { λ b. record { spent = b.spent; lent = b.lent } };
+
+    ghost invariant = { λ b. b.spent + b.lent ≤ MAX_STEPS };
+}
+
+impl Budget {
+    ghost use Rattle.proxy_generations.specs.Budget.{no_loan, no_budget, lent_more, settled};
+
+    /// Nothing is spent and nothing lent.
+    pub fn new() -> Budget
+        ensures { result ≡ no_budget }
+    {
+        Budget { spent: 0, lent: 0 }
+    }
+
+    /// The steps spent for good.
+    pub fn spent(&self) -> u64
+        ensures spent { result ≡ self.now.spent }
+        ensures fits { self.now.spent + self.now.lent ≤ MAX_STEPS }
+    {
+        self.spent
+    }
+
+    /// Lends this many steps if they fit beside those spent and lent. Otherwise nothing changes, and the result is `false`.
+    pub fn lend(&mut self, steps: u64) -> bool
+        ensures fits { IsTrue result ↔ (self.old.spent + self.old.lent + steps ≤ MAX_STEPS) }
+        ensures lent { OnTrue result (self.new ≡ lent_more steps self.old) }
+        ensures unchanged { OnFalse result (self.new ≡ self.old) }
+    {
+        if steps > MAX_STEPS - self.spent - self.lent {
+            return false;
+        }
+        self.lent += steps;
+        true
+    }
+
+    /// Settles a worker's loan: its spent steps, less those it set free, are spent for good, and its lent steps are
+    /// returned. If it set free more than it spent, that much less is spent for good. The loan is empty afterwards.
+    ///
+    /// A loan of another budget spends no more than fits, and returns no more than is lent.
+    pub fn settle(&mut self, loan: &mut Loan)
+        ensures settled { self.new ≡ settled MAX_STEPS loan.old self.old }
+        ensures empty { loan.new ≡ no_loan }
+    {
+        self.lent = self.lent.saturating_sub(loan.lent);
+        let spent = self
+            .spent
+            .saturating_add(loan.spent.saturating_sub(loan.freed))
+            .saturating_sub(loan.freed.saturating_sub(loan.spent));
+        self.spent = spent.min(MAX_STEPS - self.lent);
+        *loan = Loan::new();
+    }
+}

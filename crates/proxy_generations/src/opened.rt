@@ -1,0 +1,47 @@
+//! An open generation, as it is kept.
+ghost use Rattle.std.specs.Prelude.{◌≡◌, ◌↔◌, Some, IsTrue, IfSome, IsNone};
+
+/// An open generation: its number, and the last sweep that it knows.
+#[derive(Clone, Copy)]
+pub(crate) struct Open {
+    pub(crate) number: u64,
+    pub(crate) swept: u64,
+}
+
+impl Open {
+    ghost use Rattle.proxy_generations.specs.Kept.{IsNumber};
+
+    /// Whether there is one, with this number.
+    pub(crate) fn has_number(kept: Option<Open>, number: u64) -> bool
+        ensures { IsTrue result ↔ IsNumber kept number }
+    {
+        match kept {
+            None => false,
+            Some(kept) => kept.number == number,
+        }
+    }
+
+    /// The generation, once the one of this number has swept at the moment `now`.
+    pub(crate) fn swept_at(kept: Option<Open>, number: u64, now: u64) -> Option<Open>
+        ensures same { IsNumber kept number
+            → result ≡ Some (record { number = number; swept = now }) }
+        ensures other { ¬ IsNumber kept number → result ≡ kept }
+    {
+        match kept {
+            Some(kept) if kept.number == number => Some(Open { number, swept: now }),
+            other => other,
+        }
+    }
+
+    /// The last sweep that it knows, if it has this number.
+    pub(crate) fn sweep_of(kept: Option<Open>, number: u64) -> Option<u64>
+        ensures some { IfSome result
+            (λ t. kept ≡ Some (record { number = number; swept = t })) }
+        ensures none { IsNone result ↔ ¬ IsNumber kept number }
+    {
+        match kept {
+            Some(kept) if kept.number == number => Some(kept.swept),
+            _ => None,
+        }
+    }
+}

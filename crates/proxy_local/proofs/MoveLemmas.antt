@@ -1,0 +1,131 @@
+-- What one client and some hosts do beside one another.
+use Rattle.std.proofs.Common.{◌≡◌, ◌⊎◌, ℕ, Bool, [], ◌∷◌, ◌++◌, Option, Some, None, append_assoc, append-nil, inl, inr, refl, sym, ◌∙◌}
+use Rattle.std.specs.Prelude.{Result}
+use Rattle.std.proofs.lemmas.List.Elements.{filter-append}
+use Rattle.proxy_history.specs.History.{History, Step}
+use Rattle.proxy_history.specs.Own.{connection_steps, is_connection_step}
+use Rattle.proxy_history.specs.declared.event.Event.{Event}
+use Rattle.proxy_history.specs.declared.event.Kind.{Kind}
+use Rattle.proxy_engines.specs.Client.{Client, Goes}
+use Rattle.proxy_engines.specs.Host.{LineState, LinkState, GoesOn}
+use Rattle.proxy_engines.specs.HostStep.{HostState, Records, RestsHost, StepsHost, WorksHost}
+use Rattle.proxy_engines.specs.Moves.{AsTold}
+use Rattle.journal_core.specs.Journal.{step_by}
+use Rattle.proxy_engines.specs.declared.client.Progress.{Progress}
+use Rattle.proxy_engines.specs.declared.error.EngineError.{EngineError}
+use Rattle.proxy_engines.proofs.CallerLemmas as engines
+use Rattle.proxy_local.specs.Moves.{GoesBeside, IsBeside}
+use Rattle.proxy_local.proofs.BytesLemmas.{Appends-append, Appends-none, Consumes-append, Consumes-none}
+
+none-append : (c : ℕ) (xs ys : History) → connection_steps c xs ≡ [] → connection_steps c ys ≡ [] → connection_steps c (xs ++ ys) ≡ []
+none-append c xs ys p q = filter-append (λ (s : Step). is_connection_step c s.event s.answer) xs ys ∙ rw (p, q) refl
+
+-- HOSTS
+
+pub IsBeside-none : (x : History) → IsBeside x x
+IsBeside-none x = record { later = []; adds = refl; none = λ c. refl }
+
+pub IsBeside-then : (x y z : History) → IsBeside x y → IsBeside y z → IsBeside x z
+IsBeside-then x y z p q = record {
+  later = q.later ++ p.later;
+  adds = rw (q.adds, p.adds) (sym (append_assoc q.later p.later x));
+  none = λ c. none-append c q.later p.later (q.none c) (p.none c);
+}
+
+goes_on : (l l' : LineState) (k k' : Option LinkState) (H H' : History) (m : ℕ) (moved : Bool) → GoesOn l l' k k' H H' m moved → IsBeside H H'
+goes_on l l' k k' H H' m moved g = record {
+  later = g.steps;
+  adds = g.adds;
+  none = (engines.hosts_leave_others l.host g.steps g.alone).1;
+}
+
+records : (old new : HostState) (H H' : History) (kind : Kind) (m : ℕ) → Records old new H H' kind m → IsBeside H H'
+records old new H H' kind m r = record {
+  later = step_by r.fails.pass (Event.Failed old.line.host old.line.epoch kind m) r.fails.answer ∷ [];
+  adds = r.fails.adds;
+  none = λ c. refl;
+}
+
+same_steps : (H H' : History) → H' ≡ H → IsBeside H H'
+same_steps H H' e = record { later = []; adds = e; none = λ c. refl }
+
+works : (U : LineState → LinkState → Type 0) (old : LineState) (new : HostState) (k : Option LinkState) (H H' : History) (m : ℕ) (r : Result Progress EngineError)
+    → WorksHost U old new k H H' m r → IsBeside H H'
+works U old new k H H' m r w =
+    IsBeside-then H w.between H' (goes_on old w.last.line k w.last.link H w.between m w.moved w.goes)
+    (elim w.ends [ inl (_, _, same, _, _) ↦ same_steps w.between H' same | inr (kind, _, recorded, _, _) ↦ records w.last new w.between H' kind m recorded ])
+
+module _ (U : LineState → LinkState → Type 0) (old new : HostState) (H H' : History) (m : ℕ) (r : Result Progress EngineError) where
+  steps : StepsHost U old new H H' m r → IsBeside H H'
+  steps s =
+      IsBeside-then H s.between H'
+      (elim s.begins [ inl e ↦ same_steps H s.between e.1 | inr (kind, _, recorded, _) ↦ records old s.first H s.between kind m recorded ])
+      (works U s.first.line new s.first.link s.between H' m s.answer s.works)
+
+  -- a step of a host is beside a client
+  pub IsBeside-step : (StepsHost U old new H H' m r ⊎ RestsHost old new H H' r) → IsBeside H H'
+  IsBeside-step (inl s) = steps s
+  IsBeside-step (inr (_, _, same, _)) = same_steps H H' same
+
+-- THE CLIENT
+
+pub GoesBeside-none : (e : Client) (x : History) → GoesBeside e e x x
+GoesBeside-none e x = record {
+  got = [];
+  gave = [];
+  later = [];
+  reads = Consumes-none e.inbox.left;
+  writes = Appends-none e.outbox.held;
+  conn = refl;
+  drained = refl;
+  adds = refl;
+  alone = λ c other. refl;
+  carries = λ taken b k. rw (append-nil taken, append-nil b) k;
+}
+
+pub GoesBeside-then : (a b c : Client) (x y z : History) → GoesBeside a b x y → GoesBeside b c y z → GoesBeside a c x z
+GoesBeside-then a b c x y z p q = record {
+  got = p.got ++ q.got;
+  gave = p.gave ++ q.gave;
+  later = q.later ++ p.later;
+  reads = Consumes-append a.inbox.left b.inbox.left c.inbox.left p.got q.got p.reads q.reads;
+  writes = Appends-append a.outbox.held b.outbox.held c.outbox.held p.gave q.gave p.writes q.writes;
+  conn = q.conn ∙ p.conn;
+  drained = q.drained ∙ p.drained;
+  adds = rw (q.adds, p.adds) (sym (append_assoc q.later p.later x));
+  alone = λ d other. none-append d q.later p.later (q.alone d (λ same. other (same ∙ p.conn))) (p.alone d other);
+  carries = λ taken r k. rw (← append_assoc taken p.gave q.gave, ← append_assoc r p.got q.got) (q.carries (taken ++ p.gave) (r ++ p.got) (p.carries taken r k));
+}
+
+pub GoesBeside-goes : (old new : Client) (H H' : History) (moved : Bool) → Goes old new H H' moved → GoesBeside old new H H'
+GoesBeside-goes old new H H' moved g = record {
+  got = g.got;
+  gave = g.gave;
+  later = g.steps;
+  reads = g.reads;
+  writes = g.writes;
+  conn = g.conn;
+  drained = g.drained;
+  adds = g.adds;
+  alone = (engines.clients_leave_others old.conn g.steps g.alone).0;
+  carries = g.carries;
+}
+
+pub GoesBeside-told : (old new : Client) (H H' : History) (told : Option Bool) → AsTold (Goes old new H H') told → GoesBeside old new H H'
+GoesBeside-told old new H H' None g = GoesBeside-goes old new H H' g.0 g.1
+GoesBeside-told old new H H' (Some moved) g = GoesBeside-goes old new H H' moved g
+
+-- steps of hosts change nothing of what a client carries
+pub GoesBeside-beside : (e : Client) (H H' : History) → IsBeside H H' → GoesBeside e e H H'
+GoesBeside-beside e H H' s = record {
+  got = [];
+  gave = [];
+  later = s.later;
+  reads = Consumes-none e.inbox.left;
+  writes = Appends-none e.outbox.held;
+  conn = refl;
+  drained = refl;
+  adds = s.adds;
+  alone = λ c other. s.none c;
+  carries = λ taken b k. rw (append-nil taken, append-nil b, s.adds) (engines.others_leave_clients e H s.later taken b (s.none e.conn) k);
+}

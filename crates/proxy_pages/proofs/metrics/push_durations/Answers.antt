@@ -1,0 +1,5 @@
+use Rattle.proxy_pages.proofs.Texts.{four}
+use Rattle.proxy_pages.proofs.metrics.push_durations.Goals as goal
+
+pub returns : goal.returns
+returns c = four _ _ _ _ _ _ _ _ _ _ c.in_ok-push_bounds.ensures c.in_ok-push_labelled.ensures c.in_ok-push_sum.ensures c.push_plain.ensures

@@ -1,0 +1,125 @@
+-- The pages, as functions of what they tell.
+use Rattle.std.specs.Prelude.{ℕ, min, Bool, List, [], ◌∷◌, ◌++◌, codes, decimal, map, length, get_or, slice_index, if◌then◌else◌}
+use Rattle.std.specs.List.{concat, range_with_len}
+use Rattle.proxy_histogram.specs.declared.histogram.Histogram.{Histogram}
+use Rattle.proxy_histogram.specs.declared.histogram.TheConstants.{BOUNDS_MS}
+use Rattle.proxy_config.specs.declared.config.Host.{Host}
+use Rattle.proxy_stats.specs.declared.tally.Counts.{Counts}
+use Rattle.proxy_pages.specs.declared.metric.Kind.{Kind}
+use Rattle.proxy_pages.specs.declared.metric.Kind.TheVariants.{Counter, Gauge, Histogram as HistogramKind}
+use Rattle.proxy_pages.specs.declared.metric.Numbers.{Numbers}
+use Rattle.proxy_pages.specs.declared.metric.Numbers.TheVariants.{Build, One, ByAnswer, ByCause, ByHost, ByJournal, Durations}
+use Rattle.proxy_pages.specs.declared.metric.HostNumber.{HostNumber}
+use Rattle.proxy_pages.specs.declared.metric.HostNumber.TheVariants.{Sent, Answered, Faults, Lost, Waiting, Flying}
+use Rattle.proxy_pages.specs.declared.snapshot.About.{About}
+use Rattle.proxy_pages.specs.declared.snapshot.Snapshot.{Snapshot}
+use Rattle.proxy_pages.specs.Lines.{plain_text, labelled_text, host_text, build_text, bound_text, seconds_text}
+use Rattle.proxy_pages.specs.Table.{Row, metrics}
+use Rattle.proxy_pages.specs.Numbers.{number_of, host_number, journal_number, load_at}
+
+-- the texts for 0, 1 and so on, so many, one behind the other
+abbrev pub each : ℕ → (ℕ → List ℕ) → List ℕ
+each n text = concat (map text (range_with_len 0 n))
+
+-- how many hosts are told of
+abbrev pub host_count : About → ℕ
+host_count about = min (length about.hosts.now) 64
+
+-- the name of a host
+abbrev pub host_name : About → ℕ → List ℕ
+host_name about i = get_or (map (λ (h : Host). h.name) about.hosts.now) i []
+
+-- METRICS
+
+-- the word for a type of metrics
+abbrev pub kind_word : Kind → List ℕ
+kind_word Counter = codes "counter"
+kind_word Gauge = codes "gauge"
+kind_word HistogramKind = codes "histogram"
+
+-- what the metric tells, and its type
+abbrev pub head_text : Row → List ℕ
+head_text m =
+    concat (codes "# HELP " ∷ m.name ∷ codes " " ∷ m.help ∷ codes "\n# TYPE " ∷ m.name ∷ codes " " ∷ kind_word m.kind ∷ codes "\n" ∷ [])
+
+-- the word for an answer of the proxy's own
+abbrev pub answer_word : ℕ → List ℕ
+answer_word i =
+    get_or (codes "ping" ∷ codes "echo" ∷ codes "quit" ∷ codes "invalid_request" ∷ codes "unsupported_command"
+    ∷ codes "wrong_number" ∷ codes "protocol_error" ∷ []) i []
+
+-- what the proxy answered itself, by the kind of the answer
+abbrev pub answers_text : List ℕ → Counts → List ℕ
+answers_text name c = each 7 (λ i. labelled_text name [] (codes "kind") (answer_word i) (slice_index c.local i))
+
+-- parts that got an error of the proxy's own, by its cause
+abbrev pub causes_text : List ℕ → Counts → List ℕ
+causes_text name c =
+    labelled_text name [] (codes "cause") (codes "upstream_failure") c.lost
+    ++ labelled_text name [] (codes "cause") (codes "no_upstream_host") c.no_host
+    ++ labelled_text name [] (codes "cause") (codes "proxy_busy") c.busy
+
+-- a number of each host
+abbrev pub host_numbers_text : About → Snapshot → List ℕ → HostNumber → List ℕ
+host_numbers_text about s name number =
+    each (host_count about) (λ i. host_text name (host_name about i) (host_number s number i))
+
+-- how many values were at most each bound
+abbrev pub bounds_text : List ℕ → Histogram → List ℕ
+bounds_text name h = each 12 (λ i. bound_text name (slice_index BOUNDS_MS i) (slice_index h.at_most i))
+
+-- the sum of the values, in seconds
+abbrev pub sum_text : List ℕ → Histogram → List ℕ
+sum_text name h = concat (name ∷ codes "_sum " ∷ []) ++ seconds_text h.sum_ms ++ concat (codes "\n" ∷ [])
+
+-- a histogram
+abbrev pub durations_text : List ℕ → Histogram → List ℕ
+durations_text name h =
+    bounds_text name h
+    ++ labelled_text name (codes "_bucket") (codes "le") (codes "+Inf") h.total
+    ++ sum_text name h
+    ++ plain_text name (codes "_count") h.total
+
+-- the numbers of a kind, under a name
+abbrev pub numbers_by : About → Snapshot → List ℕ → Numbers → List ℕ
+numbers_by about s name Build = build_text name about.version.now about.kit.now
+numbers_by about s name (One number) = plain_text name [] (number_of s number)
+numbers_by about s name ByAnswer = answers_text name s.counts
+numbers_by about s name ByCause = causes_text name s.counts
+numbers_by about s name (ByHost number) = host_numbers_text about s name number
+numbers_by about s name (ByJournal number) =
+    labelled_text name [] (codes "journal") (codes "serving") (journal_number number s.serving)
+    ++ labelled_text name [] (codes "journal") (codes "draining") (journal_number number s.draining)
+numbers_by about s name Durations = durations_text name s.durations
+
+-- the numbers of a metric
+abbrev pub numbers_text : About → Snapshot → Row → List ℕ
+numbers_text about s m = numbers_by about s m.name m.numbers
+
+-- a metric with its numbers
+abbrev pub metric_text : About → Snapshot → Row → List ℕ
+metric_text about s m = head_text m ++ numbers_text about s m
+
+-- the page of numbers: each metric of the table
+abbrev pub metrics_text : About → Snapshot → List ℕ
+metrics_text about s = concat (map (metric_text about s) metrics)
+
+-- HOSTS
+
+-- whether a host is put aside
+abbrev pub state_word : Bool → List ℕ
+state_word is_out = if is_out then codes "out" else codes "in"
+
+-- the line of a host
+abbrev pub host_line : About → Snapshot → ℕ → List ℕ
+host_line about s i =
+    let number = λ (n : HostNumber). decimal (host_number s n i) in
+    host_name about i
+    ++ concat (codes " " ∷ state_word (load_at s.serving i).is_out
+    ∷ codes " waiting " ∷ number Waiting ∷ codes " flying " ∷ number Flying
+    ∷ codes " sent " ∷ number Sent ∷ codes " answered " ∷ number Answered
+    ∷ codes " faults " ∷ number Faults ∷ codes " lost " ∷ number Lost ∷ codes "\n" ∷ [])
+
+-- the page of hosts
+abbrev pub hosts_text : About → Snapshot → List ℕ
+hosts_text about s = each (host_count about) (host_line about s)

@@ -1,0 +1,145 @@
+//! Lines of Prometheus's text format.
+ghost use Rattle.std.specs.Prelude.{◌≡◌, ◌++◌, OnOk, map};
+ghost use Rattle.std.specs.List.{concat};
+ghost use Rattle.proxy_pages.specs.Lines.{plain_text, labelled_text, host_text, build_text, bound_text, seconds_text, escaped};
+
+use itoa::Buffer;
+use std::alloc::AllocError;
+
+/// Appends these parts.
+pub(crate) fn push_all(page: &mut Vec<u8>, parts: &[&str]) -> Result<(), AllocError>
+    ensures { OnOk result (page.new.items
+        ≡ page.old.items ++ concat (map (λ part. part.now) parts.now)) }
+{
+    for part in parts {
+        page.extend_from_slice(part.as_bytes())?;
+    }
+    Ok(())
+}
+
+/// Appends a number without a label.
+pub(crate) fn push_plain(
+    page: &mut Vec<u8>,
+    name: &str,
+    suffix: &str,
+    number: u64,
+) -> Result<(), AllocError>
+    ensures { OnOk result (page.new.items
+        ≡ page.old.items ++ plain_text name.now suffix.now number) }
+{
+    let mut digits = Buffer::new();
+    push_all(page, &[name, suffix, " ", digits.format(number), "\n"])
+}
+
+/// Appends a number with one label, whose value needs no escape.
+pub(crate) fn push_labelled<'a>(
+    page: &mut Vec<u8>,
+    name: &'a str,
+    suffix: &'a str,
+    key: &'a str,
+    value: &'a str,
+    number: u64,
+) -> Result<(), AllocError>
+    ensures { OnOk result (page.new.items
+        ≡ page.old.items ++ labelled_text name.now suffix.now key.now value.now number) }
+{
+    let mut digits = Buffer::new();
+    push_all(
+        page,
+        &[
+            name,
+            suffix,
+            "{",
+            key,
+            "=\"",
+            value,
+            "\"} ",
+            digits.format(number),
+            "\n",
+        ],
+    )
+}
+
+/// Appends a number of a host.
+pub(crate) fn push_of_host(
+    page: &mut Vec<u8>,
+    name: &str,
+    host: &[u8],
+    number: u64,
+) -> Result<(), AllocError>
+    ensures { OnOk result (page.new.items
+        ≡ page.old.items ++ host_text name.now host.now number) }
+{
+    let mut digits = Buffer::new();
+    push_all(page, &[name, "{host=\""])?;
+    push_escaped(page, host)?;
+    push_all(page, &["\"} ", digits.format(number), "\n"])
+}
+
+/// Appends the version and the kit.
+pub(crate) fn push_build(
+    page: &mut Vec<u8>,
+    name: &str,
+    version: &str,
+    kit: &str,
+) -> Result<(), AllocError>
+    ensures { OnOk result (page.new.items
+        ≡ page.old.items ++ build_text name.now version.now kit.now) }
+{
+    push_all(page, &[name, "{version=\""])?;
+    push_escaped(page, version.as_bytes())?;
+    push_all(page, &["\",kit=\""])?;
+    push_escaped(page, kit.as_bytes())?;
+    push_all(page, &["\"} 1\n"])
+}
+
+/// Appends the number of values of at most this many milliseconds.
+pub(crate) fn push_bound(
+    page: &mut Vec<u8>,
+    name: &str,
+    ms: u64,
+    number: u64,
+) -> Result<(), AllocError>
+    ensures { OnOk result (page.new.items
+        ≡ page.old.items ++ bound_text name.now ms number) }
+{
+    let mut digits = Buffer::new();
+    push_all(page, &[name, "_bucket{le=\""])?;
+    push_seconds(page, ms)?;
+    push_all(page, &["\"} ", digits.format(number), "\n"])
+}
+
+/// Appends milliseconds as seconds with three decimals.
+pub(crate) fn push_seconds(page: &mut Vec<u8>, ms: u64) -> Result<(), AllocError>
+    ensures { OnOk result (page.new.items ≡ page.old.items ++ seconds_text ms) }
+{
+    let mut whole = Buffer::new();
+    let (mut tenths, mut hundredths, mut thousandths) = (
+        Buffer::new(),
+        Buffer::new(),
+        Buffer::new(),
+    );
+    push_all(
+        page,
+        &[
+            whole.format(ms / 1000),
+            ".",
+            tenths.format(ms / 100 % 10),
+            hundredths.format(ms / 10 % 10),
+            thousandths.format(ms % 10),
+        ],
+    )
+}
+
+// Appends a label's value: a backslash stands before each quote and each backslash.
+fn push_escaped(page: &mut Vec<u8>, value: &[u8]) -> Result<(), AllocError>
+    ensures { OnOk result (page.new.items ≡ page.old.items ++ escaped value.now) }
+{
+    for byte in value {
+        if *byte == b'\\' || *byte == b'"' {
+            page.push(b'\\')?;
+        }
+        page.push(*byte)?;
+    }
+    Ok(())
+}

@@ -1,0 +1,274 @@
+//! The table of metrics: their names and numbers.
+ghost use Rattle.std.specs.Prelude.{◌≡◌, ◌<◌};
+ghost use Rattle.proxy_pages.specs.Pages.{answer_word, kind_word};
+
+use proxy_stats::LOCAL_KINDS;
+
+/// Prometheus's types of metrics.
+#[derive(Clone, Copy)]
+pub(crate) enum Kind {
+    /// It only rises, until the program ends.
+    Counter,
+
+    /// It rises and falls.
+    Gauge,
+
+    /// Numbers of values up to each bound, with their sum and their number.
+    Histogram,
+}
+
+/// A number with no label.
+#[derive(Clone, Copy)]
+pub(crate) enum Number {
+    Accepted,
+    Handed,
+    Ejections,
+    Kept,
+    Panic,
+    Connections,
+    Closed,
+    Generations,
+    Turns,
+    Ready,
+    Ending,
+}
+
+/// A number of each host.
+#[derive(Clone, Copy)]
+pub(crate) enum HostNumber {
+    Sent,
+    Answered,
+    Faults,
+    Lost,
+    Waiting,
+    Flying,
+    Out,
+}
+
+/// A number of each journal.
+#[derive(Clone, Copy)]
+pub(crate) enum JournalNumber {
+    Steps,
+    Bytes,
+}
+
+/// The numbers of a metric.
+#[derive(Clone, Copy)]
+pub(crate) enum Numbers {
+    /// 1, with version and kit as labels.
+    Build,
+
+    /// One number.
+    One(Number),
+
+    /// One for each kind of the proxy's own answers.
+    ByAnswer,
+
+    /// One for each cause of the proxy's own errors for parts.
+    ByCause,
+
+    /// One for each host.
+    ByHost(HostNumber),
+
+    /// One for each journal.
+    ByJournal(JournalNumber),
+
+    /// The histogram of the durations of commands.
+    Durations,
+}
+
+/// A metric.
+#[derive(Clone, Copy)]
+pub(crate) struct Metric {
+    /// Its name.
+    pub name: &'static str,
+
+    /// Its type.
+    pub kind: Kind,
+
+    /// Its meaning, in one sentence.
+    pub help: &'static str,
+
+    /// Its numbers.
+    pub numbers: Numbers,
+}
+
+impl Kind {
+    /// The word for this type in the text format.
+    pub(crate) fn word(self) -> &'static str
+        ensures { result.now ≡ kind_word self }
+    {
+        match self {
+            Kind::Counter => "counter",
+            Kind::Gauge => "gauge",
+            Kind::Histogram => "histogram",
+        }
+    }
+}
+
+/// The word for an answer of the proxy's own, by its index in the counts.
+pub(crate) fn answer_word(answer: usize) -> &'static str
+    requires { answer < LOCAL_KINDS }
+    ensures { result.now ≡ answer_word answer }
+{
+    match answer {
+        0 => "ping",
+        1 => "echo",
+        2 => "quit",
+        3 => "invalid_request",
+        4 => "unsupported_command",
+        5 => "wrong_number",
+        _ => "protocol_error",
+    }
+}
+
+/// The number of metrics.
+pub(crate) const METRIC_COUNT: usize = 24;
+
+/// All metrics, in the order of the page.
+pub(crate) const METRICS: [Metric; METRIC_COUNT] = [
+    Metric {
+        name: "redproxy_build_info",
+        kind: Kind::Gauge,
+        help: "The version that runs, and the kit that proved it.",
+        numbers: Numbers::Build,
+    },
+    Metric {
+        name: "redproxy_commands_accepted_total",
+        kind: Kind::Counter,
+        help: "Commands of clients that were accepted.",
+        numbers: Numbers::One(Number::Accepted),
+    },
+    Metric {
+        name: "redproxy_replies_handed_total",
+        kind: Kind::Counter,
+        help: "Replies that were handed out to clients.",
+        numbers: Numbers::One(Number::Handed),
+    },
+    Metric {
+        name: "redproxy_command_duration_seconds",
+        kind: Kind::Histogram,
+        help: "Time from the acceptance of a command to its answer.",
+        numbers: Numbers::Durations,
+    },
+    Metric {
+        name: "redproxy_local_replies_total",
+        kind: Kind::Counter,
+        help: "Commands that the proxy answered itself, by the kind of the answer.",
+        numbers: Numbers::ByAnswer,
+    },
+    Metric {
+        name: "redproxy_part_errors_total",
+        kind: Kind::Counter,
+        help: "Parts of commands that got an error of the proxy's own, by its cause.",
+        numbers: Numbers::ByCause,
+    },
+    Metric {
+        name: "redproxy_host_parts_sent_total",
+        kind: Kind::Counter,
+        help: "Parts of commands that were sent to the host.",
+        numbers: Numbers::ByHost(HostNumber::Sent),
+    },
+    Metric {
+        name: "redproxy_host_replies_total",
+        kind: Kind::Counter,
+        help: "Replies of the host.",
+        numbers: Numbers::ByHost(HostNumber::Answered),
+    },
+    Metric {
+        name: "redproxy_host_faults_total",
+        kind: Kind::Counter,
+        help: "Faults of the host's link.",
+        numbers: Numbers::ByHost(HostNumber::Faults),
+    },
+    Metric {
+        name: "redproxy_host_parts_lost_total",
+        kind: Kind::Counter,
+        help: "Parts that waited for the host or were sent to it at a fault.",
+        numbers: Numbers::ByHost(HostNumber::Lost),
+    },
+    Metric {
+        name: "redproxy_host_parts_waiting",
+        kind: Kind::Gauge,
+        help: "Parts of commands that wait to be sent to the host.",
+        numbers: Numbers::ByHost(HostNumber::Waiting),
+    },
+    Metric {
+        name: "redproxy_host_parts_flying",
+        kind: Kind::Gauge,
+        help: "Parts of commands that were sent to the host and have no reply.",
+        numbers: Numbers::ByHost(HostNumber::Flying),
+    },
+    Metric {
+        name: "redproxy_host_out",
+        kind: Kind::Gauge,
+        help: "Whether the host is put aside.",
+        numbers: Numbers::ByHost(HostNumber::Out),
+    },
+    Metric {
+        name: "redproxy_ejections_total",
+        kind: Kind::Counter,
+        help: "How often a host was put aside.",
+        numbers: Numbers::One(Number::Ejections),
+    },
+    Metric {
+        name: "redproxy_ejections_withheld_total",
+        kind: Kind::Counter,
+        help: "How often a host tripped and stayed, since enough others were put aside.",
+        numbers: Numbers::One(Number::Kept),
+    },
+    Metric {
+        name: "redproxy_panic",
+        kind: Kind::Gauge,
+        help: "Whether so few hosts are available that all are used.",
+        numbers: Numbers::One(Number::Panic),
+    },
+    Metric {
+        name: "redproxy_client_connections",
+        kind: Kind::Gauge,
+        help: "Connections of clients that are open.",
+        numbers: Numbers::One(Number::Connections),
+    },
+    Metric {
+        name: "redproxy_client_connections_closed_total",
+        kind: Kind::Counter,
+        help: "Connections of clients that were closed.",
+        numbers: Numbers::One(Number::Closed),
+    },
+    Metric {
+        name: "redproxy_generations_total",
+        kind: Kind::Counter,
+        help: "Generations that were opened.",
+        numbers: Numbers::One(Number::Generations),
+    },
+    Metric {
+        name: "redproxy_turns_total",
+        kind: Kind::Counter,
+        help: "Turns of the core that were answered.",
+        numbers: Numbers::One(Number::Turns),
+    },
+    Metric {
+        name: "redproxy_journal_steps",
+        kind: Kind::Gauge,
+        help: "Steps of a journal, which takes 262144.",
+        numbers: Numbers::ByJournal(JournalNumber::Steps),
+    },
+    Metric {
+        name: "redproxy_journal_payload_bytes",
+        kind: Kind::Gauge,
+        help: "Bytes of payload in a journal, which takes 67108864.",
+        numbers: Numbers::ByJournal(JournalNumber::Bytes),
+    },
+    Metric {
+        name: "redproxy_ready",
+        kind: Kind::Gauge,
+        help: "Whether new connections are taken.",
+        numbers: Numbers::One(Number::Ready),
+    },
+    Metric {
+        name: "redproxy_ending",
+        kind: Kind::Gauge,
+        help: "Whether the proxy was ordered to end.",
+        numbers: Numbers::One(Number::Ending),
+    },
+];

@@ -1,0 +1,165 @@
+//! The page of numbers, in Prometheus's text format.
+ghost use Rattle.std.specs.Prelude.{◌≡◌, ◌++◌, ◌<◌, IfOk, OnOk, map, length};
+ghost use Rattle.std.specs.List.{concat};
+ghost use Rattle.proxy_pages.specs.Pages.{head_text, metric_text, metrics_text, numbers_text, answers_text, causes_text, host_numbers_text, durations_text, bounds_text, sum_text};
+ghost use Rattle.proxy_pages.specs.Table.{row_of};
+
+use crate::lines::{
+    push_all, push_bound, push_build, push_labelled, push_of_host, push_plain, push_seconds,
+};
+use crate::metric::{HostNumber, METRICS, Metric, Numbers, answer_word};
+use crate::snapshot::{About, Snapshot};
+use proxy_histogram::{BOUNDS, BOUNDS_MS, Histogram};
+use proxy_stats::{Counts, LOCAL_KINDS};
+use std::alloc::{AllocError, Global};
+
+/// The page: each metric of the table, with its numbers in the snapshot.
+pub(crate) fn page(
+    alloc: Global,
+    about: &About<'_>,
+    snapshot: &Snapshot,
+) -> Result<Vec<u8>, AllocError>
+    ensures { IfOk result (λ page. page.items ≡ metrics_text about.now snapshot.now) }
+{
+    let mut page = Vec::new(alloc);
+    push_metrics(&mut page, &METRICS, about, snapshot)?;
+    Ok(page)
+}
+
+fn push_metrics(
+    page: &mut Vec<u8>,
+    metrics: &[Metric],
+    about: &About<'_>,
+    snapshot: &Snapshot,
+) -> Result<(), AllocError>
+    ensures { OnOk result (page.new.items ≡ page.old.items
+        ++ concat (map (λ m. metric_text about.now snapshot.now (row_of m)) metrics.now)) }
+{
+    for metric in metrics {
+        metric.push(page, about, snapshot)?;
+    }
+    Ok(())
+}
+
+impl Metric {
+    fn push(
+        &self,
+        page: &mut Vec<u8>,
+        about: &About<'_>,
+        snapshot: &Snapshot,
+    ) -> Result<(), AllocError>
+        ensures { OnOk result (page.new.items ≡ page.old.items
+            ++ metric_text about.now snapshot.now (row_of self.now)) }
+    {
+        self.push_head(page)?;
+        self.push_numbers(page, about, snapshot)
+    }
+
+    fn push_head(&self, page: &mut Vec<u8>) -> Result<(), AllocError>
+        ensures { OnOk result (page.new.items ≡ page.old.items ++ head_text (row_of self.now)) }
+    {
+        let (name, kind) = (self.name, self.kind.word());
+        push_all(
+            page,
+            &[
+                "# HELP ",
+                name,
+                " ",
+                self.help,
+                "\n# TYPE ",
+                name,
+                " ",
+                kind,
+                "\n",
+            ],
+        )
+    }
+
+    fn push_numbers(
+        &self,
+        page: &mut Vec<u8>,
+        about: &About<'_>,
+        snapshot: &Snapshot,
+    ) -> Result<(), AllocError>
+        ensures { OnOk result (page.new.items ≡ page.old.items
+            ++ numbers_text about.now snapshot.now (row_of self.now)) }
+    {
+        match self.numbers {
+            Numbers::Build => push_build(page, self.name, about.version, about.kit),
+            Numbers::One(number) => push_plain(page, self.name, "", number.of(snapshot)),
+            Numbers::ByAnswer => push_answers(page, self.name, &snapshot.counts),
+            Numbers::ByCause => push_causes(page, self.name, &snapshot.counts),
+            Numbers::ByHost(number) => push_hosts(page, self.name, number, about, snapshot),
+            Numbers::ByJournal(number) => {
+                let (serving, draining) = (
+                    number.of(&snapshot.serving),
+                    number.of(&snapshot.draining),
+                );
+                push_labelled(page, self.name, "", "journal", "serving", serving)?;
+                push_labelled(page, self.name, "", "journal", "draining", draining)
+            }
+            Numbers::Durations => push_durations(page, self.name, &snapshot.durations),
+        }
+    }
+}
+
+fn push_answers(page: &mut Vec<u8>, name: &str, counts: &Counts) -> Result<(), AllocError>
+    ensures { OnOk result (page.new.items ≡ page.old.items ++ answers_text name.now counts.now) }
+{
+    for i in 0..LOCAL_KINDS {
+        push_labelled(page, name, "", "kind", answer_word(i), counts.local[i])?;
+    }
+    Ok(())
+}
+
+fn push_causes(page: &mut Vec<u8>, name: &str, counts: &Counts) -> Result<(), AllocError>
+    ensures { OnOk result (page.new.items ≡ page.old.items ++ causes_text name.now counts.now) }
+{
+    push_labelled(page, name, "", "cause", "upstream_failure", counts.lost)?;
+    push_labelled(page, name, "", "cause", "no_upstream_host", counts.no_host)?;
+    push_labelled(page, name, "", "cause", "proxy_busy", counts.busy)
+}
+
+fn push_hosts(
+    page: &mut Vec<u8>,
+    name: &str,
+    number: HostNumber,
+    about: &About<'_>,
+    snapshot: &Snapshot,
+) -> Result<(), AllocError>
+    ensures { OnOk result (page.new.items ≡ page.old.items
+        ++ host_numbers_text about.now snapshot.now name.now number) }
+{
+    for i in 0..about.host_count() {
+        push_of_host(page, name, about.host_name(i), number.of(snapshot, i))?;
+    }
+    Ok(())
+}
+
+fn push_durations(page: &mut Vec<u8>, name: &str, durations: &Histogram) -> Result<(), AllocError>
+    ensures { OnOk result (page.new.items ≡ page.old.items
+        ++ durations_text name.now durations.now) }
+{
+    push_bounds(page, name, durations)?;
+    push_labelled(page, name, "_bucket", "le", "+Inf", durations.total)?;
+    push_sum(page, name, durations)?;
+    push_plain(page, name, "_count", durations.total)
+}
+
+fn push_sum(page: &mut Vec<u8>, name: &str, durations: &Histogram) -> Result<(), AllocError>
+    ensures { OnOk result (page.new.items ≡ page.old.items ++ sum_text name.now durations.now) }
+{
+    push_all(page, &[name, "_sum "])?;
+    push_seconds(page, durations.sum_ms)?;
+    push_all(page, &["\n"])
+}
+
+fn push_bounds(page: &mut Vec<u8>, name: &str, durations: &Histogram) -> Result<(), AllocError>
+    ensures { OnOk result (page.new.items ≡ page.old.items
+        ++ bounds_text name.now durations.now) }
+{
+    for i in 0..BOUNDS {
+        push_bound(page, name, BOUNDS_MS[i], durations.at_most[i])?;
+    }
+    Ok(())
+}

@@ -1,0 +1,93 @@
+//! The numbers behind the pages.
+ghost use Rattle.std.specs.Prelude.{◌≡◌, ◌<◌};
+
+use proxy_histogram::Histogram;
+
+use limits::MAX_HOSTS;
+use proxy_config::Host;
+use proxy_stats::{Counts, Load};
+
+/// Facts that stay the same while the proxy runs.
+#[derive(Clone, Copy)]
+pub struct About<'a> {
+    /// The version of the program.
+    pub version: &'a str,
+
+    /// The kit that it was proved and built with.
+    pub kit: &'a str,
+
+    /// The hosts, in the order of the settings; those after the first 64 aren't shown.
+    pub hosts: &'a [Host],
+}
+
+impl<'a> About<'a> {
+    ghost use Rattle.proxy_pages.specs.Pages.{host_count, host_name};
+
+    /// The number of hosts shown.
+    pub(crate) fn host_count(&self) -> usize
+        ensures { result ≡ host_count self.now }
+    {
+        self.hosts.len().min(MAX_HOSTS)
+    }
+
+    /// The name of a host.
+    pub(crate) fn host_name(&self, host: usize) -> &[u8]
+        requires { host < host_count self.now }
+        ensures { result.now ≡ host_name self.now host }
+    {
+        self.hosts[host].name.as_bytes()
+    }
+}
+
+/// The last sight of a generation's journal.
+#[derive(Clone, Copy, Debug, PartialEq, Eq)]
+pub struct Look {
+    /// The number of its steps.
+    pub steps: u64,
+
+    /// The bytes of payload of its steps.
+    pub bytes: u64,
+
+    /// The load of its core.
+    pub load: Load,
+}
+
+impl Look {
+    /// There is no such generation.
+    pub const NONE: Look = Look {
+        steps: 0,
+        bytes: 0,
+        load: Load::NONE,
+    };
+}
+
+/// What a proxy has done, and its present state.
+#[derive(Clone, Copy, Debug, PartialEq, Eq)]
+pub struct Snapshot {
+    /// The counts of all generations, gone and living.
+    pub counts: Counts,
+
+    /// The number of generations opened.
+    pub generations: u64,
+
+    /// The steps of the journals of generations that are gone.
+    pub past_steps: u64,
+
+    /// The generation that takes new connections.
+    pub serving: Look,
+
+    /// The one before it, until its last connection is gone.
+    pub draining: Look,
+
+    /// The number of closed client connections.
+    pub closed: u64,
+
+    /// The durations of commands, from acceptance to answer.
+    pub durations: Histogram,
+
+    /// Whether new connections are accepted.
+    pub is_ready: bool,
+
+    /// Whether the proxy was ordered to end.
+    pub is_ending: bool,
+}

@@ -1,7 +1,0 @@
-use Rattle.proxy_run.proofs.StubLemmas.{numbers-more}
-use Rattle.proxy_run.proofs.stubs.stub_engines.Goals as goal
-
-pub loop-host-preserved : goal.loop-host-preserved
-loop-host-preserved c = rw c.in_ok-push.ensures.items
-    (numbers-more (λ e. e.line.host) c.loop-host.engines.items c.in_ok-stub_engine.field-0 c.loop-host.host c.loop-host.invariant
-    c.in_ok-stub_engine.ensures.host)

@@ -1,7 +1,0 @@
--- What a reader counts that pauses before each read.
-use Rattle.std.specs.Prelude.{◌+◌, ◌-◌, ◌^◌, min, ℕ}
-use Rattle.devices.specs.Device.{Counts}
-
--- the counts of the reader within, and so many pauses
-abbrev pub with_pauses : ℕ → Counts → Counts
-with_pauses n counts = record { failed = counts.failed; paused = min (counts.paused + n) (2 ^ 64 - 1) }

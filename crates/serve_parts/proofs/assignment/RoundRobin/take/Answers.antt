@@ -1,6 +1,0 @@
-use Rattle.std.proofs.Common.{◌+◌, ◌%◌, ap}
-use Rattle.serve_parts.specs.Assignment.{RoundRobinState}
-use Rattle.serve_parts.proofs.assignment.RoundRobin.take.Goals as goal
-
-pub returns-clause-next : goal.returns-clause-next
-returns-clause-next c = ap (λ (t : RoundRobinState). (t.next + 1) % t.count) c.self.view_is

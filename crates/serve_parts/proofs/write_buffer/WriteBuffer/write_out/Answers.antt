@@ -1,9 +1,0 @@
-use Rattle.std.proofs.Common.{arith}
-use Rattle.std.proofs.lemmas.Grind.{common_steps}
-use Rattle.serve_parts.proofs.write_buffer.WriteBuffer.write_out.Goals as goal
-
-pub returns-then-not-is_empty-clause-ends : goal.returns-then-not-is_empty-clause-ends
-returns-then-not-is_empty-clause-ends g c = c.write_gathered.ensures.ends
-
-pub returns-clause-broken : goal.returns-clause-broken
-returns-clause-broken g c = grind (arith, common_steps)

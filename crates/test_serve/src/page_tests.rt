@@ -1,0 +1,88 @@
+//! The page of numbers for values that no run produces: a histogram of known values, and labels with escapes.
+ghost use Rattle.http_server.specs.Response.{IsBlank};
+
+use proxy_pages::{About, Admin, Look, Snapshot};
+use bytes::{Buf, Bytes};
+use proxy_histogram::Histogram;
+use http::Request;
+use http_server::{Response, Service};
+use proxy_stats::Counts;
+use std::alloc::Global;
+use std::str;
+use std::test::Fail;
+
+// Their sum is 33,336 ms; one is above the greatest bound.
+const DURATIONS_MS: [u64; 8] = [0, 1, 2, 3, 30, 300, 3_000, 30_000];
+
+const LINES: [&str; 2] = [
+    "redproxy_build_info{version=\"1.2.3\",kit=\"a \\\"kit\\\" of C:\\\\\"} 1\n",
+    "redproxy_command_duration_seconds_bucket{le=\"0.001\"} 2
+redproxy_command_duration_seconds_bucket{le=\"0.002\"} 3
+redproxy_command_duration_seconds_bucket{le=\"0.005\"} 4
+redproxy_command_duration_seconds_bucket{le=\"0.010\"} 4
+redproxy_command_duration_seconds_bucket{le=\"0.025\"} 4
+redproxy_command_duration_seconds_bucket{le=\"0.050\"} 5
+redproxy_command_duration_seconds_bucket{le=\"0.100\"} 5
+redproxy_command_duration_seconds_bucket{le=\"0.250\"} 5
+redproxy_command_duration_seconds_bucket{le=\"0.500\"} 6
+redproxy_command_duration_seconds_bucket{le=\"1.000\"} 6
+redproxy_command_duration_seconds_bucket{le=\"2.500\"} 6
+redproxy_command_duration_seconds_bucket{le=\"5.000\"} 7
+redproxy_command_duration_seconds_bucket{le=\"+Inf\"} 8
+redproxy_command_duration_seconds_sum 33.336
+redproxy_command_duration_seconds_count 8\n",
+];
+
+fn snapshot() -> Snapshot {
+    let mut durations = Histogram::new();
+    for ms in DURATIONS_MS {
+        durations.record(ms);
+    }
+    Snapshot {
+        counts: Counts::NONE,
+        generations: 1,
+        past_steps: 0,
+        serving: Look::NONE,
+        draining: Look::NONE,
+        closed: 0,
+        durations,
+        is_ready: true,
+        is_ending: false,
+    }
+}
+
+// A request for the page.
+fn request(alloc: Global) -> Result<Request<Bytes>, Fail> {
+    Ok(Request::get(alloc, "/metrics").body(Bytes::new())?)
+}
+
+// Whether the page has the lines.
+fn tells_lines(alloc: Global, request: &Request<Bytes>, response: &mut Response) -> bool
+    requires { IsBlank response.old }
+{
+    let about = About {
+        version: "1.2.3",
+        kit: "a \"kit\" of C:\\",
+        hosts: &[],
+    };
+    let snapshot = snapshot();
+    let mut admin = Admin::new(alloc, &about, &snapshot);
+    if admin.call(request, response).is_err() {
+        return false;
+    }
+    match str::from_utf8(response.body.chunk()) {
+        Ok(text) => text.contains(LINES[0]) && text.contains(LINES[1]),
+        Err(_) => false,
+    }
+}
+
+#[test]
+fn known_values_are_told(rt: HostRuntime) -> Result<(), Fail> {
+    let request = request(rt.alloc())?;
+    let mut response = Response::new(rt.alloc());
+    let are_told = tells_lines(rt.alloc(), &request, &mut response);
+    drop(request);
+    drop(response);
+    assert!(rt; are_told);
+    Ok(())
+}
