@@ -23,8 +23,8 @@ use std::sync::Wait;
 use std::thread::Threads;
 use ticket_gate::{Gate, Spare};
 
-/// What the server runs on: threads that can wait, sockets, the clock, and standard error.
-pub(crate) trait ServeRuntime: Threads
+/// What `serve` runs on: threads that can wait, sockets, the clock, and standard error.
+pub trait ServeRuntime: Threads
     + Wait
     + Net<Listener = std::net::TcpListener, Stream = std::net::TcpStream>
     + Clock

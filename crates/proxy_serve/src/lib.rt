@@ -27,7 +27,8 @@ mod sweeping;
 mod worker;
 
 pub use admin::Admin;
-pub use proxy_generations::Marks;
+pub use generation::ServeRuntime;
 pub use log::{Level, Log};
+pub use proxy_generations::Marks;
 pub use serving::{Options, serve, serve_run};
 pub use stop::{Failure, Stop};

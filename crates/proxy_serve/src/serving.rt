@@ -259,15 +259,7 @@ pub struct Options {
 /// Stops with `Socket` (5), and what failed, where the listener, a poll or the writer fails. Stops with `Memory` (6)
 /// where memory was refused at the start or 1,000 times in a row to one thing, and with `Spent` (7) where a gate has no
 /// ticket left. All threads have ended then.
-pub fn serve<
-    R: Threads
-        + Wait
-        + Net<Listener = std::net::TcpListener, Stream = std::net::TcpStream>
-        + Clock
-        + Eprint
-        + Sync,
-    W: Write,
->(
+pub fn serve<R: ServeRuntime, W: Write>(
     rt: &R,
     alloc: Global,
     listener: TcpListener,
@@ -309,15 +301,7 @@ fn serve_with<R: ServeRuntime, W: Write>(
 }
 
 /// Like `serve`, but returns only the ending; without an operator's address, and ignoring signals.
-pub fn serve_run<
-    R: Threads
-        + Wait
-        + Net<Listener = std::net::TcpListener, Stream = std::net::TcpStream>
-        + Clock
-        + Eprint
-        + Sync,
-    W: Write,
->(
+pub fn serve_run<R: ServeRuntime, W: Write>(
     rt: &R,
     alloc: Global,
     listener: TcpListener,
