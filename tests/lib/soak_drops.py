@@ -1,6 +1,6 @@
 """A Redis server behind a wire that drops packets, in network namespaces of the soak's own.
 
-    tests/soak_drops.py SEED       (the wire; tests/soak starts it in a namespace of its own)
+    tests/lib/soak_drops.py SEED       (the wire; tests/soak starts it in a namespace of its own)
 
 The soak runs in one namespace and the server in another. The wire is a third one between them, whose kernel forwards nothing. This
 program passes the packets on, but for a share that its standard input names. All devices are gone with the processes. It needs
@@ -18,7 +18,7 @@ import time
 
 sys.dont_write_bytecode = True
 # pylint: disable=wrong-import-position
-from ends import PATIENCE, STARTED, STARTING, TOP, Redis, start
+from harness import PATIENCE, STARTED, STARTING, TOP, Redis, start
 
 # The environment's mark of a process that is in the soak's namespace.
 MARK = "REDPROXY_SOAK_IS_APART"
@@ -81,7 +81,7 @@ class Dropped(Redis):
     def __init__(self, seed):
         """Makes the namespaces, the wire and the server."""
         self.keeper = start_apart(["sleep", "infinity"], stdin=subprocess.DEVNULL)
-        self.wire = start_apart([sys.executable, os.path.join(TOP, "tests", "soak_drops.py"), str(seed)], stdin=subprocess.PIPE,
+        self.wire = start_apart([sys.executable, os.path.join(TOP, "tests", "lib", "soak_drops.py"), str(seed)], stdin=subprocess.PIPE,
                                 stdout=subprocess.PIPE, text=True)
         self.connect()
         assert self.wire.stdout.readline() == "passes\n", "the wire passes nothing on"

@@ -1,7 +1,7 @@
 """Clients of a soak that misbehave: they leave in the middle, read slowly or not at all, send a byte at a time, bytes that are no
 RESP and commands past every limit, and open connections without need.
 
-    tests/soak_hostile.py PORT SEED CLIENTS       (tests/soak starts it)
+    tests/lib/soak_hostile.py PORT SEED CLIENTS       (tests/soak starts it)
 
 Their replies are checked as far as they are due. The count `left` has the commands that they sent and whose replies they didn't
 read, or more.
@@ -17,7 +17,7 @@ import traceback
 
 sys.dont_write_bytecode = True
 # pylint: disable=wrong-import-position
-from ends import Client, Failure, text
+from harness import Client, Failure, text
 from soak_shared import WAIT, Led
 from soak_values import ERRORS, is_lie
 

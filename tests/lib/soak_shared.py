@@ -18,7 +18,7 @@ import threading
 import time
 from collections import Counter
 
-from ends import STARTED, STARTING, TOP
+from harness import STARTED, STARTING, TOP
 
 # The longest wait for a reply, in seconds: a host may take 5 s to be dialled, and 5 s to reply.
 WAIT = 60
@@ -62,7 +62,7 @@ class Program:
         """Starts a script of this folder."""
         self.run, self.name, self.reports, self.changed = run, name, {}, threading.Condition()
         with STARTING:
-            self.process = subprocess.Popen([python, os.path.join(TOP, "tests", name), *map(str, words)], text=True,
+            self.process = subprocess.Popen([python, os.path.join(TOP, "tests", "lib", name), *map(str, words)], text=True,
                                             stdin=subprocess.PIPE, stdout=subprocess.PIPE)
         STARTED.append(self.process)
         threading.Thread(target=self.listen, daemon=True).start()

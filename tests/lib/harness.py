@@ -20,7 +20,7 @@ import time
 import traceback
 from concurrent.futures import ThreadPoolExecutor
 
-TOP = os.path.dirname(os.path.dirname(os.path.abspath(__file__)))
+TOP = os.path.dirname(os.path.dirname(os.path.dirname(os.path.abspath(__file__))))
 PROGRAM = os.environ.get("REDPROXY", os.path.join(TOP, "redproxy"))
 # The program itself: what builds it would meet what stands before the C library too.
 BUILT = os.environ.get("REDPROXY", os.path.join(TOP, "crates", "proxy_main", "out", "proxy_main"))
@@ -272,7 +272,7 @@ def compiler():
 def preloaded(source, room):
     """The shared object of a C source that lies beside this file, compiled into a room."""
     found = os.path.join(room, source + ".so")
-    subprocess.run([compiler(), "-O1", "-shared", "-fPIC", "-o", found, os.path.join(TOP, "tests", source)], check=True)
+    subprocess.run([compiler(), "-O1", "-shared", "-fPIC", "-o", found, os.path.join(TOP, "tests", "shims", source)], check=True)
     return found
 
 

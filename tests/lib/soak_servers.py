@@ -7,7 +7,7 @@ import struct
 import threading
 import time
 
-from ends import Client, Redis
+from harness import Client, Redis
 from soak_drops import FAR, Dropped
 
 

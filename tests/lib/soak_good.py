@@ -1,8 +1,8 @@
 """Clients of a soak that send pipelines on keys of their own, and check each reply. Only a drain ends their connections.
 
-    tests/soak_good.py PORT SEED CLIENTS       (tests/soak starts it)
+    tests/lib/soak_good.py PORT SEED CLIENTS       (tests/soak starts it)
 
-A reply has to be the one that is due (see tests/soak_values.py). While hosts fail it may be a named error of the proxy or a lie.
+A reply has to be the one that is due (see tests/lib/soak_values.py). While hosts fail it may be a named error of the proxy or a lie.
 """
 import random
 import sys
@@ -11,7 +11,7 @@ import traceback
 
 sys.dont_write_bytecode = True
 # pylint: disable=wrong-import-position
-from ends import Client, Failure, text
+from harness import Client, Failure, text
 from soak_shared import WAIT, Led
 from soak_values import ERRORS, Values, is_lie
 

@@ -52,7 +52,7 @@ class Stock(threading.Thread):
     """A stock client that is run again and again until it is ended. While hosts fail it may meet a named error."""
 
     def __init__(self, run, port, chance, word):
-        """The words are those of tests/soak_shared.py."""
+        """The words are those of tests/lib/soak_shared.py."""
         super().__init__(daemon=True)
         self.shared, self.port, self.chance, self.is_well = run, port, chance, word == "well"
         self.goes, self.turn = True, 0

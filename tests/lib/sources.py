@@ -2,7 +2,7 @@
 import os
 import re
 
-TOP = os.path.dirname(os.path.dirname(os.path.abspath(__file__)))
+TOP = os.path.dirname(os.path.dirname(os.path.dirname(os.path.abspath(__file__))))
 CRATES = os.path.join(TOP, "crates")
 # Crates without a public contract of their own.
 PLAIN = ("test_scenarios", "test_components", "test_serve", "benches", "proxy_command_line", "proxy_main")

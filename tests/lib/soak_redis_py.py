@@ -1,9 +1,9 @@
 """redis-py in a soak: threads with a common pool of connections, single commands and pipelines, with hiredis or without.
 
-    tests/soak_redis_py.py PORT SEED PARSER WORD KEYS       (tests/soak starts it)
+    tests/lib/soak_redis_py.py PORT SEED PARSER WORD KEYS       (tests/soak starts it)
 
-PARSER is `hiredis` or `python`. WORD is `trouble` or `well` (see tests/soak_shared.py). No other client uses the KEYS, and the host
-that lies never gets them. A reply has to be the one that is due (see tests/soak_values.py); while hosts fail it may be a named
+PARSER is `hiredis` or `python`. WORD is `trouble` or `well` (see tests/lib/soak_shared.py). No other client uses the KEYS, and the host
+that lies never gets them. A reply has to be the one that is due (see tests/lib/soak_values.py); while hosts fail it may be a named
 error of the proxy.
 """
 import json

@@ -1,4 +1,4 @@
-"""A load of sockets that compare each reply with the one that is due: tests/asker.c, beside a test."""
+"""A load of sockets that compare each reply with the one that is due: tests/lib/asker.c, beside a test."""
 import os
 import shutil
 import signal
@@ -6,7 +6,7 @@ import struct
 import subprocess
 import tempfile
 
-from ends import TOP, Late, compiler, start
+from harness import TOP, Late, compiler, start
 
 # No wait for generations or for all answers takes longer, in seconds.
 LONG = 180
@@ -16,7 +16,7 @@ ASKER = os.path.join(tempfile.gettempdir(), f"redproxy-asker-{os.getpid()}", "as
 def build_asker():
     """Compiles the program into a folder of its own."""
     os.makedirs(os.path.dirname(ASKER))
-    subprocess.run([compiler(), "-O2", "-pthread", "-o", ASKER, os.path.join(TOP, "tests", "asker.c")], check=True)
+    subprocess.run([compiler(), "-O2", "-pthread", "-o", ASKER, os.path.join(TOP, "tests", "lib", "asker.c")], check=True)
 
 
 def leave_asker():
@@ -30,7 +30,7 @@ def bulk(value):
 
 
 class Load:
-    """Sockets of tests/asker.c, which compare each reply. It goes on until it is ended, or for a number of rounds."""
+    """Sockets of tests/lib/asker.c, which compare each reply. It goes on until it is ended, or for a number of rounds."""
 
     def __init__(self, proxy, sockets, commands, rounds=0):
         """Each command has its reply beside it."""

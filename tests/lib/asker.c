@@ -1,4 +1,4 @@
-/* Sockets that send commands again and again and compare each byte that comes with the byte that is due, for tests/askers.py
+/* Sockets that send commands again and again and compare each byte that comes with the byte that is due, for tests/lib/askers.py
  * and bench/compare.
  *
  *     asker [OPTION..] PORT SOCKETS ROUNDS ASKED WANTED COUNTS

@@ -6,7 +6,7 @@ import time
 import traceback
 from collections import Counter
 
-from ends import BUILT, PATIENCE, Proxy, counts_in, free_port, resident_mib, thread_count
+from harness import BUILT, PATIENCE, Proxy, counts_in, free_port, resident_mib, thread_count
 
 # Seconds between two reads of the page, and the reads between two looks at the memory.
 PAUSE, READS = 0.1, 10
