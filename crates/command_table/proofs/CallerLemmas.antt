@@ -1,4 +1,4 @@
 -- What a crate above cites of the table.
 
 -- a row that is found stands in the table
-pub use Rattle.command_table.proofs.Rows.{found_stands_in_table}
+pub use Rattle.command_table.proofs.TableLemmas.{found_stands_in_table}

@@ -7,7 +7,7 @@ use Rattle.ejector.specs.declared.answer.Trip.TheVariants as answer
 use Rattle.ejector.specs.declared.answer.Swept.{Swept}
 use Rattle.ejector.specs.declared.host.HostState.{HostState}
 use Rattle.ejector.specs.declared.settings.Rules.{Rules}
-use Rattle.ejector.specs.Counted.{max_results, raised_multiplier}
+use Rattle.ejector.specs.CountedState.{max_results, raised_multiplier}
 use Rattle.ejector.specs.State.{fresh_host}
 use Rattle.ejector.specs.Trips.{may_eject}
 use Rattle.ejector.specs.Sweeps.{is_time_over, trips_by, out_at}

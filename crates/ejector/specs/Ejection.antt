@@ -9,7 +9,7 @@ use Rattle.ejector.specs.declared.mark.Mark.TheVariants.{Good, Bad, Sweep}
 use Rattle.ejector.specs.declared.settings.Rules.{Rules}
 use Rattle.ejector.specs.Marks.{moment}
 use Rattle.ejector.specs.Deeds.{Deed}
-use Rattle.ejector.specs.Counted.{state_after}
+use Rattle.ejector.specs.CountedState.{state_after}
 use Rattle.ejector.specs.State.{State, hosts_of, is_out, out_count, at_moment}
 use Rattle.ejector.specs.Trips.{may_eject, is_trip}
 use Rattle.ejector.specs.Sweeps.{comes_back, is_ejected_in_sweep, is_kept_in_sweep}

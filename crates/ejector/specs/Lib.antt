@@ -3,13 +3,13 @@ pub mod EjectError
 pub mod Marks
 pub mod Deeds
 pub mod State
-pub mod Counted
+pub mod CountedState
 pub mod Trips
 pub mod Opening
 pub mod Sweeps
 pub mod Ejection
-pub mod Usable
-pub mod Next
+pub mod UsableHosts
+pub mod NextState
 pub mod Counting
 pub mod Ejector
 pub mod Laws

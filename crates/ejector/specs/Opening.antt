@@ -2,7 +2,7 @@
 use Rattle.std.specs.Prelude.{◌≡◌, true, ◌-◌, ◌≤◌, All, length}
 use Rattle.ejector.specs.declared.host.HostState.{HostState}
 use Rattle.ejector.specs.declared.settings.Rules.{Rules}
-use Rattle.ejector.specs.Counted.{max_results, max_multiplier}
+use Rattle.ejector.specs.CountedState.{max_results, max_multiplier}
 use Rattle.ejector.specs.State.{State, out_count}
 use Rattle.ejector.specs.Trips.{most_out}
 

@@ -1,7 +1,7 @@
 //! Updates a host's counters.
 ghost use Rattle.std.specs.Prelude.{◌≡◌, ◌+◌, ◌-◌, ◌*◌, ◌/◌, ◌<◌, ◌≤◌, ◌==◌, ◌&&◌, length, map, replicate, slice_index_or, nat_lt, true};
 ghost use Rattle.ejector.specs.Settings.{IsInRange};
-ghost use Rattle.ejector.specs.Counted.{max_multiplier};
+ghost use Rattle.ejector.specs.CountedState.{max_multiplier};
 ghost use Rattle.ejector.specs.Opening.{IsSound};
 ghost use Rattle.ejector.specs.State.{fresh_host};
 ghost use Rattle.ejector.specs.Trips.{may_eject};

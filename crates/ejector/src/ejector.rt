@@ -7,7 +7,7 @@ ghost use Rattle.ejector.specs.State.{State, fresh_state, host_of, hosts_of, is_
 ghost use Rattle.ejector.specs.Opening.{IsOpening};
 ghost use Rattle.ejector.specs.Trips.{most_out};
 ghost use Rattle.ejector.specs.Ejection.{state, trip, sweep_answer};
-ghost use Rattle.ejector.specs.Usable.{is_usable, is_panic};
+ghost use Rattle.ejector.specs.UsableHosts.{is_usable, is_panic};
 ghost use Rattle.ejector.specs.Ejector.{result_mark};
 
 use crate::answer::{Swept, Trip};

@@ -1,8 +1,8 @@
-pub mod Splits
-pub mod Tags
-pub mod Least
-pub mod Ordered
-pub mod Owners
-pub mod Shares
-pub mod Pairs
+pub mod SplitLemmas
+pub mod TagLemmas
+pub mod LeastPairLemmas
+pub mod SortedPairLemmas
+pub mod OwnerLemmas
+pub mod ShareLemmas
+pub mod KetamaPairLemmas
 pub mod CallerLemmas

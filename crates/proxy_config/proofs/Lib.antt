@@ -1,7 +1,7 @@
-mod Elements
-mod Entries
-mod KnownNames
-mod FirstFaults
-mod HostNames
-mod RingParts
-mod Objects
+mod ElementLemmas
+mod EntryLemmas
+mod KeyNameLemmas
+mod FirstFaultLemmas
+mod HostNameLemmas
+mod RingPartLemmas
+mod ObjectLemmas

@@ -1,4 +1,4 @@
-pub mod Told
+pub mod Refusals
 pub mod Values
 pub mod Table
 pub mod RingParts

@@ -7,7 +7,7 @@ ghost use Rattle.ketama.specs.Ketama.{IsKetamaRing};
 ghost use Rattle.proxy_config.specs.File.{AllFit, IsSettings, IsRefusal, IsFaultOf, MemoryOr};
 ghost use Rattle.proxy_config.specs.RingParts.{AreRingParts};
 ghost use Rattle.proxy_config.specs.Table.{IsNumberOr, MaxMs, keys, name_of};
-ghost use Rattle.proxy_config.specs.Told.{IsFault};
+ghost use Rattle.proxy_config.specs.Refusals.{IsFault};
 ghost use Rattle.proxy_config.specs.Values.{values_of};
 
 use crate::entry::{address, flag, number};

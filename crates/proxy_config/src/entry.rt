@@ -3,7 +3,7 @@ ghost use Rattle.std.specs.Prelude.{◌≡◌, ℕ, Bool, IfOk, IfErr};
 ghost use Rattle.serde_json.specs.Find.{get};
 ghost use Rattle.serde_json.specs.View.{view};
 ghost use Rattle.proxy_config.specs.Table.{IsAddressOr, IsFlagOr, IsNumberOr};
-ghost use Rattle.proxy_config.specs.Told.{IsFault};
+ghost use Rattle.proxy_config.specs.Refusals.{IsFault};
 ghost use Rattle.std.specs.declared.net.socket_addr.SocketAddr.{SocketAddr};
 
 use crate::error::ConfigError;

@@ -5,7 +5,7 @@ ghost use Rattle.serde_json.specs.Find.{get};
 ghost use Rattle.serde_json.specs.View.{view, items_view};
 ghost use Rattle.proxy_config.specs.declared.config.Host.{Host};
 ghost use Rattle.proxy_config.specs.Table.{AreHosts, host_data, IsHost};
-ghost use Rattle.proxy_config.specs.Told.{FirstAre, IsFault};
+ghost use Rattle.proxy_config.specs.Refusals.{FirstAre, IsFault};
 
 use crate::config::Host;
 use crate::error::ConfigError;

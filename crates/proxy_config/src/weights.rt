@@ -4,7 +4,7 @@ ghost use Rattle.serde_json.specs.Data.{array};
 ghost use Rattle.serde_json.specs.Find.{get};
 ghost use Rattle.serde_json.specs.View.{view, items_view};
 ghost use Rattle.proxy_config.specs.Table.{AreWeightsOr, IsWeight, items_of, weight_data};
-ghost use Rattle.proxy_config.specs.Told.{FirstAre, IsFault};
+ghost use Rattle.proxy_config.specs.Refusals.{FirstAre, IsFault};
 
 use crate::config::Host;
 use crate::error::ConfigError;

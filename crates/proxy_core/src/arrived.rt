@@ -5,7 +5,7 @@ ghost use Rattle.resp_core.specs.Stream.{told_offset};
 ghost use Rattle.ketama.specs.Key.{point_of};
 ghost use Rattle.ketama.specs.Owner.{owner_of};
 ghost use Rattle.ejector.specs.State.{hosts_of};
-ghost use Rattle.ejector.specs.Usable.{is_usable};
+ghost use Rattle.ejector.specs.UsableHosts.{is_usable};
 ghost use Rattle.splitter.specs.Join.{MayJoin};
 ghost use Rattle.splitter.specs.Part.{part_of};
 ghost use Rattle.splitter.specs.Plan.{parts};

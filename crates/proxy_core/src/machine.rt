@@ -3,7 +3,7 @@ ghost use Rattle.std.specs.Prelude.{◌≡◌, ◌-◌, ◌≤◌, ◌<◌, ◌�
 ghost use Rattle.ejector.specs.Settings.{IsInRange, first_difference, first_fault};
 ghost use Rattle.ejector.specs.Opening.{IsOpening};
 ghost use Rattle.ejector.specs.State.{is_out};
-ghost use Rattle.ejector.specs.Usable.{is_panic};
+ghost use Rattle.ejector.specs.UsableHosts.{is_panic};
 ghost use Rattle.proxy_history.specs.Setting.{hosts};
 ghost use Rattle.proxy_history.specs.History.{epoch, openings, times, is_any_closing};
 ghost use Rattle.proxy_history.specs.Past.{past};

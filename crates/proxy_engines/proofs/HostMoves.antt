@@ -8,7 +8,7 @@ use Rattle.std.proofs.lemmas.List.{map-append}
 use Rattle.std.proofs.lemmas.List.Elements.{filter-append, All-append, All-cons, All-nil}
 use Rattle.resp_core.specs.Tree.{Tree}
 use Rattle.resp_core.specs.Value.{tree_of}
-use Rattle.resp_core.specs.Standing.{ReaderState}
+use Rattle.resp_core.specs.ReaderState.{ReaderState}
 use Rattle.resp_core.specs.declared.value.Value.{Value}
 use Rattle.resp_core.specs.declared.error.RespError.{RespError}
 use Rattle.limits.specs.declared.messages.TheConstants.{MAX_HOST_MEMBERS}

@@ -3,7 +3,7 @@ use Rattle.std.proofs.Common.{◌≡◌, ◌∙◌, ℕ, List, [], ◌∷◌, �
 use Rattle.std.proofs.lemmas.List.{map-append}
 use Rattle.std.specs.Prelude.{false, ⊤, IfSome, Result, Ok, Err, is_err, OnOk}
 use Rattle.resp_core.specs.Tree.{Tree}
-use Rattle.resp_core.specs.Standing.{Stands, StandsBehind}
+use Rattle.resp_core.specs.ReaderState.{Stands, StandsBehind}
 use Rattle.resp_core.proofs.CallerLemmas.{splits_fed}
 use Rattle.resp_core.specs.declared.error.RespError.{RespError}
 use Rattle.limits.specs.declared.messages.TheConstants.{MAX_CLIENT_MEMBERS}

@@ -3,7 +3,7 @@ use Rattle.std.specs.Prelude.{◌≡◌, ◌≢◌, ℕ, Bool, List, [], ◌∷�
 use Rattle.std.specs.Io.KnownBytes.{Appends}
 use Rattle.resp_core.specs.Tree.{Tree}
 use Rattle.resp_core.specs.Laws as resp
-use Rattle.resp_core.specs.Standing.{ReaderState, Stands}
+use Rattle.resp_core.specs.ReaderState.{ReaderState, Stands}
 use Rattle.resp_core.specs.Stream.{HasNoRefusal, Splits}
 use Rattle.resp_core.specs.declared.error.RespError.{RespError}
 use Rattle.limits.specs.declared.messages.TheConstants.{MAX_CLIENT_MEMBERS}

@@ -5,7 +5,7 @@ use Rattle.std.specs.Prelude.{IsSome}
 use Rattle.proxy_generations.specs.Events.{Event, Opened, Failed, Near, Full, Progressed, Swept, newest, draining, has_connections, is_asked, near_since, failures, handover, last_number, last_sweep, opening}
 use Rattle.proxy_generations.specs.History.{MayHappen, IsHistory, HasGivenUp, IsStill}
 use Rattle.proxy_generations.specs.Stands.{Settings, Stands, Tells, open_of, next_of}
-use Rattle.proxy_generations.specs.Kept.{IsNumber, HadTime, MayBeLeft}
+use Rattle.proxy_generations.specs.OpenGenerations.{IsNumber, HadTime, MayBeLeft}
 use Rattle.proxy_generations.specs.declared.opened.Open.{Open}
 use Rattle.proxy_generations.specs.declared.lifecycle.Next.TheVariants.{Unasked, Wanted, Opening}
 use Rattle.proxy_generations.specs.declared.lifecycle.Generations.{Generations}

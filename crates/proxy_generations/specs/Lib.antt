@@ -1,5 +1,5 @@
 pub mod Moments
-pub mod Kept
+pub mod OpenGenerations
 pub mod Events
 pub mod History
 pub mod Phase

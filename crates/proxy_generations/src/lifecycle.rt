@@ -69,7 +69,7 @@ pub struct Generations<H> {
 
 impl<H: Drop> Generations<H> {
     ghost use Rattle.proxy_generations.specs.Phase.{IsPhase};
-    ghost use Rattle.proxy_generations.specs.Kept.{HadTime, MayBeLeft};
+    ghost use Rattle.proxy_generations.specs.OpenGenerations.{HadTime, MayBeLeft};
     ghost use Rattle.proxy_generations.specs.Stands.{Settings, Stands, Tells, Gives, EndsServing, IsSweepDue};
 
     /// No generation is open, and the first one, number 0, is due without a handover. A sweep is due every

@@ -9,7 +9,7 @@ pub(crate) struct Open {
 }
 
 impl Open {
-    ghost use Rattle.proxy_generations.specs.Kept.{IsNumber};
+    ghost use Rattle.proxy_generations.specs.OpenGenerations.{IsNumber};
 
     /// Whether there is one, with this number.
     pub(crate) fn has_number(kept: Option<Open>, number: u64) -> bool

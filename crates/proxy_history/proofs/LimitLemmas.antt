@@ -19,11 +19,11 @@ use Rattle.proxy_history.specs.Legal.{IsLegal}
 use Rattle.proxy_history.specs.LimitLaws.{IsWithinLimits}
 use Rattle.proxy_history.specs.declared.event.Event.{Event}
 use Rattle.proxy_history.specs.declared.event.Event.TheVariants.{Opened, Arrived, Handed, Closed}
-use Rattle.proxy_history.proofs.NoCause.{are_false}
-use Rattle.proxy_history.proofs.Good.{waits_parts}
-use Rattle.proxy_history.proofs.Values.{is_of_parts}
-use Rattle.proxy_history.proofs.Waiting.{none_of_next}
-use Rattle.proxy_history.proofs.OfPast.{of_past_both, are_of_past, new_of_past}
+use Rattle.proxy_history.proofs.causes.NoCauseLemmas.{are_false}
+use Rattle.proxy_history.proofs.parts.FilterLemmas.{waits_parts}
+use Rattle.proxy_history.proofs.outcomes.ValueLemmas.{is_of_parts}
+use Rattle.proxy_history.proofs.sending.WaitingStepLemmas.{none_of_next}
+use Rattle.proxy_history.proofs.parts.EpochLemmas.{of_past_both, are_of_past, new_of_past}
 
 -- CONNECTIONS
 

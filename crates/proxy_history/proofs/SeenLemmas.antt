@@ -14,7 +14,7 @@ use Rattle.proxy_history.specs.Own.{is_connection_step, is_of_host}
 use Rattle.proxy_history.specs.Seen.{history_of_seen}
 use Rattle.proxy_history.specs.SeenLaws.{OrdersAgree, IsReadInOrder}
 use Rattle.proxy_history.specs.declared.event.Event.{Event}
-use Rattle.proxy_history.proofs.Beginnings.{beginning}
+use Rattle.proxy_history.proofs.BeginningLemmas.{beginning}
 use Rattle.proxy_history.proofs.ReadingLemmas.{yield_of, handed_text_of, sent_text_of, transcript-yield_of, requests-yield_of, upstream-yield_of, came-yield_of, yield_of-append, times-append, has-append}
 
 -- TWO ORDERS

@@ -21,8 +21,8 @@ use Rattle.proxy_history.specs.declared.event.Event.{Event}
 use Rattle.proxy_history.specs.declared.event.Event.TheVariants.{Opened, Arrived, Finished, Taken, Answered, Failed, Handed, Closed}
 use Rattle.proxy_history.specs.declared.answer.Answer.{Answer}
 use Rattle.proxy_history.specs.declared.answer.Answer.TheVariants as answer
-use Rattle.proxy_history.proofs.NoCause.{are_false, is_current}
-use Rattle.proxy_history.proofs.Growing.{times_grows}
+use Rattle.proxy_history.proofs.causes.NoCauseLemmas.{are_false, is_current}
+use Rattle.proxy_history.proofs.GrowthLemmas.{times_grows}
 
 -- ANSWERS
 

@@ -4,7 +4,7 @@ use Rattle.resp_core.specs.Tree.{Tree, fault}
 use Rattle.ketama.specs.Owner.{owner_of}
 use Rattle.ejector.specs.State.{hosts_of}
 use Rattle.ejector.specs.Ejection.{state}
-use Rattle.ejector.specs.Usable.{is_usable}
+use Rattle.ejector.specs.UsableHosts.{is_usable}
 use Rattle.splitter.specs.Plan.{Plan, here, leave, parts}
 use Rattle.splitter.specs.declared.plans.PartPlan.{PartPlan}
 use Rattle.proxy_history.specs.Setting.{Setting, point_for, max_waiting}

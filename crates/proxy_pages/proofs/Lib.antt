@@ -1,3 +1,3 @@
-mod Texts
-mod Answering
+mod TextLemmas
+mod AnswerLemmas
 pub mod CallerLemmas

@@ -1,6 +1,6 @@
-mod Small
-mod Writes
-mod Growing
-mod Kept
-mod Loads
+mod SmallStepLemmas
+mod ListWriteLemmas
+mod SumLemmas
+mod CountedLemmas
+mod LoadLemmas
 pub mod CallerLemmas

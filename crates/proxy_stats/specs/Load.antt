@@ -2,7 +2,7 @@
 use Rattle.std.specs.Prelude.{ℕ, ◌-◌, false, nat_lt, if◌then◌else◌, length, map}
 use Rattle.std.specs.List.{range_with_len}
 use Rattle.ejector.specs.State.{is_out}
-use Rattle.ejector.specs.Usable.{is_panic}
+use Rattle.ejector.specs.UsableHosts.{is_panic}
 use Rattle.proxy_history.specs.Setting.{Setting, hosts}
 use Rattle.proxy_history.specs.History.{History, openings, times, is_any_closing}
 use Rattle.proxy_history.specs.Past.{past}

@@ -1,2 +1,2 @@
-pub mod Known
-pub mod Spread
+pub mod KnownRateLemmas
+pub mod SpreadLemmas

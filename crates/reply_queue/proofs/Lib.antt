@@ -1,2 +1,2 @@
-pub mod ValuesCome
-pub mod QueueLaws
+pub mod PlaceLemmas
+pub mod QueueLemmas

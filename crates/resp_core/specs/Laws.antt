@@ -4,7 +4,7 @@ use Rattle.resp_core.specs.Tree.{Tree, is_plain_tree}
 use Rattle.resp_core.specs.Grammar.{IsText, max_text, max_depth}
 use Rattle.resp_core.specs.Text.{text}
 use Rattle.resp_core.specs.Command.{is_command}
-use Rattle.resp_core.specs.Within.{IsWithin}
+use Rattle.resp_core.specs.ValueLimits.{IsWithin}
 use Rattle.resp_core.specs.Refusals.{IsTold}
 use Rattle.resp_core.specs.Stream.{Splits, AreValues, IsRefusedAt, HasRefusal, HasNoRefusal}
 

@@ -4,9 +4,9 @@ use Rattle.resp_core.specs.Tree.{Tree}
 use Rattle.resp_core.specs.Value.{tree_of}
 use Rattle.resp_core.specs.Grammar.{max_depth, max_text}
 use Rattle.resp_core.specs.Reading.{Outcome, found, unfinished, refused, value_at}
-use Rattle.resp_core.specs.Going.{next_at, IsGoodNext}
-use Rattle.resp_core.specs.Begun.{nested_outcome}
-use Rattle.resp_core.specs.Seen.{IsSeen}
+use Rattle.resp_core.specs.ResumedReading.{next_at, IsGoodNext}
+use Rattle.resp_core.specs.OpenLists.{nested_outcome}
+use Rattle.resp_core.specs.SeenBytes.{IsSeen}
 use Rattle.resp_core.specs.Front.{IsFirstValue, IsFault}
 use Rattle.resp_core.specs.Offset.{refusal_number}
 use Rattle.resp_core.specs.declared.value.Value.{Value}

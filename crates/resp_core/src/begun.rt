@@ -1,6 +1,6 @@
 //! Lists whose members haven't all come.
 ghost use Rattle.std.specs.Prelude.{◌≡◌, ◌≤◌, ◌-◌, ℕ, List, [], length, ◌++◌, ◌∷◌, ◌<◌, vec_len, vec_capacity, IfOk, IfErr, IfSome, IfNone};
-ghost use Rattle.resp_core.specs.Begun.{nested_outcome};
+ghost use Rattle.resp_core.specs.OpenLists.{nested_outcome};
 ghost use Rattle.resp_core.specs.Reading.{value_at, found};
 ghost use Rattle.resp_core.specs.Value.{tree_of};
 

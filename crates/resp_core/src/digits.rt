@@ -1,6 +1,6 @@
 //! The digits of a length or an integer, read a byte at a time.
 ghost use Rattle.std.specs.Prelude.{◌≡◌, ◌≤◌, ◌^◌, pos, neg_ℤ};
-ghost use Rattle.resp_core.specs.Going.{DigitSteps};
+ghost use Rattle.resp_core.specs.ResumedReading.{DigitSteps};
 ghost use Rattle.resp_core.specs.Reading.{of_length, of_integer, digits_at};
 
 use crate::error::Refusal;

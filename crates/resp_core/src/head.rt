@@ -1,6 +1,6 @@
 //! The head of a value, read a byte at a time: everything before its text, payload or members.
 ghost use Rattle.std.specs.Prelude.{◌≡◌, ◌≤◌, ◌<◌, length, take, drop, IfOk, IfErr};
-ghost use Rattle.resp_core.specs.Going.{Steps, DigitSteps, IsNullOf, GoesOn, IsHead, head_at, IsGoodHead, IsGoodNext, IsGoodSized, limit_of, limit_signed, line_tree, signed_value};
+ghost use Rattle.resp_core.specs.ResumedReading.{Steps, DigitSteps, IsNullOf, GoesOn, IsHead, head_at, IsGoodHead, IsGoodNext, IsGoodSized, limit_of, limit_signed, line_tree, signed_value};
 ghost use Rattle.resp_core.specs.Reading.{of_length, of_integer, refused};
 ghost use Rattle.resp_core.specs.Value.{tree_of};
 

@@ -1,7 +1,7 @@
 //! Reading a part of a value from the front of bytes.
 ghost use Rattle.std.specs.Prelude.{[], Some};
-ghost use Rattle.resp_core.specs.Gives.{Gives};
-ghost use Rattle.resp_core.specs.Seen.{IsSeen};
+ghost use Rattle.resp_core.specs.ReadingAnswers.{Gives};
+ghost use Rattle.resp_core.specs.SeenBytes.{IsSeen};
 ghost use Rattle.resp_core.specs.Tree.{bulk};
 ghost use Rattle.resp_core.specs.Reading.{byte_at, end_at, text_at, payload_at};
 

@@ -1,7 +1,7 @@
 //! A reader of a stream that comes in pieces.
 ghost use Rattle.std.specs.Prelude.{◌≡◌, ◌≢◌, ◌⊎◌, ◌∷◌, ◌++◌, [], Ok, Err, Some, None, OnOk, OnErr, IfOk, IfErr, IfSome, IfNone, IsErrOf, ◌<◌, ◌≤◌, List, ℕ};
 ghost use Rattle.resp_core.specs.Tree.{Tree};
-ghost use Rattle.resp_core.specs.Standing.{Stands, StandsBehind, Unmoved, Leaves, unread_bytes};
+ghost use Rattle.resp_core.specs.ReaderState.{Stands, StandsBehind, Unmoved, Leaves, unread_bytes};
 ghost use Rattle.resp_core.specs.Stream.{HasRefusal, HasNoRefusal};
 ghost use Rattle.resp_core.specs.Readable.{IsReadable};
 ghost use Rattle.resp_core.specs.Offset.{offset_of, number_of};
@@ -55,7 +55,7 @@ pub struct Reader {
 }
 
 impl Model for Reader {
-    ghost use Rattle.resp_core.specs.Standing.{ReaderState, IsReached, state_of};
+    ghost use Rattle.resp_core.specs.ReaderState.{ReaderState, IsReached, state_of};
     ghost use Rattle.resp_core.specs.Progress.{IsGood};
     ghost use Rattle.std.specs.Coded.{codes};
     ghost use Rattle.resp_core.specs.Code.{tree_code};

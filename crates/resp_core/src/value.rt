@@ -53,7 +53,7 @@ impl Model for Values {
     ghost size = { λ ts. depth_of_members (trees_of ts) };
 
     ghost use Rattle.std.proofs.Common.{arith};
-    ghost use Rattle.resp_core.specs.Falls.{most_le_depth};
+    ghost use Rattle.resp_core.specs.NestingDepth.{most_le_depth};
 
     ghost size_decreases = { λ a h. Prim.omega (arith, most_le_depth a.0.items) };
 }

@@ -1,10 +1,10 @@
-pub mod PartTexts
-pub mod Totals
-pub mod KnownRows
+pub mod PartTextLemmas
+pub mod TotalLemmas
+pub mod RowLemmas
 pub mod PlanLemmas
-pub mod PlainLaws
-pub mod PartLaws
-pub mod CommandLaws
+pub mod PlainTextLemmas
+pub mod PartLemmas
+pub mod CommandLemmas
 pub mod RequestLemmas
 pub mod SplitLemmas
 pub mod CallerLemmas

@@ -13,7 +13,7 @@ use Rattle.splitter.specs.declared.plans.Join.TheVariants.{Same, Get, Set, Sum}
 use Rattle.splitter.specs.Request.{read}
 use Rattle.splitter.specs.Plan.{Plan, parts, plan_of, plan_by, plan_by_row, takes}
 use Rattle.splitter.specs.Split.{Words, pairs, part_at}
-use Rattle.splitter.proofs.KnownRows.{echo_row, one_row}
+use Rattle.splitter.proofs.RowLemmas.{echo_row, one_row}
 
 -- the plan of a command is that of its words
 pub plan_of-command : (t : Tree) (ts : List Tree) → is_command t ≡ true → IsArrayOf ts t → plan_of (read t) ≡ plan_by_row (row_named (word (map payload_of ts) 0)) (map payload_of ts)

@@ -3,7 +3,7 @@ use Rattle.std.specs.Prelude.{◌≡◌, ◌≤◌, ℕ, ℤ, pos, ◌+ℤ◌, B
 use Rattle.std.specs.Fmt.{decimal}
 use Rattle.std.specs.Str.{bytes_eq}
 use Rattle.resp_core.specs.Tree.{Tree, simple, fault, whole, bulk, null_bulk, list, null_list, trees_of}
-use Rattle.resp_core.specs.Within.{is_long}
+use Rattle.resp_core.specs.ValueLimits.{is_long}
 use Rattle.splitter.specs.declared.plans.Join.{Join}
 use Rattle.splitter.specs.declared.plans.Join.TheVariants.{Same, Get, Set, Sum}
 

@@ -4,7 +4,7 @@ use Rattle.std.specs.List.{list_all}
 use Rattle.resp_core.specs.Tree.{Tree, is_plain_tree}
 use Rattle.resp_core.specs.Text.{text}
 use Rattle.resp_core.specs.Grammar.{max_text, max_depth}
-use Rattle.resp_core.specs.Within.{IsWithin}
+use Rattle.resp_core.specs.ValueLimits.{IsWithin}
 use Rattle.resp_core.specs.Command.{is_command}
 use Rattle.resp_core.specs.Laws.{Holds}
 use Rattle.limits.specs.declared.messages.TheConstants.{MAX_CLIENT_MEMBERS}

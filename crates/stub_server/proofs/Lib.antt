@@ -1,5 +1,5 @@
 pub mod WordLemmas
-pub mod Searched
+pub mod CommandSearchLemmas
 pub mod MapLemmas
 pub mod NumberLemmas
 pub mod LookupLemmas

@@ -12,7 +12,7 @@ use Rattle.std.proofs.lemmas.Bool.Decides.{Decides-ltb, Decides-int_eq}
 use Rattle.std.proofs.lemmas.Slice.Eq.{bytes_eq-Decides}
 use Rattle.std.proofs.lemmas.Fmt.{parse-signed_decimal}
 use Rattle.stub_server.specs.Number.{number_in}
-use Rattle.resp_core.specs.Within.{is_long}
+use Rattle.resp_core.specs.ValueLimits.{is_long}
 
 pub mag_long : (n : ℤ) → is_long n ≡ true → mag n < 2 ^ 63
 mag_long (pos n) h = (Decides-ltb n (2 ^ 63)).0 h

@@ -5,7 +5,7 @@ use Rattle.std.specs.Str.{bytes_eq}
 use Rattle.resp_core.specs.Tree.{Tree}
 use Rattle.stub_server.specs.Map.{Map, value_at, with_value, map_without, names_key, has_distinct_keys}
 use Rattle.stub_server.specs.Number.{number_in}
-use Rattle.resp_core.specs.Within.{is_long}
+use Rattle.resp_core.specs.ValueLimits.{is_long}
 use Rattle.stub_server.specs.Table.{map_after}
 
 -- After a value was set at a key it is that key's value, and all other keys have the values that they had.

@@ -3,7 +3,7 @@ use Rattle.std.specs.Prelude.{◌^◌, ℕ, ◌+◌, ◌-◌, ◌==◌, ℤ, pos
 use Rattle.std.specs.Fmt.{signed_decimal}
 use Rattle.std.specs.Str.{bytes_eq}
 use Rattle.std.specs.Str.Parse.{signed_digits_value}
-use Rattle.resp_core.specs.Within.{is_long}
+use Rattle.resp_core.specs.ValueLimits.{is_long}
 
 -- the signed 64-bit number whose one spelling these bytes are: decimal, with `-` below zero, without a plus sign and
 -- without leading zeros

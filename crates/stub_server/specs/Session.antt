@@ -1,6 +1,6 @@
 -- How far the requests of a link have been served.
 use Rattle.std.specs.Prelude.{ℕ, ◌+◌, ◌*◌}
-use Rattle.resp_core.specs.Standing.{unread_bytes}
+use Rattle.resp_core.specs.ReaderState.{unread_bytes}
 use Rattle.stub_server.specs.declared.session.Next.{Next}
 use Rattle.stub_server.specs.declared.session.Next.TheVariants as nexts
 use Rattle.stub_server.specs.declared.session.Session.{Session}

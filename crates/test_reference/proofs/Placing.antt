@@ -6,7 +6,7 @@ use Rattle.ketama.specs.Key.{point_of}
 use Rattle.ejector.specs.declared.settings.Rules.{Rules}
 use Rattle.ejector.specs.State.{State, hosts_of}
 use Rattle.ejector.specs.Ejection.{state}
-use Rattle.ejector.specs.Usable.{is_usable}
+use Rattle.ejector.specs.UsableHosts.{is_usable}
 use Rattle.splitter.specs.declared.plans.PartPlan.{PartPlan}
 use Rattle.proxy_history.specs.Setting.{Setting}
 use Rattle.proxy_history.specs.Part.{Past}

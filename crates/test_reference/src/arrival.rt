@@ -4,7 +4,7 @@ ghost use Rattle.std.specs.Option.{option_map};
 ghost use Rattle.ejector.specs.declared.mark.Mark.{Mark};
 ghost use Rattle.ejector.specs.Ejection.{state};
 ghost use Rattle.ejector.specs.State.{hosts_of};
-ghost use Rattle.ejector.specs.Usable.{is_usable};
+ghost use Rattle.ejector.specs.UsableHosts.{is_usable};
 ghost use Rattle.proxy_history.specs.Setting.{Setting, max_waiting};
 ghost use Rattle.proxy_history.specs.History.{accepted_count, epoch};
 ghost use Rattle.proxy_history.specs.Part.{is_of};

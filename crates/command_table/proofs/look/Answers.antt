@@ -2,7 +2,7 @@ use Rattle.std.proofs.Common.{◌≡◌, rules}
 use Rattle.std.specs.Option.{option_map}
 use Rattle.command_table.specs.Table.{row_named}
 use Rattle.command_table.specs.Entry.{row_of}
-use Rattle.command_table.proofs.Rows.{row_named-or_else, found_in_table, unknown_in_table}
+use Rattle.command_table.proofs.TableLemmas.{row_named-or_else, found_in_table, unknown_in_table}
 use Rattle.command_table.proofs.look.Goals as goal
 
 row_is : (c : goal.After-or_else) → option_map row_of c.or_else.result ≡ row_named c.args.name.now

@@ -4,7 +4,7 @@ use Rattle.resp_core.specs.Stream.{told_offset}
 use Rattle.resp_core.specs.Text.{line, texts}
 use Rattle.resp_core.specs.Tree.{trees_of, members}
 use Rattle.resp_core.specs.Value.{tree_of}
-use Rattle.resp_core.proofs.Lengths.{length_line}
+use Rattle.resp_core.proofs.SpellingLengthLemmas.{length_line}
 use Rattle.resp_core.proofs.TreeLemmas.{length_members}
 use Rattle.resp_core.proofs.+length.Goals as goal
 

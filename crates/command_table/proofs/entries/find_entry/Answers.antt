@@ -1,8 +1,8 @@
 use Rattle.std.proofs.Common.{sym, ◌∙◌}
 use Rattle.command_table.specs.Table.{is_name}
 use Rattle.command_table.specs.Entry.{row_of}
-use Rattle.command_table.proofs.Searched.{find-here, find-further, is_name-compared}
-use Rattle.command_table.proofs.Rows.{unnamed}
+use Rattle.command_table.proofs.RowSearchLemmas.{find-here, find-further, is_name-compared}
+use Rattle.command_table.proofs.TableLemmas.{unnamed}
 use Rattle.command_table.proofs.entries.find_entry.Goals as goal
 
 pub returns-then-eq_ignore_ascii_case : goal.returns-then-eq_ignore_ascii_case

@@ -1,4 +1,4 @@
-use Rattle.command_table.proofs.Rows.{names_are_lower_case}
+use Rattle.command_table.proofs.TableLemmas.{names_are_lower_case}
 use Rattle.command_table.proofs.laws.names_are_lower_case.Goals as goal
 
 pub returns : goal.returns

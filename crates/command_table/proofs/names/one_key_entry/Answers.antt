@@ -2,7 +2,7 @@ use Rattle.std.proofs.Common.{Some, None, find, sym, ap, ◌∙◌}
 use Rattle.std.specs.Option.{option_map}
 use Rattle.command_table.specs.Names.{one_key_names}
 use Rattle.command_table.specs.Table.{is_name}
-use Rattle.command_table.proofs.Searched.{row_in-of_length}
+use Rattle.command_table.proofs.RowSearchLemmas.{row_in-of_length}
 use Rattle.command_table.proofs.names.one_key_entry.Goals as goal
 
 pub returns-in-Some : goal.returns-in-Some

@@ -1,4 +1,4 @@
-use Rattle.ejector.proofs.Openings.{state_out}
+use Rattle.ejector.proofs.OpeningLemmas.{state_out}
 use Rattle.ejector.proofs.laws.few_are_out.Goals as goal
 
 pub returns : goal.returns

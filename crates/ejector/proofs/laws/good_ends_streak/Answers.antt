@@ -1,4 +1,4 @@
-use Rattle.ejector.proofs.OneHost.{good_ends}
+use Rattle.ejector.proofs.HostLemmas.{good_ends}
 use Rattle.ejector.proofs.laws.good_ends_streak.Goals as goal
 
 pub returns : goal.returns

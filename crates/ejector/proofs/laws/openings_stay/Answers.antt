@@ -1,4 +1,4 @@
-use Rattle.ejector.proofs.Openings.{openings_stay}
+use Rattle.ejector.proofs.OpeningLemmas.{openings_stay}
 use Rattle.ejector.proofs.laws.openings_stay.Goals as goal
 
 pub returns : goal.returns

@@ -1,4 +1,4 @@
-use Rattle.ejector.proofs.OneHost.{others_nothing}
+use Rattle.ejector.proofs.HostLemmas.{others_nothing}
 use Rattle.ejector.proofs.laws.others_change_nothing.Goals as goal
 
 pub returns : goal.returns

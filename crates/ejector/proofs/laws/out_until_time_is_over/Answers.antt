@@ -1,4 +1,4 @@
-use Rattle.ejector.proofs.OneHost.{out_until}
+use Rattle.ejector.proofs.HostLemmas.{out_until}
 use Rattle.ejector.proofs.laws.out_until_time_is_over.Goals as goal
 
 pub returns : goal.returns

@@ -1,4 +1,4 @@
-use Rattle.ejector.proofs.Kept.{same_next}
+use Rattle.ejector.proofs.NextStateLemmas.{same_next}
 use Rattle.ejector.proofs.laws.state_decides_next.Goals as goal
 
 pub returns : goal.returns

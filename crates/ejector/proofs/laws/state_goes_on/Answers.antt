@@ -1,4 +1,4 @@
-use Rattle.ejector.proofs.Openings.{goes_on}
+use Rattle.ejector.proofs.OpeningLemmas.{goes_on}
 use Rattle.ejector.proofs.laws.state_goes_on.Goals as goal
 
 pub returns : goal.returns

@@ -3,7 +3,7 @@ use Rattle.std.specs.List.{range_with_len}
 use Rattle.ejector.specs.declared.host.HostState.{HostState}
 use Rattle.ejector.specs.Sweeps.{trips_by}
 use Rattle.ejector.specs.Counting.{is_ejected_at, is_kept_at, tripping_of, outs}
-use Rattle.ejector.proofs.Links.{shares_back}
+use Rattle.ejector.proofs.CountingLemmas.{shares_back}
 use Rattle.ejector.proofs.sweep.take_sweep.Goals as goal
 
 pub set_rates-requires-clause-share : goal.set_rates-requires-clause-share

@@ -4,7 +4,7 @@ use Rattle.ejector.specs.State.{fresh_host}
 use Rattle.ejector.specs.Trips.{may_eject}
 use Rattle.ejector.specs.Sweeps.{trips_by}
 use Rattle.ejector.specs.Counting.{at_turn, is_ejected_at, is_kept_at, outs}
-use Rattle.ejector.proofs.Turns.{turn_yes, turn_no, turned, not_turned}
+use Rattle.ejector.proofs.SweepTurnLemmas.{turn_yes, turn_no, turned, not_turned}
 use Rattle.ejector.proofs.sweep.trip_outliers.Goals as goal
 use Rattle.ejector.proofs.sweep.trip_outliers.Goals.{then-trips+then-may, then-trips+else-may, else-trips}
 

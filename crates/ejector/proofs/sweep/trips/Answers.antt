@@ -1,5 +1,5 @@
 use Rattle.std.proofs.Common.{nat_le, sym, ap, ◌∙◌}
-use Rattle.ejector.proofs.Rates.{length-known}
+use Rattle.ejector.proofs.RateLemmas.{length-known}
 use Rattle.ejector.proofs.sweep.trips.Goals as goal
 
 pub returns-then-enough : goal.returns-then-enough

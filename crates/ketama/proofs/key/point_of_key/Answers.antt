@@ -1,7 +1,7 @@
 use Rattle.std.proofs.Common.{ap, ◌∙◌}
 use Rattle.ketama.specs.Point.{point_in}
 use Rattle.ketama.specs.Key.{point_of_bytes}
-use Rattle.ketama.proofs.Tags.{point_of-IsTagOf}
+use Rattle.ketama.proofs.TagLemmas.{point_of-IsTagOf}
 use Rattle.ketama.proofs.key.point_of_key.Goals as goal
 
 pub returns-clause-tag : goal.returns-clause-tag

@@ -1,6 +1,6 @@
 use Rattle.std.proofs.Common.{sym, ◌∙◌, ◌+◌}
 use Rattle.std.proofs.lemmas.List.{take_rest}
-use Rattle.ketama.proofs.Splits.{IsSplitAt-position, absent-position}
+use Rattle.ketama.proofs.SplitLemmas.{IsSplitAt-position, absent-position}
 use Rattle.ketama.proofs.key.split_once.Goals as goal
 
 pub returns-in_err-at-clause-absent : goal.returns-in_err-at-clause-absent

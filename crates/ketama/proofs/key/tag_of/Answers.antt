@@ -1,7 +1,7 @@
 use Rattle.std.proofs.Common.{◌≡◌, length, ap, sym, []}
 use Rattle.std.proofs.lemmas.Bool.{eqb-true, eqb-false}
 use Rattle.std.proofs.lemmas.List.{nil_from_length}
-use Rattle.ketama.proofs.Tags.{IsTagOf-splits, tag_or_key-no_open, tag_or_key-no_close, tag_or_key-empty, tag_or_key-IsTagOf, no_tag-no_open, no_tag-no_close, no_tag-empty}
+use Rattle.ketama.proofs.TagLemmas.{IsTagOf-splits, tag_or_key-no_open, tag_or_key-no_close, tag_or_key-empty, tag_or_key-IsTagOf, no_tag-no_open, no_tag-no_close, no_tag-empty}
 use Rattle.ketama.proofs.key.tag_of.Goals as goal
 
 pub returns-in_err-rest-clause-none : goal.returns-in_err-rest-clause-none

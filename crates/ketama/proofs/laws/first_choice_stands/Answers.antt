@@ -1,5 +1,5 @@
-use Rattle.ketama.proofs.Owners
+use Rattle.ketama.proofs.OwnerLemmas
 use Rattle.ketama.proofs.laws.first_choice_stands.Goals as goal
 
 pub returns : goal.returns
-returns c = Owners.first_choice_stands
+returns c = OwnerLemmas.first_choice_stands

@@ -1,5 +1,5 @@
-use Rattle.ketama.proofs.Owners
+use Rattle.ketama.proofs.OwnerLemmas
 use Rattle.ketama.proofs.laws.others_keep_their_points.Goals as goal
 
 pub returns : goal.returns
-returns c = Owners.others_keep_their_points
+returns c = OwnerLemmas.others_keep_their_points

@@ -1,4 +1,4 @@
-use Rattle.ketama.proofs.Owners.{owner_of-is, owner_of-unique}
+use Rattle.ketama.proofs.OwnerLemmas.{owner_of-is, owner_of-unique}
 use Rattle.ketama.proofs.laws.owner_is_one.Goals as goal
 
 pub returns : goal.returns

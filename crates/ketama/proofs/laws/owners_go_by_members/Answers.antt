@@ -1,5 +1,5 @@
-use Rattle.ketama.proofs.Owners
+use Rattle.ketama.proofs.OwnerLemmas
 use Rattle.ketama.proofs.laws.owners_go_by_members.Goals as goal
 
 pub returns : goal.returns
-returns c = Owners.owners_go_by_members
+returns c = OwnerLemmas.owners_go_by_members

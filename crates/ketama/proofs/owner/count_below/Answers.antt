@@ -1,6 +1,6 @@
 use Rattle.std.proofs.Common.{◌≡◌, ◌+◌, ◌-◌, ◌/◌, ◌<◌, length, get_or, ltb, inl, inr, arith}
 use Rattle.std.proofs.lemmas.Bool.{cases_Bool, ltb-true, ltb-false}
-use Rattle.ketama.proofs.Ordered.{all_below, none_below}
+use Rattle.ketama.proofs.SortedPairLemmas.{all_below, none_below}
 use Rattle.ketama.proofs.owner.count_below.Goals as goal
 
 pub loop-unknown-preserved : goal.loop-unknown-preserved

@@ -1,5 +1,5 @@
 use Rattle.std.proofs.Common.{arith}
-use Rattle.ketama.proofs.Ordered.{first_usable-IsLeast, none_usable}
+use Rattle.ketama.proofs.SortedPairLemmas.{first_usable-IsLeast, none_usable}
 use Rattle.ketama.proofs.owner.first_usable.Goals as goal
 
 pub returns-then-usable-host : goal.returns-then-usable-host

@@ -1,7 +1,7 @@
 use Rattle.std.proofs.Common.{ℕ, None, Some, subst}
 use Rattle.std.proofs.lemmas.List.{take_rest}
 use Rattle.ketama.specs.Owner.{IsLeastIfAny, IsUsablePair}
-use Rattle.ketama.proofs.Ordered.{from_place, owner_from, owner_past}
+use Rattle.ketama.proofs.SortedPairLemmas.{from_place, owner_from, owner_past}
 use Rattle.ketama.proofs.owner.owner.Goals as goal
 
 pub returns-in-Some : goal.returns-in-Some

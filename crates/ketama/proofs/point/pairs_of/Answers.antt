@@ -1,5 +1,5 @@
 use Rattle.std.proofs.Common.{sym, subst, Contains}
-use Rattle.ketama.proofs.Pairs.{ring_pairs-IsKetamaPair}
+use Rattle.ketama.proofs.KetamaPairLemmas.{ring_pairs-IsKetamaPair}
 use Rattle.ketama.proofs.point.pairs_of.Goals as goal
 
 pub returns-clause-members : goal.returns-clause-members

@@ -1,5 +1,5 @@
 use Rattle.std.proofs.Common.{sym, append_assoc, append-nil}
-use Rattle.ketama.proofs.Pairs.{host_pairs-none, host_pairs-more}
+use Rattle.ketama.proofs.KetamaPairLemmas.{host_pairs-none, host_pairs-more}
 use Rattle.ketama.proofs.point.push_host.Goals as goal
 
 pub loop-k-init : goal.loop-k-init

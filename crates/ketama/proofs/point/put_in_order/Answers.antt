@@ -3,7 +3,7 @@ use Rattle.std.proofs.lemmas.Bool.Decides.{nat_tests}
 use Rattle.std.proofs.lemmas.List.Filters.{dedup_is}
 use Rattle.std.proofs.lemmas.List.Kept.{Contains-dedup, Contains-from_dedup, IsStrictlySortedBy-dedup}
 use Rattle.std.proofs.lemmas.List.Sorted.{Contains-permutation, IsPermutation-sym}
-use Rattle.ketama.proofs.Ordered.{pair_cmp_total, pair_eq_equiv, AllPairs-sorted}
+use Rattle.ketama.proofs.SortedPairLemmas.{pair_cmp_total, pair_eq_equiv, AllPairs-sorted}
 use Rattle.ketama.proofs.point.put_in_order.Goals as goal
 
 pub returns-clause-in_order : goal.returns-clause-in_order

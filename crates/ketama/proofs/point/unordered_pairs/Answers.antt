@@ -1,7 +1,7 @@
 use Rattle.std.proofs.Common.{◌++◌, [], get_or, ap, sym, ◌∙◌}
 use Rattle.std.proofs.lemmas.List.{get_or_read}
 use Rattle.ketama.specs.Ketama.{host_pairs}
-use Rattle.ketama.proofs.Pairs.{ring_pairs-none, ring_pairs-more}
+use Rattle.ketama.proofs.KetamaPairLemmas.{ring_pairs-none, ring_pairs-more}
 use Rattle.ketama.proofs.point.unordered_pairs.Goals as goal
 
 pub loop-host-init : goal.loop-host-init

@@ -1,7 +1,7 @@
 use Rattle.std.proofs.Common.{◌≤◌, ◌<◌, ◌^◌, ◌*◌, ◌/◌, ◌∙◌, length, map, sum, ap, sym, subst, arith}
 use Rattle.std.proofs.lemmas.List.{take_all}
 use Rattle.std.proofs.lemmas.Grind.{common_steps}
-use Rattle.ketama.proofs.Shares.{weights_fit, counts_fit}
+use Rattle.ketama.proofs.ShareLemmas.{weights_fit, counts_fit}
 use Rattle.ketama.proofs.share.digest_counts.Goals as goal
 
 pub sum-total-requires : goal.sum-total-requires

@@ -1,7 +1,7 @@
 use Rattle.std.proofs.Common.{◌≡◌, ◌<◌, ◌∙◌, ap, sym, get_or, arith}
 use Rattle.std.proofs.lemmas.List.{get_or-take, length-take-le}
 use Rattle.proxy_config.specs.declared.config.Host.{Host}
-use Rattle.proxy_config.proofs.Elements.{get_or-within}
+use Rattle.proxy_config.proofs.ElementLemmas.{get_or-within}
 use Rattle.proxy_config.proofs.hosts.have_names_of_their_own.Goals as goal
 
 pub returns-then-has_name : goal.returns-then-has_name

@@ -1,6 +1,6 @@
 use Rattle.std.proofs.Common.{rules}
 use Rattle.ketama.specs.HostName.{IsHostName}
-use Rattle.proxy_config.proofs.HostNames.{is_host_name_stable}
+use Rattle.proxy_config.proofs.HostNameLemmas.{is_host_name_stable}
 use Rattle.proxy_config.proofs.hosts.host.Goals as goal
 
 pub returns-in-Err-NoMemory-clause-memory : goal.returns-in-Err-NoMemory-clause-memory

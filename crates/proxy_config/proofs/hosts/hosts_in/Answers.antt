@@ -7,8 +7,8 @@ use Rattle.std.specs.List.{AllZip}
 use Rattle.serde_json.specs.View.{items_view}
 use Rattle.proxy_config.specs.declared.config.Host.{Host}
 use Rattle.proxy_config.specs.Table.{AreHosts, IsHost, items_of, host_data}
-use Rattle.proxy_config.specs.Told.{FirstAre}
-use Rattle.proxy_config.proofs.Entries.{Gives, all_err, gives_more, gives_written, gives_length, gives_good, written_length, none_written, names_same}
+use Rattle.proxy_config.specs.Refusals.{FirstAre}
+use Rattle.proxy_config.proofs.EntryLemmas.{Gives, all_err, gives_more, gives_written, gives_length, gives_good, written_length, none_written, names_same}
 use Rattle.proxy_config.proofs.hosts.hosts_in.Goals as goal
 use Rattle.proxy_config.proofs.hosts.hosts_in.Goals.{then-is_empty-via-then-is_empty, then-is_empty-via-else-is_empty+then-entries-gt-MAX_HOSTS}
 

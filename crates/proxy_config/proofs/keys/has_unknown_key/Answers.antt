@@ -5,7 +5,7 @@ use Rattle.std.proofs.lemmas.Iterator.Consumers.{YieldsList-from_rest}
 use Rattle.std.proofs.lemmas.Iterator.Search.{true_from_Any}
 use Rattle.std.specs.BTreeMap.{keys}
 use Rattle.proxy_config.specs.File.{IsUnknown}
-use Rattle.proxy_config.proofs.Elements.{Any-from_place}
+use Rattle.proxy_config.proofs.ElementLemmas.{Any-from_place}
 use Rattle.proxy_config.proofs.keys.has_unknown_key.Goals as goal
 
 pub returns : goal.returns

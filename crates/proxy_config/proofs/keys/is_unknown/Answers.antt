@@ -1,4 +1,4 @@
-use Rattle.proxy_config.proofs.KnownNames.{known, unknown}
+use Rattle.proxy_config.proofs.KeyNameLemmas.{known, unknown}
 use Rattle.proxy_config.specs.Table.{Listen, Hosts, Weights, Workers, ReplyMs, Tags, IntervalMs, BaseMs, MaxMs, MaxPercent, Consecutive, SuccessHosts, RequestVolume, Factor, PanicPercent}
 use Rattle.proxy_config.proofs.keys.is_unknown.Goals as goal
 use Rattle.proxy_config.proofs.keys.is_unknown.Goals.{in_default, in-listen, in-listen-2, in-listen-3, in-listen-4, in-listen-5, in-listen-6, in-listen-7, in-listen-8, in-listen-9, in-listen-10, in-listen-11, in-listen-12, in-listen-13, in-listen-14, in-listen-15}

@@ -1,4 +1,4 @@
-use Rattle.proxy_config.proofs.RingParts.{ring_parts}
+use Rattle.proxy_config.proofs.RingPartLemmas.{ring_parts}
 use Rattle.proxy_config.proofs.line.check_line.Goals as goal
 
 pub ring-requires : goal.ring-requires

@@ -4,7 +4,7 @@ use Rattle.std.proofs.lemmas.List.{take_all}
 use Rattle.serde_json.specs.Data.{array}
 use Rattle.serde_json.specs.View.{items_view}
 use Rattle.proxy_config.specs.Table.{AreWeightsOr, IsWeight, items_of, weight_data}
-use Rattle.proxy_config.proofs.Entries.{Gives, all_err, gives_more, gives_written, gives_length, gives_good, written_length, none_written}
+use Rattle.proxy_config.proofs.EntryLemmas.{Gives, all_err, gives_more, gives_written, gives_length, gives_good, written_length, none_written}
 use Rattle.proxy_config.proofs.weights.weights_in.Goals as goal
 
 pub returns-then-entries-hosts-clause-none : goal.returns-then-entries-hosts-clause-none

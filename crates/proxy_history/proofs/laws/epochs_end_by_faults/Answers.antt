@@ -1,4 +1,4 @@
-use Rattle.proxy_history.proofs.Faults.{epochs_end_by_faults as law}
+use Rattle.proxy_history.proofs.FaultLemmas.{epochs_end_by_faults as law}
 use Rattle.proxy_history.proofs.laws.epochs_end_by_faults.Goals as goal
 
 pub returns : goal.returns

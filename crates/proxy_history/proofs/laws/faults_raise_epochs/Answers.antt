@@ -1,4 +1,4 @@
-use Rattle.proxy_history.proofs.Faults.{faults_raise_epochs as law}
+use Rattle.proxy_history.proofs.FaultLemmas.{faults_raise_epochs as law}
 use Rattle.proxy_history.proofs.laws.faults_raise_epochs.Goals as goal
 
 pub returns : goal.returns

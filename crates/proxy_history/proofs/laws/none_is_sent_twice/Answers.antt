@@ -1,4 +1,4 @@
-use Rattle.proxy_history.proofs.SentOnce.{none_twice}
+use Rattle.proxy_history.proofs.sending.SentOnceLemmas.{none_twice}
 use Rattle.proxy_history.proofs.laws.none_is_sent_twice.Goals as goal
 
 pub returns : goal.returns

@@ -1,4 +1,4 @@
-use Rattle.proxy_history.proofs.SendingLemmas.{nothing_else_is_sent as law}
+use Rattle.proxy_history.proofs.sending.SendingLemmas.{nothing_else_is_sent as law}
 use Rattle.proxy_history.proofs.laws.nothing_else_is_sent.Goals as goal
 
 pub returns : goal.returns

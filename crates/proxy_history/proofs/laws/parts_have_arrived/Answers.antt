@@ -1,4 +1,4 @@
-use Rattle.proxy_history.proofs.Arrived.{parts_have_arrived as law}
+use Rattle.proxy_history.proofs.parts.ArrivalLemmas.{parts_have_arrived as law}
 use Rattle.proxy_history.proofs.laws.parts_have_arrived.Goals as goal
 
 pub returns : goal.returns

@@ -1,4 +1,4 @@
-use Rattle.proxy_history.proofs.Asked.{replies_were_asked as law}
+use Rattle.proxy_history.proofs.sending.ReplyCountLemmas.{replies_were_asked as law}
 use Rattle.proxy_history.proofs.laws.replies_were_asked.Goals as goal
 
 pub returns : goal.returns

@@ -1,4 +1,4 @@
-use Rattle.proxy_history.proofs.UnsentLemmas.{unsent_parts_wait as law}
+use Rattle.proxy_history.proofs.sending.UnsentLemmas.{unsent_parts_wait as law}
 use Rattle.proxy_history.proofs.laws.unsent_parts_wait.Goals as goal
 
 pub returns : goal.returns

@@ -1,4 +1,4 @@
-use Rattle.proxy_history.proofs.WaitingLemmas.{waiting_is_in_order as law}
+use Rattle.proxy_history.proofs.sending.WaitingOrderLemmas.{waiting_is_in_order as law}
 use Rattle.proxy_history.proofs.laws.waiting_is_in_order.Goals as goal
 
 pub returns : goal.returns

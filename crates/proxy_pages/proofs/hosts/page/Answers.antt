@@ -1,6 +1,6 @@
 use Rattle.std.proofs.Common.{◌++◌, sym, ap, ◌∙◌}
 use Rattle.proxy_pages.specs.Pages.{host_line}
-use Rattle.proxy_pages.proofs.Texts.{each_more}
+use Rattle.proxy_pages.proofs.TextLemmas.{each_more}
 use Rattle.proxy_pages.proofs.hosts.page.Goals as goal
 
 pub loop-i-preserved : goal.loop-i-preserved

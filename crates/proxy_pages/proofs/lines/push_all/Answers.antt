@@ -1,5 +1,5 @@
 use Rattle.std.proofs.Common.{◌++◌, [], ap, ◌∙◌}
-use Rattle.proxy_pages.proofs.Texts.{concat_more, grown}
+use Rattle.proxy_pages.proofs.TextLemmas.{concat_more, grown}
 use Rattle.proxy_pages.proofs.lines.push_all.Goals as goal
 
 pub loop-part-preserved : goal.loop-part-preserved

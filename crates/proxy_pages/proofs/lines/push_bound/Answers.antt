@@ -2,7 +2,7 @@ use Rattle.std.proofs.Common.{◌++◌, ◌∷◌, [], ap, ◌∙◌}
 use Rattle.std.specs.Prelude.{codes}
 use Rattle.std.specs.List.{concat}
 use Rattle.std.proofs.lemmas.Result.{on_ok_weaker}
-use Rattle.proxy_pages.proofs.Texts.{three}
+use Rattle.proxy_pages.proofs.TextLemmas.{three}
 use Rattle.proxy_pages.proofs.lines.push_bound.Goals as goal
 
 pub returns : goal.returns

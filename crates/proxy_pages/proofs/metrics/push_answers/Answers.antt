@@ -2,7 +2,7 @@ use Rattle.std.proofs.Common.{ℕ, List, [], ◌++◌, slice_index, ap, ◌∙�
 use Rattle.std.specs.Prelude.{codes}
 use Rattle.proxy_pages.specs.Lines.{labelled_text}
 use Rattle.proxy_pages.specs.Pages.{answer_word}
-use Rattle.proxy_pages.proofs.Texts.{each_more, grown}
+use Rattle.proxy_pages.proofs.TextLemmas.{each_more, grown}
 use Rattle.proxy_pages.proofs.metrics.push_answers.Goals as goal
 
 pub loop-i-preserved : goal.loop-i-preserved

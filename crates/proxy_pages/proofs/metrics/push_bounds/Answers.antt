@@ -1,7 +1,7 @@
 use Rattle.std.proofs.Common.{ℕ, List, slice_index}
 use Rattle.proxy_histogram.specs.declared.histogram.TheConstants.{BOUNDS_MS}
 use Rattle.proxy_pages.specs.Lines.{bound_text}
-use Rattle.proxy_pages.proofs.Texts.{each_more, grown}
+use Rattle.proxy_pages.proofs.TextLemmas.{each_more, grown}
 use Rattle.proxy_pages.proofs.metrics.push_bounds.Goals as goal
 
 pub loop-i-preserved : goal.loop-i-preserved

@@ -1,4 +1,4 @@
-use Rattle.proxy_pages.proofs.Texts.{four}
+use Rattle.proxy_pages.proofs.TextLemmas.{four}
 use Rattle.proxy_pages.proofs.metrics.push_durations.Goals as goal
 
 pub returns : goal.returns

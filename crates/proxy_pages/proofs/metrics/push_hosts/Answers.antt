@@ -2,7 +2,7 @@ use Rattle.std.proofs.Common.{ℕ, List, ◌++◌, ap, ◌∙◌}
 use Rattle.proxy_pages.specs.Lines.{host_text}
 use Rattle.proxy_pages.specs.Numbers.{host_number}
 use Rattle.proxy_pages.specs.Pages.{host_name}
-use Rattle.proxy_pages.proofs.Texts.{each_more, grown}
+use Rattle.proxy_pages.proofs.TextLemmas.{each_more, grown}
 use Rattle.proxy_pages.proofs.metrics.push_hosts.Goals as goal
 
 pub loop-i-preserved : goal.loop-i-preserved

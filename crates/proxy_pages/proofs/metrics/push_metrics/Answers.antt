@@ -2,7 +2,7 @@ use Rattle.std.proofs.Common.{List, ℕ}
 use Rattle.proxy_pages.specs.declared.metric.Metric.{Metric}
 use Rattle.proxy_pages.specs.Pages.{metric_text}
 use Rattle.proxy_pages.specs.Table.{row_of}
-use Rattle.proxy_pages.proofs.Texts.{concat_more, grown}
+use Rattle.proxy_pages.proofs.TextLemmas.{concat_more, grown}
 use Rattle.proxy_pages.proofs.metrics.push_metrics.Goals as goal
 
 pub loop-metric-preserved : goal.loop-metric-preserved

@@ -1,4 +1,4 @@
-use Rattle.proxy_pages.proofs.Texts.{three}
+use Rattle.proxy_pages.proofs.TextLemmas.{three}
 use Rattle.proxy_pages.proofs.metrics.push_sum.Goals as goal
 
 pub returns : goal.returns

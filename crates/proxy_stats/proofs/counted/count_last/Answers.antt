@@ -2,7 +2,7 @@ use Rattle.std.proofs.Common.{◌-◌, sym, ap, subst, ◌∙◌}
 use Rattle.std.proofs.lemmas.Option.{slice_get-get_or}
 use Rattle.proxy_history.specs.History.{Step}
 use Rattle.proxy_stats.specs.Counted.{HasCounted}
-use Rattle.proxy_stats.proofs.Kept.{last_is, last_within}
+use Rattle.proxy_stats.proofs.CountedLemmas.{last_is, last_within}
 use Rattle.proxy_stats.proofs.counted.count_last.Goals as goal
 
 pub returns-in-Some : goal.returns-in-Some

@@ -2,9 +2,9 @@ use Rattle.std.proofs.Common.{◌≤◌, ◌<◌, ◌^◌, All, reverse, length,
 use Rattle.std.proofs.lemmas.List.{length-reverse}
 use Rattle.proxy_stats.specs.Amounts.{ejected_hosts, kept_hosts}
 use Rattle.proxy_stats.specs.Sums.{AreCapped}
-use Rattle.proxy_stats.proofs.Small.{IsSmall, small_history, many_steps}
-use Rattle.proxy_stats.proofs.Writes.{all_forwards}
-use Rattle.proxy_stats.proofs.Growing.{counts_uncapped}
+use Rattle.proxy_stats.proofs.SmallStepLemmas.{IsSmall, small_history, many_steps}
+use Rattle.proxy_stats.proofs.ListWriteLemmas.{all_forwards}
+use Rattle.proxy_stats.proofs.SumLemmas.{counts_uncapped}
 use Rattle.proxy_stats.proofs.counting.counts.Goals as goal
 
 pub returns : goal.returns

@@ -1,7 +1,7 @@
 use Rattle.std.proofs.Common.{◌≡◌, ◌<◌, ◌^◌, slice_get, Some, sym, ◌∙◌, inl, inr, arith}
 use Rattle.std.proofs.lemmas.Option.{slice_get_within, slice_get_cases, get_or_from_slice_get}
 use Rattle.proxy_stats.specs.Amounts.{ejected_hosts, kept_hosts}
-use Rattle.proxy_stats.proofs.Growing.{counts_more, all_more}
+use Rattle.proxy_stats.proofs.SumLemmas.{counts_more, all_more}
 use Rattle.proxy_stats.proofs.counting.counts_of.Goals as goal
 use Rattle.proxy_stats.proofs.counting.counts_of.Goals.{in-Some, in_default}
 

@@ -3,7 +3,7 @@ use Rattle.std.proofs.lemmas.List.{get_or-replicate}
 use Rattle.proxy_history.specs.Setting.{hosts}
 use Rattle.proxy_history.specs.Proxy.{history_in}
 use Rattle.proxy_stats.specs.Load.{no_load}
-use Rattle.proxy_stats.proofs.Loads.{loads_are}
+use Rattle.proxy_stats.proofs.LoadLemmas.{loads_are}
 use Rattle.proxy_stats.proofs.load.load_of.Goals as goal
 
 pub loop-host-init : goal.loop-host-init

@@ -1,7 +1,7 @@
 use Rattle.std.proofs.Common.{◌≤◌, None, refl, take, arith, length-append}
 use Rattle.std.proofs.lemmas.List.Sums.{sum_by_push}
 use Rattle.rate_core.specs.Outlier.{known_rates, square}
-use Rattle.rate_core.proofs.Known.{known_more_some, known_more_none, square_within}
+use Rattle.rate_core.proofs.KnownRateLemmas.{known_more_some, known_more_none, square_within}
 use Rattle.rate_core.proofs.outlier.totals_of.Goals as goal
 use Rattle.rate_core.proofs.outlier.totals_of.Goals.{in-Some, in_default}
 

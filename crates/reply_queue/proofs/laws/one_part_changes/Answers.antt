@@ -1,4 +1,4 @@
-use Rattle.reply_queue.proofs.QueueLaws.{part_has_its_value, other_parts_stay}
+use Rattle.reply_queue.proofs.QueueLemmas.{part_has_its_value, other_parts_stay}
 use Rattle.reply_queue.proofs.laws.one_part_changes.Goals as goal
 
 pub returns : goal.returns

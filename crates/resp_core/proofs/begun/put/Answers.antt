@@ -3,7 +3,7 @@ use Rattle.std.proofs.lemmas.List.{map-append, length-append}
 use Rattle.resp_core.specs.Tree.{Tree}
 use Rattle.resp_core.specs.declared.value.Value.{Value}
 use Rattle.resp_core.specs.Value.{tree_of}
-use Rattle.resp_core.proofs.Nested.{put_goes_on, put_closes}
+use Rattle.resp_core.proofs.unfinished.OpenListLemmas.{put_goes_on, put_closes}
 use Rattle.resp_core.proofs.begun.put.Goals as goal
 
 -- a member more

@@ -1,7 +1,7 @@
 use Rattle.std.proofs.Common.{◌≡◌, ◌≤◌, ℕ, List, length}
 use Rattle.resp_core.specs.Value.{tree_of}
 use Rattle.resp_core.specs.Reading.{found}
-use Rattle.resp_core.specs.Begun.{nested_outcome}
+use Rattle.resp_core.specs.OpenLists.{nested_outcome}
 use Rattle.resp_core.proofs.begun.put.Given as goal
 
 abbrev pub invariant-loop-list : goal.invariant-loop-list

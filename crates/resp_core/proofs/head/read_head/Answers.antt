@@ -1,5 +1,5 @@
 use Rattle.std.proofs.Common.{arith}
-use Rattle.resp_core.proofs.Heads.{stops_there}
+use Rattle.resp_core.proofs.unfinished.HeadLemmas.{stops_there}
 use Rattle.resp_core.proofs.head.read_head.Goals as goal
 
 pub returns-in-Err-clause-refused : goal.returns-in-Err-clause-refused

@@ -1,6 +1,6 @@
 use Rattle.std.proofs.Common.{take}
 use Rattle.resp_core.specs.declared.head.Next.TheVariants as nexts
-use Rattle.resp_core.specs.Going.{GoesOn, IsGoodHead}
+use Rattle.resp_core.specs.ResumedReading.{GoesOn, IsGoodHead}
 use Rattle.resp_core.proofs.head.read_head.Given as goal
 
 abbrev pub invariant-loop-i : goal.invariant-loop-i

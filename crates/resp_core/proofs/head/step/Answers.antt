@@ -6,7 +6,7 @@ use Rattle.resp_core.specs.declared.head.Head.{Head}
 use Rattle.resp_core.specs.declared.head.Head.TheVariants as heads
 use Rattle.resp_core.specs.Tree.{Tree}
 use Rattle.resp_core.specs.Reading.{Outcome, found, unfinished, refused, and_then, byte_at}
-use Rattle.resp_core.specs.Going.{IsNullOf, head_at, found_at}
+use Rattle.resp_core.specs.ResumedReading.{IsNullOf, head_at, found_at}
 use Rattle.resp_core.proofs.head.step.Goals as goal
 
 same_behind : (f g : List ℕ → Outcome Tree) → ((b : List ℕ) → f b ≡ g b) → (o : Outcome (Unit {0})) → and_then o (λ _ rest. f rest) ≡ and_then o (λ _ rest. g rest)

@@ -1,5 +1,5 @@
-use Rattle.resp_core.proofs.Numbers.{one_number}
-use Rattle.resp_core.proofs.StreamLaws.{one_refused_byte, one_refusal}
+use Rattle.resp_core.proofs.refusals.ToldNumberLemmas.{one_number}
+use Rattle.resp_core.proofs.streams.StreamLawLemmas.{one_refused_byte, one_refusal}
 use Rattle.resp_core.proofs.laws.one_refusal.Goals as goal
 
 pub returns-clause-byte : goal.returns-clause-byte

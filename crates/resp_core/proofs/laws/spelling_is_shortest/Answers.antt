@@ -1,4 +1,4 @@
-use Rattle.resp_core.proofs.Spelling.{spelling_is_shortest}
+use Rattle.resp_core.proofs.SpellingLemmas.{spelling_is_shortest}
 use Rattle.resp_core.proofs.laws.spelling_is_shortest.Goals as goal
 
 pub returns : goal.returns

@@ -1,4 +1,4 @@
-use Rattle.resp_core.proofs.StreamLaws.{text_is_read_back, text_is_read_next}
+use Rattle.resp_core.proofs.streams.StreamLawLemmas.{text_is_read_back, text_is_read_next}
 use Rattle.resp_core.proofs.laws.text_is_read_back.Goals as goal
 
 pub returns-clause-front : goal.returns-clause-front

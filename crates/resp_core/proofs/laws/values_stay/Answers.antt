@@ -1,4 +1,4 @@
-use Rattle.resp_core.proofs.StreamLaws.{values_stay}
+use Rattle.resp_core.proofs.streams.StreamLawLemmas.{values_stay}
 use Rattle.resp_core.proofs.laws.values_stay.Goals as goal
 
 pub returns : goal.returns

@@ -4,7 +4,7 @@ use Rattle.std.specs.Fmt.{decimal}
 use Rattle.std.proofs.lemmas.Fmt.{decimal_digit, length-decimal-le}
 use Rattle.std.proofs.lemmas.List.{drop-set, length-drop, length-set, take_all}
 use Rattle.resp_core.specs.Text.{line_end}
-use Rattle.resp_core.proofs.Lengths.{decimal_two}
+use Rattle.resp_core.proofs.SpellingLengthLemmas.{decimal_two}
 use Rattle.resp_core.proofs.text.append_count.Goals as goal
 
 pub write_digits-digits-requires : goal.write_digits-digits-requires

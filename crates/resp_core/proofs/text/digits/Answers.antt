@@ -1,6 +1,6 @@
 use Rattle.std.proofs.Common.{length, decimal, sym, ap, ◌∙◌, arith}
 use Rattle.std.proofs.lemmas.Fmt.{decimal_digit}
-use Rattle.resp_core.proofs.Lengths.{decimal_two, length-decimal_power}
+use Rattle.resp_core.proofs.SpellingLengthLemmas.{decimal_two, length-decimal_power}
 use Rattle.resp_core.proofs.text.digits.Goals as goal
 
 pub returns-in-Some : goal.returns-in-Some

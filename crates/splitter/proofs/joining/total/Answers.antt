@@ -1,6 +1,6 @@
 use Rattle.std.proofs.Common.{arith}
 use Rattle.std.proofs.lemmas.Int.{ints}
-use Rattle.splitter.proofs.Totals.{total_more}
+use Rattle.splitter.proofs.TotalLemmas.{total_more}
 use Rattle.splitter.proofs.joining.total.Goals as goal
 
 pub loop-value-preserved : goal.loop-value-preserved

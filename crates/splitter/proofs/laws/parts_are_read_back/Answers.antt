@@ -1,4 +1,4 @@
-use Rattle.splitter.proofs.PartLaws.{parts_are_read_back}
+use Rattle.splitter.proofs.PartLemmas.{parts_are_read_back}
 use Rattle.splitter.proofs.laws.parts_are_read_back.Goals as goal
 
 pub returns : goal.returns

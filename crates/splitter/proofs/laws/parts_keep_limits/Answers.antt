@@ -1,4 +1,4 @@
-use Rattle.splitter.proofs.PartLaws.{parts_keep_limits}
+use Rattle.splitter.proofs.PartLemmas.{parts_keep_limits}
 use Rattle.splitter.proofs.laws.parts_keep_limits.Goals as goal
 
 pub returns : goal.returns

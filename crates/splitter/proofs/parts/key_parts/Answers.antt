@@ -5,7 +5,7 @@ use Rattle.resp_core.specs.Command.{payload_of}
 use Rattle.splitter.specs.declared.plans.PartPlan.{PartPlan}
 use Rattle.splitter.specs.Split.{part_at}
 use Rattle.splitter.specs.Part.{part_of}
-use Rattle.splitter.proofs.PartTexts.{words_length, key_part-is, keys_more, keys_all}
+use Rattle.splitter.proofs.PartTextLemmas.{words_length, key_part-is, keys_more, keys_all}
 use Rattle.splitter.proofs.parts.key_parts.Goals as goal
 
 pub loop-at-preserved : goal.loop-at-preserved

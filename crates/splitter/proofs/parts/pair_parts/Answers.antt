@@ -5,7 +5,7 @@ use Rattle.resp_core.specs.Command.{payload_of, word}
 use Rattle.splitter.specs.declared.plans.PartPlan.{PartPlan}
 use Rattle.splitter.specs.Split.{pairs, part_at}
 use Rattle.splitter.specs.Part.{head_of, part_of}
-use Rattle.splitter.proofs.PartTexts.{words_length, pair_part-is, pairs_more, pairs_all}
+use Rattle.splitter.proofs.PartTextLemmas.{words_length, pair_part-is, pairs_more, pairs_all}
 use Rattle.splitter.proofs.parts.pair_parts.Goals as goal
 
 pub loop-pair-preserved : goal.loop-pair-preserved

@@ -3,7 +3,7 @@ use Rattle.resp_core.specs.Tree.{Tree, is_plain_tree}
 use Rattle.resp_core.specs.Value.{tree_of}
 use Rattle.splitter.specs.Plan.{parts}
 use Rattle.splitter.specs.declared.plans.Join.TheVariants.{Same}
-use Rattle.splitter.proofs.PartTexts.{plain_words, whole_part-is}
+use Rattle.splitter.proofs.PartTextLemmas.{plain_words, whole_part-is}
 use Rattle.splitter.proofs.parts.whole_part.Goals as goal
 
 pub text_of-requires : goal.text_of-requires

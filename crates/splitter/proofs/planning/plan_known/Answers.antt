@@ -5,7 +5,7 @@ use Rattle.command_table.specs.Entry.{row_of}
 use Rattle.splitter.specs.Plan.{parts}
 use Rattle.splitter.specs.Planned.{planned_in}
 use Rattle.splitter.specs.Split.{part_at}
-use Rattle.splitter.proofs.KnownRows.{get_row, set_row, sum_row}
+use Rattle.splitter.proofs.RowLemmas.{get_row, set_row, sum_row}
 use Rattle.splitter.proofs.PlanLemmas.{one_inside, echo_inside, one_is, get_is, set_is, sum_is}
 use Rattle.splitter.proofs.planning.plan_known.Goals as goal
 use Rattle.splitter.proofs.planning.plan_known.Goals.{in-SplitGet+in_ok-key_parts-in-SplitGet, in-SplitSet+in_ok-pair_parts-in-SplitSet, in-SplitSum+in_ok-upper_name-in-SplitSum+in_ok-key_parts-in-SplitSum}

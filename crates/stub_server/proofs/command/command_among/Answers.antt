@@ -1,5 +1,5 @@
 use Rattle.std.proofs.Common.{rules, sym, ◌∙◌}
-use Rattle.stub_server.proofs.Searched.{unnamed, first_with_name, none_with_name}
+use Rattle.stub_server.proofs.CommandSearchLemmas.{unnamed, first_with_name, none_with_name}
 use Rattle.stub_server.proofs.command.command_among.Goals as goal
 
 pub returns-then-eq_ignore_ascii_case : goal.returns-then-eq_ignore_ascii_case

@@ -1,6 +1,6 @@
 use Rattle.std.proofs.Common.{false, arith}
 use Rattle.std.proofs.lemmas.List.FromFn.{fill_by_all}
-use Rattle.ejector.specs.Usable.{is_usable}
+use Rattle.ejector.specs.UsableHosts.{is_usable}
 use Rattle.test_reference.proofs.arrival.find_usable.Goals as goal
 
 pub returns : goal.returns

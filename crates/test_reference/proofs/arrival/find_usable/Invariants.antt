@@ -1,6 +1,6 @@
 -- Up to here each place says whether its host is usable.
 use Rattle.std.proofs.Common.{◌≡◌, ◌<◌, ℕ, false, get_or, length}
-use Rattle.ejector.specs.Usable.{is_usable}
+use Rattle.ejector.specs.UsableHosts.{is_usable}
 use Rattle.test_reference.proofs.arrival.find_usable.Given as goal
 
 abbrev pub invariant-loop-host : goal.invariant-loop-host

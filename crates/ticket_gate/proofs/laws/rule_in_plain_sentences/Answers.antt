@@ -1,4 +1,4 @@
-use Rattle.ticket_gate.proofs.PlainSentences.{plain_sentences}
+use Rattle.ticket_gate.proofs.PlainRuleLemmas.{plain_sentences}
 use Rattle.ticket_gate.proofs.laws.rule_in_plain_sentences.Goals as goal
 
 pub returns : goal.returns

@@ -3,10 +3,10 @@ use Rattle.std.proofs.lemmas.Simd.{map-map, splat_is_map}
 use Rattle.std.proofs.lemmas.List.FromFn.{length-range_with_len}
 use Rattle.ejector.specs.declared.settings.Rules.{Rules}
 use Rattle.ejector.specs.State.{State, is_out, host_of, hosts_of}
-use Rattle.ejector.specs.Usable.{is_panic, is_usable}
+use Rattle.ejector.specs.UsableHosts.{is_panic, is_usable}
 use Rattle.ejector.specs.Counting.{is_in, outs}
 use Rattle.ejector.specs.Ejector.{Ejection}
-use Rattle.ejector.proofs.Few.{hosts_are}
+use Rattle.ejector.proofs.OutLimitLemmas.{hosts_are}
 use Rattle.ejector.proofs.ejector.Ejector.all_usable.Goals as goal
 
 -- in panic all are usable

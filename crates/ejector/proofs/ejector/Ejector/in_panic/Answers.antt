@@ -1,7 +1,7 @@
 use Rattle.std.proofs.Common.{ap, ◌∙◌, ◌-◌, ◌*◌, nat_lt}
 use Rattle.ejector.specs.Counting.{outs}
 use Rattle.ejector.specs.Ejector.{Ejection}
-use Rattle.ejector.specs.Usable.{is_panic}
+use Rattle.ejector.specs.UsableHosts.{is_panic}
 use Rattle.ejector.proofs.ejector.Ejector.in_panic.Goals as goal
 
 pub returns : goal.returns

@@ -4,8 +4,8 @@ use Rattle.ejector.specs.declared.settings.Rules.{Rules}
 use Rattle.ejector.specs.Settings.{first_fault}
 use Rattle.ejector.specs.Opening.{IsOpening}
 use Rattle.ejector.specs.State.{fresh_host}
-use Rattle.ejector.proofs.InRange.{few_hosts}
-use Rattle.ejector.proofs.Openings.{fresh_opening}
+use Rattle.ejector.proofs.SettingsRangeLemmas.{few_hosts}
+use Rattle.ejector.proofs.OpeningLemmas.{fresh_opening}
 use Rattle.ejector.proofs.ejector.Ejector.new.Goals as goal
 
 pub invariant_of-result : goal.invariant_of-result

@@ -4,8 +4,8 @@ use Rattle.ejector.specs.Counting.{trip_then}
 use Rattle.ejector.specs.Ejection.{state, trip}
 use Rattle.ejector.specs.Ejector.{Ejection, result_mark}
 use Rattle.ejector.specs.State.{State}
-use Rattle.ejector.proofs.Kept.{good_next, bad_next, told, trip_told}
-use Rattle.ejector.proofs.Openings.{opening_after}
+use Rattle.ejector.proofs.NextStateLemmas.{good_next, bad_next, told, trip_told}
+use Rattle.ejector.proofs.OpeningLemmas.{opening_after}
 use Rattle.ejector.proofs.ejector.Ejector.result.Goals as goal
 
 -- GOOD RESULTS

@@ -2,8 +2,8 @@ use Rattle.std.proofs.Common.{ap, ◌∙◌}
 use Rattle.ejector.specs.declared.mark.Mark.TheVariants.{Sweep}
 use Rattle.ejector.specs.Counting.{swept_counts}
 use Rattle.ejector.specs.State.{State}
-use Rattle.ejector.proofs.Kept.{sweep_next, told, swept_told}
-use Rattle.ejector.proofs.Openings.{opening_after}
+use Rattle.ejector.proofs.NextStateLemmas.{sweep_next, told, swept_told}
+use Rattle.ejector.proofs.OpeningLemmas.{opening_after}
 use Rattle.ejector.proofs.ejector.Ejector.sweep.Goals as goal
 
 pub invariant_of-self : goal.invariant_of-self

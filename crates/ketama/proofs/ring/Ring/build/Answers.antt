@@ -1,7 +1,7 @@
 use Rattle.std.proofs.Common.{ℕ, ◌↔◌, Contains, refl, ◌∙◌, ap, subst, arith, rules}
 use Rattle.std.specs.List.{sum}
 use Rattle.ketama.specs.Ketama.{IsKetamaPair}
-use Rattle.ketama.proofs.Pairs.{IsKetamaPair-in_range}
+use Rattle.ketama.proofs.KetamaPairLemmas.{IsKetamaPair-in_range}
 use Rattle.ketama.proofs.ring.Ring.build.Goals as goal
 
 pub invariant_of-result : goal.invariant_of-result

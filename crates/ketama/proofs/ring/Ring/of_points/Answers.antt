@@ -1,6 +1,6 @@
 use Rattle.std.proofs.Common.{◌↔◌, Contains, refl, subst, arith}
 use Rattle.std.proofs.lemmas.Bool.{iff_false}
-use Rattle.ketama.proofs.Pairs.{no_bad_point}
+use Rattle.ketama.proofs.KetamaPairLemmas.{no_bad_point}
 use Rattle.ketama.proofs.ring.Ring.of_points.Goals as goal
 
 pub invariant_of-result : goal.invariant_of-result

@@ -1,7 +1,7 @@
 use Rattle.std.proofs.Common.{ap, subst, ◌∙◌}
 use Rattle.ketama.specs.Owner.{IsOwner}
 use Rattle.ketama.specs.Continuum.{Continuum}
-use Rattle.ketama.proofs.Owners.{owner_of-unique, IsOwner-usable}
+use Rattle.ketama.proofs.OwnerLemmas.{owner_of-unique, IsOwner-usable}
 use Rattle.ketama.proofs.ring.Ring.owner.Goals as goal
 
 pub returns-clause-owner : goal.returns-clause-owner

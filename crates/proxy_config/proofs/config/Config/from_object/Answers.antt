@@ -6,7 +6,7 @@ use Rattle.serde_json.specs.View.{view}
 use Rattle.proxy_config.specs.Values.{Values}
 use Rattle.proxy_config.specs.File.{IsFaultOf, MemoryOr}
 use Rattle.proxy_config.specs.Table.{Fits, IsNumberOr, AreWeightsOr, name_of, Listen, Hosts, Weights, Workers, ReplyMs, Tags, IntervalMs, BaseMs, MaxMs, MaxPercent, Consecutive, SuccessHosts, RequestVolume, Factor, PanicPercent}
-use Rattle.proxy_config.proofs.FirstFaults.{first_fault, told, told_or_memory, one_number, one_length}
+use Rattle.proxy_config.proofs.FirstFaultLemmas.{first_fault, told, told_or_memory, one_number, one_length}
 use Rattle.proxy_config.proofs.config.Config.from_object.Goals as goal
 
 -- some address, for what is not read yet

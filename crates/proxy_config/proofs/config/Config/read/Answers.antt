@@ -5,8 +5,8 @@ use Rattle.serde_json.specs.View.{view, members_view}
 use Rattle.proxy_config.specs.File.{IsObject, HasUnknownKey, AllFit}
 use Rattle.proxy_config.specs.Table.{keys}
 use Rattle.proxy_config.specs.Values.{values_of}
-use Rattle.proxy_config.proofs.Objects.{is_object, unknown_given, unknown_name, told_unknown, read_settings, refuses}
-use Rattle.proxy_config.proofs.RingParts.{ring_parts}
+use Rattle.proxy_config.proofs.ObjectLemmas.{is_object, unknown_given, unknown_name, told_unknown, read_settings, refuses}
+use Rattle.proxy_config.proofs.RingPartLemmas.{ring_parts}
 use Rattle.proxy_config.proofs.config.Config.read.Goals as goal
 
 pub returns-then-has_unknown_key-clause-refused : goal.returns-then-has_unknown_key-clause-refused

@@ -2,7 +2,7 @@ use Rattle.std.proofs.Common.{◌≡◌, length, map, ap, ◌∙◌, arith, rule
 use Rattle.std.proofs.lemmas.List.{map_more, take_all, length-map}
 use Rattle.ketama.specs.Ketama.{AreWeights, HasSameName}
 use Rattle.proxy_config.specs.declared.config.Host.{Host}
-use Rattle.proxy_config.proofs.RingParts.{no_same_name}
+use Rattle.proxy_config.proofs.RingPartLemmas.{no_same_name}
 use Rattle.proxy_config.proofs.config.Config.ring.Goals as goal
 
 pub loop-host-preserved : goal.loop-host-preserved

@@ -1,5 +1,5 @@
 use Rattle.std.proofs.Common.{ap, ◌∙◌}
-use Rattle.ejector.specs.Usable.{is_panic}
+use Rattle.ejector.specs.UsableHosts.{is_panic}
 use Rattle.proxy_history.specs.Proxy.{Proxy}
 use Rattle.proxy_core.specs.Core.{detector_state}
 use Rattle.proxy_core.specs.declared.machine.Machine.{Machine}

@@ -4,7 +4,7 @@ use Rattle.std.proofs.lemmas.List.FromFn.{length-map-range_with_len}
 use Rattle.ketama.specs.Key.{point_of}
 use Rattle.ketama.specs.Owner.{owner_of}
 use Rattle.ejector.specs.State.{hosts_of}
-use Rattle.ejector.specs.Usable.{is_usable}
+use Rattle.ejector.specs.UsableHosts.{is_usable}
 use Rattle.splitter.specs.Part.{part_of}
 use Rattle.proxy_history.specs.Arrival.{usable_flags, host_for}
 use Rattle.proxy_history.specs.Waiting.{waiting_parts}

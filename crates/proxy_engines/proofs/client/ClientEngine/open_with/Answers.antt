@@ -1,6 +1,6 @@
 use Rattle.proxy_engines.proofs.ClientMoves.{opened_carries}
 use Rattle.std.proofs.Common.{◌∙◌, ap, rules, refl}
-use Rattle.resp_core.specs.Standing.{ReaderState}
+use Rattle.resp_core.specs.ReaderState.{ReaderState}
 use Rattle.proxy_engines.specs.Client.{waiting_requests}
 use Rattle.proxy_engines.proofs.InboxLemmas.{with-behind}
 use Rattle.proxy_engines.proofs.NumberLemmas.{is_numbered}

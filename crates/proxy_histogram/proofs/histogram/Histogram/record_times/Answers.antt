@@ -2,7 +2,7 @@ use Rattle.std.proofs.Common.{◌*◌, nat_le, cond, replicate, get_or, sum, sym
 use Rattle.std.proofs.lemmas.List.{length-append, length-replicate}
 use Rattle.proxy_histogram.specs.Values.{capped, number_at_most}
 use Rattle.proxy_histogram.specs.declared.histogram.TheConstants.{BOUNDS_MS}
-use Rattle.proxy_histogram.proofs.Values.{number_with_times, sum_with_times, capped_more, capped_sum}
+use Rattle.proxy_histogram.proofs.ValueLemmas.{number_with_times, sum_with_times, capped_more, capped_sum}
 use Rattle.proxy_histogram.proofs.histogram.Histogram.record_times.Goals as goal
 
 pub returns : goal.returns

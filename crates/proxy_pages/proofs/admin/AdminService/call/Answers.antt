@@ -5,7 +5,7 @@ use Rattle.proxy_pages.specs.Answers.{has_origin, order_after, reply_for}
 use Rattle.proxy_pages.specs.Replies.{IsReply}
 use Rattle.proxy_pages.specs.Routes.{reply_to}
 use Rattle.proxy_pages.specs.declared.reply.Reply.{Reply}
-use Rattle.proxy_pages.proofs.Answering.{taken_by_post, kept_order}
+use Rattle.proxy_pages.proofs.AnswerLemmas.{taken_by_post, kept_order}
 use Rattle.proxy_pages.proofs.admin.AdminService.call.Goals as goal
 
 pub returns-in-Taken-clause-ok : goal.returns-in-Taken-clause-ok

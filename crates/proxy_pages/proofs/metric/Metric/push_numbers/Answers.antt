@@ -4,7 +4,7 @@ use Rattle.std.proofs.lemmas.Result.{on_ok_weaker}
 use Rattle.proxy_pages.specs.Lines.{labelled_text}
 use Rattle.proxy_pages.specs.Pages.{numbers_by}
 use Rattle.proxy_pages.specs.declared.metric.Numbers.{Numbers}
-use Rattle.proxy_pages.proofs.Texts.{two}
+use Rattle.proxy_pages.proofs.TextLemmas.{two}
 use Rattle.proxy_pages.proofs.metric.Metric.push_numbers.Goals as goal
 
 pub returns-in_ok-push_labelled-in-ByJournal : goal.returns-in_ok-push_labelled-in-ByJournal

@@ -3,7 +3,7 @@ use Rattle.proxy_history.specs.Proxy.{Proxy}
 use Rattle.proxy_stats.specs.Counted.{counts_of}
 use Rattle.proxy_stats.specs.Sums.{AreCounts}
 use Rattle.proxy_stats.specs.declared.tally.Counts.{Counts}
-use Rattle.proxy_stats.proofs.Kept.{kept_sums, kept_value}
+use Rattle.proxy_stats.proofs.CountedLemmas.{kept_sums, kept_value}
 use Rattle.proxy_stats.proofs.counted.Counted.counts.Goals as goal
 
 pub returns-clause-sums : goal.returns-clause-sums

@@ -1,5 +1,5 @@
 use Rattle.std.proofs.Common.{is_some, ap, eqb-true, eq-eqb}
-use Rattle.reply_queue.proofs.ValuesCome.{complete_has_reply, reply_is_complete}
+use Rattle.reply_queue.proofs.PlaceLemmas.{complete_has_reply, reply_is_complete}
 use Rattle.reply_queue.proofs.joined.Joined.is_complete.Goals as goal
 
 pub returns : goal.returns

@@ -1,6 +1,6 @@
 use Rattle.std.proofs.Common.{◌≡◌, Some, None, slice_get, rules}
 use Rattle.std.proofs.lemmas.Option.{slice_get_read, slice_get_past}
-use Rattle.reply_queue.proofs.ValuesCome.{is_open_where, is_open_past}
+use Rattle.reply_queue.proofs.PlaceLemmas.{is_open_where, is_open_past}
 use Rattle.reply_queue.proofs.joined.Joined.is_open.Goals as goal
 
 pub returns-in-Some : goal.returns-in-Some

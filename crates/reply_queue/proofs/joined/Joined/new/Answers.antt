@@ -1,7 +1,7 @@
 use Rattle.std.proofs.Common.{◌≡◌, replicate, length, false, ap, ◌∙◌, rules}
 use Rattle.reply_queue.specs.Command.{AwaitedCommand}
 use Rattle.reply_queue.specs.Places.{values_come}
-use Rattle.reply_queue.proofs.ValuesCome.{values_come-replicate}
+use Rattle.reply_queue.proofs.PlaceLemmas.{values_come-replicate}
 use Rattle.reply_queue.proofs.joined.Joined.new.Goals as goal
 
 pub returns : goal.returns

@@ -3,7 +3,7 @@ use Rattle.std.proofs.lemmas.Result.{IfOk-weaker}
 use Rattle.splitter.specs.Join.{join_of}
 use Rattle.resp_core.specs.Value.{tree_of}
 use Rattle.reply_queue.specs.Command.{reply_to}
-use Rattle.reply_queue.proofs.ValuesCome.{complete_has_reply, reply_is_complete}
+use Rattle.reply_queue.proofs.PlaceLemmas.{complete_has_reply, reply_is_complete}
 use Rattle.reply_queue.proofs.joined.Joined.reply.Goals as goal
 
 pub join-requires : goal.join-requires

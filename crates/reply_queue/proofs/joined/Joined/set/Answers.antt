@@ -3,7 +3,7 @@ use Rattle.std.proofs.lemmas.Option.{slice_get_within}
 use Rattle.std.proofs.lemmas.List.{length-set}
 use Rattle.reply_queue.specs.Command.{AwaitedCommand}
 use Rattle.reply_queue.specs.Places.{values_come}
-use Rattle.reply_queue.proofs.ValuesCome.{come_where_open, values_come-set, count_by-set}
+use Rattle.reply_queue.proofs.PlaceLemmas.{come_where_open, values_come-set, count_by-set}
 use Rattle.reply_queue.proofs.joined.Joined.set.Goals as goal
 
 pub put-requires : goal.put-requires

@@ -5,10 +5,10 @@ use Rattle.resp_core.specs.declared.progress.Progress.{Progress}
 use Rattle.resp_core.specs.declared.head.Head.{Head}
 use Rattle.resp_core.specs.declared.head.Next.{Next}
 use Rattle.resp_core.specs.declared.head.Next.TheVariants as nexts
-use Rattle.resp_core.specs.Going.{GoesOn}
+use Rattle.resp_core.specs.ResumedReading.{GoesOn}
 use Rattle.resp_core.specs.Progress.{Reads}
-use Rattle.resp_core.proofs.Going.{reads_on, head_goes_on, reads_refused, reads_unfinished}
-use Rattle.resp_core.proofs.Heads.{head_unfinished}
+use Rattle.resp_core.proofs.unfinished.ResumedReadingLemmas.{reads_on, head_goes_on, reads_refused, reads_unfinished}
+use Rattle.resp_core.proofs.unfinished.HeadLemmas.{head_unfinished}
 use Rattle.resp_core.proofs.progress.Progress.go_on_in_head.Goals as goal
 
 -- so many bytes of a head were taken

@@ -1,5 +1,5 @@
 use Rattle.std.proofs.Common.{◌<◌, arith, ltb-true}
-use Rattle.resp_core.proofs.Bridges.{none_while_short}
+use Rattle.resp_core.proofs.unfinished.ProgressLemmas.{none_while_short}
 use Rattle.resp_core.proofs.progress.Progress.is_short.Goals as goal
 
 pub returns : goal.returns

@@ -1,6 +1,6 @@
 use Rattle.std.proofs.Common.{refl, arith}
 use Rattle.resp_core.specs.Progress.{seen_of}
-use Rattle.resp_core.proofs.Bridges.{held_is, same_shown, starts_anew, gives_value, value_too_long, none_yet, none_too_long, byte_refused, place_inside}
+use Rattle.resp_core.proofs.unfinished.ProgressLemmas.{held_is, same_shown, starts_anew, gives_value, value_too_long, none_yet, none_too_long, byte_refused, place_inside}
 use Rattle.resp_core.proofs.progress.Progress.next_value.Goals as goal
 
 pub returns-in-Ok-Some-clause-halts : goal.returns-in-Ok-Some-clause-halts

@@ -6,8 +6,8 @@ use Rattle.resp_core.specs.declared.head.Next.TheVariants as nexts
 use Rattle.resp_core.specs.declared.head.Head.TheVariants as heads
 use Rattle.resp_core.specs.declared.begun.Begun.{Begun}
 use Rattle.resp_core.specs.declared.progress.Progress.{Progress}
-use Rattle.resp_core.proofs.Going.{reads_along, reads_found, opens_along}
-use Rattle.resp_core.proofs.Nested.{list_is_empty}
+use Rattle.resp_core.proofs.unfinished.ResumedReadingLemmas.{reads_along, reads_found, opens_along}
+use Rattle.resp_core.proofs.unfinished.OpenListLemmas.{list_is_empty}
 use Rattle.resp_core.proofs.progress.Progress.open_list.Goals as goal
 
 pub returns-then-n-eq0-clause-reads : goal.returns-then-n-eq0-clause-reads

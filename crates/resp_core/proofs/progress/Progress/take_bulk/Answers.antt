@@ -2,7 +2,7 @@ use Rattle.std.proofs.Common.{◌≡◌, ◌≤◌, ◌+◌, ◌-◌, min, lengt
 use Rattle.resp_core.specs.Tree.{bulk}
 use Rattle.resp_core.specs.Grammar.{max_text}
 use Rattle.resp_core.specs.declared.value.Value.TheVariants as variants
-use Rattle.resp_core.proofs.Going.{cuts_at, reads_on, bulk_along, payload_refused, payload_end_inside, payload_unfinished}
+use Rattle.resp_core.proofs.unfinished.ResumedReadingLemmas.{cuts_at, reads_on, bulk_along, payload_refused, payload_end_inside, payload_unfinished}
 use Rattle.resp_core.proofs.progress.Progress.take_bulk.Goals as goal
 
 pub overflow_sub-taken : goal.overflow_sub-taken

@@ -1,11 +1,11 @@
 use Rattle.std.proofs.Common.{◌≡◌, ◌≤◌, ◌+◌, ◌-◌, min, ℕ, [], length, take, refl, sym, ap, ◌∙◌, subst, arith}
-use Rattle.resp_core.specs.Going.{line_tree}
+use Rattle.resp_core.specs.ResumedReading.{line_tree}
 use Rattle.resp_core.specs.Grammar.{max_text}
 use Rattle.resp_core.specs.Reading.{text_at, unfinished}
-use Rattle.resp_core.specs.Seen.{IsSeen}
-use Rattle.resp_core.proofs.Seen.{seen_but_last}
-use Rattle.resp_core.proofs.Going.{reads_on}
-use Rattle.resp_core.proofs.TextLines.{cuts_line_at, line_along, line_refused, line_end_inside, line_unfinished}
+use Rattle.resp_core.specs.SeenBytes.{IsSeen}
+use Rattle.resp_core.proofs.unfinished.SeenBytesLemmas.{seen_but_last}
+use Rattle.resp_core.proofs.unfinished.ResumedReadingLemmas.{reads_on}
+use Rattle.resp_core.proofs.unfinished.LineLemmas.{cuts_line_at, line_along, line_refused, line_end_inside, line_unfinished}
 use Rattle.resp_core.proofs.progress.Progress.take_line.Goals as goal
 
 pub overflow_sub-taken : goal.overflow_sub-taken

@@ -1,7 +1,7 @@
 use Rattle.std.proofs.Common.{ℕ, List, ap, ◌∙◌, subst}
 use Rattle.resp_core.specs.Tree.{Tree}
-use Rattle.resp_core.specs.Standing.{ReaderState, Stands, StandsBehind, state_of}
-use Rattle.resp_core.proofs.Standing.{stands_behind}
+use Rattle.resp_core.specs.ReaderState.{ReaderState, Stands, StandsBehind, state_of}
+use Rattle.resp_core.proofs.streams.ReaderStateLemmas.{stands_behind}
 use Rattle.resp_core.proofs.reader.Reader.begin_behind.Goals as goal
 
 pub returns-clause-stands : goal.returns-clause-stands

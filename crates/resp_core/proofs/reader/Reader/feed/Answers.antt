@@ -1,7 +1,7 @@
 use Rattle.std.proofs.Common.{◌++◌, ℕ, List, refl, subst}
 use Rattle.resp_core.specs.Tree.{Tree}
-use Rattle.resp_core.specs.Standing.{ReaderState, Stands, state_of}
-use Rattle.resp_core.proofs.Standing.{stands_fed, shown_on, on_reached}
+use Rattle.resp_core.specs.ReaderState.{ReaderState, Stands, state_of}
+use Rattle.resp_core.proofs.streams.ReaderStateLemmas.{stands_fed, shown_on, on_reached}
 use Rattle.resp_core.proofs.reader.Reader.feed.Goals as goal
 
 pub invariant_of-self-2 : goal.invariant_of-self-2

@@ -1,7 +1,7 @@
 use Rattle.std.proofs.Common.{sym, ap, ◌∙◌}
 use Rattle.resp_core.specs.Progress.{held_of, shown_progress}
-use Rattle.resp_core.specs.Standing.{ReaderState, unread_by, unread_bytes}
-use Rattle.resp_core.proofs.Standing.{none_if, leaves}
+use Rattle.resp_core.specs.ReaderState.{ReaderState, unread_by, unread_bytes}
+use Rattle.resp_core.proofs.streams.ReaderStateLemmas.{none_if, leaves}
 use Rattle.resp_core.proofs.reader.Reader.held.Goals as goal
 
 pub returns-in-None-clause-is : goal.returns-in-None-clause-is

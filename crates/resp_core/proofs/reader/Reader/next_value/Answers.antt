@@ -2,9 +2,9 @@ use Rattle.std.proofs.Common.{◌≤◌, ℕ, List, subst}
 use Rattle.resp_core.specs.Tree.{Tree}
 use Rattle.resp_core.specs.Grammar.{max_text}
 use Rattle.resp_core.specs.Stream.{HasNoRefusal}
-use Rattle.resp_core.specs.Standing.{ReaderState, state_of, Stands, unread_bytes}
-use Rattle.resp_core.proofs.Bridges.{shown_reads}
-use Rattle.resp_core.proofs.Standing.{few_left, no_refusal}
+use Rattle.resp_core.specs.ReaderState.{ReaderState, state_of, Stands, unread_bytes}
+use Rattle.resp_core.proofs.unfinished.ProgressLemmas.{shown_reads}
+use Rattle.resp_core.proofs.streams.ReaderStateLemmas.{few_left, no_refusal}
 use Rattle.resp_core.proofs.reader.Reader.next_value.Goals as goal
 
 pub returns-then-is_short-clause-none : goal.returns-then-is_short-clause-none

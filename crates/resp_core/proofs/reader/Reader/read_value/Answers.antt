@@ -5,9 +5,9 @@ use Rattle.resp_core.specs.Front.{IsFault}
 use Rattle.resp_core.specs.Readable.{IsReadable}
 use Rattle.resp_core.specs.Offset.{offset_of, number_of}
 use Rattle.resp_core.specs.Stream.{HasRefusal, HasNoRefusal}
-use Rattle.resp_core.specs.Standing.{ReaderState, state_of, Stands, Unmoved, unread_bytes}
-use Rattle.resp_core.proofs.Bridges.{shown_reads}
-use Rattle.resp_core.proofs.Standing.{stands_given, stands_told, unmoved, falls, few_left, no_refusal, rests_unfinished, has_refusal, gives_readable, shown_gave, shown_on, shown_reached, given_reached, on_reached}
+use Rattle.resp_core.specs.ReaderState.{ReaderState, state_of, Stands, Unmoved, unread_bytes}
+use Rattle.resp_core.proofs.unfinished.ProgressLemmas.{shown_reads}
+use Rattle.resp_core.proofs.streams.ReaderStateLemmas.{stands_given, stands_told, unmoved, falls, few_left, no_refusal, rests_unfinished, has_refusal, gives_readable, shown_gave, shown_on, shown_reached, given_reached, on_reached}
 use Rattle.resp_core.proofs.reader.Reader.read_value.Goals as goal
 
 pub invariant_of-self : goal.invariant_of-self

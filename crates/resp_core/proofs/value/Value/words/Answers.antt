@@ -1,5 +1,5 @@
 use Rattle.std.proofs.Common.{refl, sym, ◌∙◌}
-use Rattle.resp_core.proofs.Words.{is_command-list, no_list}
+use Rattle.resp_core.proofs.CommandLemmas.{is_command-list, no_list}
 use Rattle.resp_core.proofs.value.Value.words.Goals as goal
 
 pub returns-then-are_words-clause-command : goal.returns-then-are_words-clause-command

@@ -2,7 +2,7 @@ use Rattle.std.proofs.Common.{◌≡◌, ◌<◌, List, length, map, true, sym, 
 use Rattle.resp_core.specs.Tree.{Tree}
 use Rattle.resp_core.specs.Value.{tree_of}
 use Rattle.resp_core.specs.Command.{is_bulk, are_words, payload_of, word}
-use Rattle.resp_core.proofs.Words.{is_bulk_at, word-payload, no_bulk}
+use Rattle.resp_core.proofs.CommandLemmas.{is_bulk_at, word-payload, no_bulk}
 use Rattle.resp_core.proofs.value.Values.word.Goals as goal
 
 pub unreachable-requires : goal.unreachable-requires

@@ -2,7 +2,7 @@ use Rattle.std.proofs.Common.{subst}
 use Rattle.std.specs.Prelude.{IfOk}
 use Rattle.ticket_gate.specs.Journal.{AddsTurn}
 use Rattle.ticket_gate.specs.Turns.{AloneFacts}
-use Rattle.ticket_gate.proofs.Journals.{adds_turn-alone}
+use Rattle.ticket_gate.proofs.JournalLemmas.{adds_turn-alone}
 use Rattle.ticket_gate.proofs.alone.AloneTurns.turn.Goals.{in-Ok, in-Err}
 use Rattle.ticket_gate.proofs.alone.AloneTurns.turn.Goals as goal
 

@@ -3,7 +3,7 @@ use Rattle.std.specs.Prelude.{IfSome}
 use mathlib.Core.Option as maybe
 use Rattle.ticket_gate.specs.Gate.{PassFacts}
 use Rattle.ticket_gate.specs.Journal.{Closes}
-use Rattle.ticket_gate.proofs.Lifetime.{closes}
+use Rattle.ticket_gate.proofs.LifetimeLemmas.{closes}
 use Rattle.ticket_gate.proofs.gate.Gate.close.Goals as goal
 
 -- by cases on what was in the slot

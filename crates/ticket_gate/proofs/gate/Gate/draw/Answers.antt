@@ -1,7 +1,7 @@
 use Rattle.std.proofs.Common.{rules, ap, ◌∙◌, refl}
-use Rattle.ticket_gate.proofs.Stepping.{alone_after, own_after}
-use Rattle.ticket_gate.proofs.Reading.{reads_drawn}
-use Rattle.ticket_gate.proofs.Drawing.{draws_ticket}
+use Rattle.ticket_gate.proofs.atomic_steps.FrameLemmas.{alone_after, own_after}
+use Rattle.ticket_gate.proofs.atomic_steps.ReadLemmas.{reads_drawn}
+use Rattle.ticket_gate.proofs.atomic_steps.DrawLemmas.{draws_ticket}
 use Rattle.ticket_gate.proofs.gate.Gate.draw.Goals as goal
 
 pub load-ticket-requires : goal.load-ticket-requires

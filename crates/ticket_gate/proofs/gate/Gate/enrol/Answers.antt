@@ -1,7 +1,7 @@
 use Rattle.std.proofs.Common.{◌≡◌, ◌≤◌, ℕ, Some, arith, rules, ap, ◌∙◌, refl}
-use Rattle.ticket_gate.proofs.Stepping.{alone_after, own_after}
-use Rattle.ticket_gate.proofs.Reading.{reads_enrolled}
-use Rattle.ticket_gate.proofs.Numbering.{takes_number}
+use Rattle.ticket_gate.proofs.atomic_steps.FrameLemmas.{alone_after, own_after}
+use Rattle.ticket_gate.proofs.atomic_steps.ReadLemmas.{reads_enrolled}
+use Rattle.ticket_gate.proofs.atomic_steps.NumberLemmas.{takes_number}
 use Rattle.ticket_gate.proofs.gate.Gate.enrol.Goals as goal
 
 pub load-number-requires : goal.load-number-requires

@@ -1,8 +1,8 @@
 use Rattle.std.proofs.Common.{rules, sym, ap, ◌∙◌, refl}
-use Rattle.ticket_gate.proofs.Seats.{not_none}
-use Rattle.ticket_gate.proofs.Stepping.{alone_after, own_after}
-use Rattle.ticket_gate.proofs.Reading.{looks_without_ticket}
-use Rattle.ticket_gate.proofs.Entering.{enters_at_once}
+use Rattle.ticket_gate.proofs.SeatLemmas.{not_none}
+use Rattle.ticket_gate.proofs.atomic_steps.FrameLemmas.{alone_after, own_after}
+use Rattle.ticket_gate.proofs.atomic_steps.ReadLemmas.{looks_without_ticket}
+use Rattle.ticket_gate.proofs.atomic_steps.EnterLemmas.{enters_at_once}
 use Rattle.ticket_gate.proofs.gate.Gate.enter_at_once.Goals as goal
 
 pub load-served-requires : goal.load-served-requires

@@ -1,8 +1,8 @@
 use Rattle.std.proofs.Common.{◌≡◌, [], ◌∷◌, ◌∙◌, rules, sym, ap, refl, inl, Some}
 use Rattle.atomic_table.specs.Table.{rest}
-use Rattle.ticket_gate.proofs.Journals.{append-nil}
-use Rattle.ticket_gate.proofs.Leaving.{serves_next}
-use Rattle.ticket_gate.proofs.Working.{taken, put_back, has_looked}
+use Rattle.ticket_gate.proofs.JournalLemmas.{append-nil}
+use Rattle.ticket_gate.proofs.atomic_steps.LeaveLemmas.{serves_next}
+use Rattle.ticket_gate.proofs.TurnLemmas.{taken, put_back, has_looked}
 use Rattle.ticket_gate.proofs.gate.Gate.look.Goals as goal
 
 pub exchange-requires : goal.exchange-requires

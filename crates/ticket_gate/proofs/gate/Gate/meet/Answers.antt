@@ -2,8 +2,8 @@ use Rattle.std.proofs.Common.{rules, subst, ap, ◌∙◌}
 use Rattle.ticket_gate.specs.declared.view.Knowledge.{Knowledge}
 use Rattle.ticket_gate.specs.Gate.{PassFacts}
 use Rattle.ticket_gate.specs.Journal.{Meets}
-use Rattle.ticket_gate.proofs.Sharing.{pairs_passes, parts_passes}
-use Rattle.ticket_gate.proofs.Comparing.{compares_passes}
+use Rattle.ticket_gate.proofs.SeatSharingLemmas.{pairs_passes, parts_passes}
+use Rattle.ticket_gate.proofs.atomic_steps.CompareLemmas.{compares_passes}
 use Rattle.ticket_gate.proofs.gate.Gate.meet.Goals as goal
 
 pub join_seat-requires : goal.join_seat-requires

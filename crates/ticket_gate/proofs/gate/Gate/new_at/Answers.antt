@@ -1,7 +1,7 @@
 use Rattle.std.proofs.Common.{◌≡◌, [], ◌∷◌, ◌++◌, sym, ap, ◌∙◌, subst, Some}
 use Rattle.atomic_table.specs.Table.{opening}
 use Rattle.ticket_gate.specs.Rule.{GateRule, first_view}
-use Rattle.ticket_gate.proofs.Lifetime.{opens}
+use Rattle.ticket_gate.proofs.LifetimeLemmas.{opens}
 use Rattle.ticket_gate.proofs.gate.Gate.new_at.Goals as goal
 
 pub new-requires : goal.new-requires

@@ -1,5 +1,5 @@
 use Rattle.std.proofs.Common.{rules, ap}
-use Rattle.ticket_gate.proofs.Sharing.{halves_spare}
+use Rattle.ticket_gate.proofs.SeatSharingLemmas.{halves_spare}
 use Rattle.ticket_gate.proofs.gate.Gate.split.Goals as goal
 
 pub split_seat-other-requires : goal.split_seat-other-requires

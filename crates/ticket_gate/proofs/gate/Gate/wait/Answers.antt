@@ -1,5 +1,5 @@
 use Rattle.std.proofs.Common.{rules}
-use Rattle.ticket_gate.proofs.Entering.{looks_with_ticket}
+use Rattle.ticket_gate.proofs.atomic_steps.EnterLemmas.{looks_with_ticket}
 use Rattle.ticket_gate.proofs.gate.Gate.wait.Goals as goal
 
 pub load-requires : goal.load-requires

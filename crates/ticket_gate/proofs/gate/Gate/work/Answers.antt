@@ -1,7 +1,7 @@
 use Rattle.std.proofs.Common.{◌≡◌, ◌++◌, ◌∷◌, rules, sym, subst, ap, ◌∙◌, refl, Some}
 use Rattle.atomic_table.specs.Table.{rest}
-use Rattle.ticket_gate.proofs.Leaving.{serves_next}
-use Rattle.ticket_gate.proofs.Working.{taken, put_back, adds, has_made_turn}
+use Rattle.ticket_gate.proofs.atomic_steps.LeaveLemmas.{serves_next}
+use Rattle.ticket_gate.proofs.TurnLemmas.{taken, put_back, adds, has_made_turn}
 use Rattle.ticket_gate.proofs.gate.Gate.work.Goals as goal
 
 pub exchange-requires : goal.exchange-requires

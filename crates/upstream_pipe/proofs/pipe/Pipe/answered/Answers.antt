@@ -1,6 +1,6 @@
 use Rattle.std.proofs.Common.{◌≡◌, rules, refl, sym, ap, ◌∙◌}
 use Rattle.upstream_pipe.specs.Pipe.{PipeState}
-use Rattle.upstream_pipe.proofs.Sent.{sent_answered}
+use Rattle.upstream_pipe.proofs.SentPartLemmas.{sent_answered}
 use Rattle.upstream_pipe.proofs.pipe.Pipe.answered.Goals as goal
 
 pub returns-clause-place : goal.returns-clause-place

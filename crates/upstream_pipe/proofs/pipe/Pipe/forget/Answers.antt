@@ -1,6 +1,6 @@
 use Rattle.std.proofs.Common.{map, ap, ◌∙◌}
 use Rattle.upstream_pipe.specs.Pipe.{forgotten_owner}
-use Rattle.upstream_pipe.proofs.Sent.{sent_forgotten}
+use Rattle.upstream_pipe.proofs.SentPartLemmas.{sent_forgotten}
 use Rattle.upstream_pipe.proofs.pipe.Pipe.forget.Goals as goal
 
 pub returns-clause-places : goal.returns-clause-places

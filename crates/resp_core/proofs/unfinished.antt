@@ -1,0 +1,7 @@
+-- How reading goes on in an unfinished value.
+pub mod OpenListLemmas
+pub mod HeadLemmas
+pub mod ResumedReadingLemmas
+pub mod ProgressLemmas
+pub mod LineLemmas
+pub mod SeenBytesLemmas

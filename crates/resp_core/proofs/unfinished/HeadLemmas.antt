@@ -1,0 +1,45 @@
+-- Heads that are read a byte at a time.
+use Rattle.std.proofs.Common.{◌≡◌, ℕ, zero, suc, ◌+◌, ◌<◌, List, [], ◌∷◌, ◌++◌, length, get_or, take, drop, drop-cons, refl, sym, ap, ◌∙◌, append-nil, arith}
+use Rattle.std.proofs.lemmas.List.{take-append-drop, take_all}
+use Rattle.resp_core.specs.declared.error.Refusal.{Refusal}
+use Rattle.resp_core.specs.declared.head.Head.{Head}
+use Rattle.resp_core.specs.declared.head.Next.{Next}
+use Rattle.resp_core.specs.declared.head.Next.TheVariants as nexts
+use Rattle.resp_core.specs.declared.head.Head.TheVariants as heads
+use Rattle.resp_core.specs.Reading.{unfinished, refused, value_at, leaf_at, byte_at, null_end_at, count_at, digits_at, integer_at}
+use Rattle.resp_core.specs.ResumedReading.{head_at, next_at, GoesOn}
+
+front_suc : (b : List ℕ) (i : ℕ) (y : List ℕ) → i < length b → take (suc i) b ++ y ≡ take i b ++ get_or b i 0 ∷ y
+front_suc [] i y h = absurd (omega arith)
+front_suc (c ∷ cs) zero y h = refl
+front_suc (c ∷ cs) (suc i) y h = ap (λ z. c ∷ z) (front_suc cs i y (omega arith))
+
+-- one byte more of the front
+pub front_push : (b : List ℕ) (i : ℕ) (y : List ℕ) → i < length b → take (i + 1) b ++ y ≡ take i b ++ get_or b i 0 ∷ y
+front_push b i y h = let e : i + 1 ≡ suc i = omega arith in ap (λ z. take z b ++ y) e ∙ front_suc b i y h
+
+pub goes_next : (most left : ℕ) (h k : Head) (next : Next) (b : List ℕ) (i : ℕ) → i < length b → GoesOn most left h (take i b) (nexts.Head k) → ((cs : List ℕ) → head_at most left k (get_or b i 0 ∷ cs) ≡ next_at most left next cs) → GoesOn most left h (take (i + 1) b) next
+goes_next most left h k next b i lt g s = λ y. ap (head_at most left h) (front_push b i y lt) ∙ g (get_or b i 0 ∷ y) ∙ s y
+
+pub stops_there : (most left : ℕ) (h k : Head) (r : Refusal) (b : List ℕ) (i : ℕ) → i < length b → GoesOn most left h (take i b) (nexts.Head k) → ((cs : List ℕ) → head_at most left k (get_or b i 0 ∷ cs) ≡ refused r (get_or b i 0 ∷ cs)) → head_at most left h b ≡ refused r (drop i b)
+stops_there most left h k r b i lt g s =
+    let parts : drop i b ≡ get_or b i 0 ∷ drop (suc i) b = drop-cons b i 0 lt in
+    ap (head_at most left h) (sym (take-append-drop i b)) ∙ g (drop i b) ∙ ap (head_at most left k) parts ∙ s (drop (suc i) b) ∙ ap (refused r) (sym parts)
+
+-- a head with nothing behind it
+pub head_at_nil : (most left : ℕ) (h : Head) → head_at most left h [] ≡ unfinished
+unfolding value_at leaf_at byte_at null_end_at count_at digits_at integer_at
+head_at_nil most zero heads.Type = refl
+head_at_nil most (suc left) heads.Type = refl
+head_at_nil most left (heads.Length s) = refl
+head_at_nil most left (heads.One s) = refl
+head_at_nil most left (heads.Return s) = refl
+head_at_nil most left (heads.Digits s count n) = refl
+head_at_nil most left heads.Sign = refl
+head_at_nil most left (heads.Number minus digits count n) = refl
+head_at_nil most left (heads.Feed f) = refl
+
+-- a head that has not ended at the end of the bytes
+pub head_unfinished : (most left k : ℕ) (h next : Head) (b : List ℕ) → GoesOn most left h (take k b) (nexts.Head next) → k ≡ length b → head_at most left h b ≡ unfinished
+head_unfinished most left k h next b g e =
+    ap (head_at most left h) (sym (append-nil (take k b) ∙ take_all k b (omega (arith, e)))) ∙ g [] ∙ head_at_nil most left next
