@@ -26,8 +26,8 @@ ghost use Rattle.proxy_core.specs.Core.{IsMade, IsLeft};
 ghost use Rattle.proxy_core.specs.Machine.{setting_in, memory_in, history_in, IsDone, IsKept, IsSame, IsReady, HasCauseIn};
 
 use crate::machine::{Done, Machine, make_room};
-use crate::state::place::{Accepted, Placed, next_place};
 use crate::refused::Refused;
+use crate::state::place::{Accepted, Placed, next_place};
 use bytes::Bytes;
 use ketama::{MAX_HOSTS, point_of_key};
 use proxy_history::{Answer, Event, Refusal};

@@ -8,10 +8,10 @@ ghost use Rattle.proxy_core.specs.Pipelines.{lost_owners, without_connection, pi
 ghost use Rattle.proxy_core.specs.Core.{IsMade, IsLeft};
 ghost use Rattle.proxy_core.specs.Machine.{memory_in, IsDone, IsSame, HasCauseIn, IsKept};
 
-use crate::state::connections::Connections;
 use crate::machine::{Done, Machine, make_room};
-use crate::state::pipelines::Pipelines;
 use crate::refused::Refused;
+use crate::state::connections::Connections;
+use crate::state::pipelines::Pipelines;
 use proxy_history::{Answer, Event, Refusal};
 
 impl Machine {

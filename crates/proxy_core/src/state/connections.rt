@@ -9,8 +9,8 @@ ghost use Rattle.proxy_history.specs.Value.{upstream_failure};
 ghost use Rattle.proxy_core.specs.Places.{value_of_placed};
 ghost use Rattle.proxy_core.specs.Connections.{connection_with_command, AreAwaited, IsAwaited, IsAwaitedIn, MayAccept, answered_part, answered_parts, connections_without, connection_at, finished_connection, fresh_connection, connection_without_front, left_in, next_index, reply_in, with_answer, with_connection};
 
-use crate::state::connection::{Connection, queue_own, queue_parts};
 use crate::local::upstream_failure;
+use crate::state::connection::{Connection, queue_own, queue_parts};
 use crate::state::place::Placed;
 use proxy_history::Refusal;
 use resp_core::Value;
