@@ -23,11 +23,11 @@ use Rattle.splitter.specs.declared.plans.Join.{Join}
 use Rattle.proxy_core.specs.Memory.{Memory}
 use Rattle.proxy_core.specs.Machine.{setting_in, memory_in, own_cause_in, payload_in}
 use Rattle.proxy_core.specs.declared.machine.Machine.{Machine}
-use Rattle.proxy_core.specs.declared.connection.Connection.{Connection}
-use Rattle.proxy_core.specs.declared.place.Place.{Place}
-use Rattle.proxy_core.specs.declared.place.Place.TheVariants.{Waits, NoHost, Busy}
-use Rattle.proxy_core.specs.declared.place.Placed.{Placed}
-use Rattle.proxy_core.specs.declared.place.Accepted.{Accepted}
+use Rattle.proxy_core.specs.declared.state.connection.Connection.{Connection}
+use Rattle.proxy_core.specs.declared.state.place.Place.{Place}
+use Rattle.proxy_core.specs.declared.state.place.Place.TheVariants.{Waits, NoHost, Busy}
+use Rattle.proxy_core.specs.declared.state.place.Placed.{Placed}
+use Rattle.proxy_core.specs.declared.state.place.Accepted.{Accepted}
 
 -- what is kept tells of a past what decides where the parts of a connection's next command go
 pub record Tells (S : Setting) (m : Memory) (conn : ℕ) (x : Past) : Type 0 where

@@ -15,7 +15,7 @@ use Rattle.proxy_history.specs.History.{openings, handed_count, requests, is_clo
 use Rattle.proxy_history.specs.Part.{Part, Past}
 use Rattle.proxy_history.specs.Value.{value_of}
 use Rattle.proxy_history.specs.Outcome.{parts_of}
-use Rattle.proxy_core.specs.declared.connection.Connection.{Connection}
+use Rattle.proxy_core.specs.declared.state.connection.Connection.{Connection}
 
 -- OF A HISTORY
 

@@ -21,7 +21,7 @@ use Rattle.proxy_history.specs.declared.refusal.Refusal.TheVariants as refusal
 use Rattle.proxy_core.specs.Connections.{connection_at, is_finishing_in, left_in, reply_in}
 use Rattle.proxy_core.specs.Pipelines.{PipelineState, failed_pipeline, pipeline_at, text_of_oldest, with_pipeline}
 use Rattle.proxy_core.specs.Memory.{Memory, memory_of}
-use Rattle.proxy_core.specs.declared.connection.Connection.{Connection}
+use Rattle.proxy_core.specs.declared.state.connection.Connection.{Connection}
 use Rattle.proxy_core.specs.declared.machine.Machine.{Machine}
 use Rattle.proxy_core.specs.declared.machine.Done.{Done}
 

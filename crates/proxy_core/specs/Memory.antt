@@ -8,7 +8,7 @@ use Rattle.proxy_history.specs.Past.{past}
 use Rattle.proxy_history.specs.Payload.{payload}
 use Rattle.proxy_core.specs.Connections.{connections_of}
 use Rattle.proxy_core.specs.Pipelines.{PipelineState, pipelines_of}
-use Rattle.proxy_core.specs.declared.connection.Connection.{Connection}
+use Rattle.proxy_core.specs.declared.state.connection.Connection.{Connection}
 
 -- what the core keeps beside its steps: their payload in bytes, the connections, how many were closed, the pipelines to its
 -- hosts, and what outlier detection knows of the hosts

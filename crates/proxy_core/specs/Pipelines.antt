@@ -10,7 +10,7 @@ use Rattle.proxy_history.specs.History.{epoch, is_closed}
 use Rattle.proxy_history.specs.Replies.{replies_from}
 use Rattle.proxy_history.specs.Part.{Part, Past}
 use Rattle.proxy_history.specs.Waiting.{waiting_parts, sent_to}
-use Rattle.proxy_core.specs.declared.pipeline.Pipeline.{Pipeline}
+use Rattle.proxy_core.specs.declared.state.pipeline.Pipeline.{Pipeline}
 
 -- What waits, whose replies are to come, the epoch, and how many parts were taken in it.
 pub record PipelineState : Type 0 where

@@ -6,9 +6,9 @@ use Rattle.proxy_history.specs.Setting.{max_waiting}
 use Rattle.proxy_history.specs.Part.{Part}
 use Rattle.proxy_history.specs.Arrival.{no_upstream_host, proxy_busy}
 use Rattle.proxy_core.specs.Pipelines.{PipelineState, pipeline_at}
-use Rattle.proxy_core.specs.declared.place.Place.{Place}
-use Rattle.proxy_core.specs.declared.place.Place.TheVariants.{Waits, NoHost, Busy}
-use Rattle.proxy_core.specs.declared.place.Placed.{Placed}
+use Rattle.proxy_core.specs.declared.state.place.Place.{Place}
+use Rattle.proxy_core.specs.declared.state.place.Place.TheVariants.{Waits, NoHost, Busy}
+use Rattle.proxy_core.specs.declared.state.place.Placed.{Placed}
 
 -- where a part goes that has this host and got this value at once
 abbrev pub place_by : Option ℕ → Option Tree → Place

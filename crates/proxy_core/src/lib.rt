@@ -5,28 +5,16 @@
 //!
 //! The core answers from its memory: a queue for each open connection, a pipe to each host, the state of outlier
 //! detection, and counts. The history determines this memory (`specs/Memory`); the core never looks at its journal to
-//! answer. It stands on the queue, pipe, ring, ejector and splitter. Begin with `machine.rt`, then `arrived.rt`.
+//! answer. It stands on the queue, pipe, ring, ejector and splitter. Begin with `machine.rt`, then `events/arrived.rt`.
 #![tactic(auto)]
 
-mod answered;
-mod arrived;
-mod closed;
-mod connection;
-mod connections;
-mod failed;
-mod finished;
-mod handed;
+mod events;
 mod handover;
 mod local;
 mod machine;
-mod opened;
-mod pipeline;
-mod pipelines;
-mod place;
 mod refused;
-mod swept;
-mod taken;
-mod worker;
+mod state;
+mod turns;
 
 pub use ejector::{Field, Settings, Trip};
 pub use handover::Handover;
@@ -34,4 +22,4 @@ pub use journal_core::{Journal, Step};
 pub use machine::Core;
 pub use proxy_history::{Answer, Event, Kind, Local, Refusal, Request};
 pub use refused::Refused;
-pub use worker::CoreTurns;
+pub use turns::CoreTurns;

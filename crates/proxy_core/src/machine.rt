@@ -15,10 +15,10 @@ ghost use Rattle.proxy_core.specs.Machine.{IsKept};
 ghost use Rattle.proxy_core.specs.Core.{IsMade, IsLeft, IsSettled, IsTurn, IsRun, detector_state, refusal_for};
 ghost use Rattle.journal_core.specs.Journal.{IsFull};
 
-use crate::connections::Connections;
 use crate::handover::Handover;
-use crate::pipelines::Pipelines;
 use crate::refused::Refused;
+use crate::state::connections::Connections;
+use crate::state::pipelines::Pipelines;
 use ejector::{EjectError, EjectState, Ejector, Rules, Settings};
 use journal_core::{Journal, JournalError, Step};
 use ketama::Ring;

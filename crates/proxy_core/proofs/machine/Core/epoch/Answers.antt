@@ -4,7 +4,7 @@ use Rattle.proxy_history.specs.Proxy.{Proxy, history_in}
 use Rattle.proxy_history.specs.History.{epoch}
 use Rattle.proxy_core.specs.Pipelines.{pipeline_at}
 use Rattle.proxy_core.specs.declared.machine.Machine.{Machine}
-use Rattle.proxy_core.proofs.TurnedAsked.{asked_hosts, epoch_is}
+use Rattle.proxy_core.proofs.turn.Requirements.{asked_hosts, epoch_is}
 use Rattle.proxy_core.proofs.machine.Core.epoch.Goals as goal
 
 pub epoch-requires : goal.epoch-requires

@@ -5,7 +5,7 @@ use Rattle.proxy_history.specs.Proxy.{Proxy, history_in}
 use Rattle.proxy_history.specs.Waiting.{flying_count}
 use Rattle.proxy_core.specs.Pipelines.{pipeline_at}
 use Rattle.proxy_core.specs.declared.machine.Machine.{Machine}
-use Rattle.proxy_core.proofs.TurnedAsked.{asked_hosts, flying_is}
+use Rattle.proxy_core.proofs.turn.Requirements.{asked_hosts, flying_is}
 use Rattle.proxy_core.proofs.machine.Core.flying.Goals as goal
 
 pub flying-requires : goal.flying-requires

@@ -6,7 +6,7 @@ use Rattle.proxy_core.specs.Core.{detector_state}
 use Rattle.proxy_core.specs.Handover.{HandoverFacts}
 use Rattle.proxy_core.specs.Memory.{Memory}
 use Rattle.proxy_core.specs.declared.machine.Machine.{Machine}
-use Rattle.proxy_core.proofs.TurnedAsked.{asked_detection}
+use Rattle.proxy_core.proofs.turn.Requirements.{asked_detection}
 use Rattle.proxy_core.proofs.machine.Core.hand_over.Goals as goal
 
 pub returns-clause-state : goal.returns-clause-state

@@ -5,7 +5,7 @@ use Rattle.ejector.proofs.CallerLemmas.{in_range}
 use Rattle.proxy_history.specs.Setting.{hosts}
 use Rattle.proxy_history.specs.Proxy.{Proxy}
 use Rattle.proxy_core.specs.declared.machine.Machine.{Machine}
-use Rattle.proxy_core.proofs.TurnedAsked.{asked_hosts}
+use Rattle.proxy_core.proofs.turn.Requirements.{asked_hosts}
 use Rattle.proxy_core.proofs.machine.Core.hosts.Goals as goal
 
 pub returns-clause-hosts : goal.returns-clause-hosts

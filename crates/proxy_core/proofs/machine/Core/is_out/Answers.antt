@@ -3,7 +3,7 @@ use Rattle.ejector.specs.State.{is_out}
 use Rattle.proxy_history.specs.Proxy.{Proxy}
 use Rattle.proxy_core.specs.Core.{detector_state}
 use Rattle.proxy_core.specs.declared.machine.Machine.{Machine}
-use Rattle.proxy_core.proofs.TurnedAsked.{asked_detection}
+use Rattle.proxy_core.proofs.turn.Requirements.{asked_detection}
 use Rattle.proxy_core.proofs.machine.Core.is_out.Goals as goal
 
 pub returns : goal.returns

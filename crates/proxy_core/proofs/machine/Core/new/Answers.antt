@@ -6,7 +6,7 @@ use Rattle.ejector.specs.declared.settings.Settings.{Settings}
 use Rattle.ejector.specs.Ejector.{Ejection}
 use Rattle.ejector.specs.State.{fresh_state}
 use Rattle.proxy_history.specs.Proxy.{rules_of, setting_from, setting_of}
-use Rattle.proxy_core.proofs.BadSettings.{refused_by-error, refused_by-range}
+use Rattle.proxy_core.proofs.turn.RefusalForLemmas.{refused_by-error, refused_by-range}
 use Rattle.proxy_core.proofs.machine.Core.new.Goals as goal
 
 -- with fresh hosts it is the setting of the ring and the settings

@@ -11,7 +11,7 @@ use Rattle.ejector.proofs.CallerLemmas.{opening_first, no_difference}
 use Rattle.proxy_history.specs.Proxy.{Proxy, rules_of, setting_from}
 use Rattle.proxy_history.specs.declared.refusal.Refusal.TheVariants as refusal
 use Rattle.proxy_core.specs.Core.{detector_state}
-use Rattle.proxy_core.proofs.BadSettings.{refused_by-none, refused_by-some}
+use Rattle.proxy_core.proofs.turn.RefusalForLemmas.{refused_by-none, refused_by-some}
 use Rattle.proxy_core.proofs.machine.Core.new_from.Goals as goal
 
 -- with an empty journal outlier detection stands where it was

@@ -2,7 +2,7 @@ use Rattle.std.proofs.Common.{◌-◌, ◌∙◌, ap, length}
 use Rattle.proxy_history.specs.History.{openings, times, is_any_closing}
 use Rattle.proxy_history.specs.Proxy.{Proxy, history_in}
 use Rattle.proxy_core.specs.declared.machine.Machine.{Machine}
-use Rattle.proxy_core.proofs.TurnedAsked.{open_is}
+use Rattle.proxy_core.proofs.turn.Requirements.{open_is}
 use Rattle.proxy_core.proofs.machine.Core.open_connections.Goals as goal
 
 pub returns : goal.returns

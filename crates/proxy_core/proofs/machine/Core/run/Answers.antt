@@ -6,7 +6,7 @@ use Rattle.proxy_history.specs.declared.answer.Answer.{Answer}
 use Rattle.proxy_history.specs.declared.event.Event.{Event}
 use Rattle.proxy_history.specs.declared.refusal.Refusal.{Refusal}
 use Rattle.proxy_core.specs.Core.{IsTurn, IsRun}
-use Rattle.proxy_core.proofs.TurnedRuns.{run_more, IsLegal-run, append-item, all-yielded}
+use Rattle.proxy_core.proofs.turn.IsRunLemmas.{run_more, IsLegal-run, append-item, all-yielded}
 use Rattle.proxy_core.proofs.machine.Core.run.Goals as goal
 
 pub loop-pass-init : goal.loop-pass-init

@@ -1,5 +1,5 @@
 use Rattle.std.proofs.Common.{◌∙◌, ap}
-use Rattle.proxy_core.proofs.TurnedResults.{if_cause, if_event, if_kept, if_same, if_step, proxy_of}
+use Rattle.proxy_core.proofs.turn.IsDoneLemmas.{if_cause, if_event, if_kept, if_same, if_step, proxy_of}
 use Rattle.proxy_core.proofs.machine.Core.turn.Goals as goal
 
 pub invariant_of-self : goal.invariant_of-self

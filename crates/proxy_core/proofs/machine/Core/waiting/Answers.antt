@@ -5,7 +5,7 @@ use Rattle.proxy_history.specs.Proxy.{Proxy, history_in}
 use Rattle.proxy_history.specs.Waiting.{waiting_parts}
 use Rattle.proxy_core.specs.Pipelines.{pipeline_at}
 use Rattle.proxy_core.specs.declared.machine.Machine.{Machine}
-use Rattle.proxy_core.proofs.TurnedAsked.{asked_hosts, waiting_is}
+use Rattle.proxy_core.proofs.turn.Requirements.{asked_hosts, waiting_is}
 use Rattle.proxy_core.proofs.machine.Core.waiting.Goals as goal
 
 pub waiting-requires : goal.waiting-requires

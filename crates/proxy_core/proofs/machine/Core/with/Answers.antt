@@ -3,7 +3,7 @@ use Rattle.ejector.specs.declared.settings.Rules.{Rules}
 use Rattle.proxy_core.specs.Connections.{ConnectionTable}
 use Rattle.proxy_core.specs.Machine.{IsKept}
 use Rattle.proxy_core.specs.Pipelines.{no_pipeline}
-use Rattle.proxy_core.proofs.TurnedNew.{fresh_kept}
+use Rattle.proxy_core.proofs.turn.FreshMachine.{fresh_kept}
 use Rattle.proxy_core.proofs.machine.Core.with.Goals as goal
 
 pub invariant_of-result : goal.invariant_of-result

@@ -1,4 +1,4 @@
-use Rattle.proxy_core.proofs.TurnedRecorded.{handover_of-journal_of}
+use Rattle.proxy_core.proofs.turn.RecordedLemmas.{handover_of-journal_of}
 use Rattle.proxy_core.proofs.machine.CoreRecorded.sight.Goals as goal
 
 pub returns : goal.returns

@@ -1,6 +1,6 @@
 use Rattle.std.proofs.Common.{ap}
 use Rattle.proxy_core.specs.Recorded.{journal_of}
-use Rattle.proxy_core.proofs.TurnedRecorded.{journal_more, journal_legal, journal_cause}
+use Rattle.proxy_core.proofs.turn.RecordedLemmas.{journal_more, journal_legal, journal_cause}
 use Rattle.proxy_core.proofs.machine.CoreRecorded.turn.Goals as goal
 
 pub returns-in-Ok-clause-answered : goal.returns-in-Ok-clause-answered

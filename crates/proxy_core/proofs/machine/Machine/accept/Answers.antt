@@ -2,7 +2,7 @@ use Rattle.std.proofs.lemmas.Result.{IfOk-weaker}
 use Rattle.splitter.specs.Planned.{planned_in}
 use Rattle.proxy_history.specs.Past.{past}
 use Rattle.proxy_core.specs.Machine.{setting_in, history_in}
-use Rattle.proxy_core.proofs.Arriving.{ready_accepts, ready_pipelines, ready_tells, may_join_all, accepted_before}
+use Rattle.proxy_core.proofs.arrivals.TellsLemmas.{ready_accepts, ready_pipelines, ready_tells, may_join_all, accepted_before}
 use Rattle.proxy_core.proofs.machine.Machine.accept.Goals as goal
 
 pub accept_plan-requires-clause-pipelines : goal.accept_plan-requires-clause-pipelines

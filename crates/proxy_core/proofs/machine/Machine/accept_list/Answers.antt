@@ -4,7 +4,7 @@ use Rattle.proxy_history.specs.History.{accepted_count}
 use Rattle.proxy_core.specs.Machine.{memory_in}
 use Rattle.proxy_core.specs.Places.{AreCounted}
 use Rattle.proxy_core.specs.Arrivals.{HasAccepted, HaveRoom}
-use Rattle.proxy_core.proofs.Arriving.{pushed-accepted}
+use Rattle.proxy_core.proofs.arrivals.TellsLemmas.{pushed-accepted}
 use Rattle.proxy_core.proofs.machine.Machine.accept_list.Goals as goal
 
 pub place_parts-requires-clause-counts : goal.place_parts-requires-clause-counts

@@ -1,7 +1,7 @@
 use Rattle.std.proofs.Common.{refl, ap, ◌∙◌}
 use Rattle.proxy_core.specs.Connections.{ConnectionTable}
 use Rattle.proxy_core.specs.Arrivals.{counted_as}
-use Rattle.proxy_core.proofs.Pushed.{have_room}
+use Rattle.proxy_core.proofs.pipelines.HaveRoomLemmas.{have_room}
 use Rattle.proxy_core.proofs.machine.Machine.accept_placed.Goals as goal
 
 pub reserve-requires : goal.reserve-requires

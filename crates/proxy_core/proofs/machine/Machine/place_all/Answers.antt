@@ -10,10 +10,10 @@ use Rattle.ejector.specs.UsableHosts.{is_usable}
 use Rattle.proxy_history.specs.Arrival.{usable_flags, host_for}
 use Rattle.proxy_history.specs.Waiting.{waiting_parts}
 use Rattle.proxy_core.specs.Places.{counted_at, next_place}
-use Rattle.proxy_core.specs.declared.place.Placed.{Placed}
+use Rattle.proxy_core.specs.declared.state.place.Placed.{Placed}
 use Rattle.proxy_core.specs.Pipelines.{pipeline_at}
 use Rattle.proxy_core.specs.Machine.{setting_in, memory_in}
-use Rattle.proxy_core.proofs.Places.{AreSoFar, one_more, counted_more, all_placed, within_hosts}
+use Rattle.proxy_core.proofs.arrivals.PlaceLemmas.{AreSoFar, one_more, counted_more, all_placed, within_hosts}
 use Rattle.proxy_core.proofs.machine.Machine.place_all.Goals as goal
 
 pub place_one-requires : goal.place_one-requires

@@ -5,7 +5,7 @@ use Rattle.proxy_history.specs.Part.{Past}
 use Rattle.proxy_core.specs.Places.{AreCounted}
 use Rattle.proxy_core.specs.Machine.{setting_in, memory_in}
 use Rattle.proxy_core.specs.Arrivals.{Tells}
-use Rattle.proxy_core.proofs.Places.{AreSoFar}
+use Rattle.proxy_core.proofs.arrivals.PlaceLemmas.{AreSoFar}
 use Rattle.proxy_core.proofs.machine.Machine.place_all.Given as goal
 
 abbrev pub invariant-loop-plan : goal.invariant-loop-plan

@@ -9,10 +9,10 @@ use Rattle.splitter.specs.Part.{part_of}
 use Rattle.proxy_history.specs.Arrival.{usable_flags, host_for}
 use Rattle.proxy_history.specs.Waiting.{waiting_parts}
 use Rattle.proxy_core.specs.Places.{AreCounted}
-use Rattle.proxy_core.specs.declared.place.Placed.{Placed}
+use Rattle.proxy_core.specs.declared.state.place.Placed.{Placed}
 use Rattle.proxy_core.specs.Pipelines.{pipeline_at}
 use Rattle.proxy_core.specs.Machine.{setting_in, memory_in}
-use Rattle.proxy_core.proofs.Places.{one_more, counted_more, none_counted, all_placed, none_so_far, within_hosts}
+use Rattle.proxy_core.proofs.arrivals.PlaceLemmas.{one_more, counted_more, none_counted, all_placed, none_so_far, within_hosts}
 use Rattle.proxy_core.proofs.machine.Machine.place_whole.Goals as goal
 
 pub place_at-requires : goal.place_at-requires

@@ -1,9 +1,9 @@
 use Rattle.resp_core.specs.Value.{tree_of}
 use Rattle.proxy_history.specs.declared.event.Event.TheVariants.{Answered}
 use Rattle.proxy_core.specs.Core.{with_step}
-use Rattle.proxy_core.proofs.TurnedResults.{makes, if_makes, has_room, if_made, if_left, all_three, if_ok}
-use Rattle.proxy_core.proofs.TurnedEvents.{answered-made}
-use Rattle.proxy_core.proofs.TurnedAsked.{asked_hosts, asked_answer}
+use Rattle.proxy_core.proofs.turn.IsDoneLemmas.{makes, if_makes, has_room, if_made, if_left, all_three, if_ok}
+use Rattle.proxy_core.proofs.turn.EventResults.{answered-made}
+use Rattle.proxy_core.proofs.turn.Requirements.{asked_hosts, asked_answer}
 use Rattle.proxy_core.proofs.machine.Machine.turn_answered.Goals as goal
 
 pub answer-done-requires-clause-hosts : goal.answer-done-requires-clause-hosts

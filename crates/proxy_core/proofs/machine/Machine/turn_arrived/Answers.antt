@@ -1,7 +1,7 @@
 use Rattle.proxy_history.specs.declared.event.Event.TheVariants.{Arrived}
 use Rattle.proxy_core.specs.Core.{with_step}
-use Rattle.proxy_core.proofs.TurnedResults.{makes, if_makes, has_room, if_made, if_left}
-use Rattle.proxy_core.proofs.TurnedEvents.{arrived-made}
+use Rattle.proxy_core.proofs.turn.IsDoneLemmas.{makes, if_makes, has_room, if_made, if_left}
+use Rattle.proxy_core.proofs.turn.EventResults.{arrived-made}
 use Rattle.proxy_core.proofs.machine.Machine.turn_arrived.Goals as goal
 
 pub settle-requires : goal.settle-requires

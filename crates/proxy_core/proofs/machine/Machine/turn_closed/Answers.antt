@@ -1,8 +1,8 @@
 use Rattle.proxy_history.specs.declared.event.Event.TheVariants.{Closed}
 use Rattle.proxy_core.specs.Core.{with_step}
-use Rattle.proxy_core.proofs.TurnedResults.{makes, if_makes, has_room, if_made, if_left}
-use Rattle.proxy_core.proofs.TurnedEvents.{closed-made}
-use Rattle.proxy_core.proofs.TurnedAsked.{asked_closed, asked_fault}
+use Rattle.proxy_core.proofs.turn.IsDoneLemmas.{makes, if_makes, has_room, if_made, if_left}
+use Rattle.proxy_core.proofs.turn.EventResults.{closed-made}
+use Rattle.proxy_core.proofs.turn.Requirements.{asked_closed, asked_fault}
 use Rattle.proxy_core.proofs.machine.Machine.turn_closed.Goals as goal
 
 pub close-done-requires : goal.close-done-requires

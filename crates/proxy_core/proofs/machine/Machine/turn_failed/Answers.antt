@@ -1,8 +1,8 @@
 use Rattle.proxy_history.specs.declared.event.Event.TheVariants.{Failed}
 use Rattle.proxy_core.specs.Core.{with_step}
-use Rattle.proxy_core.proofs.TurnedResults.{makes, if_makes, has_room, if_made, if_left, all_three, if_ok}
-use Rattle.proxy_core.proofs.TurnedEvents.{failed-made}
-use Rattle.proxy_core.proofs.TurnedAsked.{asked_hosts, asked_fault, asked_epochs}
+use Rattle.proxy_core.proofs.turn.IsDoneLemmas.{makes, if_makes, has_room, if_made, if_left, all_three, if_ok}
+use Rattle.proxy_core.proofs.turn.EventResults.{failed-made}
+use Rattle.proxy_core.proofs.turn.Requirements.{asked_hosts, asked_fault, asked_epochs}
 use Rattle.proxy_core.proofs.machine.Machine.turn_failed.Goals as goal
 
 pub fail-done-requires-clause-hosts : goal.fail-done-requires-clause-hosts

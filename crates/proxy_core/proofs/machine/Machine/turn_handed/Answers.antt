@@ -1,8 +1,8 @@
 use Rattle.proxy_history.specs.declared.event.Event.TheVariants.{Handed}
 use Rattle.proxy_core.specs.Core.{with_step}
-use Rattle.proxy_core.proofs.TurnedResults.{makes, if_makes, has_room, if_made, if_left}
-use Rattle.proxy_core.proofs.TurnedEvents.{handed-made}
-use Rattle.proxy_core.proofs.TurnedAsked.{asked_reply}
+use Rattle.proxy_core.proofs.turn.IsDoneLemmas.{makes, if_makes, has_room, if_made, if_left}
+use Rattle.proxy_core.proofs.turn.EventResults.{handed-made}
+use Rattle.proxy_core.proofs.turn.Requirements.{asked_reply}
 use Rattle.proxy_core.proofs.machine.Machine.turn_handed.Goals as goal
 
 pub hand-done-requires : goal.hand-done-requires

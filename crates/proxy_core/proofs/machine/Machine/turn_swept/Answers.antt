@@ -1,7 +1,7 @@
 use Rattle.proxy_history.specs.declared.event.Event.TheVariants.{Swept}
 use Rattle.proxy_core.specs.Core.{with_step}
-use Rattle.proxy_core.proofs.TurnedResults.{makes, if_makes, has_room, if_made, if_left, all_three, if_ok}
-use Rattle.proxy_core.proofs.TurnedEvents.{swept-made}
+use Rattle.proxy_core.proofs.turn.IsDoneLemmas.{makes, if_makes, has_room, if_made, if_left, all_three, if_ok}
+use Rattle.proxy_core.proofs.turn.EventResults.{swept-made}
 use Rattle.proxy_core.proofs.machine.Machine.turn_swept.Goals as goal
 
 pub settle-requires : goal.settle-requires

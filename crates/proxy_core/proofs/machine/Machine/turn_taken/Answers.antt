@@ -1,8 +1,8 @@
 use Rattle.proxy_history.specs.declared.event.Event.TheVariants.{Taken}
 use Rattle.proxy_core.specs.Core.{with_step}
-use Rattle.proxy_core.proofs.TurnedResults.{makes, if_makes, has_room, if_made, if_left}
-use Rattle.proxy_core.proofs.TurnedEvents.{taken-made}
-use Rattle.proxy_core.proofs.TurnedAsked.{asked_hosts, asked_taken}
+use Rattle.proxy_core.proofs.turn.IsDoneLemmas.{makes, if_makes, has_room, if_made, if_left}
+use Rattle.proxy_core.proofs.turn.EventResults.{taken-made}
+use Rattle.proxy_core.proofs.turn.Requirements.{asked_hosts, asked_taken}
 use Rattle.proxy_core.proofs.machine.Machine.turn_taken.Goals as goal
 
 pub take-done-requires-clause-hosts : goal.take-done-requires-clause-hosts

@@ -1,0 +1,106 @@
+-- The core may go to another thread, since each type that it holds may; and threads may share a gate round it.
+use denote.RattleType.{RattleType}
+use denote.Hole.{as_row}
+use denote.Param.Send.{IsSend, IsSync, sendable}
+use denote.Param.SendFields.{as_row_send}
+use Rattle.std.proofs.Crossing.{crosses, Vec-send}
+use Rattle.std.specs.contracts.alloc.Global as Global
+use Rattle.std.specs.contracts.option.Option as Option
+use Rattle.std.specs.contracts.impls.GlobalAllocator.TheImpl.{ghosts}
+use Rattle.bytes.specs.contracts.shared.Bytes as Bytes
+use Rattle.bytes.proofs.shared.Bytes.TheSendSync as bytes
+use Rattle.bytes.proofs.unique.BytesMut.TheSendSync as mutable
+use Rattle.resp_core.specs.contracts.value.Value as Value
+use Rattle.resp_core.specs.contracts.value.Values as Values
+use Rattle.resp_core.specs.contracts.room.Room as Room
+use Rattle.resp_core.specs.contracts.texts.Texts as Texts
+use Rattle.resp_core.proofs.value.Values.TheLaws.TheKnot as knot
+use Rattle.ketama.specs.contracts.ring.Ring as Ring
+use Rattle.ejector.specs.contracts.ejector.Ejector as Ejector
+use Rattle.journal_core.specs.contracts.journal.Journal as Journal
+use Rattle.proxy_history.specs.contracts.answer.Answer as Answer
+use Rattle.proxy_history.specs.contracts.event.Event as Event
+use Rattle.reply_queue.specs.contracts.joined.Joined as Joined
+use Rattle.reply_queue.specs.contracts.command.Parts as Parts
+use Rattle.reply_queue.specs.contracts.command.Command as Command
+use Rattle.reply_queue.specs.contracts.queue.Queue as Queue
+use Rattle.upstream_pipe.specs.contracts.pipe.Pipe as Pipe
+use Rattle.ticket_gate.below.atomic_table.proofs.send_lease.SendLease.TheSendSync as lease
+use Rattle.ticket_gate.below.atomic_table.proofs.shared.Shared.TheSendSync as shared
+use Rattle.ticket_gate.specs.declared.recorded.Recorded.{Ghosts}
+use Rattle.ticket_gate.specs.contracts.gate.Gate as Gate
+use Rattle.proxy_core.specs.contracts.state.connection.Connection as Connection
+use Rattle.proxy_core.specs.contracts.state.pipeline.Pipeline as Pipeline
+use Rattle.proxy_core.specs.contracts.machine.Machine as Machine
+use Rattle.proxy_core.specs.contracts.machine.Core as Core
+
+bytes_send : IsSend (Bytes.the_row Global.the_row ghosts)
+bytes_send = search (bytes.the_send, crosses, sendable) depth 20
+
+bytes_row_send : IsSend (as_row (Bytes.the_field Global.the_row ghosts))
+bytes_row_send = as_row_send (Bytes.the_field Global.the_row ghosts) bytes_send
+
+values_send : IsSend Values.the_row
+values_send = knot.send-Values Vec-send bytes_row_send (search sendable)
+
+value_field_send : IsSend (Value.the_field).row
+value_field_send = knot.send-Value bytes_send (search sendable) values_send
+
+value_send : IsSend Value.the_row
+value_send = as_row_send Value.the_field value_field_send
+
+ring_send : IsSend Ring.the_row
+ring_send = search (crosses, sendable) depth 20
+
+ejector_send : IsSend Ejector.the_row
+ejector_send = search (crosses, sendable) depth 20
+
+answer_send : IsSend Answer.the_row
+answer_send = search (bytes_send, crosses, sendable) depth 20
+
+event_send : IsSend Event.the_row
+event_send = search (value_field_send, crosses, sendable) depth 20
+
+pipe_send : IsSend Pipe.the_row
+pipe_send = search (bytes_send, crosses, sendable) depth 20
+
+joined_send : IsSend Joined.the_row
+joined_send = search (value_send, crosses, sendable) depth 20
+
+parts_send : IsSend (Parts.the_field).row
+parts_send = search (value_field_send, joined_send, crosses, sendable) depth 20
+
+command_send : IsSend Command.the_row
+command_send = search (parts_send, crosses, sendable) depth 20
+
+queue_send : IsSend Queue.the_row
+queue_send = search (command_send, crosses, sendable) depth 20
+
+connection_send : IsSend Connection.the_row
+connection_send = search (queue_send, crosses, sendable) depth 20
+
+pipeline_send : IsSend Pipeline.the_row
+pipeline_send = search (pipe_send, crosses, sendable) depth 20
+
+journal_send : IsSend (Journal.the_row Event.the_row Answer.the_row)
+journal_send = search (event_send, answer_send, crosses, sendable) depth 20
+
+room_send : IsSend Room.the_row
+room_send = search (mutable.the_send, crosses, sendable) depth 20
+
+texts_send : IsSend Texts.the_row
+texts_send = search (room_send, crosses, sendable) depth 20
+
+machine_send : IsSend (Machine.the_field).row
+machine_send = search (ring_send, ejector_send, journal_send, connection_send, pipeline_send, texts_send, crosses, sendable) depth 20
+
+pub core_send : IsSend Core.the_row
+core_send = search (machine_send, crosses, sendable) depth 20
+
+module _ (S E A R C T : RattleType) (g : Ghosts S.Denot E.Denot A.Denot R.Denot C.Denot T.Denot) where
+  slot_send : IsSend S → IsSend (Option.the_row S)
+  slot_send s = search (crosses, sendable) depth 20
+
+  -- a gate may be shared where its state may go to another thread
+  pub gate_sync : IsSend S → IsSync (Gate.the_row S E A R C T g)
+  gate_sync s = let slot : IsSend (Option.the_row S) = slot_send s in search (shared.the_sync, lease.the_sync, crosses, sendable) depth 20

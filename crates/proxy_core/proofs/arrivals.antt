@@ -1,0 +1,3 @@
+pub mod NewestCommand
+pub mod PlaceLemmas
+pub mod TellsLemmas

@@ -1,0 +1,10 @@
+pub mod CommandRows
+pub mod ConnectionCounts
+pub mod ConnectionsOfLemmas
+pub mod ConnectionEvents
+pub mod ArrivedCommandLemmas
+pub mod NextOwnerLemmas
+pub mod LostOwnersLemmas
+pub mod UnchangedConnections
+pub mod AnsweredPartsLemmas
+pub mod ConnectionAtLemmas
