@@ -7,7 +7,7 @@ use Rattle.std.proofs.lemmas.List.Folds.{sum_by-replicate}
 use Rattle.std.proofs.lemmas.List.Elements.{All-weaker, All-contains_itself, All-contains, All-append, All-cons, All-head, All-tail, All-replicate, Contains-append_left, Contains-append_right}
 use Rattle.proxy_generations.specs.declared.step_kind.StepKind.{StepKind}
 use Rattle.proxy_generations.specs.declared.step_kind.StepKind.TheVariants.{Opened, Accepted, Sent, Matched, Lost, Handed, Finished, Closed, Swept}
-use Rattle.limits.specs.declared.journals.TheConstants.{MAX_STEPS}
+use Rattle.proxy_generations.specs.declared.budget.TheConstants.{MAX_STEPS}
 use Rattle.proxy_generations.specs.Steps.{IsOwed, made, owed, cost, freed, cost_of, freed_of, owed_by, done_by}
 use Rattle.proxy_generations.specs.Budget.{LoanState, BudgetState, no_loan, no_budget, free_steps, capped, borrowed, lent_more, loan_after, settled}
 use Rattle.proxy_generations.specs.BudgetLaws.{IsWithin, Pays}

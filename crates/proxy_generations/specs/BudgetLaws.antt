@@ -2,7 +2,7 @@
 use Rattle.std.specs.Prelude.{◌≡◌, ◌≤◌, ◌+◌, ℕ, List, [], ◌∷◌, ◌++◌, All, replicate, sum_by}
 use Rattle.proxy_generations.specs.declared.step_kind.StepKind.{StepKind}
 use Rattle.proxy_generations.specs.declared.step_kind.StepKind.TheVariants.{Accepted}
-use Rattle.limits.specs.declared.journals.TheConstants.{MAX_STEPS}
+use Rattle.proxy_generations.specs.declared.budget.TheConstants.{MAX_STEPS}
 use Rattle.limits.specs.declared.journals.TheConstants.{MAX_COMMAND_STEPS}
 use Rattle.proxy_generations.specs.Steps.{IsOwed, made, owed, cost, freed, cost_of}
 use Rattle.proxy_generations.specs.Budget.{LoanState, BudgetState, no_loan, no_budget, free_steps, capped, borrowed, lent_more, loan_after, settled}

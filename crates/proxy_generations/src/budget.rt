@@ -86,7 +86,7 @@ pub struct Budget {
 
 impl Model for Budget {
     ghost use Rattle.std.specs.Prelude.{◌+◌, ◌≤◌};
-    ghost use Rattle.limits.specs.declared.journals.TheConstants.{MAX_STEPS};
+    ghost use Rattle.proxy_generations.specs.declared.budget.TheConstants.{MAX_STEPS};
     ghost use Rattle.proxy_generations.specs.Budget.{BudgetState};
 
     ghost Value = { BudgetState };

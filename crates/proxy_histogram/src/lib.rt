@@ -5,5 +5,5 @@
 mod histogram;
 mod unanswered;
 
-pub use proxy_histogram::{BOUNDS, BOUNDS_MS, Histogram};
+pub use histogram::{BOUNDS, BOUNDS_MS, Histogram};
 pub use unanswered::Unanswered;

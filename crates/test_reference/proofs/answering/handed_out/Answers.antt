@@ -1,6 +1,6 @@
 use Rattle.std.proofs.Common.{sym, subst}
 use Rattle.proxy_history.proofs.CallerLemmas.{IsPlainIfAny}
-use Rattle.test_reference.proofs.SeenOutcomes.{seen_is_plain}
+use Rattle.test_reference.proofs.PlainOutcomeLemmas.{seen_is_plain}
 use Rattle.test_reference.proofs.answering.handed_out.Goals as goal
 
 pub put_text-put-requires : goal.put_text-put-requires

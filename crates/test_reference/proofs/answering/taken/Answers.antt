@@ -4,7 +4,7 @@ use Rattle.proxy_history.specs.Waiting.{waiting_parts, sent_to}
 use Rattle.proxy_history.specs.Answer.{text_of_first}
 use Rattle.test_reference.specs.Scan.{part_of, history_of, past_of_scan}
 use Rattle.proxy_history.specs.History.{epoch}
-use Rattle.test_reference.proofs.Taking.{text_of_some, text_of_none, sent_same}
+use Rattle.test_reference.proofs.FirstTextLemmas.{text_of_some, text_of_none, sent_same}
 use Rattle.test_reference.proofs.answering.taken.Goals as goal
 use Rattle.test_reference.proofs.answering.taken.Goals.{in-Some+in_ok-text-in-Some, in-None}
 

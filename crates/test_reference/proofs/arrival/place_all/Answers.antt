@@ -5,7 +5,7 @@ use Rattle.ketama.specs.Key.{point_of}
 use Rattle.proxy_history.specs.History.{accepted_count}
 use Rattle.proxy_history.specs.Arrival.{parts_placed, placed_part, with_host, hostless}
 use Rattle.test_reference.specs.Scan.{past_of_scan, history_of, part_of, parts_of}
-use Rattle.test_reference.proofs.Placing.{placing-more, part_of-placed}
+use Rattle.test_reference.proofs.PlacingLemmas.{placing-more, part_of-placed}
 use Rattle.test_reference.proofs.arrival.place_all.Goals as goal
 
 pub loop-plan-preserved : goal.loop-plan-preserved

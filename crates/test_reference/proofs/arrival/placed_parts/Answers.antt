@@ -1,7 +1,7 @@
 use Rattle.std.proofs.Common.{sym, ap, ◌∙◌}
 use Rattle.std.proofs.lemmas.Result.{IfOk-weaker}
 use Rattle.test_reference.specs.Scan.{past_of_scan}
-use Rattle.test_reference.proofs.Placing.{usable-of_state}
+use Rattle.test_reference.proofs.PlacingLemmas.{usable-of_state}
 use Rattle.test_reference.proofs.arrival.placed_parts.Goals as goal
 
 pub returns : goal.returns

@@ -1,7 +1,7 @@
 use Rattle.std.proofs.Common.{◌≡◌, ◌<◌, [], true, false, Some, length, get_or, sym, ap, ◌∙◌, arith}
 use Rattle.proxy_history.specs.Waiting.{waits}
 use Rattle.test_reference.specs.Scan.{part_of, past_of_scan}
-use Rattle.test_reference.proofs.Searching.{first-here, first-later}
+use Rattle.test_reference.proofs.PartSearchLemmas.{first-here, first-later}
 use Rattle.test_reference.proofs.pipe.first_waiting.Goals as goal
 
 pub returns-then-waits : goal.returns-then-waits

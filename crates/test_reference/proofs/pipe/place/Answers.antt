@@ -1,7 +1,7 @@
 use Rattle.std.proofs.Common.{◌≡◌, ◌<◌, ◌+◌, true, false, length, filter, drop, get_or, sym, ap, ◌∙◌, arith}
 use Rattle.proxy_history.specs.Part.{is_of, is_same}
 use Rattle.test_reference.specs.Scan.{part_of, parts_of, place_in}
-use Rattle.test_reference.proofs.Searching.{place-here, place-later, place-other, none_left, moved, moved-zero, moved-here, moved-more, moved-none}
+use Rattle.test_reference.proofs.PartSearchLemmas.{place-here, place-later, place-other, none_left, moved, moved-zero, moved-here, moved-more, moved-none}
 use Rattle.test_reference.proofs.pipe.place.Goals as goal
 use Rattle.test_reference.proofs.pipe.place.Goals.{then-is_of+else-is_same, else-is_of}
 

@@ -1,7 +1,7 @@
 use Rattle.std.proofs.Common.{◌≡◌, ◌≤◌, drop, filter}
 use Rattle.proxy_history.specs.Part.{is_of}
 use Rattle.test_reference.specs.Scan.{part_of, parts_of, place_in}
-use Rattle.test_reference.proofs.Searching.{moved}
+use Rattle.test_reference.proofs.PartSearchLemmas.{moved}
 use Rattle.test_reference.proofs.pipe.place.Given as goal
 
 abbrev pub invariant-loop-other : goal.invariant-loop-other

@@ -1,7 +1,7 @@
 use Rattle.std.proofs.Common.{◌≡◌, ◌<◌, ◌+◌, [], length, get_or, sym, ap, ◌∙◌, arith}
 use Rattle.proxy_history.specs.Waiting.{waits}
 use Rattle.test_reference.specs.Scan.{part_of, past_of_scan}
-use Rattle.test_reference.proofs.Searching.{count-one, count-none}
+use Rattle.test_reference.proofs.PartSearchLemmas.{count-one, count-none}
 use Rattle.test_reference.proofs.pipe.waiting.Goals as goal
 use Rattle.test_reference.proofs.pipe.waiting.Goals.{then-waits, else-waits}
 

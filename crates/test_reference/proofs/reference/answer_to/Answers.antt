@@ -2,7 +2,7 @@ use Rattle.std.proofs.Common.{List}
 use Rattle.ejector.specs.declared.mark.Mark.{Mark}
 use Rattle.test_reference.specs.Scan.{past_of_scan}
 use Rattle.proxy_history.specs.declared.event.Event.TheVariants.{Taken, Answered, Failed, Swept, Handed}
-use Rattle.test_reference.proofs.Telling.{told_of, by_host, by_reply, by_fault, by_sweep}
+use Rattle.test_reference.proofs.AnswerLemmas.{told_of, by_host, by_reply, by_fault, by_sweep}
 use Rattle.test_reference.proofs.reference.answer_to.Goals as goal
 
 pub returns-in-Taken : goal.returns-in-Taken

@@ -3,8 +3,8 @@ use Rattle.test_reference.specs.Scan.{history_of}
 use Rattle.proxy_history.specs.Proxy.{setting_of}
 use Rattle.proxy_history.specs.Past.{past}
 use Rattle.proxy_history.proofs.CallerLemmas.{HasHost-own_cause}
-use Rattle.test_reference.proofs.Following.{legal_have_hosts, cause_is, follows, full_is}
-use Rattle.test_reference.proofs.Telling.{told_here, cause_here}
+use Rattle.test_reference.proofs.MayFollowLemmas.{legal_have_hosts, cause_is, follows, full_is}
+use Rattle.test_reference.proofs.AnswerLemmas.{told_here, cause_here}
 use Rattle.test_reference.proofs.reference.next_answer.Goals as goal
 
 pub own_cause-requires : goal.own_cause-requires

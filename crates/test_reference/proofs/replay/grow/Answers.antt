@@ -2,7 +2,7 @@ use Rattle.std.proofs.Common.{◌∙◌, ◌++◌, ap, sym, subst}
 use Rattle.proxy_history.specs.Past.{marks_in}
 use Rattle.proxy_history.specs.Hosts.{HasHost}
 use Rattle.test_reference.specs.Scan.{history_of}
-use Rattle.test_reference.proofs.Replayed.{shows-grown}
+use Rattle.test_reference.proofs.ReplayLemmas.{shows-grown}
 use Rattle.test_reference.proofs.replay.grow.Goals as goal
 
 pub returns-clause-shows : goal.returns-clause-shows

@@ -5,7 +5,7 @@ use Rattle.ejector.proofs.CallerLemmas.{opening_first, fresh_opening}
 use Rattle.proxy_history.specs.Setting.{Setting}
 use Rattle.proxy_history.specs.History.{History, Step}
 use Rattle.test_reference.specs.Scan.{Shows, history_of}
-use Rattle.test_reference.proofs.Reversed.{history_of-more}
+use Rattle.test_reference.proofs.HistoryOfLemmas.{history_of-more}
 use Rattle.test_reference.specs.declared.replay.Replay.{Replay}
 use Rattle.test_reference.proofs.replay.replayed.Goals as goal
 

@@ -3,7 +3,7 @@ use Rattle.resp_core.specs.Value.{tree_of}
 use Rattle.splitter.specs.Plan.{is_last}
 use Rattle.proxy_history.specs.History.{plan_for}
 use Rattle.command_table.specs.Table.{row_named}
-use Rattle.test_reference.proofs.Leaving.{command_leaves}
+use Rattle.test_reference.proofs.QuitLemmas.{command_leaves}
 use Rattle.test_reference.specs.Scan.{is_quit_row}
 use Rattle.test_reference.proofs.scan.is_leaving.Goals as goal
 

@@ -3,7 +3,7 @@ use Rattle.std.specs.Option.{option_map, option_copied}
 use Rattle.resp_core.specs.Value.{tree_of}
 use Rattle.list_lemmas.specs.Lists.{list_of}
 use Rattle.proxy_history.specs.Replies.{reply_by}
-use Rattle.test_reference.proofs.Collected.{reply_found, reply_not_found}
+use Rattle.test_reference.proofs.EventYieldLemmas.{reply_found, reply_not_found}
 use Rattle.test_reference.proofs.scan.reply_at.Goals as goal
 
 pub returns-then-before-place : goal.returns-then-before-place

@@ -2,7 +2,7 @@ use Rattle.std.proofs.Common.{sym, ap, ◌∙◌, arith}
 use Rattle.std.specs.Option.{option_copied}
 use Rattle.list_lemmas.specs.Lists.{list_of}
 use Rattle.proxy_history.specs.History.{request_by}
-use Rattle.test_reference.proofs.Collected.{request_found, request_not_found}
+use Rattle.test_reference.proofs.EventYieldLemmas.{request_found, request_not_found}
 use Rattle.test_reference.proofs.scan.request_at.Goals as goal
 
 pub returns-then-before-index : goal.returns-then-before-index

@@ -1,7 +1,7 @@
 use Rattle.std.proofs.Common.{take, arith}
 use Rattle.proxy_history.proofs.CallerLemmas.{times-length}
 use Rattle.test_reference.specs.Scan.{is_wanted, history_of}
-use Rattle.test_reference.proofs.Reversed.{length-history_of}
+use Rattle.test_reference.proofs.HistoryOfLemmas.{length-history_of}
 use Rattle.test_reference.proofs.scan.times.Goals as goal
 
 pub overflow_add-count : goal.overflow_add-count

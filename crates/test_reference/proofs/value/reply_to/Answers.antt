@@ -1,6 +1,6 @@
 use Rattle.std.proofs.Common.{[], Some, None, sym, ◌∙◌}
 use Rattle.test_reference.specs.Scan.{part_of, past_of_scan}
-use Rattle.test_reference.proofs.Replied.{reply_to-is}
+use Rattle.test_reference.proofs.ReplyPlaceLemmas.{reply_to-is}
 use Rattle.test_reference.proofs.value.reply_to.Goals as goal
 
 pub returns-in-Some : goal.returns-in-Some

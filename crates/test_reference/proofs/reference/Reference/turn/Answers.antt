@@ -4,7 +4,7 @@ use Rattle.proxy_history.specs.Past.{past}
 use Rattle.proxy_history.specs.Legal.{MayFollow}
 use Rattle.test_reference.specs.Scan.{history_of}
 use Rattle.proxy_history.specs.Proxy.{Proxy, setting_of, history_in}
-use Rattle.test_reference.proofs.Adding.{added}
+use Rattle.test_reference.proofs.IsStepLemmas.{added}
 use Rattle.test_reference.proofs.reference.Reference.turn.Goals as goal
 
 pub add-requires : goal.add-requires
