@@ -6,7 +6,6 @@ ghost use Rattle.resp_core.specs.Value.{tree_of};
 
 use crate::digits::{negated, of_integer, of_length, step_digits};
 use crate::error::Refusal;
-
 use crate::value::Value;
 use bytes::Bytes;
 use limits::{MAX_BULK, MAX_LINE};

@@ -9,7 +9,6 @@ ghost use Rattle.resp_core.specs.declared.error.Refusal.TheVariants.{TooLong, To
 use crate::begun::{Begun, put};
 use crate::error::Refusal;
 use crate::head::{Found, Head, Line, Next, Refused, read_head};
-
 use crate::parse::{Stop, take_payload, take_text};
 use crate::room::Room;
 use crate::value::{Value, Values};

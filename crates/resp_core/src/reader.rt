@@ -172,36 +172,6 @@ impl Reader {
         if self.progress.is_short() {
             return Ok(None);
         }
-        self.read_value()
-    }
-
-    // The part of `next_value` for bytes that can lead further. It is a separate function so that a call within a
-    // payload doesn't prepare for it.
-    #[inline(never)]
-    fn read_value(&mut self) -> Result<Option<Value>, RespError>
-        requires untold { self.old.refusal ≡ None }
-        ensures value { IfOk result (λ o. IfSome o (λ v. (b : List ℕ) (ts : List Tree)
-            → Stands self.old b ts
-            → Stands self.new b (ts ++ tree_of v ∷ []))) }
-        ensures given { IfOk result (λ o. IfSome o (λ v. IsReadable self.old.most (tree_of v))) }
-        ensures falls { IfOk result (λ o. IfSome o
-            (λ _. unread_bytes self.new < unread_bytes self.old)) }
-        ensures none { IfOk result (λ o. IfNone o ((b : List ℕ) (ts : List Tree)
-            → Stands self.old b ts
-            → HasNoRefusal self.old.most b ts)) }
-        ensures rests { IfOk result (λ o. IfNone o ((b : List ℕ) (ts : List Tree)
-            → Stands self.new b ts
-            → HasNoRefusal self.new.most b ts)) }
-        ensures none_same { IfOk result (λ o. IfNone o (Unmoved self.old self.new)) }
-        ensures few { IfOk result (λ o. IfNone o (unread_bytes self.new ≤ max_text)) }
-        ensures refused { IfErr result (λ e. e ≢ RespError.NoMemory → (b : List ℕ) (ts : List Tree)
-            → Stands self.old b ts
-            → Stands self.new b ts × HasRefusal self.old.most b ts (offset_of e) (number_of e)) }
-        ensures told { IfErr result (λ e. e ≢ RespError.NoMemory → self.new.refusal ≡ Some e) }
-        ensures untold { OnOk result (self.new.refusal ≡ None) }
-        ensures memory { IsErrOf result RespError.NoMemory → Unmoved self.old self.new }
-        ensures most { self.new.most ≡ self.old.most }
-    {
         let alloc = *self.progress.pending.allocator();
         match self.progress.next_value(alloc, self.array as u64) {
             Ok(Some((value, len))) => {
