@@ -17,7 +17,6 @@ use crate::host::{FRESH, HostState};
 use crate::settings::{Rules, Settings};
 use crate::snapshot::EjectState;
 use crate::sweep::take_sweep;
-
 use limits::MAX_HOSTS;
 use std::alloc::Global;
 use std::marker::Model;

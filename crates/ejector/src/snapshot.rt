@@ -6,7 +6,6 @@ ghost use Rattle.ejector.specs.State.{is_out};
 
 use crate::host::{FRESH, HostState};
 use crate::settings::Rules;
-
 use limits::MAX_HOSTS;
 use std::marker::Model;
 

@@ -9,7 +9,6 @@ use crate::name::HostName;
 use crate::owner::{Pair, owner};
 use crate::point::{pairs_of, put_in_order};
 use crate::share::{digest_counts, sum};
-
 use limits::{MAX_HOSTS, MAX_WEIGHT};
 use std::alloc::Global;
 use std::marker::Model;

@@ -2,7 +2,7 @@
 ghost use Rattle.std.specs.Prelude.{◌+◌, ◌*◌, ◌≤◌, ◌<◌, ◌^◌};
 
 use crate::journals::{MAX_BYTES, MAX_COMMAND_STEPS, MAX_REPLY_BYTES, MAX_STEPS};
-use crate::messages::{MAX_CLIENT_MEMBERS, MAX_BULK, MAX_TEXT};
+use crate::messages::{MAX_BULK, MAX_CLIENT_MEMBERS, MAX_TEXT};
 use crate::queues::{MAX_COMMANDS, MAX_CONNECTIONS, MAX_SOCKETS, MAX_WAITING};
 use crate::workers::{MAX_PARTS_AT_ONCE, MAX_UNSEEN};
 

@@ -8,7 +8,6 @@ ghost use Rattle.proxy_config.specs.Refusals.{FirstAre, IsFault};
 
 use crate::config::Host;
 use crate::error::ConfigError;
-
 use limits::MAX_WEIGHT;
 use serde_json::Value;
 use std::alloc::Global;

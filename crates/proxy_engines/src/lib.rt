@@ -23,7 +23,6 @@ mod threads;
 mod work;
 
 pub use client::{ClientEngine, Progress, Stage};
-pub use proxy_devices::{Faulty, ReadTally, Tallied, Tally, Told, WriteTally};
 pub use error::EngineError;
 pub use host::HostEngine;
 pub use inbox::{READ_SIZE, Rest};
@@ -31,5 +30,6 @@ pub use laws::{
     accepted_are_first, ended_is_whole, engines_leave_others, others_leave_engines,
     reads_are_limited, sockets_go_on,
 };
+pub use proxy_devices::{Faulty, ReadTally, Tallied, Tally, Told, WriteTally};
 pub use threads::run_all;
 pub use work::{ClientWork, Work};

@@ -8,8 +8,8 @@ ghost use Rattle.proxy_engines.specs.declared.error.EngineError.{EngineError};
 
 use crate::client::{ClientEngine, Progress};
 use crate::error::EngineError;
-use proxy_devices::{ReadTally, WriteTally};
 use proxy_core::CoreTurns;
+use proxy_devices::{ReadTally, WriteTally};
 use std::sync::Wait;
 use std::thread;
 

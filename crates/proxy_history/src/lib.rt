@@ -11,13 +11,14 @@
 #![tactic(auto)]
 
 mod answer;
+mod connections;
 mod event;
 mod laws;
-mod connections;
 mod own_laws;
 mod refusal;
 
 pub use answer::Answer;
+pub use connections::connections_are_limited;
 pub use ejector::{Field, Settings, Trip};
 pub use event::{Event, Kind};
 pub use journal_core::Step;
@@ -30,7 +31,6 @@ pub use laws::{
     replies_were_asked, sent_parts_arrived, unopened_have_no_steps, unsent_parts_wait,
     upstream_is_what_was_sent, values_are_own, waiting_is_in_order,
 };
-pub use connections::connections_are_limited;
 pub use own_laws::{
     connection_steps_tell_all, host_steps_tell_all, orders_hold_the_same, others_leave_connections,
     others_leave_hosts, seen_beginnings_are_legal, seen_is_read_in_order, seen_steps_follow,

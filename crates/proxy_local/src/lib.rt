@@ -7,6 +7,6 @@ mod laws;
 mod local;
 mod stubs;
 
-pub use proxy_exit_status::Ending;
 pub use laws::steps_are_limited;
 pub use local::local_run;
+pub use proxy_exit_status::Ending;

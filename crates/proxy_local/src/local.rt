@@ -16,10 +16,10 @@ ghost use Rattle.proxy_local.specs.Moves.{GoesBeside, HaveRested, IsBeside, Rest
 
 use crate::announced::Announced;
 use crate::stubs::{stub_core, stub_engines};
-use proxy_exit_status::Ending;
 use limits::MAX_BUFFERED;
 use proxy_core::{Answer, Core, CoreTurns, Step};
 use proxy_engines::{ClientEngine, HostEngine, Progress, ReadTally, Tallied, WriteTally};
+use proxy_exit_status::Ending;
 use std::alloc::Global;
 use std::io::{BufWriter, Read, Write};
 use std::sync::Wait;

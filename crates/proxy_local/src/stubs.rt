@@ -5,10 +5,10 @@ ghost use Rattle.ketama.specs.Ketama.{IsKetamaRing};
 ghost use Rattle.proxy_local.specs.Stubs.{IsOfStubs, stub_names, stub_weights};
 ghost use Rattle.proxy_exit_status.specs.declared.ending.Ending.TheVariants.{Memory};
 
-use proxy_exit_status::Ending;
 use ketama::{HostName, Ring, RingError};
 use proxy_core::{Core, Refusal, Settings};
 use proxy_engines::{HostEngine, Tallied};
+use proxy_exit_status::Ending;
 use std::alloc::Global;
 use stub_server::{Stub, StubLink, StubReader, StubWriter};
 

@@ -5,10 +5,10 @@
 ghost use Rattle.std.specs.Prelude.{IfOk};
 ghost use Rattle.proxy_config.specs.RingParts.{AreRingParts};
 
-use proxy_command_line::{Asked, KIT, Refused, VERSION};
-use proxy_exit_status::Ending;
 use mio::net::TcpListener;
+use proxy_command_line::{Asked, KIT, Refused, VERSION};
 use proxy_config::{Config, ConfigError, check_line};
+use proxy_exit_status::Ending;
 use proxy_local::local_run;
 use proxy_serve::{Admin, Level, Log, Marks, Options, ServeRuntime, Stop, serve};
 use std::fs::{File, Files};
@@ -58,7 +58,12 @@ fn checked<R: Runtime + AllocGlobal>(rt: &R, config: &str) -> Result<String, Con
 }
 
 // Serves clients on the settings' address. Returns the status.
-fn run_serve<R: Runtime + AllocGlobal + ServeRuntime + RandomSource + Files<File = File>>(rt: &R, config: &str, connections: u64, metrics: Option<SocketAddr>) -> u8 {
+fn run_serve<R: Runtime + AllocGlobal + ServeRuntime + RandomSource + Files<File = File>>(
+    rt: &R,
+    config: &str,
+    connections: u64,
+    metrics: Option<SocketAddr>,
+) -> u8 {
     let log = log(rt);
     let config = match settings_of(rt, config) {
         Ok(config) => config,

@@ -1,10 +1,9 @@
 //! The numbers behind the pages.
 ghost use Rattle.std.specs.Prelude.{◌≡◌, ◌<◌};
 
-use proxy_histogram::Histogram;
-
 use limits::MAX_HOSTS;
 use proxy_config::Host;
+use proxy_histogram::Histogram;
 use proxy_stats::{Counts, Load};
 
 /// Facts that stay the same while the proxy runs.

@@ -3,14 +3,14 @@
 use crate::counted_turns::{CountedTurns, TurnCounts};
 use crate::generation_state::{GenerationState, LARGE, LARGE_STEP};
 use crate::socket::{SharedSocket, Socket, SocketReader, SocketWriter, ends, shared};
-use proxy_exit_status::Ending;
-use proxy_histogram::{Histogram, Unanswered};
 use limits::{LINGER_MS, MAX_SPARED};
 use mio::event::Event as Readiness;
 use mio::net::TcpStream;
 use mio::{Registry, Token};
 use proxy_core::CoreTurns;
 use proxy_engines::{ClientEngine, EngineError, Progress, Rest, Tallied};
+use proxy_exit_status::Ending;
+use proxy_histogram::{Histogram, Unanswered};
 use proxy_serve_core::Refusals;
 use std::alloc::Global;
 use std::cell::RefCell;

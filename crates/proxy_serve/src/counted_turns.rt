@@ -1,8 +1,8 @@
 //! Counts what a worker's turns did.
 
 use crate::ledger::Ledger;
-use proxy_generations::{FAR_BYTES, FAR_STEPS, Loan, Payload, StepKind};
 use proxy_core::{Answer, CoreTurns, Event, Refusal};
+use proxy_generations::{FAR_BYTES, FAR_STEPS, Loan, Payload, StepKind};
 use std::mem;
 use std::sync::Wait;
 use ticket_gate::{TurnRefusal, Turns};

@@ -3,10 +3,10 @@
 use crate::counted_turns::CountedTurns;
 use crate::ledger::Ledger;
 use crate::server::Server;
-use proxy_generations::Phase;
 use limits::{MAX_COMMAND_STEPS, MAX_PARTS_AT_ONCE, MAX_START_MS, MAX_UNFINISHED, MAX_UNSEEN};
 use mio::Waker;
 use proxy_core::CoreTurns;
+use proxy_generations::Phase;
 use std::rt::Clock;
 use std::sync::atomic::{AtomicBool, AtomicU8, AtomicU64, Ordering};
 use std::sync::{Mutex, Wait};

@@ -1,7 +1,7 @@
 //! The counts of a run: of generations that are gone, and of living ones by their last sight.
 
-use proxy_pages::Look;
 use proxy_histogram::Histogram;
+use proxy_pages::Look;
 use proxy_stats::{Counts, Sight};
 
 // More than the generations with a journal at a time, at most three: with connections, closing the gate, or opening.

@@ -4,15 +4,15 @@
 #![tactic(auto)]
 
 mod assignment;
-mod write_buffer;
 mod laws;
 mod refusals;
 mod signals;
 mod sockets;
+mod write_buffer;
 
 pub use assignment::{RoundRobin, hosts_of_worker};
-pub use write_buffer::WriteBuffer;
 pub use laws::buffered_is_limited;
 pub use refusals::Refusals;
 pub use signals::{Asked, asked_by_signals, is_term_blocked};
 pub use sockets::Sockets;
+pub use write_buffer::WriteBuffer;

@@ -5,7 +5,6 @@ ghost use Rattle.proxy_stats.specs.Sums.{grown_sum, AreGrown, AreHostsGrown, wit
 ghost use Rattle.proxy_stats.specs.declared.tally.HostCounts.{HostCounts};
 
 use crate::tally::{Counts, HostCounts, LOCAL_KINDS};
-
 use limits::MAX_HOSTS;
 use proxy_core::{Answer, Event, Local, Step, Trip};
 

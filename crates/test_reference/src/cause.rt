@@ -15,7 +15,6 @@ use crate::replay::Replay;
 use crate::scan::{Turn, Wanted, has, times};
 use limits::{MAX_COMMANDS, MAX_CONNECTIONS};
 use proxy_history::Refusal;
-
 use resp_core::Value;
 
 /// Whether the connection is open.

@@ -8,7 +8,6 @@ ghost use Rattle.proxy_history.specs.Payload.{length_of_request, length_of_event
 ghost use Rattle.test_reference.specs.Scan.{history_of};
 
 use crate::scan::Turn;
-
 use limits::{MAX_BYTES, MAX_STEPS};
 use proxy_history::{Answer, Event};
 use splitter::Request;

@@ -22,13 +22,13 @@ use self::random_runs::{Randomly, run_each};
 use self::run::Run;
 use self::setting::Setting;
 use crate::again::again;
-use test_reference::Reference;
 use crate::shown::shown;
 use crate::text::{first_word, number};
 use anyhow::{Result, bail};
 use proxy_core::{Core, Refusal};
 use std::alloc::Global;
 use std::mem;
+use test_reference::Reference;
 
 // The pass of a row's events, until an action names another.
 const FIRST_PASS: u64 = 7;

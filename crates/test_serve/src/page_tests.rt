@@ -1,11 +1,11 @@
 //! The page of numbers for values that no run produces: a histogram of known values, and labels with escapes.
 ghost use Rattle.http_server.specs.Response.{IsBlank};
 
-use proxy_pages::{About, Admin, Look, Snapshot};
 use bytes::{Buf, Bytes};
-use proxy_histogram::Histogram;
 use http::Request;
 use http_server::{Response, Service};
+use proxy_histogram::Histogram;
+use proxy_pages::{About, Admin, Look, Snapshot};
 use proxy_stats::Counts;
 use std::alloc::Global;
 use std::str;

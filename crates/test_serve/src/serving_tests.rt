@@ -172,7 +172,10 @@ fn three_clients_get_twenty_each(rt: HostRuntime) -> Result<(), Fail> {
 }
 
 // Serves one connection, whose client sends this and closes its sending half. Returns the client's replies and the last line.
-fn close_half<R: AllocGlobal + ServeRuntime>(rt: &R, asked: &[u8]) -> Result<(Vec<u8>, Vec<u8>), Fail> {
+fn close_half<R: AllocGlobal + ServeRuntime>(
+    rt: &R,
+    asked: &[u8],
+) -> Result<(Vec<u8>, Vec<u8>), Fail> {
     let listener = TcpListener::bind(rt, anywhere())?;
     let address = listener.local_addr()?;
     let mut line = Vec::new(rt.alloc());

@@ -32,7 +32,6 @@ use bytes::Bytes;
 use ketama::point_of_key;
 use limits::{MAX_COMMANDS, MAX_HOSTS};
 use proxy_history::{Answer, Event, Refusal};
-
 use resp_core::Value;
 use splitter::{Join, Local, PartPlan, PartPlans, Plan, Planned, Request, plan_with};
 use std::alloc::AllocError;

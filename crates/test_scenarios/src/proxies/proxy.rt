@@ -1,7 +1,7 @@
 //! The common interface of the core and the plain program.
 
-use test_reference::Reference;
 use proxy_core::{Answer, Core, Event, Refusal, Refused, Step};
+use test_reference::Reference;
 
 /// A proxy that takes one event after another, and keeps a step for each that it answered.
 pub trait Proxy {

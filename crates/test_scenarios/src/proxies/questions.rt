@@ -1,13 +1,13 @@
 //! Questions to the core beside events.
 
 use super::proxy::Proxy;
-use test_reference::Reference;
 use crate::shown::shown;
 use crate::text::{first_word, number, unknown};
 use anyhow::{Result, bail};
 use proxy_core::Core;
 use proxy_stats::{Counts, HostCounts, counts};
 use std::alloc::Global;
+use test_reference::Reference;
 
 // Their names.
 const QUESTIONS: [&str; 9] = [

@@ -7,12 +7,12 @@ use super::proxy::Proxy;
 use super::random::Numbers;
 use super::setting::Setting;
 use crate::again::again;
-use test_reference::Reference;
 use crate::shown::shown;
 use crate::text::{first_word, number};
 use anyhow::Result;
 use proxy_core::{Core, Event};
 use std::alloc::Global;
+use test_reference::Reference;
 
 // The pass of random events.
 const PASS: u64 = 3;

@@ -4,10 +4,10 @@ use super::answers::{answer_text, put_answer, refusal_text};
 use super::events::event_of;
 use super::outcome::outcome;
 use crate::again::again;
-use test_reference::Reference;
 use anyhow::Result;
 use proxy_core::{Answer, Core, Event, Refusal};
 use std::alloc::Global;
+use test_reference::Reference;
 
 /// Events as lines, each with its pass.
 #[derive(Drop)]

@@ -1,12 +1,12 @@
 //! The ring and the settings of a row's proxies.
 
-use test_reference::Reference;
 use crate::text::{number, unknown};
 use anyhow::{Result, bail};
 use ketama::{HostName, Ring, RingError};
 use proxy_core::{Core, Handover, Refusal, Settings};
 use std::alloc::Global;
 use std::mem;
+use test_reference::Reference;
 
 // On this ring the key `abc` belongs to host 0, `a` to host 1 and the empty key to host 2.
 const POINTS: &[(u32, usize)] = &[(2_555_380_112, 0), (3_111_502_092, 1), (3_649_838_548, 2)];
