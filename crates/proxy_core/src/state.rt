@@ -2,6 +2,5 @@
 
 pub(crate) mod connection;
 pub(crate) mod connections;
-pub(crate) mod pipeline;
 pub(crate) mod pipelines;
 pub(crate) mod place;
