@@ -30,7 +30,6 @@ use Rattle.ticket_gate.below.atomic_table.proofs.shared.Shared.TheSendSync as sh
 use Rattle.ticket_gate.specs.declared.recorded.Recorded.{Ghosts}
 use Rattle.ticket_gate.specs.contracts.gate.Gate as Gate
 use Rattle.proxy_core.specs.contracts.state.connection.Connection as Connection
-use Rattle.proxy_core.specs.contracts.state.pipeline.Pipeline as Pipeline
 use Rattle.proxy_core.specs.contracts.machine.Machine as Machine
 use Rattle.proxy_core.specs.contracts.machine.Core as Core
 
@@ -79,9 +78,6 @@ queue_send = search (command_send, crosses, sendable) depth 20
 connection_send : IsSend Connection.the_row
 connection_send = search (queue_send, crosses, sendable) depth 20
 
-pipeline_send : IsSend Pipeline.the_row
-pipeline_send = search (pipe_send, crosses, sendable) depth 20
-
 journal_send : IsSend (Journal.the_row Event.the_row Answer.the_row)
 journal_send = search (event_send, answer_send, crosses, sendable) depth 20
 
@@ -92,7 +88,7 @@ texts_send : IsSend Texts.the_row
 texts_send = search (room_send, crosses, sendable) depth 20
 
 machine_send : IsSend (Machine.the_field).row
-machine_send = search (ring_send, ejector_send, journal_send, connection_send, pipeline_send, texts_send, crosses, sendable) depth 20
+machine_send = search (ring_send, ejector_send, journal_send, connection_send, pipe_send, texts_send, crosses, sendable) depth 20
 
 pub core_send : IsSend Core.the_row
 core_send = search (machine_send, crosses, sendable) depth 20

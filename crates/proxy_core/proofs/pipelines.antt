@@ -5,4 +5,5 @@ pub mod PipelineEvents
 pub mod TakenFromLemmas
 pub mod PushedPartsLemmas
 pub mod PipelineTableLemmas
+pub mod StateOfLemmas
 pub mod HaveRoomLemmas

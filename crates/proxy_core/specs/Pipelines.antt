@@ -4,13 +4,12 @@ use Rattle.std.specs.List.{range_with_len}
 use Rattle.list_lemmas.specs.Lists.{changed_at}
 use Rattle.upstream_pipe.specs.declared.part.Owner.{Owner}
 use Rattle.upstream_pipe.specs.declared.part.Part.{Part as PipePart}
-use Rattle.upstream_pipe.specs.Pipe.{owner_in, is_kept, forgotten_owner}
+use Rattle.upstream_pipe.specs.Pipe.{PipeState, owner_in, is_kept, forgotten_owner}
 use Rattle.proxy_history.specs.Setting.{Setting, hosts}
 use Rattle.proxy_history.specs.History.{epoch, is_closed}
 use Rattle.proxy_history.specs.Replies.{replies_from}
 use Rattle.proxy_history.specs.Part.{Part, Past}
 use Rattle.proxy_history.specs.Waiting.{waiting_parts, sent_to}
-use Rattle.proxy_core.specs.declared.state.pipeline.Pipeline.{Pipeline}
 
 -- What waits, whose replies are to come, the epoch, and how many parts were taken in it.
 pub record PipelineState : Type 0 where
@@ -19,9 +18,9 @@ pub record PipelineState : Type 0 where
   pub epoch : ℕ
   pub taken : ℕ
 
--- what contracts see of a pipeline
-abbrev pub state_of : Pipeline → PipelineState
-state_of p = record { waiting = p.pipe.waiting; flying = p.pipe.flying; epoch = p.pipe.epoch; taken = p.taken }
+-- the state of a pipe: all that contracts see of it but its room
+abbrev pub state_of : PipeState → PipelineState
+state_of p = record { waiting = p.waiting; flying = p.flying; epoch = p.epoch; taken = p.taken }
 
 -- OF A HISTORY
 
@@ -127,17 +126,17 @@ text_of_oldest (p ∷ ps) = p.text
 
 -- THE TABLE
 
--- the pipelines by the numbers of their hosts, and for how many more parts each has room
+-- the states of the pipes by the numbers of their hosts, and for how many more parts each has room
 pub record PipelineTable : Type 0 where
   pub states : List PipelineState
   pub room : List ℕ
 
--- for how many more parts a pipeline has room
-abbrev pub room_of : Pipeline → ℕ
-room_of p = p.pipe.room
+-- for how many more parts a pipe has room
+abbrev pub room_of : PipeState → ℕ
+room_of p = p.room
 
--- the table that some pipelines are
-abbrev pub table_of : List Pipeline → PipelineTable
+-- the table that some pipes are
+abbrev pub table_of : List PipeState → PipelineTable
 table_of ps = record { states = map state_of ps; room = map room_of ps }
 
 -- the first so many hosts have room for as many parts more as are counted for them

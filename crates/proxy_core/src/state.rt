@@ -1,7 +1,6 @@
-//! What the core keeps beside its journal and outlier detection: connections, pipelines, and places of parts.
+//! Connections and pipelines, and the places of a command's parts at its arrival.
 
 pub(crate) mod connection;
 pub(crate) mod connections;
-pub(crate) mod pipeline;
 pub(crate) mod pipelines;
 pub(crate) mod place;

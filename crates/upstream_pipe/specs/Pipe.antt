@@ -4,11 +4,12 @@ use Rattle.upstream_pipe.specs.declared.part.Owner.{Owner}
 use Rattle.upstream_pipe.specs.declared.part.Part.{Part}
 
 -- what contracts see of a pipe: the parts that wait, the owners of those that fly (none in the place of one that was
--- forgotten), the epoch, and for how many more parts there is memory, both to wait and then to fly
+-- forgotten), the epoch, how many parts were taken in it, and for how many more there is memory, both to wait and then to fly
 pub record PipeState : Type 0 where
   pub waiting : List Part
   pub flying : List (Option Owner)
   pub epoch : ℕ
+  pub taken : ℕ
   pub room : ℕ
 
 -- These parts were sent in this epoch, and `count` of them were answered: the others fly, in their order.

@@ -1,5 +1,5 @@
 //! The pipe to one host.
-ghost use Rattle.std.specs.Prelude.{◌≡◌, ◌≢◌, ◌⊎◌, ◌<◌, ◌≤◌, ◌+◌, ◌^◌, ◌-◌, ◌↔◌, ◌∷◌, ◌++◌, [], List, ℕ, Option, Some, None, length, map, filter, slice_get, IsOk, OnOk, OnErr, IfOk, IfErr, IfSome, IfNone, IsErrOf, IsErrAnd, IsSome};
+ghost use Rattle.std.specs.Prelude.{◌≡◌, ◌≢◌, ◌⊎◌, ◌<◌, ◌≤◌, ◌+◌, ◌^◌, ◌-◌, ◌↔◌, ◌∷◌, ◌++◌, [], List, ℕ, Option, Some, None, length, map, min, filter, slice_get, IsOk, OnOk, OnErr, IfOk, IfErr, IfSome, IfNone, IsErrOf, IsErrAnd, IsSome};
 ghost use Rattle.std.specs.Option.{option_copied};
 ghost use Rattle.std.specs.VecDeque.{deque_len, deque_capacity};
 ghost use Rattle.upstream_pipe.specs.declared.part.Owner.{Owner};
@@ -15,7 +15,8 @@ use std::marker::Model;
 
 /// The pipe to one host: the parts that wait, and the owners of the parts that fly, sent in this epoch without a reply.
 ///
-/// Contracts see these, the epoch, and the number of further parts that there is memory for.
+/// Contracts see these, the epoch, the number of parts taken in it, and the number of further parts that there is memory
+/// for.
 #[derive(Drop)]
 pub struct Pipe {
     alloc: Global,
@@ -23,6 +24,7 @@ pub struct Pipe {
     // Its capacity has a place for each waiting part.
     flying: VecDeque<Option<Owner>>,
     epoch: u64,
+    taken: u64,
 }
 
 impl Model for Pipe {
@@ -37,6 +39,7 @@ impl Model for Pipe {
       waiting = p.waiting.items;
       flying = p.flying.items;
       epoch = p.epoch;
+      taken = p.taken;
       room = min (deque_capacity p.waiting - deque_len p.waiting)
           (deque_capacity p.flying - (deque_len p.flying + deque_len p.waiting));
     } };
@@ -51,12 +54,14 @@ impl Pipe {
         ensures waiting { result.waiting ≡ [] }
         ensures flying { result.flying ≡ [] }
         ensures epoch { result.epoch ≡ 0 }
+        ensures taken { result.taken ≡ 0 }
     {
         Pipe {
             alloc,
             waiting: VecDeque::new(alloc),
             flying: VecDeque::new(alloc),
             epoch: 0,
+            taken: 0,
         }
     }
 
@@ -65,6 +70,13 @@ impl Pipe {
         ensures { result ≡ self.now.epoch }
     {
         self.epoch
+    }
+
+    /// The number of parts taken in this epoch, or the greatest `u64` if there were more. It takes no memory.
+    pub fn taken(&self) -> u64
+        ensures { result ≡ self.now.taken }
+    {
+        self.taken
     }
 
     /// The number of parts that wait, at most 1,024. It takes no memory.
@@ -101,6 +113,7 @@ impl Pipe {
         ensures waiting { self.new.waiting ≡ self.old.waiting }
         ensures flying { self.new.flying ≡ self.old.flying }
         ensures epoch { self.new.epoch ≡ self.old.epoch }
+        ensures taken { self.new.taken ≡ self.old.taken }
     {
         self.waiting.reserve(more)?;
         self.flying.reserve(self.waiting.len() + more)?;
@@ -114,6 +127,7 @@ impl Pipe {
         ensures waiting { OnOk result (self.new.waiting ≡ self.old.waiting ++ part ∷ []) }
         ensures flying { self.new.flying ≡ self.old.flying }
         ensures epoch { self.new.epoch ≡ self.old.epoch }
+        ensures taken { self.new.taken ≡ self.old.taken }
         ensures full { IfErr result (λ e. (e.0 ≡ PipeRefusal.Full)
             ↔ (MAX_WAITING ≤ length self.old.waiting)) }
         ensures accepted { OnOk result (length self.old.waiting < MAX_WAITING) }
@@ -146,10 +160,13 @@ impl Pipe {
             → HasSent self.old sent count
             → HasSent self.new (sent ++ Some part.owner ∷ []) count) }
         ensures epoch { self.new.epoch ≡ self.old.epoch }
+        ensures taken { IfSome result
+            (λ part. self.new.taken ≡ min (self.old.taken + 1) (2 ^ 64 - 1)) }
         ensures room { self.old.room ≤ self.new.room }
     {
         let part = self.waiting.pop_front()?;
         self.flying.push_back_reserved(Some(part.owner));
+        self.taken = self.taken.saturating_add(1);
         Some(part)
     }
 
@@ -169,6 +186,7 @@ impl Pipe {
         ensures refused { IfErr result (λ e. (epoch ≢ self.old.epoch) ⊎ (self.old.flying ≡ [])) }
         ensures waiting { self.new.waiting ≡ self.old.waiting }
         ensures epoch { self.new.epoch ≡ self.old.epoch }
+        ensures taken { self.new.taken ≡ self.old.taken }
         ensures room { self.old.room ≤ self.new.room }
         ensures err { OnErr result (self.new.flying ≡ self.old.flying) }
     {
@@ -192,6 +210,7 @@ impl Pipe {
         ensures waiting { IfOk result (λ lost. lost.waiting.items ≡ map owner_in self.old.waiting) }
         ensures empty { OnOk result ((self.new.flying ≡ []) × (self.new.waiting ≡ [])) }
         ensures epoch { OnOk result (self.new.epoch ≡ self.old.epoch + 1) }
+        ensures taken { OnOk result (self.new.taken ≡ 0) }
         ensures room { self.old.room ≤ self.new.room }
         ensures stale { IsErrOf result (PipeRefusal.Stale self.old.epoch)
             ↔ (epoch ≢ self.old.epoch) }
@@ -216,6 +235,7 @@ impl Pipe {
         self.waiting.clear();
         self.flying.clear();
         self.epoch = next;
+        self.taken = 0;
         Ok(Lost { flying, waiting })
     }
 
@@ -227,6 +247,7 @@ impl Pipe {
         ensures places { (sent : List (Option Owner)) (count : ℕ) → HasSent self.old sent count
             → HasSent self.new (map (forgotten_owner conn) sent) count }
         ensures epoch { self.new.epoch ≡ self.old.epoch }
+        ensures taken { self.new.taken ≡ self.old.taken }
         ensures room { self.old.room ≤ self.new.room }
     {
         forget_waiting(&mut self.waiting, conn);

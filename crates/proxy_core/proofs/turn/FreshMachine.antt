@@ -8,12 +8,12 @@ use Rattle.ejector.specs.Settings.{first_fault}
 use Rattle.ejector.specs.Ejector.{Ejection}
 use Rattle.ejector.specs.Opening.{IsOpening}
 use Rattle.ejector.proofs.CallerLemmas.{opening_first}
+use Rattle.upstream_pipe.specs.Pipe.{PipeState}
 use Rattle.proxy_history.specs.Setting.{Setting, hosts}
 use Rattle.proxy_history.specs.Past.{past}
 use Rattle.proxy_core.specs.Pipelines.{state_of, pipeline_of, pipelines_of, no_pipeline}
 use Rattle.proxy_core.specs.Machine.{setting_in, IsKept}
 use Rattle.proxy_core.specs.declared.machine.Machine.{Machine}
-use Rattle.proxy_core.specs.declared.state.pipeline.Pipeline.{Pipeline}
 use Rattle.proxy_core.proofs.turn.IsMadeLemmas.{kept_so, same_fields}
 
 all_fresh : (S : Setting) (a n : ℕ) → map (pipeline_of (past S [])) (range_with_len a n) ≡ replicate n no_pipeline
@@ -32,7 +32,7 @@ fresh_kept m steps bytes connections closed pipelines same found fault allowed =
     bytes connections closed (pipelines ∙ ap (λ n. replicate n no_pipeline) (sym same) ∙ sym (all_fresh S 0 (hosts S))) now)
     same fault opening
 
--- a fresh pipeline more
-pub fresh_more : (ps : List Pipeline) (p : Pipeline) (n : ℕ) → map state_of ps ≡ replicate n no_pipeline → state_of p ≡ no_pipeline
+-- a fresh pipe more
+pub fresh_more : (ps : List PipeState) (p : PipeState) (n : ℕ) → map state_of ps ≡ replicate n no_pipeline → state_of p ≡ no_pipeline
     → map state_of (ps ++ p ∷ []) ≡ replicate (n + 1) no_pipeline
 fresh_more ps p n e f = map-append state_of ps (p ∷ []) ∙ rw (e, f) (replicate_more n no_pipeline)

@@ -1,5 +1,5 @@
 //! A part is sent to its host.
-ghost use Rattle.std.specs.Prelude.{◌≡◌, ◌<◌, ◌+◌, ◌^◌, length, IfOk, IfErr};
+ghost use Rattle.std.specs.Prelude.{◌≡◌, ◌<◌, ◌+◌, ◌^◌, ◌≢◌, [], length, IfOk, IfErr, OnOk};
 ghost use Rattle.proxy_history.specs.Setting.{hosts};
 ghost use Rattle.proxy_history.specs.declared.answer.Answer.TheVariants as answers;
 ghost use Rattle.proxy_history.specs.declared.event.Event.TheVariants as events;
@@ -11,6 +11,7 @@ use crate::machine::{Done, Machine, make_room};
 use crate::refused::Refused;
 use bytes::Bytes;
 use proxy_history::{Answer, Event, Refusal};
+use upstream_pipe::Part;
 
 impl Machine {
     /// A turn in which a part is taken.
@@ -41,7 +42,9 @@ impl Machine {
     {
         let shared = self.ready_to_take(host)?;
         let (epoch, place) = (self.pipelines.epoch(host), self.pipelines.taken(host));
-        let text = self.pipelines.take(host);
+        let Some(Part { text, .. }) = self.pipelines.take(host) else {
+            unreachable!()
+        };
         let bytes = text.len() as u64;
         let recorded = Answer::Sent {
             epoch,
@@ -61,6 +64,8 @@ impl Machine {
         ensures ready { IfOk result
             (λ text. (text ≡ text_in (memory_in self.old) (events.Taken host))
             × IsReady self.old self.new (events.Taken host)) }
+        ensures waits { OnOk result
+            ((pipeline_at host self.new.pipelines.states).waiting ≢ []) }
         ensures refused { IfErr result (λ r. IsSame self.old self.new
             × HasCauseIn self.old (events.Taken host) r) }
     {

@@ -1,26 +1,24 @@
-//! The pipelines by the numbers of their hosts.
-ghost use Rattle.std.specs.Prelude.{◌≡◌, ◌≢◌, ℕ, ◌+◌, ◌-◌, ◌<◌, ◌≤◌, ◌^◌, [], length, map, get_or, slice_get, replicate, IfOk, IfErr, OnOk, OnErr};
+//! The pipes by the numbers of their hosts.
+ghost use Rattle.std.specs.Prelude.{◌≡◌, ◌≢◌, ℕ, ◌+◌, ◌-◌, ◌<◌, ◌≤◌, ◌^◌, [], length, map, get_or, slice_get, replicate, IfSome, IfNone, IfOk, IfErr, OnOk, OnErr};
 ghost use Rattle.std.specs.Option.{option_copied};
 ghost use Rattle.upstream_pipe.specs.Pipe.{owner_in};
 ghost use Rattle.list_lemmas.specs.Lists.{list_of};
 ghost use Rattle.proxy_core.specs.Places.{one_at};
 ghost use Rattle.proxy_core.specs.Arrivals.{HaveRoom, MayWait, pushed_all, pushed_at, piped_as};
-ghost use Rattle.proxy_core.specs.Pipelines.{HasRooms, answered_by, failed_pipeline, next_owner, no_pipeline, taken_from, with_pipeline, without_connection, pipeline_at, text_of_oldest};
+ghost use Rattle.proxy_core.specs.Pipelines.{HasRooms, answered_by, failed_pipeline, next_owner, no_pipeline, taken_from, with_pipeline, without_connection, pipeline_at};
 
-use crate::state::pipeline::Pipeline;
 use crate::state::place::{Place, Placed};
-use bytes::Bytes;
 use proxy_history::Refusal;
 use std::alloc::{AllocError, Global};
 use std::marker::Model;
-use upstream_pipe::{Lost, Owner, Part, PipeRefusal};
+use upstream_pipe::{Lost, Owner, Part, Pipe, PipeRefusal};
 
-/// The pipelines by the numbers of their hosts, which count from 0.
+/// The pipes by the numbers of their hosts, which count from 0.
 ///
 /// Contracts see the state of each, and the number of further parts that it has room for.
 #[derive(Drop)]
 pub(crate) struct Pipelines {
-    by_host: Vec<Pipeline>,
+    by_host: Vec<Pipe>,
 }
 
 impl Model for Pipelines {
@@ -32,13 +30,13 @@ impl Model for Pipelines {
 }
 
 impl Pipelines {
-    /// A new pipeline for each host.
+    /// A new pipe for each host.
     pub(crate) fn new(alloc: Global, hosts: usize) -> Result<Pipelines, AllocError>
         ensures { IfOk result (λ p. p.states ≡ replicate hosts no_pipeline) }
     {
         let mut by_host = Vec::with_capacity(alloc, hosts)?;
         for _ in 0..hosts {
-            by_host.push_reserved(Pipeline::new(alloc));
+            by_host.push_reserved(Pipe::new(alloc));
         }
         Ok(Pipelines { by_host })
     }
@@ -55,7 +53,7 @@ impl Pipelines {
         requires { host < length self.now.states }
         ensures { result ≡ (pipeline_at host self.now.states).epoch }
     {
-        self.by_host[host].pipe.epoch()
+        self.by_host[host].epoch()
     }
 
     /// The number of parts that wait for a host.
@@ -63,7 +61,7 @@ impl Pipelines {
         requires { host < length self.now.states }
         ensures { result ≡ length (pipeline_at host self.now.states).waiting }
     {
-        self.by_host[host].pipe.waiting()
+        self.by_host[host].waiting()
     }
 
     /// The number of parts that fly to a host.
@@ -71,7 +69,7 @@ impl Pipelines {
         requires { host < length self.now.states }
         ensures { result ≡ length (pipeline_at host self.now.states).flying }
     {
-        self.by_host[host].pipe.flying()
+        self.by_host[host].flying()
     }
 
     /// The number of parts taken for a host in its epoch.
@@ -79,7 +77,7 @@ impl Pipelines {
         requires { host < length self.now.states }
         ensures { result ≡ (pipeline_at host self.now.states).taken }
     {
-        self.by_host[host].taken
+        self.by_host[host].taken()
     }
 
     /// The oldest part that waits for a host, if there is one.
@@ -87,7 +85,7 @@ impl Pipelines {
         requires { host < length self.now.states }
         ensures { option_copied result ≡ slice_get (pipeline_at host self.now.states).waiting 0 }
     {
-        self.by_host[host].pipe.oldest()
+        self.by_host[host].oldest()
     }
 
     /// Reserves room for this many more parts of each host. Refused 1001 (no memory): only room has changed.
@@ -111,7 +109,10 @@ impl Pipelines {
         ensures refused { IfErr result (λ r. r ≡ Refusal.NoMemory) }
         ensures same { self.new.states ≡ self.old.states }
     {
-        self.by_host[host].reserve(parts)
+        match self.by_host[host].room(parts) {
+            Ok(()) => Ok(()),
+            Err(_) => Err(Refusal::NoMemory),
+        }
     }
 
     /// Queues a command's parts that are to wait, each for its host. There must be room.
@@ -138,19 +139,25 @@ impl Pipelines {
                 command,
                 part: placed.number,
             };
-            self.by_host[host].push(Part {
+            let part = Part {
                 owner,
                 text: placed.text,
-            });
+            };
+            match self.by_host[host].push(part) {
+                Ok(()) => {}
+                Err(_) => unreachable!(),
+            }
         }
     }
 
-    /// Takes the oldest part that waits for a host, and returns its text, which is empty if none waits.
-    pub(crate) fn take(&mut self, host: usize) -> Bytes
+    /// Takes the oldest part that waits for a host, if there is one.
+    pub(crate) fn take(&mut self, host: usize) -> Option<Part>
         requires host { host < length self.old.states }
         requires taken { (pipeline_at host self.old.states).taken + 1 < 2 ^ 64 }
-        ensures text { result ≡ text_of_oldest (pipeline_at host self.old.states).waiting }
-        ensures taken { self.new.states ≡ with_pipeline taken_from host self.old.states }
+        ensures part { result ≡ slice_get (pipeline_at host self.old.states).waiting 0 }
+        ensures taken { IfSome result
+            (λ part. self.new.states ≡ with_pipeline taken_from host self.old.states) }
+        ensures none { IfNone result (self.new.states ≡ self.old.states) }
     {
         self.by_host[host].take()
     }
@@ -164,7 +171,10 @@ impl Pipelines {
         ensures owner { list_of result ≡ next_owner (pipeline_at host self.old.states).flying }
         ensures answered { self.new.states ≡ with_pipeline answered_by host self.old.states }
     {
-        self.by_host[host].answer(epoch)
+        match self.by_host[host].answered(epoch) {
+            Ok(owner) => owner,
+            Err(_) => unreachable!(),
+        }
     }
 
     /// Takes out all parts of a host, which are lost by a fault in this epoch; it must be the host's present one.
@@ -181,7 +191,7 @@ impl Pipelines {
             ≡ with_pipeline failed_pipeline host self.old.states) }
         ensures err { OnErr result (self.new.states ≡ self.old.states) }
     {
-        self.by_host[host].fail(epoch)
+        self.by_host[host].fault(epoch)
     }
 
     /// Forgets a closed connection: its waiting parts are dropped, and the replies to its flying ones are discarded.
