@@ -74,38 +74,43 @@ fn run_serve<R: Runtime + AllocGlobal + ServeRuntime + RandomSource + Files<File
             return BAD_SETTINGS;
         }
     };
+    match serve_by(rt, config, log, connections, metrics) {
+        Ok(()) => 0,
+        Err(stop) => stopped(rt, log, stop),
+    }
+}
+
+// Serves clients by these settings until the server ends.
+fn serve_by<R: Runtime + AllocGlobal + ServeRuntime + RandomSource + Files<File = File>>(
+    rt: &R,
+    config: Config,
+    log: Log,
+    connections: u64,
+    metrics: Option<SocketAddr>,
+) -> Result<(), Stop>
+    requires { AreRingParts config.hosts.items config.weights.items }
+{
     let listener = match TcpListener::bind(rt, config.listen) {
         Ok(listener) => listener,
         Err(error) => {
-            return stopped(
-                rt,
-                log,
-                Stop::socket_at("cannot listen on", config.listen, error),
-            );
+            return Err(Stop::socket_at("cannot listen on", config.listen, error));
         }
     };
-    let admin = match admin(rt, metrics) {
-        Ok(admin) => admin,
-        Err(stop) => return stopped(rt, log, stop),
-    };
     let options = Options {
-        admin,
+        admin: admin(rt, metrics)?,
         status: File::open(rt, "/proc/self/status").ok(),
         connections,
         marks: Marks::FULL,
         log,
     };
-    match serve(
+    serve(
         rt,
         rt.alloc(),
         listener,
         config,
         options,
         &mut io::writer(rt),
-    ) {
-        Ok(()) => 0,
-        Err(stop) => stopped(rt, log, stop),
-    }
+    )
 }
 
 // The operator's listener, if one is wanted.

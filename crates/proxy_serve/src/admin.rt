@@ -179,25 +179,10 @@ impl AdminListener {
             visitors: Slab::new(alloc),
         }
     }
-}
 
-/// The work of the operator's thread.
-#[derive(Drop)]
-pub(crate) struct AdminWork<'a> {
-    pub(crate) listener: AdminListener,
-    pub(crate) server: &'a Server,
-    pub(crate) config: &'a Config,
-}
-
-impl<'a> AdminWork<'a> {
-    /// Answers until the server ends.
-    pub(crate) fn run<R: ServeRuntime>(self, rt: &R) {
-        let AdminWork {
-            listener,
-            server,
-            config,
-        } = self;
-        let mut visits = listener.into_visits();
+    /// Answers visitors until the server ends.
+    pub(crate) fn run<R: ServeRuntime>(self, rt: &R, server: &Server, config: &Config) {
+        let mut visits = self.into_visits();
         visits.serve(rt, server, config);
     }
 }

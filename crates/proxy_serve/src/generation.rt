@@ -189,22 +189,26 @@ fn make_polls<R: Net>(rt: &R, alloc: Global, workers: usize, hosts: usize) -> Re
     Ok(all)
 }
 
-/// A generation to open.
-#[derive(Drop)]
-pub(crate) struct GenerationOptions<'a> {
+/// What all generations share.
+#[derive(Clone, Copy, Drop)]
+pub(crate) struct ServerContext<'a> {
     pub(crate) server: &'a Server,
     pub(crate) config: &'a Config,
     pub(crate) marks: Marks,
-    pub(crate) due: Due<Inherited>,
 }
 
 /// Opens the generation and serves until its threads have ended. Its counts are added to the server's. If it can't be
 /// opened, this is reported to the server.
-pub(crate) fn run_generation<R: ServeRuntime>(rt: &R, alloc: Global, options: GenerationOptions<'_>)
-    requires { AreRingParts options.config.now.hosts.items options.config.now.weights.items }
+pub(crate) fn run_generation<R: ServeRuntime>(
+    rt: &R,
+    alloc: Global,
+    context: ServerContext<'_>,
+    due: Due<Inherited>,
+)
+    requires { AreRingParts context.config.now.hosts.items context.config.now.weights.items }
 {
-    let (server, number) = (options.server, options.due.number);
-    if let Err(stop) = serve_generation(rt, alloc, options) {
+    let (server, number) = (context.server, due.number);
+    if let Err(stop) = serve_generation(rt, alloc, context, due) {
         if server.has_opened(number) {
             server.end(rt, stop);
         } else {
@@ -217,16 +221,16 @@ pub(crate) fn run_generation<R: ServeRuntime>(rt: &R, alloc: Global, options: Ge
 fn serve_generation<R: ServeRuntime>(
     rt: &R,
     alloc: Global,
-    options: GenerationOptions<'_>,
+    context: ServerContext<'_>,
+    due: Due<Inherited>,
 ) -> Result<(), Stop>
-    requires { AreRingParts options.config.now.hosts.items options.config.now.weights.items }
+    requires { AreRingParts context.config.now.hosts.items context.config.now.weights.items }
 {
-    let GenerationOptions {
+    let ServerContext {
         server,
         config,
         marks,
-        due,
-    } = options;
+    } = context;
     let Due { number, from } = due;
     let (from, average) = match from {
         None => (None, 0),

@@ -2,8 +2,8 @@
 ghost use Rattle.std.specs.Prelude.{◌≤◌, length};
 ghost use Rattle.proxy_config.specs.RingParts.{AreRingParts};
 
-use crate::admin::{Admin, AdminListener, AdminWork};
-use crate::generation::{GenerationOptions, ServeRuntime, run_generation};
+use crate::admin::{Admin, AdminListener};
+use crate::generation::{ServeRuntime, ServerContext, run_generation};
 use crate::log::{Level, Log};
 use crate::server::Server;
 use crate::stop::Stop;
@@ -296,7 +296,12 @@ fn serve_with<R: ServeRuntime, W: Write>(
     let admin = AdminListener::open(rt, alloc, admin)?;
     let mut acceptor = Acceptor::new(poll, listener, config.listen, &server, status);
     acceptor.tell_start(rt, config);
-    serve_on(rt, alloc, acceptor, admin, &server, config, marks)?;
+    let context = ServerContext {
+        server: &server,
+        config,
+        marks,
+    };
+    serve_on(rt, alloc, acceptor, admin, context)?;
     finish(rt, &server, output)
 }
 
@@ -331,27 +336,22 @@ fn serve_on<R: ServeRuntime>(
     alloc: Global,
     mut acceptor: Acceptor<'_>,
     admin: Option<AdminListener>,
-    server: &Server,
-    config: &Config,
-    marks: Marks,
+    context: ServerContext<'_>,
 ) -> Result<(), Stop>
-    requires { AreRingParts config.now.hosts.items config.now.weights.items }
+    requires { AreRingParts context.config.now.hosts.items context.config.now.weights.items }
 {
+    let (server, config) = (context.server, context.config);
     let mut events = Events::with_capacity(alloc, 4)?;
     thread::scope(
         thread::scope_env(),
         rt,
         |scope|
-            requires { AreRingParts config.now.hosts.items config.now.weights.items }
+            requires { AreRingParts context.config.now.hosts.items
+                context.config.now.weights.items }
         {
             let mut threads = GenerationThreads::new();
-            if let Some(listener) = admin {
-                let work = AdminWork {
-                    listener,
-                    server,
-                    config,
-                };
-                if scope.spawn(move || work.run(rt)).is_err() {
+            if let Some(admin) = admin {
+                if scope.spawn(move || admin.run(rt, server, config)).is_err() {
                     server.end(rt, Stop::from(Ending::Memory));
                 }
             }
@@ -362,17 +362,11 @@ fn serve_on<R: ServeRuntime>(
                 if let Some(due) = server.take_due(rt) {
                     let number = due.number;
                     threads.make_room(rt, server);
-                    let options = GenerationOptions {
-                        server,
-                        config,
-                        marks,
-                        due,
-                    };
                     let begun = scope.spawn(
                         move ||
-                            requires { AreRingParts options.config.now.hosts.items
-                                options.config.now.weights.items }
-                        { run_generation(rt, alloc, options) },
+                            requires { AreRingParts context.config.now.hosts.items
+                                context.config.now.weights.items }
+                        { run_generation(rt, alloc, context, due) },
                     );
                     match begun {
                         Ok(handle) => threads.add(number, handle),
