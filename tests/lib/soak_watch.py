@@ -74,8 +74,8 @@ class Ejections:
     """The hosts that are ejected, by the proxy's lines and numbers, and the rule by which they return.
 
     An ejection lasts `base_ms` times a multiplier, which isn't greater than the number of the host's ejections, and it ends at a
-    sweep. A host that still fails is ejected anew, so its time counts from the end of its fault. A line is missing where a host
-    comes or goes just at a change of generation, so numbers tell too.
+    sweep. A host that still fails is ejected anew, so its time counts from the end of its fault. Numbers tell too, since a
+    host may come and go between two looks.
     """
 
     def __init__(self, proxy, troubles, settings):

@@ -143,7 +143,7 @@ fn tasks<'a, R: Wait>(
         place = place.saturating_add(1);
     }
     let seat = seat(rt, gate, spare)?;
-    tasks.push(Task::Sweep(SweepThread::new(context, seat, wakers)?))?;
+    tasks.push(Task::Sweep(SweepThread::new(context, seat, wakers)))?;
     Ok(tasks)
 }
 

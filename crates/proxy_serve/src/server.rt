@@ -13,9 +13,9 @@ use proxy_core::Handover;
 use proxy_generations::{Due, Generations, Phase};
 use proxy_histogram::Histogram;
 use proxy_pages::Snapshot;
-use proxy_serve_core::Sockets;
+use proxy_serve_core::{EjectionLog, Sockets};
 use proxy_stats::{Counts, Sight};
-use std::alloc::{AllocFailed, Global};
+use std::alloc::Global;
 use std::collections::VecDeque;
 use std::sync::atomic::{AtomicBool, Ordering};
 use std::sync::{Mutex, MutexGuard, Wait};
@@ -53,6 +53,7 @@ pub(crate) struct Server {
     generations: Mutex<Generations<Inherited>>,
     board: Board,
     stats: Mutex<Stats>,
+    ejections: Mutex<EjectionLog>,
 }
 
 // Written out so that a drop is one call: each function that holds one is proved sooner.
@@ -69,6 +70,7 @@ impl Drop for Server {
             generations: _,
             board: _,
             stats: _,
+            ejections: _,
         } = self;
     }
 }
@@ -81,7 +83,7 @@ impl Server {
         waker: Waker,
         connections: u64,
         log: Log,
-    ) -> Result<Server, AllocFailed<AcceptQueue>> {
+    ) -> Result<Server, Stop> {
         let mut queues = Vec::new(alloc);
         let interval_ms = u64::from(config.interval_ms);
         for _ in 0..config.workers {
@@ -102,6 +104,7 @@ impl Server {
             generations: Mutex::new(Generations::new(interval_ms, MAX_FAILURES)),
             board: Board::new(),
             stats: Mutex::new(Stats::new()),
+            ejections: Mutex::new(EjectionLog::new(alloc, config.hosts.len())?),
         })
     }
 
@@ -362,6 +365,11 @@ impl Server {
     /// Records the sight of a living generation.
     pub(crate) fn looked<R: Wait>(&self, rt: &R, number: u64, sight: &Sight) {
         self.stats.lock(rt).looked(number, sight);
+    }
+
+    /// What the log says of ejected hosts.
+    pub(crate) fn ejections<R: Wait>(&self, rt: &R) -> MutexGuard<'_, EjectionLog> {
+        self.ejections.lock(rt)
     }
 
     /// Records that a generation is gone, with its counts and steps.

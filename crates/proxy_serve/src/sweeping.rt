@@ -3,7 +3,7 @@
 use crate::counted_turns::CountedTurns;
 use crate::generation::ThreadContext;
 use crate::generation_state::GenerationState;
-use crate::log::Level;
+use crate::log::{Level, Log};
 use crate::server::Inherited;
 use crate::stop::Stop;
 use crate::worker::now;
@@ -14,7 +14,7 @@ use proxy_exit_status::Ending;
 use proxy_generations::{Marks, Phase};
 use proxy_serve_core::Refusals;
 use proxy_stats::{CountedSeat, Sight};
-use std::alloc::AllocError;
+use std::net::SocketAddr;
 use std::rt::Clock;
 use std::sync::Wait;
 use std::time::Duration;
@@ -34,9 +34,7 @@ pub(crate) struct SweepThread<'a> {
     wakers: Vec<Waker>,
     // Consecutive sweeps without memory.
     refusals: Refusals,
-    // Whether each host was ejected at the last look.
-    are_out: Vec<bool>,
-    // The number of commands that the hosts had answered then.
+    // The number of commands that the hosts had answered at the last look.
     answered: u64,
 }
 
@@ -50,35 +48,33 @@ impl Drop for SweepThread<'_> {
             marks: _,
             wakers: _,
             refusals: _,
-            are_out: _,
             answered: _,
         } = self;
     }
 }
 
 impl<'a> SweepThread<'a> {
-    /// A thread that hasn't looked yet. Refused where there is no memory.
+    /// A thread that hasn't looked yet.
     pub(crate) fn new(
         context: ThreadContext<'a>,
         seat: CountedSeat<'a>,
         wakers: Vec<Waker>,
-    ) -> Result<SweepThread<'a>, AllocError> {
+    ) -> SweepThread<'a> {
         let ThreadContext {
-            alloc,
+            alloc: _,
             generation,
             config,
             marks,
         } = context;
-        Ok(SweepThread {
+        SweepThread {
             turns: CountedTurns::new(seat),
             generation,
             config,
             marks,
             wakers,
             refusals: Refusals::new(),
-            are_out: vec![in alloc; false; config.hosts.len()]?,
             answered: 0,
-        })
+        }
     }
 
     /// Opens the generation once all its threads have come. Sweeps until that is drained or the server ends, or ends
@@ -94,7 +90,7 @@ impl<'a> SweepThread<'a> {
 
     // The operator's pages show what the newest open generation recorded last, so it looks before it opens.
     fn open_and_sweep<R: Wait + Clock + Eprint>(&mut self, rt: &R) -> Result<(), Stop> {
-        self.note_first(rt)?;
+        self.sight(rt)?;
         self.open(rt);
         self.sweep_on(rt)
     }
@@ -165,16 +161,6 @@ impl<'a> SweepThread<'a> {
         }
     }
 
-    // Hosts ejected by an earlier generation aren't logged again.
-    fn note_first<R: Wait>(&mut self, rt: &R) -> Result<(), Stop> {
-        let Sight { handover, .. } = self.sight(rt)?;
-        let hosts = handover.rules().hosts;
-        for (host, was_out) in self.are_out.iter_mut().enumerate() {
-            *was_out = host < hosts && handover.is_out(host);
-        }
-        Ok(())
-    }
-
     // Looks at the core. A draining generation reports that hosts still answer; a serving one logs ejections and
     // reports a journal that is nearly full. Owed steps count as steps.
     fn look<R: Wait + Eprint>(&mut self, rt: &R, phase: Phase, moment: u64) -> Result<(), Stop> {
@@ -192,9 +178,7 @@ impl<'a> SweepThread<'a> {
             }
             return Ok(());
         }
-        for host in 0..self.are_out.len() {
-            self.tell(rt, &handover, host);
-        }
+        self.log_ejections(rt, &handover);
         let (server, number) = (self.generation.server(), self.generation.number());
         let steps = handover.steps().max(self.generation.spent(rt));
         let bytes = handover.bytes();
@@ -210,25 +194,29 @@ impl<'a> SweepThread<'a> {
         Ok(())
     }
 
-    fn tell<R: Eprint>(&mut self, rt: &R, sight: &Handover, host: usize) {
-        let (Some(was_out), Some(entry)) = (self.are_out.get_mut(host), self.config.hosts.get(host))
-        else {
-            return;
-        };
-        if host >= sight.rules().hosts {
-            return;
+    // Logs each host that has been ejected or has returned since the last look of any generation.
+    fn log_ejections<R: Wait + Eprint>(&self, rt: &R, sight: &Handover) {
+        let (server, number) = (self.generation.server(), self.generation.number());
+        let mut ejections = server.ejections(rt);
+        let hosts = sight.rules().hosts;
+        for (host, entry) in self.config.hosts.iter().enumerate() {
+            if host >= hosts {
+                return;
+            }
+            let is_out = sight.is_out(host);
+            if ejections.is_news(number, host, is_out) {
+                log_ejection(rt, server.log(), entry.address, is_out);
+            }
         }
-        let is_out = sight.is_out(host);
-        let address = entry.address;
-        let log = self.generation.server().log();
-        if is_out && !*was_out {
-            let tag = log.tag(Level::Warning);
-            let _ = eprintln!(rt; "{tag}redproxy: host {address} is put aside");
-        }
-        if !is_out && *was_out {
-            let tag = log.tag(Level::Notice);
-            let _ = eprintln!(rt; "{tag}redproxy: host {address} is back");
-        }
-        *was_out = is_out;
+    }
+}
+
+fn log_ejection<R: Eprint>(rt: &R, log: Log, address: SocketAddr, is_out: bool) {
+    if is_out {
+        let tag = log.tag(Level::Warning);
+        let _ = eprintln!(rt; "{tag}redproxy: host {address} is put aside");
+    } else {
+        let tag = log.tag(Level::Notice);
+        let _ = eprintln!(rt; "{tag}redproxy: host {address} is back");
     }
 }

@@ -1,3 +1,4 @@
 pub mod WriteBuffer
 pub mod Sockets
 pub mod Assignment
+pub mod EjectionLog
