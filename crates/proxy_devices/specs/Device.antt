@@ -22,7 +22,7 @@ pub record HasFailed (old new : Counts) : Type 0 where
   pub paused : new.paused ≡ old.paused
 
 -- one pause more, and no fault
-pub record HasPaused (old new : Counts) : Type 0 where
+pub record WasIdle (old new : Counts) : Type 0 where
   pub failed : new.failed ≡ old.failed
   pub paused : HasRisen old.paused new.paused
 
@@ -36,7 +36,7 @@ abbrev pub IsRead : Option (List ℕ) → Option (List ℕ) → Counts → Count
 IsRead old new counts counts' buffer (Told.Moved n) =
     (0 < n) × (n ≤ length buffer) × Consumes old new (take n buffer) × (counts' ≡ counts)
 IsRead old new counts counts' buffer Told.End = Keeps old new × IsAtEnd new × (counts' ≡ counts)
-IsRead old new counts counts' buffer Told.Paused = Keeps old new × HasPaused counts counts'
+IsRead old new counts counts' buffer Told.Idle = Keeps old new × WasIdle counts counts'
 IsRead old new counts counts' buffer Told.Failed = Keeps old new × HasFailed counts counts'
 
 -- what a write told: bytes were taken, or none were, for a pause or for a fault
@@ -44,7 +44,7 @@ abbrev pub IsWritten : Option (List ℕ) → Option (List ℕ) → Counts → Co
 IsWritten old new counts counts' bytes (Told.Moved n) =
     (0 < n) × (n ≤ length bytes) × Appends old new (take n bytes) × (counts' ≡ counts)
 IsWritten old new counts counts' bytes Told.End = Keeps old new × HasFailed counts counts'
-IsWritten old new counts counts' bytes Told.Paused = Keeps old new × HasPaused counts counts'
+IsWritten old new counts counts' bytes Told.Idle = Keeps old new × WasIdle counts counts'
 IsWritten old new counts counts' bytes Told.Failed = Keeps old new × HasFailed counts counts'
 
 -- an error that says no more than that there is nothing for now
@@ -53,7 +53,7 @@ IsPause kind = (kind ≡ WouldBlock) ⊎ (kind ≡ Interrupted)
 
 -- an error is counted as what it is, a pause or a fault
 abbrev pub CountsError : ErrorKind → Counts → Counts → Type 0
-CountsError kind counts counts' = (IsPause kind × HasPaused counts counts') ⊎ ((¬ IsPause kind) × HasFailed counts counts')
+CountsError kind counts counts' = (IsPause kind × WasIdle counts counts') ⊎ ((¬ IsPause kind) × HasFailed counts counts')
 
 -- what is counted of a read by its answer
 abbrev pub CountsRead : Result ℕ Error → Counts → Counts → Type 0

@@ -3,7 +3,7 @@ ghost use Rattle.std.specs.Prelude.{◌≡◌, ◌≢◌, ◌<◌, ◌⊎◌, �
 ghost use Rattle.std.specs.Io.{ReadsAtMost, WritesAtMost};
 ghost use Rattle.std.specs.Io.KnownBytes.{Keeps, ReadConsumes, WriteAppends};
 ghost use Rattle.proxy_devices.specs.Tallied.{counts_of};
-ghost use Rattle.proxy_devices.specs.Device.{Counts, CountsError, CountsRead, CountsWrite, HasFailed, HasPaused, IsPause, IsRead, IsWritten};
+ghost use Rattle.proxy_devices.specs.Device.{Counts, CountsError, CountsRead, CountsWrite, HasFailed, WasIdle, IsPause, IsRead, IsWritten};
 
 use std::io;
 use std::io::{ErrorKind, Read, Write};
@@ -30,7 +30,7 @@ pub enum Told {
     /// A read found the end of the input, or a write took nothing.
     End,
     /// Nothing for now: `WouldBlock` or `Interrupted`.
-    Paused,
+    Idle,
     /// Another error.
     Failed,
 }
@@ -94,16 +94,16 @@ impl<S> Tallied<S> {
     // Counts an error by its kind.
     fn told(&mut self, kind: ErrorKind) -> Told
         ensures inner { self.new.inner ≡ self.old.inner }
-        ensures told { ((result ≡ Told.Paused)
-            × HasPaused (counts_of self.old) (counts_of self.new))
+        ensures told { ((result ≡ Told.Idle)
+            × WasIdle (counts_of self.old) (counts_of self.new))
             ⊎ ((result ≡ Told.Failed) × HasFailed (counts_of self.old) (counts_of self.new)) }
-        ensures paused { (result ≡ Told.Paused) ↔ IsPause kind }
+        ensures idle { (result ≡ Told.Idle) ↔ IsPause kind }
         ensures counts { CountsError kind (counts_of self.old) (counts_of self.new) }
     {
         match kind {
             ErrorKind::WouldBlock | ErrorKind::Interrupted => {
                 self.pauses = self.pauses.saturating_add(1);
-                Told::Paused
+                Told::Idle
             }
             _ => {
                 self.failed();

@@ -2,9 +2,9 @@
 
 -- steps of others leave what a client carries, and what a host's engine carries
 pub use Rattle.proxy_engines.proofs.ClientLemmas.{others_leave_clients}
-pub use Rattle.proxy_engines.proofs.OtherLemmas.{others_leave_hosts}
+pub use Rattle.proxy_engines.proofs.LeaveOthersLemmas.{others_leave_hosts}
 -- steps of an engine are no other's
-pub use Rattle.proxy_engines.proofs.OtherLemmas.{clients_leave_others, hosts_leave_others}
+pub use Rattle.proxy_engines.proofs.LeaveOthersLemmas.{clients_leave_others, hosts_leave_others}
 -- what is accepted is the first of what the bytes ask
 pub use Rattle.proxy_engines.proofs.ClientLemmas.{accepted_are_first, accepted_first_of}
 -- a client that ended has accepted all, handed all out and written all
@@ -12,6 +12,6 @@ pub use Rattle.proxy_engines.proofs.ClientLemmas.{ended_is_whole}
 -- a socket over its connections
 pub use Rattle.proxy_engines.proofs.SocketLemmas.{socket_begins, socket_moves, socket_stays, socket_goes_over, socket_asks_in_order, socket_answers_in_order, socket_ends_whole}
 -- what engines hold may go to another thread
-pub use Rattle.proxy_engines.proofs.Crosses.{bytes_send, reader_send, request_send, rest_send}
+pub use Rattle.proxy_engines.proofs.SendLemmas.{bytes_send, reader_send, request_send, rest_send}
 -- turns that an engine made or didn't, and others after them
-pub use Rattle.proxy_engines.proofs.OwnLemmas.{keeps_same, keeps_then}
+pub use Rattle.proxy_engines.proofs.OwnHistoryLemmas.{keeps_same, keeps_then}

@@ -14,7 +14,7 @@ use Rattle.splitter.specs.Requests.{AreRequests, end_of, up_to_last}
 use Rattle.splitter.proofs.CallerLemmas as splits
 use Rattle.proxy_history.specs.History.{History}
 use Rattle.proxy_engines.specs.Ends.{InboxState, Holds, HoldsBehind}
-use Rattle.proxy_engines.specs.Client.{Client, Carries, IsFinished, IsAtStage, IsDone, IsOver, LastFinishes, asked_requests, waiting_requests}
+use Rattle.proxy_engines.specs.Client.{Client, Carries, IsFinished, IsAtStage, IsDone, IsOver, LastFinishes, asked_requests, waiting_requests, intake_of}
 use Rattle.proxy_engines.specs.Laws.{AcceptedAreFirst, EndedIsOver, EndedIsWhole, OthersLeaveClients}
 use Rattle.proxy_engines.specs.declared.client.Stage.{Stage}
 use Rattle.proxy_engines.proofs.ClientMoves.{carries_beside}
@@ -89,14 +89,14 @@ accepted_are_first e H taken b k rs are = accepted_first e H taken b k rs are
 
 pub ended_is_whole : EndedIsWhole
 ended_is_whole e H taken b k is unhalted rs are =
-    let at : IsFinished (asked_requests e.conn H) e.is_halted e.inbox e.next b k.given × IsDone e H = subst (λ (z : Stage). IsAtStage z (IsDone e H) (asked_requests e.conn H) e.is_halted e.inbox e.next b k.given) is k.stage_is in
+    let at : IsFinished (intake_of e H b k.given) × IsDone e H = subst (λ (z : Stage). IsAtStage z (IsDone e H) (intake_of e H b k.given)) is k.stage_is in
     record {
       accepted_are = by at.0;
       all_handed = sym k.handed_is ∙ sym at.1.all_handed ∙ k.accepted_is;
       taken_is = sym (append-nil taken) ∙ rw at.1.all_written at k.out_is;
     }
   where
-    by : IsFinished (asked_requests e.conn H) e.is_halted e.inbox e.next b k.given → asked_requests e.conn H ≡ up_to_last rs
+    by : IsFinished (intake_of e H b k.given) → asked_requests e.conn H ≡ up_to_last rs
     by (inl stays) =
         let given : k.given ≡ asked_requests e.conn H = k.given_are ∙ rw (stays.1.none_waits unhalted) (append-nil (asked_requests e.conn H)) in
         let all : AreRequests b k.given = rw k.most_is at (stays.1.all unhalted) in
@@ -108,14 +108,14 @@ ended_is_whole e H taken b k is unhalted rs are =
 
 pub ended_is_over : EndedIsOver
 ended_is_over e H taken b k is unhalted =
-    let at : IsFinished (asked_requests e.conn H) e.is_halted e.inbox e.next b k.given × IsDone e H = subst (λ (z : Stage). IsAtStage z (IsDone e H) (asked_requests e.conn H) e.is_halted e.inbox e.next b k.given) is k.stage_is in
+    let at : IsFinished (intake_of e H b k.given) × IsDone e H = subst (λ (z : Stage). IsAtStage z (IsDone e H) (intake_of e H b k.given)) is k.stage_is in
     by at.0
   where
     at_end : IsOver e.is_halted e.inbox → IsAtEnd e.inbox.left
     at_end (inl halted) = let no : true ≡ false = sym halted ∙ unhalted in absurd cc
     at_end (inr end) = end
 
-    by : IsFinished (asked_requests e.conn H) e.is_halted e.inbox e.next b k.given → IsAtEnd e.inbox.left ⊎ LastFinishes (asked_requests e.conn H)
+    by : IsFinished (intake_of e H b k.given) → IsAtEnd e.inbox.left ⊎ LastFinishes (asked_requests e.conn H)
     by (inl stays) = inl (at_end stays.1.end)
     by (inr last) = inr last
 

@@ -20,7 +20,7 @@ use Rattle.proxy_history.specs.declared.answer.Answer.{Answer}
 use Rattle.proxy_history.proofs.CallerLemmas as history
 use Rattle.proxy_engines.specs.Ends.{OutboxState, Sends, InboxState, Holds, HoldsBehind, HasGivenAll}
 use Rattle.journal_core.specs.Journal.{step_by}
-use Rattle.proxy_engines.specs.Client.{Client, Carries, Goes, IsAtStage, IsDone, IsHalted, IsLive, IsOver, IsToldAt, IsUntaken, NoneFinishes, asked_requests, waiting_requests}
+use Rattle.proxy_engines.specs.Client.{Client, Carries, Goes, IsAtStage, IsDone, IsHalted, IsLive, IsOver, IsToldAt, IsUntaken, NoneFinishes, asked_requests, waiting_requests, Intake, intake_of}
 use Rattle.proxy_engines.specs.Moves.{has_moved, AsTold, IsEndOf, last_text, text_handed, told_by_step}
 use Rattle.proxy_engines.proofs.MoveLemmas.{end_then, has_moved-append, whole_end}
 use Rattle.proxy_engines.proofs.InboxLemmas.{behind_all, behind_kept, behind_more, behind_read}
@@ -152,17 +152,17 @@ goes_told a b c x y z (Some n) p q = goes_some a b c x y z p.0 n p.1 q
 -- STAGES
 
 stage_at : (s : Stage) (e : Client) (H : History) (b : List ℕ) (given : List Request) → e.stage ≡ s
-    → IsAtStage e.stage (IsDone e H) (asked_requests e.conn H) e.is_halted e.inbox e.next b given → IsAtStage s (IsDone e H) (asked_requests e.conn H) e.is_halted e.inbox e.next b given
-stage_at s e H b given is at = subst (λ (z : Stage). IsAtStage z (IsDone e H) (asked_requests e.conn H) e.is_halted e.inbox e.next b given) is at
+    → IsAtStage e.stage (IsDone e H) (intake_of e H b given) → IsAtStage s (IsDone e H) (intake_of e H b given)
+stage_at s e H b given is at = subst (λ (z : Stage). IsAtStage z (IsDone e H) (intake_of e H b given)) is at
 
 -- a live stage doesn't look at whether all is done
-live_stage : (s : Stage) (D E : Type 0) (asks : List Request) (d : Bool) (i : InboxState) (next : Option Request') (b : List ℕ) (given : List Request) → IsLive s
-    → IsAtStage s D asks d i next b given → IsAtStage s E asks d i next b given
-live_stage Stage.Open D E asks d i next b given live at = at
-live_stage Stage.AtEnd D E asks d i next b given live at = at
-live_stage Stage.Finishing D E asks d i next b given live at = at
-live_stage Stage.Failed D E asks d i next b given live at = absurd live
-live_stage (Stage.Closed cut) D E asks d i next b given live at = absurd live
+live_stage : (s : Stage) (D E : Type 0) (x : Intake) → IsLive s
+    → IsAtStage s D x → IsAtStage s E x
+live_stage Stage.Open D E x live at = at
+live_stage Stage.AtEnd D E x live at = at
+live_stage Stage.Finishing D E x live at = at
+live_stage Stage.Failed D E x live at = absurd live
+live_stage (Stage.Closed cut) D E x live at = absurd live
 
 -- while requests are taken nothing was halted
 open_unhalted : (e : Client) (H : History) {A : Type 0} → e.stage ≡ Stage.Open → (e.is_halted ≡ true → IsHalted e H) → e.is_halted ≡ true → A
@@ -187,7 +187,7 @@ module _ (e : Client) (pass : ℕ) (H : History) (t : List ℕ) where
         given_are = rw same k.given_are;
         accepted_is = k.accepted_is;
         handed_is = rw mine (omega (arith, k.handed_is, few, history.times-length (is_handing e.conn) H));
-        stage_is = rw same (live_stage e.stage (IsDone e H) _ (asked_requests e.conn H) e.is_halted e.inbox e.next b k.given live k.stage_is);
+        stage_is = rw same (live_stage e.stage (IsDone e H) _ (intake_of e H b k.given) live k.stage_is);
         halted_is = λ h. let x = k.halted_is h in record { drained = x.drained; stage = x.stage; unbroken = x.unbroken; goes_on = rw same x.goes_on };
         told_is = k.told_is;
       }
@@ -207,8 +207,8 @@ pub record IsQuiet (c : ℕ) (s : Step) (H : History) : Type 0 where
   pub no_text : text_handed s.event s.answer ≡ None
 
 quiet_goes : (e : Client) (stage : Stage) (s : Step) (H : History) → stage ≢ Stage.Open → IsQuiet e.conn s H
-    → ((b : List ℕ) (given : List Request) → IsAtStage e.stage (IsDone e H) (asked_requests e.conn H) e.is_halted e.inbox e.next b given
-    → IsAtStage stage (IsDone (record e { stage = stage }) (s ∷ H)) (asked_requests e.conn H) e.is_halted e.inbox e.next b given)
+    → ((b : List ℕ) (given : List Request) → IsAtStage e.stage (IsDone e H) (intake_of e H b given)
+    → IsAtStage stage (IsDone (record e { stage = stage }) (s ∷ H)) (intake_of e H b given))
     → (IsToldAt e.stage (is_finishing e.conn H) (is_closed e.conn H) → IsToldAt stage (is_finishing e.conn (s ∷ H)) (is_closed e.conn (s ∷ H)))
     → Goes e (record e { stage = stage }) H (s ∷ H) true
 quiet_goes e stage s H past q f told = turn_goes e (record e { stage = stage }) H s q.mine (rw q.no_text (whole_end e.outbox.pending)) (untaken e (record e { stage = stage }) refl refl) refl refl refl refl refl (λ taken b k. record {
@@ -301,7 +301,7 @@ wrote_goes e o gave H moved live sends told = record {
     given_are = k.given_are;
     accepted_is = k.accepted_is;
     handed_is = k.handed_is;
-    stage_is = live_stage e.stage (IsDone e H) _ (asked_requests e.conn H) e.is_halted e.inbox e.next b k.given live k.stage_is;
+    stage_is = live_stage e.stage (IsDone e H) _ (intake_of e H b k.given) live k.stage_is;
     halted_is = λ h. let x = k.halted_is h in record { drained = x.drained; stage = x.stage; unbroken = x.unbroken; goes_on = x.goes_on };
     told_is = k.told_is;
   });
@@ -315,7 +315,7 @@ module _ (e : Client) (r : Request') (pass : ℕ) (H : History) (a : Answer) (op
 
   arrived_as : (stage : Stage)
       → ((b : List ℕ) (given : List Request) → NoneFinishes (asked_requests e.conn H)
-      → IsAtStage stage (IsDone (record e { next = None; accepted = min (e.accepted + 1) (2 ^ 64 - 1); stage = stage }) (step_by pass (Event.Arrived e.conn r) a ∷ H)) (asked_requests e.conn (step_by pass (Event.Arrived e.conn r) a ∷ H)) e.is_halted e.inbox None b given)
+      → IsAtStage stage (IsDone (record e { next = None; accepted = min (e.accepted + 1) (2 ^ 64 - 1); stage = stage }) (step_by pass (Event.Arrived e.conn r) a ∷ H)) (intake_of (record e { next = None; accepted = min (e.accepted + 1) (2 ^ 64 - 1); stage = stage }) (step_by pass (Event.Arrived e.conn r) a ∷ H) b given))
       → (is_closed e.conn H ≡ false → IsToldAt stage (is_finishing e.conn (step_by pass (Event.Arrived e.conn r) a ∷ H)) (is_closed e.conn H))
       → Goes e (record e { next = None; accepted = min (e.accepted + 1) (2 ^ 64 - 1); stage = stage }) H (step_by pass (Event.Arrived e.conn r) a ∷ H) true
   arrived_as stage f told =
@@ -355,7 +355,7 @@ fetched_goes e i next H open_is none reads left counts most f = still_goes e (re
   given_are = ap (λ z. z ++ waiting_requests next) (rw (none, append-nil (asked_requests e.conn H)) at k.given_are);
   accepted_is = k.accepted_is;
   handed_is = k.handed_is;
-  stage_is = subst (λ (z : Stage). IsAtStage z (IsDone (record e { inbox = i; next = next }) H) (asked_requests e.conn H) e.is_halted i next b (k.given ++ waiting_requests next)) (sym open_is) (stage_at Stage.Open e H b k.given open_is k.stage_is);
+  stage_is = subst (λ (z : Stage). IsAtStage z (IsDone (record e { inbox = i; next = next }) H) (intake_of (record e { inbox = i; next = next }) H b (k.given ++ waiting_requests next))) (sym open_is) (stage_at Stage.Open e H b k.given open_is k.stage_is);
   halted_is = open_unhalted e H open_is k.halted_is;
   told_is = k.told_is;
 })
@@ -371,7 +371,7 @@ kept_goes e i H open_is left counts most f = still_goes e (record e { inbox = i 
   given_are = k.given_are;
   accepted_is = k.accepted_is;
   handed_is = k.handed_is;
-  stage_is = subst (λ (z : Stage). IsAtStage z (IsDone (record e { inbox = i }) H) (asked_requests e.conn H) e.is_halted i e.next b k.given) (sym open_is) (stage_at Stage.Open e H b k.given open_is k.stage_is);
+  stage_is = subst (λ (z : Stage). IsAtStage z (IsDone (record e { inbox = i }) H) (intake_of (record e { inbox = i }) H b k.given)) (sym open_is) (stage_at Stage.Open e H b k.given open_is k.stage_is);
   halted_is = open_unhalted e H open_is k.halted_is;
   told_is = k.told_is;
 })
@@ -416,7 +416,7 @@ read_goes e i H moved told open_is reads whole empty input same = record {
     given_are = k.given_are;
     accepted_is = k.accepted_is;
     handed_is = k.handed_is;
-    stage_is = subst (λ (z : Stage). IsAtStage z (IsDone (record e { inbox = i }) H) (asked_requests e.conn H) e.is_halted i e.next (b ++ i.fresh) k.given) (sym open_is) (stage_at Stage.Open e H b k.given open_is k.stage_is);
+    stage_is = subst (λ (z : Stage). IsAtStage z (IsDone (record e { inbox = i }) H) (intake_of (record e { inbox = i }) H (b ++ i.fresh) k.given)) (sym open_is) (stage_at Stage.Open e H b k.given open_is k.stage_is);
     halted_is = open_unhalted e H open_is k.halted_is;
     told_is = k.told_is;
   });
@@ -441,14 +441,14 @@ over_goes e H open_is unbroken none all over = still_goes e (record e { stage = 
 -- A DRAIN
 
 -- a stage looks at the end alone, whether all is done
-stage_drained : (s : Stage) (D E : Type 0) (asks : List Request) (h : Bool) (i : InboxState) (next : Option Request') (b : List ℕ) (given : List Request) → (D → E)
-    → IsAtStage s D asks h i next b given → IsAtStage s E asks h i next b given
-stage_drained Stage.Open D E asks h i next b given f at = at
-stage_drained Stage.AtEnd D E asks h i next b given f at = at
-stage_drained Stage.Finishing D E asks h i next b given f at = at
-stage_drained Stage.Failed D E asks h i next b given f at = at
-stage_drained (Stage.Closed true) D E asks h i next b given f at = at
-stage_drained (Stage.Closed false) D E asks h i next b given f at = (at.0, f at.1)
+stage_drained : (s : Stage) (D E : Type 0) (x : Intake) → (D → E)
+    → IsAtStage s D x → IsAtStage s E x
+stage_drained Stage.Open D E x f at = at
+stage_drained Stage.AtEnd D E x f at = at
+stage_drained Stage.Finishing D E x f at = at
+stage_drained Stage.Failed D E x f at = at
+stage_drained (Stage.Closed true) D E x f at = at
+stage_drained (Stage.Closed false) D E x f at = (at.0, f at.1)
 
 pub drained_carries : (e : Client) (H : History) (taken b : List ℕ) → Carries e H taken b → Carries (record e { is_drained = true }) H taken b
 drained_carries e H taken b k = record {
@@ -459,7 +459,7 @@ drained_carries e H taken b k = record {
   given_are = k.given_are;
   accepted_is = k.accepted_is;
   handed_is = k.handed_is;
-  stage_is = stage_drained e.stage (IsDone e H) (IsDone (record e { is_drained = true }) H) (asked_requests e.conn H) e.is_halted e.inbox e.next b k.given
+  stage_is = stage_drained e.stage (IsDone e H) (IsDone (record e { is_drained = true }) H) (intake_of e H b k.given)
       (λ d. record { all_written = d.all_written; all_handed = d.all_handed; closed = d.closed }) k.stage_is;
   halted_is = λ h. let x = k.halted_is h in record { drained = refl; stage = x.stage; unbroken = x.unbroken; goes_on = x.goes_on };
   told_is = k.told_is;
@@ -471,7 +471,7 @@ module _ (e : Client) (H later : History) (others : connection_steps e.conn late
   same_of_conn : SameOfConnection e.conn H (later ++ H)
   same_of_conn = history.SameOfConnection-append e.conn later H others
 
-  stage_beside : (s : Stage) (b : List ℕ) (given : List Request) → IsAtStage s (IsDone e H) (asked_requests e.conn H) e.is_halted e.inbox e.next b given → IsAtStage s (IsDone e (later ++ H)) (asked_requests e.conn H) e.is_halted e.inbox e.next b given
+  stage_beside : (s : Stage) (b : List ℕ) (given : List Request) → IsAtStage s (IsDone e H) (intake_of e H b given) → IsAtStage s (IsDone e (later ++ H)) (intake_of e H b given)
   stage_beside Stage.Open b given at = at
   stage_beside Stage.AtEnd b given at = at
   stage_beside Stage.Finishing b given at = at
@@ -491,7 +491,7 @@ module _ (e : Client) (H later : History) (others : connection_steps e.conn late
         given_are = k.given_are ∙ ap (λ z. z ++ waiting_requests e.next) (sym asks);
         accepted_is = k.accepted_is ∙ sym same.same_accepted;
         handed_is = k.handed_is ∙ sym same.same_handed;
-        stage_is = subst (λ (z : List Request). IsAtStage e.stage (IsDone e (later ++ H)) z e.is_halted e.inbox e.next b k.given) (sym asks) (stage_beside e.stage b k.given k.stage_is);
+        stage_is = subst (λ (z : List Request). IsAtStage e.stage (IsDone e (later ++ H)) (record { asked = z; is_halted = e.is_halted; inbox = e.inbox; next = e.next; bytes = b; given = k.given })) (sym asks) (stage_beside e.stage b k.given k.stage_is);
         halted_is = λ h. let x = k.halted_is h in record { drained = x.drained; stage = x.stage; unbroken = x.unbroken; goes_on = subst (λ (z : List Request). NoneFinishes z) (sym asks) x.goes_on };
         told_is = subst (λ (z : Bool). IsToldAt e.stage z (is_closed e.conn (later ++ H))) (sym same.same_finishing) (subst (λ (z : Bool). IsToldAt e.stage (is_finishing e.conn H) z) (sym same.same_closed) k.told_is);
       }

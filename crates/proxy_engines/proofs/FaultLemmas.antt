@@ -5,17 +5,21 @@ use Rattle.proxy_history.specs.History.{Step}
 use Rattle.proxy_history.specs.declared.event.Kind.{Kind}
 use Rattle.proxy_history.specs.declared.refusal.Refusal.{Refusal}
 use Rattle.proxy_engines.specs.Ends.{InboxState, KeepsReader}
-use Rattle.proxy_engines.specs.Host.{LineState, LinkState, next_link}
-use Rattle.proxy_engines.specs.Faults.{HasRead, IsCauseOf, IsLate, IsNumberedOn, IfFault, is_fault, either}
+use Rattle.proxy_engines.specs.Host.{HostOutboxState, LinkState, next_link}
+use Rattle.proxy_engines.specs.Faults.{HasRead, IsCauseOf, IsOfDevice, LinkMove, IsLate, IsNumberedOn, IfFault, is_fault, either}
 use Rattle.proxy_engines.specs.HostStep.{answer_of}
 use Rattle.ticket_gate.specs.Journal.{StartsWith}
 use Rattle.proxy_history.specs.declared.event.Event.{Event}
-use Rattle.proxy_engines.specs.Turned.{HasHeld}
+use Rattle.proxy_engines.specs.OneTurn.{HasHeld}
 use Rattle.proxy_engines.specs.declared.error.EngineError.{EngineError}
 use Rattle.proxy_engines.specs.declared.link.Outcome.{Outcome}
 
+-- from one state of a link to the next
+abbrev pub from_to : LinkState → LinkState → LinkMove
+from_to j k = record { old = j; new = k }
+
 module _ (i j k : LinkState) (P Q L M : Type 0) (inbox : j.inbox.counts.failed ≡ i.inbox.counts.failed) (writer : j.counts.failed ≡ i.counts.failed) (more : P → Q) (later : L → M) where
-  pub cause_later : (kind : Kind) (error : Option EngineError) → IsCauseOf kind error j k P L → IsCauseOf kind error i k Q M
+  pub cause_later : (kind : Kind) (error : Option EngineError) → IsCauseOf P L (from_to j k) kind error → IsCauseOf Q M (from_to i k) kind error
   cause_later Kind.Dropped None b = b
   cause_later Kind.Dropped (Some EngineError.ReadFailed) b = rw (← inbox) b
   cause_later Kind.Dropped (Some EngineError.WriteFailed) b = rw (← writer) b
@@ -28,14 +32,27 @@ module _ (i j k : LinkState) (P Q L M : Type 0) (inbox : j.inbox.counts.failed �
   cause_later Kind.Garbled (Some e) b = absurd b
   cause_later Kind.Late (Some e) b = absurd b
 
-  pub fault_later : (o : Outcome) → IfFault o (λ kind error. IsCauseOf kind error j k P L) → IfFault o (λ kind error. IsCauseOf kind error i k Q M)
+  pub fault_later : (o : Outcome) → IfFault o (IsCauseOf P L (from_to j k)) → IfFault o (IsCauseOf Q M (from_to i k))
   fault_later (Outcome.Fault kind error) b = cause_later kind error b
   fault_later Outcome.Moved b = tt
-  fault_later Outcome.Still b = tt
+  fault_later Outcome.Idle b = tt
 
--- a fault of a move that only writes
-pub write_fault : (j k : LinkState) (P L : Type 0) (o : Outcome) → IfFault o (λ kind error. IsCauseOf kind error j k ⊥ ⊥) → IfFault o (λ kind error. IsCauseOf kind error j k P L)
-write_fault j k P L o b = fault_later j j k ⊥ P ⊥ L refl refl (λ x. absurd x) (λ x. absurd x) o b
+-- a fault that a device gave
+module _ (i j k : LinkState) (P L : Type 0) (inbox : j.inbox.counts.failed ≡ i.inbox.counts.failed) (writer : j.counts.failed ≡ i.counts.failed) where
+  cause_of_device : (kind : Kind) (error : Option EngineError) → IsOfDevice (from_to j k) kind error → IsCauseOf P L (from_to i k) kind error
+  cause_of_device Kind.Dropped None b = b
+  cause_of_device Kind.Dropped (Some EngineError.ReadFailed) b = rw (← inbox) b
+  cause_of_device Kind.Dropped (Some EngineError.WriteFailed) b = rw (← writer) b
+  cause_of_device Kind.Garbled e b = absurd b
+  cause_of_device Kind.Late e b = absurd b
+  cause_of_device Kind.Refused e b = absurd b
+  cause_of_device Kind.Dropped (Some EngineError.NoMemory) b = absurd b
+  cause_of_device Kind.Dropped (Some (EngineError.TurnRefused n)) b = absurd b
+
+  pub fault_of_device : (o : Outcome) → IfFault o (IsOfDevice (from_to j k)) → IfFault o (IsCauseOf P L (from_to i k))
+  fault_of_device (Outcome.Fault kind error) b = cause_of_device kind error b
+  fault_of_device Outcome.Moved b = tt
+  fault_of_device Outcome.Idle b = tt
 
 -- a read, and moves before and after it that make none
 pub read_kept : (i j k l : InboxState) → KeepsReader i j → KeepsReader k l → HasRead j k → HasRead i l
@@ -43,7 +60,7 @@ read_kept i j k l (left, counts) (left', counts') (failed, inl (got, some, took)
 read_kept i j k l (left, counts) (left', counts') (failed, inr paused) = (rw (counts', ← counts) failed, inr (rw (counts', ← counts) paused))
 
 -- the error of a fault tells of no turn
-pub cause_numbered : (cause : Refusal → Event → List Step → Type 0) (seen : List Step) (on : LineState) (kind : Kind) (error : Option EngineError) (j k : LinkState) (P L : Type 0) → IsCauseOf kind error j k P L → IfErr (answer_of error) (IsNumberedOn cause seen on)
+pub cause_numbered : (cause : Refusal → Event → List Step → Type 0) (seen : List Step) (on : HostOutboxState) (kind : Kind) (error : Option EngineError) (j k : LinkState) (P L : Type 0) → IsCauseOf P L (from_to j k) kind error → IfErr (answer_of error) (IsNumberedOn cause seen on)
 cause_numbered cause seen on kind None j k P L b = tt
 cause_numbered cause seen on kind (Some EngineError.NoMemory) j k P L b = inl tt
 cause_numbered cause seen on kind (Some EngineError.ReadFailed) j k P L b = inl tt
@@ -56,23 +73,23 @@ cause_numbered cause seen on Kind.Refused (Some (EngineError.TurnRefused n)) j k
 pub faulty_calm : (A : Type 0) (o : Outcome) → is_fault o ≡ true → is_fault o ≡ false → A
 faulty_calm A o fault calm = let e : true ≡ false = sym fault ∙ calm in absurd cc
 
-pub faulty_still : (A : Type 0) (o : Outcome) → is_fault o ≡ true → o ≡ Outcome.Still → A
-faulty_still A o fault still = faulty_calm A o fault (ap is_fault still)
+pub faulty_not_idle : (A : Type 0) (o : Outcome) → is_fault o ≡ true → o ≡ Outcome.Idle → A
+faulty_not_idle A o fault idle = faulty_calm A o fault (ap is_fault idle)
 
-pub default_faulty : (o : Outcome) → o ≢ Outcome.Still → o ≢ Outcome.Moved → is_fault o ≡ true
-default_faulty Outcome.Still still moved = absurd (still refl)
-default_faulty Outcome.Moved still moved = absurd (moved refl)
-default_faulty (Outcome.Fault kind error) still moved = refl
+pub default_faulty : (o : Outcome) → o ≢ Outcome.Idle → o ≢ Outcome.Moved → is_fault o ≡ true
+default_faulty Outcome.Idle idle moved = absurd (idle refl)
+default_faulty Outcome.Moved idle moved = absurd (moved refl)
+default_faulty (Outcome.Fault kind error) idle moved = refl
 
 pub no_fault : (o : Outcome) (P : Kind → Option EngineError → Type 0) → is_fault o ≡ false → IfFault o P
 no_fault (Outcome.Fault kind error) P e = absurd cc
 no_fault Outcome.Moved P e = tt
-no_fault Outcome.Still P e = tt
+no_fault Outcome.Idle P e = tt
 
-pub either_still : (p q : Outcome) → either p q ≡ Outcome.Still → (p ≡ Outcome.Still) × (q ≡ Outcome.Still)
-either_still Outcome.Still q e = (refl, e)
-either_still Outcome.Moved q e = absurd cc
-either_still (Outcome.Fault kind error) q e = absurd cc
+pub either_idle : (p q : Outcome) → either p q ≡ Outcome.Idle → (p ≡ Outcome.Idle) × (q ≡ Outcome.Idle)
+either_idle Outcome.Idle q e = (refl, e)
+either_idle Outcome.Moved q e = absurd cc
+either_idle (Outcome.Fault kind error) q e = absurd cc
 
 -- what held of a list held of one between the first and a later one
 pub idle_then : (cause : Event → List Step → Type 0) (event : Event) (A B : Type 0) (x y z : List Step) → StartsWith y x → StartsWith z y → A ⊎ (B × cause event y) → A ⊎ (B × HasHeld cause event x z)
@@ -85,22 +102,22 @@ front_of [] = 0
 front_of (x ∷ xs) = x
 
 -- a late reply is that of the oldest part
-pub late_is : (l : LineState) (m oldest : ℕ) (rest : List ℕ) → l.moments ≡ oldest ∷ rest → IsLate l m → l.reply_ms ≤ m - oldest
+pub late_is : (l : HostOutboxState) (m oldest : ℕ) (rest : List ℕ) → l.moments ≡ oldest ∷ rest → IsLate l m → l.reply_ms ≤ m - oldest
 late_is l m oldest rest is (first, others, moments, waited) =
     let same : oldest ≡ first = ap front_of (sym is ∙ moments) in rw same waited
 
 -- where no part waits for a reply, none is late
-pub not_late-none : (l : LineState) (m : ℕ) → l.moments ≡ [] → ¬ IsLate l m
+pub not_late-none : (l : HostOutboxState) (m : ℕ) → l.moments ≡ [] → ¬ IsLate l m
 not_late-none l m none (first, others, moments, _) = let e : [] ≡ first ∷ others = sym none ∙ moments in absurd cc
 
 -- where nothing says that a reply is late, none is
-pub not_late : (l : LineState) (m : ℕ) (b : Bool) → b ≡ false → (b ≡ true) ↔ IsLate l m → ¬ IsLate l m
+pub not_late : (l : HostOutboxState) (m : ℕ) (b : Bool) → b ≡ false → (b ≡ true) ↔ IsLate l m → ¬ IsLate l m
 not_late l m b calm exact late = let e : true ≡ false = sym (exact.1 late) ∙ calm in absurd cc
 
 -- no part waits for a reply after a fault
-pub not_late-anew : (l l' : LineState) (m : ℕ) → l' ≡ next_link l → ¬ IsLate l' m
-not_late-anew l l' m is = not_late-none l' m (ap (λ (z : LineState). z.moments) is)
+pub not_late-anew : (l l' : HostOutboxState) (m : ℕ) → l' ≡ next_link l → ¬ IsLate l' m
+not_late-anew l l' m is = not_late-none l' m (ap (λ (z : HostOutboxState). z.moments) is)
 
 -- a move that came to no fault came to no late reply
-pub not_late-calm : (l : LineState) (m : ℕ) (o : Outcome) → is_fault o ≡ true → is_fault o ≡ false → ¬ IsLate l m
+pub not_late-calm : (l : HostOutboxState) (m : ℕ) (o : Outcome) → is_fault o ≡ true → is_fault o ≡ false → ¬ IsLate l m
 not_late-calm l m o fault calm = let e : true ≡ false = sym fault ∙ calm in absurd cc

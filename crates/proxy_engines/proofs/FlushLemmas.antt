@@ -1,11 +1,9 @@
 -- A writer that passes on what it gathered moves nothing of what an engine carries.
-use Rattle.std.proofs.Common.{◌≡◌, ℕ, Bool, false, true, List, [], Option, Some, None, append-nil, refl}
+use Rattle.std.proofs.Common.{◌≡◌, ℕ, false, true, List, [], Option, Some, None, append-nil, refl}
 use Rattle.std.specs.Io.KnownBytes.{Appends, Keeps}
-use Rattle.splitter.specs.Request.{Request}
-use Rattle.splitter.specs.declared.request.Request.{Request as Request'}
 use Rattle.proxy_history.specs.History.{History}
-use Rattle.proxy_engines.specs.Ends.{InboxState, OutboxState}
-use Rattle.proxy_engines.specs.Client.{Client, Goes, IsAtStage, IsDone, asked_requests}
+use Rattle.proxy_engines.specs.Ends.{OutboxState}
+use Rattle.proxy_engines.specs.Client.{Client, Goes, IsAtStage, IsDone, Intake, intake_of}
 use Rattle.proxy_engines.specs.declared.client.Stage.{Stage}
 use Rattle.proxy_engines.proofs.ClientMoves.{Consumes-none}
 use Rattle.proxy_engines.proofs.MoveLemmas.{whole_end}
@@ -16,14 +14,14 @@ Appends-kept (Some xs) None k = absurd k
 Appends-kept (Some xs) (Some ys) k = rw (append-nil xs) k
 
 -- a stage looks at the end alone, whether all is done
-stage_with : (s : Stage) (D E : Type 0) (asks : List Request) (d : Bool) (i : InboxState) (next : Option Request') (b : List ℕ) (given : List Request) → (D → E)
-    → IsAtStage s D asks d i next b given → IsAtStage s E asks d i next b given
-stage_with Stage.Open D E asks d i next b given f at = at
-stage_with Stage.AtEnd D E asks d i next b given f at = at
-stage_with Stage.Finishing D E asks d i next b given f at = at
-stage_with Stage.Failed D E asks d i next b given f at = at
-stage_with (Stage.Closed true) D E asks d i next b given f at = at
-stage_with (Stage.Closed false) D E asks d i next b given f at = (at.0, f at.1)
+stage_with : (s : Stage) (D E : Type 0) (x : Intake) → (D → E)
+    → IsAtStage s D x → IsAtStage s E x
+stage_with Stage.Open D E x f at = at
+stage_with Stage.AtEnd D E x f at = at
+stage_with Stage.Finishing D E x f at = at
+stage_with Stage.Failed D E x f at = at
+stage_with (Stage.Closed true) D E x f at = at
+stage_with (Stage.Closed false) D E x f at = (at.0, f at.1)
 
 module _ (e : Client) (o : OutboxState) (H : History) (same : o.pending ≡ e.outbox.pending) where
   done_still : IsDone e H → IsDone (record e { outbox = o }) H
@@ -52,7 +50,7 @@ module _ (e : Client) (o : OutboxState) (H : History) (same : o.pending ≡ e.ou
       given_are = k.given_are;
       accepted_is = k.accepted_is;
       handed_is = k.handed_is;
-      stage_is = stage_with e.stage (IsDone e H) (IsDone (record e { outbox = o }) H) (asked_requests e.conn H) e.is_halted e.inbox e.next b k.given done_still k.stage_is;
+      stage_is = stage_with e.stage (IsDone e H) (IsDone (record e { outbox = o }) H) (intake_of e H b k.given) done_still k.stage_is;
       halted_is = λ h. let x = k.halted_is h in record { drained = x.drained; stage = x.stage; unbroken = x.unbroken; goes_on = x.goes_on };
       told_is = k.told_is;
     });

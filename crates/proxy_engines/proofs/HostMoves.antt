@@ -25,12 +25,19 @@ use Rattle.proxy_history.specs.declared.answer.Answer.{Answer}
 use Rattle.proxy_history.proofs.CallerLemmas as history
 use Rattle.proxy_engines.specs.Ends.{InboxState, Holds, HasGivenAll, refusal_requests}
 use Rattle.journal_core.specs.Journal.{step_by}
-use Rattle.proxy_engines.specs.Host.{LineState, LinkState, IsOnLink, CarriesHost, GoesOn, FailsHost, IsReplyAt, ReadsOn, WritesOn, moments_by, moments_after, waiting_requests, next_link}
+use Rattle.proxy_engines.specs.Host.{HostMove, HostOutboxState, LinkState, IsOnLink, CarriesHost, GoesOn, FailsHost, IsReplyAt, ReadsOn, WritesOn, moments_by, moments_after, waiting_requests, next_link}
 use Rattle.proxy_engines.specs.Moves.{has_moved, AsTold, IsEndOf, text_sent}
 use Rattle.proxy_engines.specs.Faults.{either, told_by_outcome}
 use Rattle.proxy_engines.specs.declared.link.Outcome.{Outcome}
 use Rattle.proxy_engines.proofs.MoveLemmas.{empty_end, end_then, has_moved-append, or-false, or-true, whole_end}
 use Rattle.proxy_engines.proofs.ClientMoves.{Consumes-none, Appends-none, Consumes-append, Appends-append, read_holds}
+
+-- moves from one outbox and link to the next
+abbrev pub moves : HostOutboxState → HostOutboxState → Option LinkState → Option LinkState → History → History → ℕ → HostMove
+moves l l' k k' H H' m = record { old = record { outbox = l; link = k }; new = record { outbox = l'; link = k' }; before = H; after = H'; moment = m }
+
+abbrev pub GoesBy : HostOutboxState → HostOutboxState → Option LinkState → Option LinkState → History → History → ℕ → Bool → Type 0
+GoesBy l l' k k' H H' m = GoesOn (moves l l' k k' H H' m)
 
 -- BYTES
 
@@ -61,8 +68,8 @@ writes_then (Some i) (Some j) (Some k) g h x y = Appends-append i.held j.held k.
 -- MOVES
 
 -- no bytes and no step
-pub rests_on : (l : LineState) (k k' : Option LinkState) (H : History) (m : ℕ) → ReadsOn k k' [] → WritesOn k k' []
-    → ((came : List Tree) (taken b : List ℕ) → IsOnLink k came taken b → IsOnLink k' came taken b) → GoesOn l l k k' H H m false
+pub rests_on : (l : HostOutboxState) (k k' : Option LinkState) (H : History) (m : ℕ) → ReadsOn k k' [] → WritesOn k k' []
+    → ((came : List Tree) (taken b : List ℕ) → IsOnLink k came taken b → IsOnLink k' came taken b) → GoesBy l l k k' H H m false
 rests_on l k k' H m reads writes f = record {
   got = [];
   gave = [];
@@ -83,7 +90,7 @@ rests_on l k k' H m reads writes f = record {
 }
 
 -- nothing at all
-pub stays_on : (l : LineState) (k : Option LinkState) (H H' : History) (m : ℕ) → H' ≡ H → GoesOn l l k k H H' m false
+pub stays_on : (l : HostOutboxState) (k : Option LinkState) (H H' : History) (m : ℕ) → H' ≡ H → GoesBy l l k k H H' m false
 stays_on l k H H' m same = rw same (rests_on l k k H m (reads_none k) (writes_none k) (λ came taken b h. h))
 
 moments-append : (m : ℕ) (later before : History) (ms : List ℕ) → moments_after m (later ++ before) ms ≡ moments_after m later (moments_after m before ms)
@@ -95,7 +102,7 @@ times-append is [] before = omega arith
 times-append is (s ∷ later) before = grind (arith, times-append is later before)
 
 -- two moves after one another
-pub goes_on : (a b c : LineState) (i j k : Option LinkState) (x y z : History) (m : ℕ) (f g : Bool) → GoesOn a b i j x y m f → GoesOn b c j k y z m g → GoesOn a c i k x z m (f || g)
+pub goes_on : (a b c : HostOutboxState) (i j k : Option LinkState) (x y z : History) (m : ℕ) (f g : Bool) → GoesBy a b i j x y m f → GoesBy b c j k y z m g → GoesBy a c i k x z m (f || g)
 goes_on a b c i j k x y z m f g p q = record {
   got = p.got ++ q.got;
   gave = p.gave ++ q.gave;
@@ -117,15 +124,15 @@ goes_on a b c i j k x y z m f g p q = record {
 }
 
 -- one after which it isn't told whether anything moved
-pub goes_some : (a b c : LineState) (i j k : Option LinkState) (x y z : History) (m : ℕ) (f g : Bool) → GoesOn a b i j x y m f → GoesOn b c j k y z m g → (moved : Bool) × GoesOn a c i k x z m moved
+pub goes_some : (a b c : HostOutboxState) (i j k : Option LinkState) (x y z : History) (m : ℕ) (f g : Bool) → GoesBy a b i j x y m f → GoesBy b c j k y z m g → (moved : Bool) × GoesBy a c i k x z m moved
 goes_some a b c i j k x y z m f g p q = ((f || g), goes_on a b c i j k x y z m f g p q)
 
 -- a move that is no move
-pub goes_still : (a b c : LineState) (i j k : Option LinkState) (x y z : History) (m : ℕ) (f : Bool) → GoesOn a b i j x y m f → GoesOn b c j k y z m false → GoesOn a c i k x z m f
-goes_still a b c i j k x y z m f p q = subst (λ (w : Bool). GoesOn a c i k x z m w) (or-false f) (goes_on a b c i j k x y z m f false p q)
+pub goes_idle : (a b c : HostOutboxState) (i j k : Option LinkState) (x y z : History) (m : ℕ) (f : Bool) → GoesBy a b i j x y m f → GoesBy b c j k y z m false → GoesBy a c i k x z m f
+goes_idle a b c i j k x y z m f p q = subst (λ (w : Bool). GoesBy a c i k x z m w) (or-false f) (goes_on a b c i j k x y z m f false p q)
 
 -- nothing moved, and then what is told
-pub told_then : (a b c : LineState) (i j k : Option LinkState) (x y z : History) (m : ℕ) (told : Option Bool) → GoesOn a b i j x y m false → AsTold (GoesOn b c j k y z m) told → AsTold (GoesOn a c i k x z m) told
+pub told_then : (a b c : HostOutboxState) (i j k : Option LinkState) (x y z : History) (m : ℕ) (told : Option Bool) → GoesBy a b i j x y m false → AsTold (GoesBy b c j k y z m) told → AsTold (GoesBy a c i k x z m) told
 told_then a b c i j k x y z m None p q = goes_some a b c i j k x y z m false q.0 p q.1
 told_then a b c i j k x y z m (Some g) p q = goes_on a b c i j k x y z m false g p q
 
@@ -134,37 +141,37 @@ some_told Goes None g = g
 some_told Goes (Some moved) g = (moved, g)
 
 -- what is told, and then nothing that moved
-pub told_still : (a b c : LineState) (i j k : Option LinkState) (x y z : History) (m : ℕ) (told : Option Bool) → AsTold (GoesOn a b i j x y m) told → GoesOn b c j k y z m false → AsTold (GoesOn a c i k x z m) told
-told_still a b c i j k x y z m None p q = (p.0, goes_still a b c i j k x y z m p.0 p.1 q)
-told_still a b c i j k x y z m (Some g) p q = goes_still a b c i j k x y z m g p q
+pub told_idle : (a b c : HostOutboxState) (i j k : Option LinkState) (x y z : History) (m : ℕ) (told : Option Bool) → AsTold (GoesBy a b i j x y m) told → GoesBy b c j k y z m false → AsTold (GoesBy a c i k x z m) told
+told_idle a b c i j k x y z m None p q = (p.0, goes_idle a b c i j k x y z m p.0 p.1 q)
+told_idle a b c i j k x y z m (Some g) p q = goes_idle a b c i j k x y z m g p q
 
 -- what is told, and then something that moved
-pub told_moved : (a b c : LineState) (i j k : Option LinkState) (x y z : History) (m : ℕ) (told : Option Bool) → AsTold (GoesOn a b i j x y m) told → GoesOn b c j k y z m true → GoesOn a c i k x z m true
+pub told_moved : (a b c : HostOutboxState) (i j k : Option LinkState) (x y z : History) (m : ℕ) (told : Option Bool) → AsTold (GoesBy a b i j x y m) told → GoesBy b c j k y z m true → GoesBy a c i k x z m true
 told_moved a b c i j k x y z m told p q =
-    let before = some_told (GoesOn a b i j x y m) told p in
-    subst (λ (w : Bool). GoesOn a c i k x z m w) (or-true before.0) (goes_on a b c i j k x y z m before.0 true before.1 q)
+    let before = some_told (GoesBy a b i j x y m) told p in
+    subst (λ (w : Bool). GoesBy a c i k x z m w) (or-true before.0) (goes_on a b c i j k x y z m before.0 true before.1 q)
 
 -- what is told, and what is told after it
-pub told_both : (a b c : LineState) (i j k : Option LinkState) (x y z : History) (m : ℕ) (told other : Option Bool) → AsTold (GoesOn a b i j x y m) told → AsTold (GoesOn b c j k y z m) other → (moved : Bool) × GoesOn a c i k x z m moved
+pub told_both : (a b c : HostOutboxState) (i j k : Option LinkState) (x y z : History) (m : ℕ) (told other : Option Bool) → AsTold (GoesBy a b i j x y m) told → AsTold (GoesBy b c j k y z m) other → (moved : Bool) × GoesBy a c i k x z m moved
 told_both a b c i j k x y z m told other p q =
-    let before = some_told (GoesOn a b i j x y m) told p in
-    let after = some_told (GoesOn b c j k y z m) other q in
+    let before = some_told (GoesBy a b i j x y m) told p in
+    let after = some_told (GoesBy b c j k y z m) other q in
     goes_some a b c i j k x y z m before.0 after.0 before.1 after.1
 
 -- two moves, told by the first of them at which anything came
-pub told_either : (a b c : LineState) (i j k : Option LinkState) (x y z : History) (m : ℕ) (p q : Outcome) → AsTold (GoesOn a b i j x y m) (told_by_outcome p) → AsTold (GoesOn b c j k y z m) (told_by_outcome q) → AsTold (GoesOn a c i k x z m) (told_by_outcome (either p q))
-told_either a b c i j k x y z m Outcome.Still q f g = told_then a b c i j k x y z m (told_by_outcome q) f g
+pub told_either : (a b c : HostOutboxState) (i j k : Option LinkState) (x y z : History) (m : ℕ) (p q : Outcome) → AsTold (GoesBy a b i j x y m) (told_by_outcome p) → AsTold (GoesBy b c j k y z m) (told_by_outcome q) → AsTold (GoesBy a c i k x z m) (told_by_outcome (either p q))
+told_either a b c i j k x y z m Outcome.Idle q f g = told_then a b c i j k x y z m (told_by_outcome q) f g
 told_either a b c i j k x y z m Outcome.Moved q f g =
-    let after = some_told (GoesOn b c j k y z m) (told_by_outcome q) g in
+    let after = some_told (GoesBy b c j k y z m) (told_by_outcome q) g in
     goes_on a b c i j k x y z m true after.0 f after.1
 told_either a b c i j k x y z m (Outcome.Fault kind error) q f g = told_both a b c i j k x y z m None (told_by_outcome q) f g
 
 -- A PART IS TAKEN
 
-module _ (l : LineState) (pass : ℕ) (H : History) (e p m : ℕ) (t : List ℕ) (nothing : l.pending ≡ []) (not_astray : l.is_astray ≡ false) where
+module _ (l : HostOutboxState) (pass : ℕ) (H : History) (e p m : ℕ) (t : List ℕ) (nothing : l.pending ≡ []) (not_astray : l.is_astray ≡ false) where
   taken_goes : (pending : List ℕ) (astray : Bool) (k : Option LinkState) → IsEndOf pending t → pending ≡ sent_text l.host l.epoch (Event.Taken l.host) (Answer.Sent e p t)
       → (astray ≡ false → (d : ℕ) → l.epoch < d → sent_text l.host d (Event.Taken l.host) (Answer.Sent e p t) ≡ [])
-      → GoesOn l (record l { pending = pending; moments = l.moments ++ m ∷ []; is_astray = astray }) k k H (step_by pass (Event.Taken l.host) (Answer.Sent e p t) ∷ H) m true
+      → GoesBy l (record l { pending = pending; moments = l.moments ++ m ∷ []; is_astray = astray }) k k H (step_by pass (Event.Taken l.host) (Answer.Sent e p t) ∷ H) m true
   taken_goes pending astray k one is later = record {
     got = [];
     gave = [];
@@ -191,23 +198,24 @@ module _ (l : LineState) (pass : ℕ) (H : History) (e p m : ℕ) (t : List ℕ)
   }
 
   pub taken_on : (k : Option LinkState) → e ≡ l.epoch
-      → GoesOn l (record l { pending = t; moments = l.moments ++ m ∷ [] }) k k H (step_by pass (Event.Taken l.host) (Answer.Sent e p t) ∷ H) m true
+      → GoesBy l (record l { pending = t; moments = l.moments ++ m ∷ [] }) k k H (step_by pass (Event.Taken l.host) (Answer.Sent e p t) ∷ H) m true
   taken_on k same = taken_goes t l.is_astray k (whole_end t) (rw (eq-eqb l.host l.host refl, eq-eqb e l.epoch same) refl) (λ s d below. rw (eq-eqb l.host l.host refl, ne_eqb e d (λ q. omega (arith, q, same, below))) refl)
 
   pub taken_astray : (k : Option LinkState) → e ≢ l.epoch
-      → GoesOn l (record l { moments = l.moments ++ m ∷ []; is_astray = true }) k k H (step_by pass (Event.Taken l.host) (Answer.Sent e p t) ∷ H) m true
+      → GoesBy l (record l { moments = l.moments ++ m ∷ []; is_astray = true }) k k H (step_by pass (Event.Taken l.host) (Answer.Sent e p t) ∷ H) m true
   taken_astray k other = taken_goes l.pending true k (empty_end l.pending t nothing) (rw (eq-eqb l.host l.host refl, ne_eqb e l.epoch other, nothing) refl) (λ s. absurd cc)
 
 -- A FAULT IS RECORDED
 
-pub fault_records : (l : LineState) (k : Option LinkState) (pass : ℕ) (H : History) (kind : Kind) (m : ℕ) (a : Answer) → l.is_astray ≡ false
+pub fault_records : (l : HostOutboxState) (k : Option LinkState) (pass : ℕ) (H : History) (kind : Kind) (m : ℕ) (a : Answer) → l.is_astray ≡ false
     → length (step_by pass (Event.Failed l.host l.epoch kind m) a ∷ H) ≤ max_steps
-    → FailsHost l (next_link l) k H (step_by pass (Event.Failed l.host l.epoch kind m) a ∷ H) kind m
+    → FailsHost (moves l (next_link l) k None H (step_by pass (Event.Failed l.host l.epoch kind m) a ∷ H) m) kind
 fault_records l k pass H kind m a not_astray few = record {
   pass = pass;
   answer = a;
   adds = refl;
-  line = refl;
+  outbox = refl;
+  link = refl;
   carries = λ taken b c.
       let next : min (l.epoch + 1) (2 ^ 64 - 1) ≡ l.epoch + 1 = omega (arith, c.epoch_is, few, history.times-length (is_fault l.host) H) in
       record {
@@ -231,8 +239,8 @@ first_is (y ∷ ys) x l e = (ys, ap (λ z. z ∷ ys) (sym e))
 -- A LINK
 
 -- what was read goes on to the reader of values
-pub sought_on : (l : LineState) (k : LinkState) (i : InboxState) (next : Option Value) (H : History) (m : ℕ) → k.next ≡ None → k.inbox.values.refusal ≡ None → i.left ≡ k.inbox.left → i.values.most ≡ k.inbox.values.most
-    → ((b : List ℕ) (rs : List Request) → Holds k.inbox b rs → Holds i b (rs ++ (waiting_requests next ++ refusal_requests i.values.refusal))) → GoesOn l l (Some k) (Some (record k { inbox = i; next = next })) H H m false
+pub sought_on : (l : HostOutboxState) (k : LinkState) (i : InboxState) (next : Option Value) (H : History) (m : ℕ) → k.next ≡ None → k.inbox.values.refusal ≡ None → i.left ≡ k.inbox.left → i.values.most ≡ k.inbox.values.most
+    → ((b : List ℕ) (rs : List Request) → Holds k.inbox b rs → Holds i b (rs ++ (waiting_requests next ++ refusal_requests i.values.refusal))) → GoesBy l l (Some k) (Some (record k { inbox = i; next = next })) H H m false
 sought_on l k i next H m none whole left most f = rests_on l (Some k) (Some (record k { inbox = i; next = next })) H m (rw left (Consumes-none k.inbox.left)) (Appends-none k.held) (λ came taken b h. record {
   given = h.given ++ (waiting_requests next ++ refusal_requests i.values.refusal);
   holds = f b h.given h.holds;
@@ -241,8 +249,8 @@ sought_on l k i next H m none whole left most f = rests_on l (Some k) (Some (rec
 })
 
 -- and no value came by it
-pub sought_none : (l : LineState) (k : LinkState) (i : InboxState) (H : History) (m : ℕ) → k.next ≡ None → k.inbox.values.refusal ≡ None → i.left ≡ k.inbox.left → i.values.most ≡ k.inbox.values.most
-    → ((b : List ℕ) (rs : List Request) → Holds k.inbox b rs → Holds i b (rs ++ refusal_requests i.values.refusal)) → GoesOn l l (Some k) (Some (record k { inbox = i })) H H m false
+pub sought_none : (l : HostOutboxState) (k : LinkState) (i : InboxState) (H : History) (m : ℕ) → k.next ≡ None → k.inbox.values.refusal ≡ None → i.left ≡ k.inbox.left → i.values.most ≡ k.inbox.values.most
+    → ((b : List ℕ) (rs : List Request) → Holds k.inbox b rs → Holds i b (rs ++ refusal_requests i.values.refusal)) → GoesBy l l (Some k) (Some (record k { inbox = i })) H H m false
 sought_none l k i H m none whole left most f = rests_on l (Some k) (Some (record k { inbox = i })) H m (rw left (Consumes-none k.inbox.left)) (Appends-none k.held) (λ came taken b h. record {
   given = h.given ++ refusal_requests i.values.refusal;
   holds = f b h.given h.holds;
@@ -262,8 +270,8 @@ pub with_refusal : (i : InboxState) (b : List ℕ) (rs x : List Request) (r : Op
 with_refusal i b rs x r e h = subst (λ (z : Option RespError). Holds i b (rs ++ (x ++ refusal_requests z))) (sym e) h
 
 -- a value has its turn
-pub answered_on : (l : LineState) (k : LinkState) (v : Value) (pass : ℕ) (H : History) (a : Answer) (m : ℕ) → k.next ≡ Some v
-    → GoesOn l (record l { moments = drop 1 l.moments }) (Some k) (Some (record k { next = None })) H (step_by pass (Event.Answered l.host l.epoch v m) a ∷ H) m true
+pub answered_on : (l : HostOutboxState) (k : LinkState) (v : Value) (pass : ℕ) (H : History) (a : Answer) (m : ℕ) → k.next ≡ Some v
+    → GoesBy l (record l { moments = drop 1 l.moments }) (Some k) (Some (record k { next = None })) H (step_by pass (Event.Answered l.host l.epoch v m) a ∷ H) m true
 answered_on l k v pass H a m next = record {
   got = [];
   gave = [];
@@ -304,8 +312,8 @@ answered_on l k v pass H a m next = record {
     more_came before after rest e = rw (e, map-append read before (tree_of v ∷ [])) (sym (append_assoc (map read before) (read (tree_of v) ∷ []) rest))
 
 -- a write
-pub wrote_on : (l : LineState) (k k' : LinkState) (gave rest : List ℕ) (H : History) (m : ℕ) (moved : Bool) → moved ≡ has_moved [] gave [] → k'.inbox ≡ k.inbox → k'.next ≡ k.next → Appends k.held k'.held gave → l.pending ≡ gave ++ rest
-    → GoesOn l (record l { pending = rest }) (Some k) (Some k') H H m moved
+pub wrote_on : (l : HostOutboxState) (k k' : LinkState) (gave rest : List ℕ) (H : History) (m : ℕ) (moved : Bool) → moved ≡ has_moved [] gave [] → k'.inbox ≡ k.inbox → k'.next ≡ k.next → Appends k.held k'.held gave → l.pending ≡ gave ++ rest
+    → GoesBy l (record l { pending = rest }) (Some k) (Some k') H H m moved
 wrote_on l k k' gave rest H m moved told inbox next writes split = record {
   got = [];
   gave = gave;
@@ -332,7 +340,7 @@ wrote_on l k k' gave rest H m moved told inbox next writes split = record {
 }
 
 -- a read, where nothing waits for the reader of values
-pub heard_on : (l : LineState) (k : LinkState) (i : InboxState) (H : History) (m : ℕ) (moved : Bool) → moved ≡ has_moved i.fresh [] [] → HasGivenAll k.inbox → Consumes k.inbox.left i.left i.fresh → i.values ≡ k.inbox.values → GoesOn l l (Some k) (Some (record k { inbox = i })) H H m moved
+pub heard_on : (l : HostOutboxState) (k : LinkState) (i : InboxState) (H : History) (m : ℕ) (moved : Bool) → moved ≡ has_moved i.fresh [] [] → HasGivenAll k.inbox → Consumes k.inbox.left i.left i.fresh → i.values ≡ k.inbox.values → GoesBy l l (Some k) (Some (record k { inbox = i })) H H m moved
 heard_on l k i H m moved told all input same = record {
   got = i.fresh;
   gave = [];
@@ -363,7 +371,7 @@ heard_on l k i H m moved told all input same = record {
   });
 }
 
-pub attached : (l : LineState) (k : LinkState) (H : History) → Holds k.inbox [] [] → k.inbox.values.most ≡ MAX_HOST_MEMBERS → k.inbox.values.refusal ≡ None → k.next ≡ None → CarriesHost l None H [] [] → CarriesHost l (Some k) H [] []
+pub attached : (l : HostOutboxState) (k : LinkState) (H : History) → Holds k.inbox [] [] → k.inbox.values.most ≡ MAX_HOST_MEMBERS → k.inbox.values.refusal ≡ None → k.next ≡ None → CarriesHost l None H [] [] → CarriesHost l (Some k) H [] []
 attached l k H holds most whole none c = record {
   out_is = c.out_is;
   link_is = record { given = []; holds = holds; most_is = most; given_are = rw (none, whole, c.link_is.0) refl };
@@ -372,7 +380,7 @@ attached l k H holds most whole none c = record {
   none_came = c.none_came;
 }
 
--- a line to which nothing has happened
+-- an outbox to which nothing has happened
 pub fresh_carries : (host reply_ms : ℕ) (H : History) → host_steps host H ≡ [] → CarriesHost (record { host = host; reply_ms = reply_ms; epoch = 0; pending = []; moments = []; is_astray = false }) None H [] []
 fresh_carries host reply_ms H none =
     let same = history.SameOfHost-host_steps host H in

@@ -5,7 +5,7 @@ use Rattle.proxy_history.specs.History.{Step}
 use Rattle.proxy_history.specs.declared.event.Event.{Event}
 use Rattle.proxy_history.specs.declared.refusal.Refusal.{Refusal}
 use Rattle.proxy_engines.specs.Ends.{InboxState, HasGivenAll}
-use Rattle.proxy_engines.specs.Turned.{HasHeld}
+use Rattle.proxy_engines.specs.OneTurn.{HasHeld}
 use Rattle.proxy_engines.specs.Client.{Client, AwaitsBytes, AwaitsReplies, HandsNothing, IsHeldBack, IsIdle}
 use Rattle.proxy_engines.proofs.HostMoves.{starts_then}
 

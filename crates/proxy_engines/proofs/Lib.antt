@@ -1,4 +1,4 @@
-pub mod OwnLemmas
+pub mod OwnHistoryLemmas
 pub mod ClientMoves
 pub mod HostMoves
 pub mod FaultLemmas
@@ -10,8 +10,8 @@ pub mod MoveLemmas
 pub mod NumberLemmas
 pub mod HostLemmas
 pub mod IdleLemmas
-pub mod OtherLemmas
+pub mod LeaveOthersLemmas
 pub mod FlushLemmas
 pub mod ZipLemmas
-pub mod Crosses
+pub mod SendLemmas
 pub mod AnswerLemmas

@@ -70,13 +70,13 @@ pub as-none : (Goes : Bool → Type 0) (told : Option Bool) → told ≡ None �
 as-none Goes told e g = rw e g
 
 pub as_faulty : (Goes : Bool → Type 0) (o : Outcome) → is_fault o ≡ true → ((moved : Bool) × Goes moved) → AsTold Goes (told_by_outcome o)
-as_faulty Goes Outcome.Still e g = absurd cc
+as_faulty Goes Outcome.Idle e g = absurd cc
 as_faulty Goes Outcome.Moved e g = absurd cc
 as_faulty Goes (Outcome.Fault kind error) e g = g
 
 -- neither is told of a fault
-pub as_fault : (Goes : Bool → Type 0) (o : Outcome) → o ≢ Outcome.Still → o ≢ Outcome.Moved → ((moved : Bool) × Goes moved) → AsTold Goes (told_by_outcome o)
-as_fault Goes Outcome.Still s m g = absurd (s refl)
+pub as_fault : (Goes : Bool → Type 0) (o : Outcome) → o ≢ Outcome.Idle → o ≢ Outcome.Moved → ((moved : Bool) × Goes moved) → AsTold Goes (told_by_outcome o)
+as_fault Goes Outcome.Idle s m g = absurd (s refl)
 as_fault Goes Outcome.Moved s m g = absurd (m refl)
 as_fault Goes (Outcome.Fault kind error) s m g = g
 

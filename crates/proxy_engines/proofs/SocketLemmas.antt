@@ -14,7 +14,7 @@ use Rattle.proxy_history.specs.History.{History}
 use Rattle.proxy_history.specs.Output.{transcript}
 use Rattle.proxy_devices.specs.Device.{Counts}
 use Rattle.proxy_engines.specs.Ends.{RestState, Holds, IsCut, end_with}
-use Rattle.proxy_engines.specs.Client.{Client, Carries, IsFinished, IsAtStage, IsDone, MayGoOn, NoneFinishes, asked_requests, waiting_requests}
+use Rattle.proxy_engines.specs.Client.{Client, Carries, IsFinished, IsAtStage, IsDone, MayGoOn, NoneFinishes, asked_requests, waiting_requests, intake_of}
 use Rattle.proxy_engines.specs.Socket.{IsLeft, Past, WentOn, CarriesOn, asked_before, said_before, SocketBegins, SocketMoves, SocketStays, SocketGoesOver, SocketAsksInOrder, SocketAnswersInOrder, SocketEndsWhole}
 use Rattle.proxy_engines.specs.declared.client.Stage.{Stage}
 use Rattle.proxy_engines.proofs.ClientMoves.{carries_beside}
@@ -75,7 +75,7 @@ module _ (e : Client) (H : History) (taken b : List ℕ) (k : Carries e H taken 
       let all = given f in
       let asks = ask_apart all.values (asked_requests e.conn H) (waiting_requests e.next) all.ask in
       let (mid, front, back) = splits_apart MAX_CLIENT_MEMBERS b all.rest asks.front asks.back (rw asks.are at all.splits) in
-      let at : IsFinished (asked_requests e.conn H) e.is_halted e.inbox e.next b k.given × IsDone e H = subst (λ (z : Stage). IsAtStage z (IsDone e H) (asked_requests e.conn H) e.is_halted e.inbox e.next b k.given) may.0 k.stage_is in
+      let at : IsFinished (intake_of e H b k.given) × IsDone e H = subst (λ (z : Stage). IsAtStage z (IsDone e H) (intake_of e H b k.given)) may.0 k.stage_is in
       record {
         asked = asks.front;
         rest = mid;

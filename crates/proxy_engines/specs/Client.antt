@@ -13,9 +13,9 @@ use Rattle.proxy_history.specs.declared.refusal.Refusal.{Refusal}
 use Rattle.proxy_history.specs.Output.{transcript}
 use Rattle.proxy_history.specs.Own.{connection_steps}
 use Rattle.proxy_engines.specs.Moves.{has_moved, IsEndOf, last_text, text_handed}
-use Rattle.proxy_devices.specs.Device.{HasPaused}
+use Rattle.proxy_devices.specs.Device.{WasIdle}
 use Rattle.proxy_engines.specs.Ends.{OutboxState, InboxState, HoldsBehind, HasGivenAll, AreRequests}
-use Rattle.proxy_engines.specs.Turned.{HasHeld}
+use Rattle.proxy_engines.specs.OneTurn.{HasHeld}
 use Rattle.proxy_engines.specs.declared.client.Progress.{Progress}
 use Rattle.proxy_engines.specs.declared.client.Stage.{Stage}
 use Rattle.proxy_engines.specs.declared.error.EngineError.{EngineError}
@@ -57,7 +57,7 @@ waiting_requests (Some r) = request_of r ∷ []
 
 -- what the connection has asked and was accepted
 abbrev pub asked_requests : ℕ → History → List Request
-asked_requests c H = map request_of (requests c H)
+asked_requests conn steps = map request_of (requests conn steps)
 
 -- no request of these finishes the connection
 abbrev pub NoneFinishes : List Request → Type 0
@@ -71,28 +71,49 @@ pub record LastFinishes (rs : List Request) : Type 0 where
   pub goes_on : NoneFinishes front
   pub finishes : finishes last ≡ true
 
+-- what a connection has taken in: the requests that it asked, whether reading was halted, what was read and which request of
+-- it waits, the bytes that the reader gave, and the requests given of them
+pub record Intake : Type 0 where
+  pub asked : List Request
+  pub is_halted : Bool
+  pub inbox : InboxState
+  pub next : Option Request'
+  pub bytes : List ℕ
+  pub given : List Request
+
+-- what a client's engine has taken in, by the steps of its caller, of these bytes and requests
+abbrev pub intake_of : Client → History → List ℕ → List Request → Intake
+intake_of engine steps bytes given = record {
+  asked = asked_requests engine.conn steps;
+  is_halted = engine.is_halted;
+  inbox = engine.inbox;
+  next = engine.next;
+  bytes = bytes;
+  given = given;
+}
+
 -- the bytes read are all that will be: reading was halted for a drain, or the input has ended
 abbrev pub IsOver : Bool → InboxState → Type 0
-IsOver halted i = (halted ≡ true) ⊎ IsAtEnd i.left
+IsOver halted inbox = (halted ≡ true) ⊎ IsAtEnd inbox.left
 
 -- No byte is read any more; and unless reading was halted all requests of those that were read were given, and none waits.
-pub record IsAllRead (halted : Bool) (i : InboxState) (next : Option Request') (b : List ℕ) (given : List Request) : Type 0 where
-  pub end : IsOver halted i
-  pub all : halted ≡ false → AreRequests i.values.most b given
-  pub none_waits : halted ≡ false → next ≡ None
+pub record IsAllRead (intake : Intake) : Type 0 where
+  pub end : IsOver intake.is_halted intake.inbox
+  pub all : intake.is_halted ≡ false → AreRequests intake.inbox.values.most intake.bytes intake.given
+  pub none_waits : intake.is_halted ≡ false → intake.next ≡ None
 
 -- nothing more arrives: no byte is read any more, or a request finishes the connection
-abbrev pub IsFinished : List Request → Bool → InboxState → Option Request' → List ℕ → List Request → Type 0
-IsFinished asked halted i next b given = (NoneFinishes asked × IsAllRead halted i next b given) ⊎ LastFinishes asked
+abbrev pub IsFinished : Intake → Type 0
+IsFinished intake = (NoneFinishes intake.asked × IsAllRead intake) ⊎ LastFinishes intake.asked
 
--- what holds at each stage, of what was asked and what was read; at the end the connection is done
-abbrev pub IsAtStage : Stage → Type 0 → List Request → Bool → InboxState → Option Request' → List ℕ → List Request → Type 0
-IsAtStage Stage.Open done asked halted i next b given = NoneFinishes asked
-IsAtStage Stage.AtEnd done asked halted i next b given = NoneFinishes asked × IsAllRead halted i next b given
-IsAtStage Stage.Finishing done asked halted i next b given = IsFinished asked halted i next b given
-IsAtStage Stage.Failed done asked halted i next b given = ⊤
-IsAtStage (Stage.Closed true) done asked halted i next b given = ⊤
-IsAtStage (Stage.Closed false) done asked halted i next b given = IsFinished asked halted i next b given × done
+-- what holds at each stage of what was taken in; at the end the connection is done
+abbrev pub IsAtStage : Stage → Type 0 → Intake → Type 0
+IsAtStage Stage.Open done intake = NoneFinishes intake.asked
+IsAtStage Stage.AtEnd done intake = NoneFinishes intake.asked × IsAllRead intake
+IsAtStage Stage.Finishing done intake = IsFinished intake
+IsAtStage Stage.Failed done intake = ⊤
+IsAtStage (Stage.Closed true) done intake = ⊤
+IsAtStage (Stage.Closed false) done intake = IsFinished intake × done
 
 -- neither the reader nor the writer has failed
 abbrev pub HasNoFault : Client → Client → Type 0
@@ -103,16 +124,16 @@ abbrev pub HasSameCounts : Client → Client → Type 0
 HasSameCounts old new = (new.inbox.counts ≡ old.inbox.counts) × (new.outbox.counts ≡ old.outbox.counts)
 
 -- Whether a request waits, as was answered; where none does, all requests that came were given.
-pub record HasNext (e : Client) (is_there : Bool) : Type 0 where
-  pub some : is_there ≡ true → e.next ≢ None
-  pub none : is_there ≡ false → (e.next ≡ None) × HasGivenAll e.inbox
+pub record HasNext (engine : Client) (is_there : Bool) : Type 0 where
+  pub some : is_there ≡ true → engine.next ≢ None
+  pub none : is_there ≡ false → (engine.next ≡ None) × HasGivenAll engine.inbox
 
 -- No byte is to be read any more, and no refused byte waits to be told: the engine is drained, or the input has ended with all given.
-pub record IsReadOut (e : Client) : Type 0 where
-  pub unbroken : e.next ≢ Some Request'.Broken
-  pub none : e.is_drained ≡ false → e.next ≡ None
-  pub all : e.is_drained ≡ false → HasGivenAll e.inbox
-  pub over : IsOver e.is_drained e.inbox
+pub record IsReadOut (engine : Client) : Type 0 where
+  pub unbroken : engine.next ≢ Some Request'.Broken
+  pub none : engine.is_drained ≡ false → engine.next ≡ None
+  pub all : engine.is_drained ≡ false → HasGivenAll engine.inbox
+  pub over : IsOver engine.is_drained engine.inbox
 
 -- whether the connection finishes and whether it was closed, by its stage: it is closed at its end and for a fault, and not
 -- before; and it finishes before it is closed at its end
@@ -124,59 +145,63 @@ IsToldAt Stage.Failed finishing closed = ⊤
 IsToldAt (Stage.Closed cut) finishing closed = closed ≡ true
 
 -- all that was accepted was handed out and written, and the connection was closed
-pub record IsDone (e : Client) (H : History) : Type 0 where
-  pub all_written : e.outbox.pending ≡ []
-  pub all_handed : e.accepted ≡ e.handed
-  pub closed : is_closed e.conn H ≡ true
+pub record IsDone (engine : Client) (steps : History) : Type 0 where
+  pub all_written : engine.outbox.pending ≡ []
+  pub all_handed : engine.accepted ≡ engine.handed
+  pub closed : is_closed engine.conn steps ≡ true
 
 -- reading stopped for a drain: what waits is a value, if anything does, and none that was accepted finishes the connection
-pub record IsHalted (e : Client) (H : History) : Type 0 where
-  pub drained : e.is_drained ≡ true
-  pub stage : e.stage ≢ Stage.Open
-  pub unbroken : e.next ≢ Some Request'.Broken
-  pub goes_on : NoneFinishes (asked_requests e.conn H)
+pub record IsHalted (engine : Client) (steps : History) : Type 0 where
+  pub drained : engine.is_drained ≡ true
+  pub stage : engine.stage ≢ Stage.Open
+  pub unbroken : engine.next ≢ Some Request'.Broken
+  pub goes_on : NoneFinishes (asked_requests engine.conn steps)
 
 -- closed after a drain, with all answered and written, and neither had its input ended nor did a request finish it
 abbrev pub MayGoOn : Client → Type 0
-MayGoOn e = (e.stage ≡ Stage.Closed false) × (e.is_halted ≡ true)
+MayGoOn engine = (engine.stage ≡ Stage.Closed false) × (engine.is_halted ≡ true)
 
 -- What the client's writer took and what is pending is what was handed out; the requests accepted, and the one that waits, are
--- those that were given; and the connection finishes and was closed as its stage says. The writer took these bytes, the reader
--- gave the bytes b, and H is the steps of the engine's caller.
-pub record Carries (e : Client) (H : History) (taken b : List ℕ) : Type 0 where
+-- those that were given; and the connection finishes and was closed as its stage says. The writer took the bytes `taken`, the
+-- reader gave `bytes`, and the engine's caller made these steps.
+pub record Carries (engine : Client) (steps : History) (taken bytes : List ℕ) : Type 0 where
   pub given : List Request
-  pub out_is : taken ++ e.outbox.pending ≡ transcript e.conn H
-  pub holds : HoldsBehind e.inbox b given
-  pub most_is : e.inbox.values.most ≡ MAX_CLIENT_MEMBERS
-  pub given_are : given ≡ asked_requests e.conn H ++ waiting_requests e.next
-  pub accepted_is : e.accepted ≡ accepted_count e.conn H
-  pub handed_is : e.handed ≡ handed_count e.conn H
-  pub stage_is : IsAtStage e.stage (IsDone e H) (asked_requests e.conn H) e.is_halted e.inbox e.next b given
-  pub halted_is : e.is_halted ≡ true → IsHalted e H
-  pub told_is : IsToldAt e.stage (is_finishing e.conn H) (is_closed e.conn H)
+  pub out_is : taken ++ engine.outbox.pending ≡ transcript engine.conn steps
+  pub holds : HoldsBehind engine.inbox bytes given
+  pub most_is : engine.inbox.values.most ≡ MAX_CLIENT_MEMBERS
+  pub given_are : given ≡ asked_requests engine.conn steps ++ waiting_requests engine.next
+  pub accepted_is : engine.accepted ≡ accepted_count engine.conn steps
+  pub handed_is : engine.handed ≡ handed_count engine.conn steps
+  pub stage_is : IsAtStage engine.stage (IsDone engine steps) (intake_of engine steps bytes given)
+  pub halted_is : engine.is_halted ≡ true → IsHalted engine steps
+  pub told_is : IsToldAt engine.stage (is_finishing engine.conn steps) (is_closed engine.conn steps)
 
 -- Nothing can be handed out: all that was accepted has been, or the next reply hasn't come.
 abbrev pub HandsNothing : (Refusal → Event → List Step → Type 0) → Client → List Step → List Step → Type 0
-HandsNothing cause e x y = (e.accepted ≡ e.handed) ⊎ ((left : ℕ) × HasHeld (cause (Refusal.NotReady left)) (Event.Handed e.conn) x y)
+HandsNothing cause engine seen_before seen_after =
+    (engine.accepted ≡ engine.handed)
+    ⊎ ((left : ℕ) × HasHeld (cause (Refusal.NotReady left)) (Event.Handed engine.conn) seen_before seen_after)
 
 -- The next request is held back: too many commands are unwritten.
 abbrev pub IsHeldBack : (Refusal → Event → List Step → Type 0) → Client → List Step → List Step → Type 0
-IsHeldBack cause e x y = (r : Request') × (e.next ≡ Some r) × HasHeld (cause Refusal.Crowded) (Event.Arrived e.conn r) x y
+IsHeldBack cause engine seen_before seen_after = (request : Request') × (engine.next ≡ Some request)
+    × HasHeld (cause Refusal.Crowded) (Event.Arrived engine.conn request) seen_before seen_after
 
 -- Nothing more arrives, and a reply hasn't come.
 abbrev pub AwaitsReplies : Client → Type 0
-AwaitsReplies e = (e.stage ≡ Stage.Finishing) × (e.accepted ≢ e.handed)
+AwaitsReplies engine = (engine.stage ≡ Stage.Finishing) × (engine.accepted ≢ engine.handed)
 
 -- All requests that came are accepted, and nothing can be read.
 abbrev pub AwaitsBytes : Client → Client → Type 0
-AwaitsBytes old new = (new.next ≡ None) × HasGivenAll new.inbox × HasPaused old.inbox.counts new.inbox.counts
+AwaitsBytes old new = (new.next ≡ None) × HasGivenAll new.inbox × WasIdle old.inbox.counts new.inbox.counts
 
 -- Why nothing moved: nothing can be written; or nothing is to be written, nothing can be handed out, and nothing can be
 -- accepted.
 abbrev pub IsIdle : (Refusal → Event → List Step → Type 0) → Client → Client → List Step → List Step → Type 0
-IsIdle cause old new x y =
-    HasPaused old.outbox.counts new.outbox.counts
-    ⊎ ((old.outbox.pending ≡ []) × HandsNothing cause old x y × (IsHeldBack cause new x y ⊎ (AwaitsReplies new ⊎ AwaitsBytes old new)))
+IsIdle cause old new seen_before seen_after =
+    WasIdle old.outbox.counts new.outbox.counts
+    ⊎ ((old.outbox.pending ≡ []) × HandsNothing cause old seen_before seen_after
+    × (IsHeldBack cause new seen_before seen_after ⊎ (AwaitsReplies new ⊎ AwaitsBytes old new)))
 
 -- Nothing was read: no bytes came, and the reader is as it was.
 pub record IsUnread (old new : InboxState) (got : List ℕ) : Type 0 where
@@ -192,7 +217,7 @@ pub record IsUntaken (old new : Client) : Type 0 where
 -- Some moves of an engine: bytes that were read, bytes that were taken, steps of its connection alone, whether any of these
 -- came, and what it carries. Where it drains nothing was read, and nothing taken in but the refusal of a byte. Of one text at
 -- most bytes are pending: of the last that was handed out, or of the one of which bytes were pending before.
-pub record Goes (old new : Client) (H H' : History) (moved : Bool) : Type 0 where
+pub record Goes (old new : Client) (before after : History) (moved : Bool) : Type 0 where
   pub got : List ℕ
   pub gave : List ℕ
   pub steps : History
@@ -202,21 +227,21 @@ pub record Goes (old new : Client) (H H' : History) (moved : Bool) : Type 0 wher
   pub drained : new.is_drained ≡ old.is_drained
   pub unread : old.is_drained ≡ true → IsUnread old.inbox new.inbox got
   pub untaken : old.is_drained ≡ true → old.next ≢ Some Request'.Broken → IsUntaken old new
-  pub adds : H' ≡ steps ++ H
+  pub adds : after ≡ steps ++ before
   pub moved_is : moved ≡ has_moved got gave steps
   pub alone : connection_steps old.conn steps ≡ steps
   pub one_text : IsEndOf new.outbox.pending (last_text text_handed old.outbox.pending steps)
-  pub carries : (taken b : List ℕ) → Carries old H taken b → Carries new H' (taken ++ gave) (b ++ got)
+  pub carries : (taken bytes : List ℕ) → Carries old before taken bytes → Carries new after (taken ++ gave) (bytes ++ got)
 
 -- The connection was closed for a fault, and the answer is as was said; or the turn was refused, and it is to be closed.
 abbrev pub Cuts : Client → Client → History → History → Result Progress EngineError → Result Progress EngineError → Type 0
-Cuts old new H H' answer result =
-    (Goes old new H H' true × (new ≡ record old { stage = Stage.Closed true }) × (result ≡ answer))
-    ⊎ (Goes old new H H' false × (new ≡ record old { stage = Stage.Failed }) × ((n : ℕ) × (result ≡ Err (EngineError.TurnRefused n))))
+Cuts old new before after answer result =
+    (Goes old new before after true × (new ≡ record old { stage = Stage.Closed true }) × (result ≡ answer))
+    ⊎ (Goes old new before after false × (new ≡ record old { stage = Stage.Failed }) × ((n : ℕ) × (result ≡ Err (EngineError.TurnRefused n))))
 
 -- What a step comes to where the connection was closed, and where it is to be closed for a fault: nothing more, or that close.
 abbrev pub ClosesFirst : Stage → Client → Client → History → History → Result Progress EngineError → Type 0
-ClosesFirst (Stage.Closed true) old new H H' result = (new ≡ old) × (H' ≡ H) × (result ≡ Ok Progress.Cut)
-ClosesFirst (Stage.Closed false) old new H H' result = (new ≡ old) × (H' ≡ H) × (result ≡ Ok Progress.Ended)
-ClosesFirst Stage.Failed old new H H' result = Cuts old new H H' (Ok Progress.Cut) result
-ClosesFirst stage old new H H' result = ⊤
+ClosesFirst (Stage.Closed true) old new before after result = (new ≡ old) × (after ≡ before) × (result ≡ Ok Progress.Cut)
+ClosesFirst (Stage.Closed false) old new before after result = (new ≡ old) × (after ≡ before) × (result ≡ Ok Progress.Ended)
+ClosesFirst Stage.Failed old new before after result = Cuts old new before after (Ok Progress.Cut) result
+ClosesFirst stage old new before after result = ⊤

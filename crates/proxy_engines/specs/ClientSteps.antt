@@ -1,16 +1,16 @@
 -- What the functions of a client's engine come to that make turns.
-use Rattle.std.specs.Prelude.{◌≡◌, ◌≢◌, ℕ, Bool, false, true, Option, Some, List, ◌∷◌, Result, IfOk, IfErr, OnOk}
+use Rattle.std.specs.Prelude.{◌≡◌, ◌≢◌, ◌⊎◌, ℕ, Bool, false, true, Option, Some, List, ◌∷◌, Result, IfOk, IfErr, OnOk}
 use Rattle.splitter.specs.declared.request.Request.{Request}
 use Rattle.proxy_history.specs.History.{History, Step}
 use Rattle.proxy_history.specs.declared.answer.Answer.{Answer}
 use Rattle.proxy_history.specs.declared.event.Event.{Event}
 use Rattle.proxy_history.specs.declared.refusal.Refusal.{Refusal}
 use Rattle.journal_core.specs.Journal.{step_by}
-use Rattle.proxy_devices.specs.Device.{HasFailed}
+use Rattle.proxy_devices.specs.Device.{HasFailed, WasIdle}
 use Rattle.proxy_engines.specs.Turns.{KeepsTurns, own_history}
-use Rattle.proxy_engines.specs.Turned.{IsNumbered}
+use Rattle.proxy_engines.specs.OneTurn.{IsNumbered}
 use Rattle.proxy_engines.specs.Moves.{AsTold}
-use Rattle.proxy_engines.specs.Client.{Client, Goes, HasNoFault, IsIdle}
+use Rattle.proxy_engines.specs.Client.{AwaitsBytes, AwaitsReplies, Client, Goes, HandsNothing, HasNext, HasNoFault, HasSameCounts, IsHeldBack, IsIdle, IsLive}
 use Rattle.proxy_engines.specs.declared.client.Progress.{Progress}
 use Rattle.proxy_engines.specs.declared.client.Stage.{Stage}
 use Rattle.proxy_engines.specs.declared.error.EngineError.{EngineError}
@@ -31,6 +31,75 @@ pub record StaysHeld (cause : Refusal → Event → List Step → Type 0) (seen 
   pub request : Request
   pub waits : old.next ≡ Some request
   pub crowded : cause Refusal.Crowded (Event.Arrived old.conn request) seen
+
+-- One reply was handed out, or the next one hasn't come, or the turn was refused and the engine is as it was.
+pub record HandsOne (cause : Refusal → Event → List Step → Type 0) (seen : List Step) (old new : Client) (result : Result Bool EngineError) : Type 0 where
+  pub stage : new.stage ≡ old.stage
+  pub not_ready : IfOk result (λ b. b ≡ false → (new ≡ old) × ((left : ℕ) × cause (Refusal.NotReady left) (Event.Handed old.conn) seen))
+  pub err : IfErr result (λ e. (new ≡ old) × ((n : ℕ) × (e ≡ EngineError.TurnRefused n)))
+
+-- A reply that was due was handed out, or nothing can be handed out, or the turn was refused and the engine is as it was.
+pub record HandsDue (cause : Refusal → Event → List Step → Type 0) (seen_before seen_after : List Step) (old new : Client)
+    (result : Result Bool EngineError) : Type 0 where
+  pub stage : new.stage ≡ old.stage
+  pub nothing : IfOk result (λ b. b ≡ false → (new ≡ old) × HandsNothing cause old seen_before seen_after)
+  pub err : IfErr result (λ e. (new ≡ old) × ((n : ℕ) × (e ≡ EngineError.TurnRefused n)))
+
+-- The request that waits was accepted, or it is held back, or the turn was refused and the engine is as it was.
+pub record OffersOne (cause : Refusal → Event → List Step → Type 0) (seen : List Step) (old new : Client)
+    (result : Result Progress EngineError) : Type 0 where
+  pub live : IsLive new.stage
+  pub ok : IfOk result (λ p. (p ≡ Progress.Moved) ⊎ ((p ≡ Progress.Idle) × StaysHeld cause seen old new))
+  pub err : IfErr result (λ e. (new ≡ old) × ((n : ℕ) × (e ≡ EngineError.TurnRefused n)))
+
+-- The next request was fetched, if one has come whole; or there was no memory. Requests are still taken, and the devices are as
+-- they were.
+pub record FetchesNext (old new : Client) (result : Result Bool EngineError) : Type 0 where
+  pub keeps : (new.is_drained ≡ false) × (new.stage ≡ Stage.Open) × HasSameCounts old new
+  pub next : IfOk result (HasNext new)
+  pub err : IfErr result (λ e. e ≡ EngineError.NoMemory)
+
+-- Whether a request waits is told, or there was no memory. Requests are still taken, and the devices are as they were.
+pub record LooksForNext (old new : Client) (result : Result Bool EngineError) : Type 0 where
+  pub keeps : (new.stage ≡ Stage.Open) × HasSameCounts old new
+  pub last : new.is_drained ≡ true → new.next ≡ Some Request.Broken
+  pub next : IfOk result (HasNext new)
+  pub err : IfErr result (λ e. e ≡ EngineError.NoMemory)
+
+-- One write: the writer took bytes, or it paused; or it failed in this call, and the connection was closed or is to be.
+pub record WritesClient (old new : Client) (result : Result Progress EngineError) : Type 0 where
+  pub ok : IfOk result (λ p. (new.stage ≡ old.stage)
+      × ((p ≡ Progress.Moved) ⊎ ((p ≡ Progress.Idle) × WasIdle old.outbox.counts new.outbox.counts)))
+  pub err : IfErr result (λ e. ((e ≡ EngineError.WriteFailed) × HasFailed old.outbox.counts new.outbox.counts
+      × (new.stage ≡ Stage.Closed true)) ⊎ ((n : ℕ) × (e ≡ EngineError.TurnRefused n)))
+
+-- One read: bytes came, or the end of the input, or nothing for now; or the reader failed in this call, and the connection was
+-- closed or is to be.
+pub record ReadsClient (old new : Client) (result : Result Progress EngineError) : Type 0 where
+  pub ok : IfOk result (λ p. IsLive new.stage × ((p ≡ Progress.Moved) ⊎ ((p ≡ Progress.Idle) × AwaitsBytes old new)))
+  pub err : IfErr result (λ e. ((e ≡ EngineError.ReadFailed) × HasFailed old.inbox.counts new.inbox.counts
+      × (new.stage ≡ Stage.Closed true)) ⊎ ((n : ℕ) × (e ≡ EngineError.TurnRefused n)))
+
+-- Reading stopped, and the connection finishes; or the turn was refused.
+pub record StopsReading (new : Client) (result : Result Progress EngineError) : Type 0 where
+  pub ok : IfOk result (λ p. IsLive new.stage × (p ≡ Progress.Moved))
+  pub err : IfErr result (λ e. (n : ℕ) × (e ≡ EngineError.TurnRefused n))
+
+-- A request was accepted, or bytes were read, or it is told why neither was done. Or there was no memory, or the reader failed in
+-- this call and the connection was closed or is to be, or a turn was refused.
+pub record TakesIn (cause : Refusal → Event → List Step → Type 0) (seen_before seen_after : List Step) (old new : Client)
+    (result : Result Progress EngineError) : Type 0 where
+  pub ok : IfOk result (λ p. IsLive new.stage × ((p ≡ Progress.Moved) ⊎ (p ≡ Progress.Idle)))
+  pub err : IfErr result (λ e. (e ≡ EngineError.NoMemory)
+      ⊎ ((e ≡ EngineError.ReadFailed) × HasFailed old.inbox.counts new.inbox.counts × (new.stage ≡ Stage.Closed true))
+      ⊎ ((n : ℕ) × (e ≡ EngineError.TurnRefused n)))
+  pub idle : IfOk result (λ p. p ≡ Progress.Idle → IsHeldBack cause new seen_before seen_after ⊎ AwaitsBytes old new)
+
+-- The connection was closed at its end, or it awaits replies, or the turn was refused.
+pub record EndsOnce (new : Client) (result : Result Progress EngineError) : Type 0 where
+  pub ok : IfOk result (λ p. (p ≡ Progress.Idle) ⊎ ((p ≡ Progress.Ended) × (new.stage ≡ Stage.Closed false)))
+  pub err : IfErr result (λ e. (n : ℕ) × (e ≡ EngineError.TurnRefused n))
+  pub idle : IfOk result (λ p. p ≡ Progress.Idle → AwaitsReplies new)
 
 -- What a step's answer tells: `Ended` that the connection was closed at its end, and `Idle` why nothing moved; and where a
 -- device failed, it has failed in this step, and the connection was closed for it. No step needs a link.

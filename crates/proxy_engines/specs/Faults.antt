@@ -8,8 +8,8 @@ use Rattle.proxy_history.specs.declared.refusal.Refusal.{Refusal}
 use Rattle.resp_core.specs.declared.value.Value.{Value}
 use Rattle.proxy_devices.specs.Device.{HasRisen}
 use Rattle.proxy_engines.specs.Ends.{InboxState, HasGivenAll}
-use Rattle.proxy_engines.specs.Host.{LineState, LinkState}
-use Rattle.proxy_engines.specs.Turned.{IsNumbered}
+use Rattle.proxy_engines.specs.Host.{HostOutboxState, LinkState}
+use Rattle.proxy_engines.specs.OneTurn.{IsNumbered}
 use Rattle.proxy_engines.specs.declared.error.EngineError.{EngineError}
 use Rattle.proxy_engines.specs.declared.link.Outcome.{Outcome}
 
@@ -17,12 +17,12 @@ use Rattle.proxy_engines.specs.declared.link.Outcome.{Outcome}
 abbrev pub is_fault : Outcome → Bool
 is_fault (Outcome.Fault kind error) = true
 is_fault Outcome.Moved = false
-is_fault Outcome.Still = false
+is_fault Outcome.Idle = false
 
 -- what a move tells, up to a fault
 abbrev pub told_by_outcome : Outcome → Option Bool
 told_by_outcome Outcome.Moved = Some true
-told_by_outcome Outcome.Still = Some false
+told_by_outcome Outcome.Idle = Some false
 told_by_outcome (Outcome.Fault kind error) = None
 
 -- what the answer of some moves tells: that something moved, or that nothing did
@@ -38,16 +38,16 @@ IsOfNoDevice e = ⊥
 
 -- the number of a refused turn of a host's engine; one that is astray, since someone else failed its host, tells that its epoch
 -- is over
-abbrev pub IsNumberedOn : (Refusal → Event → List Step → Type 0) → List Step → LineState → EngineError → Type 0
-IsNumberedOn cause seen l error = IsNumbered cause seen error ⊎ ((l.is_astray ≡ true) × (error ≡ EngineError.TurnRefused 1006))
+abbrev pub IsNumberedOn : (Refusal → Event → List Step → Type 0) → List Step → HostOutboxState → EngineError → Type 0
+IsNumberedOn cause seen outbox error = IsNumbered cause seen error ⊎ ((outbox.is_astray ≡ true) × (error ≡ EngineError.TurnRefused 1006))
 
 -- an error that tells of no device, and of a turn by its number
-abbrev pub IsPlain : (Refusal → Event → List Step → Type 0) → List Step → LineState → EngineError → Type 0
-IsPlain cause seen l error = IsOfNoDevice error × IsNumberedOn cause seen l error
+abbrev pub IsPlain : (Refusal → Event → List Step → Type 0) → List Step → HostOutboxState → EngineError → Type 0
+IsPlain cause seen outbox error = IsOfNoDevice error × IsNumberedOn cause seen outbox error
 
 -- the first of two moves at which anything came, or the second
 abbrev pub either : Outcome → Outcome → Outcome
-either Outcome.Still other = other
+either Outcome.Idle other = other
 either Outcome.Moved other = Outcome.Moved
 either (Outcome.Fault kind error) other = Outcome.Fault kind error
 
@@ -55,40 +55,49 @@ either (Outcome.Fault kind error) other = Outcome.Fault kind error
 abbrev pub IfFault : Outcome → (Kind → Option EngineError → Type 0) → Type 0
 IfFault (Outcome.Fault kind error) P = P kind error
 IfFault Outcome.Moved P = ⊤
-IfFault Outcome.Still P = ⊤
+IfFault Outcome.Idle P = ⊤
 
 -- the oldest part without reply was taken so long ago
-abbrev pub IsLate : LineState → ℕ → Type 0
-IsLate l m = (first : ℕ) × (rest : List ℕ) × (l.moments ≡ first ∷ rest) × (l.reply_ms ≤ m - first)
+abbrev pub IsLate : HostOutboxState → ℕ → Type 0
+IsLate outbox moment = (first : ℕ) × (rest : List ℕ) × (outbox.moments ≡ first ∷ rest) × (outbox.reply_ms ≤ moment - first)
 
 -- a read was made, which didn't fail: it brought bytes, as far as the reader tells them, or it paused
 abbrev pub HasRead : InboxState → InboxState → Type 0
-HasRead i i' =
-    (i'.counts.failed ≡ i.counts.failed)
-    × (((got : List ℕ) × (got ≢ []) × Consumes i.left i'.left got) ⊎ HasRisen i.counts.paused i'.counts.paused)
+HasRead old new =
+    (new.counts.failed ≡ old.counts.failed)
+    × (((got : List ℕ) × (got ≢ []) × Consumes old.left new.left got) ⊎ HasRisen old.counts.paused new.counts.paused)
 
 -- from one state of a link to the next neither its reader nor its writer has failed
 abbrev pub HasNoFaultOn : LinkState → LinkState → Type 0
-HasNoFaultOn k k' = (k'.inbox.counts.failed ≡ k.inbox.counts.failed) × (k'.counts.failed ≡ k.counts.failed)
+HasNoFaultOn old new = (new.inbox.counts.failed ≡ old.inbox.counts.failed) × (new.counts.failed ≡ old.counts.failed)
 
--- A reply is late on a link: the oldest part without reply was taken so long ago, though from one state of the link to the next
--- a read was made, and each value that came was answered.
-pub record IsLateOn (l : LineState) (k k' : LinkState) (m : ℕ) : Type 0 where
-  pub late : IsLate l m
-  pub reads : HasRead k.inbox k'.inbox
-  pub none_waits : k'.next ≡ None
-  pub all : HasGivenAll k'.inbox
+-- a link before and after some moves
+pub record LinkMove : Type 0 where
+  pub old : LinkState
+  pub new : LinkState
+
+-- A reply is late on a link: the oldest part without reply was taken so long ago, though a read was made by these moves, and each
+-- value that came was answered.
+pub record IsLateOn (outbox : HostOutboxState) (move : LinkMove) (moment : ℕ) : Type 0 where
+  pub late : IsLate outbox moment
+  pub reads : HasRead move.old.inbox move.new.inbox
+  pub none_waits : move.new.next ≡ None
+  pub all : HasGivenAll move.new.inbox
 
 -- a value waits for its turn that was refused since nobody asked for it
-abbrev pub IsUnaskedNow : (Event → List Step → Type 0) → List Step → ℕ → LineState → LinkState → Type 0
-IsUnaskedNow cause seen m l k = (v : Value) × (k.next ≡ Some v) × cause (Event.Answered l.host l.epoch v m) seen
+abbrev pub IsUnaskedNow : (Event → List Step → Type 0) → List Step → ℕ → HostOutboxState → LinkState → Type 0
+IsUnaskedNow cause seen moment outbox link = (value : Value) × (link.next ≡ Some value) × cause (Event.Answered outbox.host outbox.epoch value moment) seen
 
--- Why a link broke, from one state of it to the next, and the error that tells it: the input ended; a device failed; a byte was
--- refused, or a value came that nobody asked for; or a reply is late.
-abbrev pub IsCauseOf : Kind → Option EngineError → LinkState → LinkState → Type 0 → Type 0 → Type 0
-IsCauseOf Kind.Dropped None k k' unasked late = IsAtEnd k'.inbox.left
-IsCauseOf Kind.Dropped (Some EngineError.ReadFailed) k k' unasked late = HasRisen k.inbox.counts.failed k'.inbox.counts.failed
-IsCauseOf Kind.Dropped (Some EngineError.WriteFailed) k k' unasked late = HasRisen k.counts.failed k'.counts.failed
-IsCauseOf Kind.Garbled None k k' unasked late = (k'.inbox.values.refusal ≢ None) ⊎ unasked
-IsCauseOf Kind.Late None k k' unasked late = late
-IsCauseOf kind error k k' unasked late = ⊥
+-- A device gave the fault, which has this kind and error: the input ended, or a read or a write failed.
+abbrev pub IsOfDevice : LinkMove → Kind → Option EngineError → Type 0
+IsOfDevice move Kind.Dropped None = IsAtEnd move.new.inbox.left
+IsOfDevice move Kind.Dropped (Some EngineError.ReadFailed) = HasRisen move.old.inbox.counts.failed move.new.inbox.counts.failed
+IsOfDevice move Kind.Dropped (Some EngineError.WriteFailed) = HasRisen move.old.counts.failed move.new.counts.failed
+IsOfDevice move kind error = ⊥
+
+-- Why a link broke by these moves: a device gave the fault; a byte was refused, or a value came that nobody asked for; or a reply
+-- is late. `unasked` and `late` say so.
+abbrev pub IsCauseOf : Type 0 → Type 0 → LinkMove → Kind → Option EngineError → Type 0
+IsCauseOf unasked late move Kind.Garbled None = (move.new.inbox.values.refusal ≢ None) ⊎ unasked
+IsCauseOf unasked late move Kind.Late None = late
+IsCauseOf unasked late move kind error = IsOfDevice move kind error

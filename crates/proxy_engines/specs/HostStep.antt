@@ -5,17 +5,41 @@ use Rattle.proxy_history.specs.History.{History, Step}
 use Rattle.proxy_history.specs.declared.event.Event.{Event}
 use Rattle.proxy_history.specs.declared.event.Kind.{Kind}
 use Rattle.proxy_devices.specs.Device.{HasRisen}
-use Rattle.proxy_engines.specs.Host.{LineState, LinkState, GoesOn, FailsHost}
-use Rattle.proxy_engines.specs.Turned.{HasHeld}
+use Rattle.proxy_engines.specs.Host.{HostEnds, HostMove, HostOutboxState, LinkState, GoesOn, FailsHost}
+use Rattle.proxy_engines.specs.OneTurn.{HasHeld}
 use Rattle.proxy_engines.specs.Faults.{IsLate, IsLateOn, IsCauseOf, IsOfNoDevice}
 use Rattle.proxy_engines.specs.declared.client.Progress.{Progress}
 use Rattle.proxy_engines.specs.declared.error.EngineError.{EngineError}
 
 -- a host's engine, and the fault that is still to be recorded
 pub record HostState : Type 0 where
-  pub line : LineState
+  pub outbox : HostOutboxState
   pub link : Option LinkState
   pub fault : Option Kind
+
+-- the ends of an engine
+abbrev pub ends_of : HostState → HostEnds
+ends_of engine = record { outbox = engine.outbox; link = engine.link }
+
+-- A call of a host's engine at one moment: the engine before and after it, and its caller's steps before and after it.
+pub record HostCall : Type 0 where
+  pub old : HostState
+  pub new : HostState
+  pub before : History
+  pub after : History
+  pub moment : ℕ
+
+-- what a call does to the engine's ends
+abbrev pub move_of : HostCall → HostMove
+move_of call = record { old = ends_of call.old; new = ends_of call.new; before = call.before; after = call.after; moment = call.moment }
+
+-- the part of a call up to this state of the engine, and these steps
+abbrev pub up_to : HostCall → HostState → History → HostCall
+up_to call between steps = record call { new = between; after = steps }
+
+-- the part of a call behind this state of the engine, and these steps
+abbrev pub behind : HostCall → HostState → History → HostCall
+behind call between steps = record call { old = between; before = steps }
 
 -- while no fault is to be recorded, the link's reader has refused nothing
 abbrev pub IsWhole : Option Kind → Option LinkState → Type 0
@@ -23,21 +47,29 @@ IsWhole None (Some k) = k.inbox.values.refusal ≡ None
 IsWhole f k = ⊤
 
 -- a value came that nobody asked for: its turn is refused for that
-abbrev pub IsUnasked : (Event → List Step → Type 0) → List Step → List Step → ℕ → LineState → LinkState → Type 0
-IsUnasked cause old new m l k = (v : Value) × (k.next ≡ Some v) × HasHeld cause (Event.Answered l.host l.epoch v m) old new
+abbrev pub IsUnasked : (Event → List Step → Type 0) → List Step → List Step → ℕ → HostOutboxState → LinkState → Type 0
+IsUnasked cause seen_before seen_after moment outbox link = (value : Value) × (link.next ≡ Some value)
+    × HasHeld cause (Event.Answered outbox.host outbox.epoch value moment) seen_before seen_after
 
--- Why a fault came, of this line, by these moves from one link to the other, or without one, and the error that tells it. U
--- says that a value came that nobody asked for.
-abbrev pub IsCausedOn : (LineState → LinkState → Type 0) → Kind → Option EngineError → LineState → Option LinkState → Option LinkState → ℕ → Type 0
-IsCausedOn U kind error l None None m = (kind ≡ Kind.Late) × (error ≡ None) × IsLate l m
-IsCausedOn U kind error l (Some j) (Some k) m = IsCauseOf kind error j k (U l k) (IsLateOn l j k m)
-IsCausedOn U kind error l j k m = ⊥
+-- why a fault came without a link, or between two states of one; a link that comes or goes is no cause
+abbrev pub IsCausedBetween : (LinkState → LinkState → Type 0) → Type 0 → Option LinkState → Option LinkState → Type 0
+IsCausedBetween on alone None None = alone
+IsCausedBetween on alone (Some old) (Some new) = on old new
+IsCausedBetween on alone old new = ⊥
+
+-- Why a fault of this kind came by these moves, and the error that tells it. `unasked` says that a value came that nobody asked
+-- for.
+abbrev pub IsCausedOn : (HostOutboxState → LinkState → Type 0) → HostMove → Kind → Option EngineError → Type 0
+IsCausedOn unasked move kind error = IsCausedBetween
+    (λ old new. IsCauseOf (unasked move.new.outbox new) (IsLateOn move.new.outbox (record { old = old; new = new }) move.moment)
+    (record { old = old; new = new }) kind error)
+    ((kind ≡ Kind.Late) × (error ≡ None) × IsLate move.new.outbox move.moment)
+    move.old.link move.new.link
 
 -- a fault is recorded
-pub record Records (old new : HostState) (H H' : History) (kind : Kind) (moment : ℕ) : Type 0 where
-  pub fails : FailsHost old.line new.line old.link H H' kind moment
-  pub link : new.link ≡ None
-  pub fault : new.fault ≡ None
+pub record Records (call : HostCall) (kind : Kind) : Type 0 where
+  pub fails : FailsHost (move_of call) kind
+  pub fault : call.new.fault ≡ None
 
 -- what a step answers that recorded a fault
 abbrev pub answer_of : Option EngineError → Result Progress EngineError
@@ -45,10 +77,10 @@ answer_of None = Ok Progress.Moved
 answer_of (Some e) = Err e
 
 -- A fault is recorded, and the answer tells its error; or its turn is refused, and it is left to the next step.
-abbrev pub TellsFault : HostState → HostState → History → History → Kind → Option EngineError → ℕ → Result Progress EngineError → Type 0
-TellsFault old new H H' kind error m result =
-    (Records old new H H' kind m × (result ≡ answer_of error))
-    ⊎ ((new ≡ record old { fault = Some kind }) × (H' ≡ H) × ((n : ℕ) × (result ≡ Err (EngineError.TurnRefused n))))
+abbrev pub TellsFault : HostCall → Kind → Option EngineError → Result Progress EngineError → Type 0
+TellsFault call kind error result =
+    (Records call kind × (result ≡ answer_of error))
+    ⊎ ((call.new ≡ record call.old { fault = Some kind }) × (call.after ≡ call.before) × ((n : ℕ) × (result ≡ Err (EngineError.TurnRefused n))))
 
 -- what a step that recorded no fault answers: whether anything moved, and nothing of a device
 abbrev pub IsAnswered : Bool → Result Progress EngineError → Type 0
@@ -60,15 +92,15 @@ IsAnswered moved result = ⊥
 
 -- Moves on the link or without one, and then a fault for its cause, if there is one, which is recorded or left to the next
 -- step.
-pub record WorksHost (U : LineState → LinkState → Type 0) (old : LineState) (new : HostState) (link : Option LinkState) (H H' : History) (moment : ℕ) (result : Result Progress EngineError) : Type 0 where
+pub record WorksHost (unasked : HostOutboxState → LinkState → Type 0) (call : HostCall) (result : Result Progress EngineError) : Type 0 where
   pub last : HostState
   pub between : History
   pub moved : Bool
-  pub goes : GoesOn old last.line link last.link H between moment moved
-  pub ends : ((new.line ≡ last.line) × (new.link ≡ last.link) × (H' ≡ between) × IsAnswered moved result
-      × IfSome new.fault (λ kind. (error : Option EngineError) × IsCausedOn U kind error last.line link last.link moment))
-      ⊎ ((kind : Kind) × (error : Option EngineError) × Records last new between H' kind moment
-      × IsCausedOn U kind error last.line link last.link moment × (result ≡ answer_of error))
+  pub goes : GoesOn (move_of (up_to call last between)) moved
+  pub ends : ((call.new.outbox ≡ last.outbox) × (call.new.link ≡ last.link) × (call.after ≡ between) × IsAnswered moved result
+      × IfSome call.new.fault (λ kind. (error : Option EngineError) × IsCausedOn unasked (move_of (up_to call last between)) kind error))
+      ⊎ ((kind : Kind) × (error : Option EngineError) × Records (behind call last between) kind
+      × IsCausedOn unasked (move_of (up_to call last between)) kind error × (result ≡ answer_of error))
 
 -- what a step answers that recorded an earlier fault, by what it answers of its own work
 abbrev pub after_fault : Result Progress EngineError → Result Progress EngineError
@@ -77,22 +109,25 @@ after_fault (Ok progress) = Ok Progress.Moved
 after_fault (Err e) = Err e
 
 -- the fault of an earlier step can't be recorded, and nothing else is done
-abbrev pub RestsHost : HostState → HostState → History → History → Result Progress EngineError → Type 0
-RestsHost old new H H' result = (old.fault ≢ None) × (new ≡ old) × (H' ≡ H) × ((n : ℕ) × (result ≡ Err (EngineError.TurnRefused n)))
+abbrev pub RestsHost : HostCall → Result Progress EngineError → Type 0
+RestsHost call result = (call.old.fault ≢ None) × (call.new ≡ call.old) × (call.after ≡ call.before)
+    × ((n : ℕ) × (result ≡ Err (EngineError.TurnRefused n)))
 
 -- A step: the fault of an earlier step is recorded, if there is one, and the work goes on.
-pub record StepsHost (U : LineState → LinkState → Type 0) (old new : HostState) (H H' : History) (moment : ℕ) (result : Result Progress EngineError) : Type 0 where
+pub record StepsHost (unasked : HostOutboxState → LinkState → Type 0) (call : HostCall) (result : Result Progress EngineError) : Type 0 where
   pub first : HostState
   pub between : History
   pub answer : Result Progress EngineError
-  pub begins : ((first ≡ old) × (between ≡ H) × (result ≡ answer))
-      ⊎ ((kind : Kind) × (old.fault ≡ Some kind) × Records old first H between kind moment × (result ≡ after_fault answer))
+  pub begins : ((first ≡ call.old) × (between ≡ call.before) × (result ≡ answer))
+      ⊎ ((kind : Kind) × (call.old.fault ≡ Some kind) × Records (up_to call first between) kind × (result ≡ after_fault answer))
   pub whole : first.fault ≡ None
-  pub works : WorksHost U first.line new first.link between H' moment answer
+  pub works : WorksHost unasked (behind call first between) answer
 
--- why nothing moved: nothing could be read; and nothing could be written, or nothing was pending and no part waited, as W says
-abbrev pub IsIdleOn : Type 0 → LineState → Option LinkState → Option LinkState → Type 0
-IsIdleOn W l None None = (l.pending ≡ []) × W
-IsIdleOn W l (Some j) (Some k) =
-    HasRisen j.inbox.counts.paused k.inbox.counts.paused × (HasRisen j.counts.paused k.counts.paused ⊎ ((l.pending ≡ []) × W))
-IsIdleOn W l j k = ⊥
+-- why nothing moved: nothing could be read; and nothing could be written, or nothing was pending and no part waited, as
+-- `none_waited` says
+abbrev pub IsIdleOn : Type 0 → HostOutboxState → Option LinkState → Option LinkState → Type 0
+IsIdleOn none_waited outbox None None = (outbox.pending ≡ []) × none_waited
+IsIdleOn none_waited outbox (Some old) (Some new) =
+    HasRisen old.inbox.counts.paused new.inbox.counts.paused
+    × (HasRisen old.counts.paused new.counts.paused ⊎ ((outbox.pending ≡ []) × none_waited))
+IsIdleOn none_waited outbox old new = ⊥

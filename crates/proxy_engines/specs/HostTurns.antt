@@ -1,52 +1,67 @@
 -- What the functions of a host's engine come to that make turns.
-use Rattle.std.specs.Prelude.{◌≡◌, ℕ, Bool, Option, List, Result, IfOk, IfErr, IfSome, OnOk, OnErr, None, Some}
+use Rattle.std.specs.Prelude.{◌≡◌, ◌≢◌, ◌⊎◌, ◌↔◌, ℕ, Bool, Option, List, [], Result, IfOk, IfErr, IfSome, OnOk, OnErr, None, Some}
 use Rattle.proxy_history.specs.History.{Step}
 use Rattle.proxy_history.specs.declared.event.Event.{Event}
 use Rattle.proxy_history.specs.declared.event.Kind.{Kind}
 use Rattle.proxy_history.specs.declared.refusal.Refusal.{Refusal}
 use Rattle.proxy_engines.specs.Turns.{KeepsTurns, own_history}
-use Rattle.proxy_engines.specs.Turned.{HasHeld}
+use Rattle.proxy_engines.specs.OneTurn.{HasHeld}
 use Rattle.proxy_engines.specs.Moves.{AsTold}
+use Rattle.proxy_engines.specs.Ends.{HasGivenAll}
 use Rattle.proxy_engines.specs.Faults.{HasNoFaultOn, IsLate, IsNumberedOn, IsPlain}
-use Rattle.proxy_engines.specs.Host.{LineState, LinkState, GoesOn}
-use Rattle.proxy_engines.specs.HostStep.{HostState, IsIdleOn, IsUnasked, Records, WorksHost}
+use Rattle.proxy_engines.specs.Host.{HostEnds, GoesOn}
+use Rattle.proxy_engines.specs.HostStep.{HostCall, HostState, IsIdleOn, IsUnasked, Records, RestsHost, StepsHost, WorksHost}
 use Rattle.proxy_engines.specs.declared.client.Progress.{Progress}
 use Rattle.proxy_engines.specs.declared.error.EngineError.{EngineError}
 
 module _ {Turns Setting : Type 0} (pass_of : Turns → ℕ) (setting_of : Turns → Setting) (seen_of : Turns → List Step)
     (cause : Setting → Refusal → Event → List Step → Type 0) (before after : Turns) where
-  -- Some turns were made, or none, from `before` to `after`. The line and its link made moves, whether any as was told; and an
+  -- Some turns were made, or none, from `before` to `after`. The outbox and its link made moves, whether any as was told; and an
   -- error tells of no device, and of a turn by its number.
-  pub record MovesLine {Answered : Type 0} (line line' : LineState) (link link' : Option LinkState) (moment : ℕ) (told : Option Bool)
-      (result : Result Answered EngineError) : Type 0 where
+  pub record MovesEnds {Answered : Type 0} (old new : HostEnds) (moment : ℕ) (told : Option Bool) (result : Result Answered EngineError) : Type 0 where
     pub turns : KeepsTurns pass_of setting_of seen_of before after
-    pub goes : AsTold (GoesOn line line' link link' (own_history pass_of seen_of before) (own_history pass_of seen_of after) moment) told
-    pub plain : IfErr result (IsPlain (cause (setting_of before)) (seen_of after) line')
+    pub goes : AsTold (GoesOn (record { old = old; new = new; before = own_history pass_of seen_of before; after = own_history pass_of seen_of after; moment = moment })) told
+    pub plain : IfErr result (IsPlain (cause (setting_of before)) (seen_of after) new.outbox)
 
-  -- Some turns were made, or none, from `before` to `after`. The engine worked on this link or without one, and where a turn was
-  -- refused the error has its number.
-  pub record MovesHost (line : LineState) (link : Option LinkState) (new : HostState) (moment : ℕ) (result : Result Progress EngineError) : Type 0 where
+  -- a call of the engine, over the turns from `before` to `after`
+  abbrev pub call_of : HostState → HostState → ℕ → HostCall
+  call_of old new moment = record { old = old; new = new; before = own_history pass_of seen_of before; after = own_history pass_of seen_of after; moment = moment }
+
+  -- What the answer of a call tells that began with this engine: no fault is still to be recorded, and no reply is late. A link
+  -- that stays has not failed, and where no fault was to be recorded each value that came on it was answered. `NeedsLink` tells
+  -- that bytes are pending without a link, and `Idle` why nothing moved.
+  pub record TellsHost (old new : HostState) (moment : ℕ) (result : Result Progress EngineError) : Type 0 where
+    pub recorded : OnOk result (new.fault ≡ None)
+    pub unfailed : OnOk result (IfSome old.link (λ before. IfSome new.link (HasNoFaultOn before)))
+    pub answered : OnOk result (old.fault ≡ None → IfSome old.link (λ _. IfSome new.link (λ link. (link.next ≡ None) × HasGivenAll link.inbox)))
+    pub in_time : IfOk result (λ _. ¬ IsLate new.outbox moment)
+    pub needs_link : IfOk result (λ p. (p ≡ Progress.NeedsLink) ↔ ((new.link ≡ None) × (new.outbox.pending ≢ [])))
+    pub idle : IfOk result (λ p. p ≡ Progress.Idle → IsIdleOn
+        (HasHeld (cause (setting_of before) Refusal.NothingWaiting) (Event.Taken old.outbox.host) (seen_of before) (seen_of after))
+        old.outbox old.link new.link)
+
+  -- Some turns were made, or none, from `before` to `after`. The engine worked on its link or without one, as the answer tells, and
+  -- where a turn was refused the error has its number.
+  pub record MovesHost (old new : HostState) (moment : ℕ) (result : Result Progress EngineError) : Type 0 where
     pub turns : KeepsTurns pass_of setting_of seen_of before after
-    pub works : WorksHost (IsUnasked (cause (setting_of before) Refusal.Unasked) (seen_of before) (seen_of after) moment) line new link
-        (own_history pass_of seen_of before) (own_history pass_of seen_of after) moment result
-    pub number : IfErr result (IsNumberedOn (cause (setting_of before)) (seen_of after) new.line)
+    pub works : WorksHost (IsUnasked (cause (setting_of before) Refusal.Unasked) (seen_of before) (seen_of after) moment) (call_of old new moment) result
+    pub number : IfErr result (IsNumberedOn (cause (setting_of before)) (seen_of after) new.outbox)
+    pub tells : TellsHost old new moment result
+
+  -- A step over the turns from `before` to `after`: it does its work, or an earlier fault can't be recorded. Where a turn was
+  -- refused the error has its number.
+  pub record MakesStep (old new : HostState) (moment : ℕ) (result : Result Progress EngineError) : Type 0 where
+    pub turns : KeepsTurns pass_of setting_of seen_of before after
+    pub steps : StepsHost (IsUnasked (cause (setting_of before) Refusal.Unasked) (seen_of before) (seen_of after) moment) (call_of old new moment) result
+        ⊎ RestsHost (call_of old new moment) result
+    pub number : IfErr result (IsNumberedOn (cause (setting_of before)) (seen_of after) new.outbox)
 
   -- Some turns were made, or none, from `before` to `after`: a fault of this kind is recorded, and the link given up; or that
   -- turn was refused, with its number, and the fault left to the next step.
   pub record MarksFault {Answered : Type 0} (old new : HostState) (kind : Kind) (moment : ℕ) (result : Result Answered EngineError) : Type 0 where
     pub turns : KeepsTurns pass_of setting_of seen_of before after
-    pub records : OnOk result (Records old new (own_history pass_of seen_of before) (own_history pass_of seen_of after) kind moment)
+    pub records : OnOk result (Records (call_of old new moment) kind)
     pub kept : OnErr result ((new ≡ record old { fault = Some kind })
         × (own_history pass_of seen_of after ≡ own_history pass_of seen_of before))
     pub err : IfErr result (λ e. (n : ℕ) × (e ≡ EngineError.TurnRefused n))
-    pub number : IfErr result (IsNumberedOn (cause (setting_of before)) (seen_of after) new.line)
-
--- What the answer of a step tells that began with this line and link: no fault is still to be recorded, no reply is late, a link
--- that stays has not failed, and `Idle` why nothing moved.
-pub record TellsHost (cause : Refusal → Event → List Step → Type 0) (seen_before seen_after : List Step) (line : LineState)
-    (link : Option LinkState) (new : HostState) (moment : ℕ) (result : Result Progress EngineError) : Type 0 where
-  pub recorded : OnOk result (new.fault ≡ None)
-  pub unfailed : OnOk result (IfSome link (λ j. IfSome new.link (HasNoFaultOn j)))
-  pub in_time : IfOk result (λ _. ¬ IsLate new.line moment)
-  pub idle : IfOk result (λ p. p ≡ Progress.Idle
-      → IsIdleOn (HasHeld (cause Refusal.NothingWaiting) (Event.Taken line.host) seen_before seen_after) line link new.link)
+    pub number : IfErr result (IsNumberedOn (cause (setting_of before)) (seen_of after) new.outbox)

@@ -7,7 +7,7 @@ use Rattle.proxy_history.specs.Output.{transcript}
 use Rattle.proxy_history.specs.Own.{connection_steps, host_steps}
 use Rattle.std.specs.Io.KnownBytes.{IsAtEnd}
 use Rattle.proxy_engines.specs.Client.{Client, Carries, LastFinishes, asked_requests}
-use Rattle.proxy_engines.specs.Host.{LineState, LinkState, CarriesHost}
+use Rattle.proxy_engines.specs.Host.{HostOutboxState, LinkState, CarriesHost}
 use Rattle.proxy_engines.specs.declared.client.Stage.{Stage}
 
 -- The requests accepted are the first of those that the bytes read ask.
@@ -17,10 +17,10 @@ AcceptedAreFirst = (e : Client) (H : History) (taken b : List ℕ) → Carries e
 
 -- A client that ended has accepted the requests of all bytes up to and with the first that finishes; all were handed out,
 -- and the writer took all that was handed out.
-pub record IsWholly (e : Client) (H : History) (taken : List ℕ) (rs : List Request) : Type 0 where
-  pub accepted_are : asked_requests e.conn H ≡ up_to_last rs
-  pub all_handed : handed_count e.conn H ≡ accepted_count e.conn H
-  pub taken_is : taken ≡ transcript e.conn H
+pub record IsWholly (engine : Client) (steps : History) (taken : List ℕ) (requests : List Request) : Type 0 where
+  pub accepted_are : asked_requests engine.conn steps ≡ up_to_last requests
+  pub all_handed : handed_count engine.conn steps ≡ accepted_count engine.conn steps
+  pub taken_is : taken ≡ transcript engine.conn steps
 
 -- a client that ended, and wasn't halted for a drain, has answered all that it was asked
 abbrev pub EndedIsWhole : Type 0
@@ -39,7 +39,7 @@ OthersLeaveClients = (e : Client) (H later : History) (taken b : List ℕ) → c
 
 -- Steps of others leave what a host's engine carries as it is.
 abbrev pub OthersLeaveHosts : Type 0
-OthersLeaveHosts = (l : LineState) (k : Option LinkState) (H later : History) (taken b : List ℕ) → host_steps l.host later ≡ []
+OthersLeaveHosts = (l : HostOutboxState) (k : Option LinkState) (H later : History) (taken b : List ℕ) → host_steps l.host later ≡ []
     → CarriesHost l k H taken b → CarriesHost l k (later ++ H) taken b
 
 -- The steps of a client's engine are no other connection's, and no host's.

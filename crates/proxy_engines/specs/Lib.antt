@@ -1,7 +1,7 @@
 pub mod EngineError
 pub mod Ends
 pub mod Turns
-pub mod Turned
+pub mod OneTurn
 pub mod Moves
 pub mod Client
 pub mod ClientSteps

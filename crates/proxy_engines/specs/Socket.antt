@@ -14,22 +14,22 @@ use Rattle.proxy_engines.specs.Client.{Client, Carries, Goes, NoneFinishes, aske
 use Rattle.proxy_engines.specs.declared.client.Stage.{Stage}
 
 -- these bytes are a rest: behind whatever reader, an end with it was given them and has given the request that waits alone
-pub record IsRest (r : RestState) (b : List ℕ) : Type 0 where
-  pub most_is : r.values.most ≡ MAX_CLIENT_MEMBERS
-  pub holds : (left : Option (List ℕ)) (counts : Counts) → HoldsBehind (end_with left counts r) b (waiting_requests r.next)
+pub record IsRest (rest : RestState) (bytes : List ℕ) : Type 0 where
+  pub most_is : rest.values.most ≡ MAX_CLIENT_MEMBERS
+  pub holds : (left : Option (List ℕ)) (counts : Counts) → HoldsBehind (end_with left counts rest) bytes (waiting_requests rest.next)
 
 -- A connection was closed with all answered, and left this rest. The bytes are the texts of what it asked, none of which
 -- finishes it, and then this rest; and the writer took all that was handed out.
-pub record IsLeft (c : ℕ) (H : History) (taken b : List ℕ) (r : RestState) : Type 0 where
+pub record IsLeft (conn : ℕ) (steps : History) (taken bytes : List ℕ) (kept : RestState) : Type 0 where
   pub asked : List Tree
   pub rest : List ℕ
-  pub asked_are : asked_requests c H ≡ map read asked
-  pub splits : Splits MAX_CLIENT_MEMBERS b asked rest
-  pub goes_on : NoneFinishes (asked_requests c H)
-  pub stands : IsRest r rest
-  pub taken_is : taken ≡ transcript c H
-  pub all_handed : handed_count c H ≡ accepted_count c H
-  pub closed : is_closed c H ≡ true
+  pub asked_are : asked_requests conn steps ≡ map read asked
+  pub splits : Splits MAX_CLIENT_MEMBERS bytes asked rest
+  pub goes_on : NoneFinishes (asked_requests conn steps)
+  pub stands : IsRest kept rest
+  pub taken_is : taken ≡ transcript conn steps
+  pub all_handed : handed_count conn steps ≡ accepted_count conn steps
+  pub closed : is_closed conn steps ≡ true
 
 -- a connection of a socket that is closed, and the steps of its engine's caller in its generation
 pub record Past : Type 0 where
@@ -47,37 +47,37 @@ said_before [] = []
 said_before (p ∷ ps) = said_before ps ++ transcript p.conn p.steps
 
 -- one connection more was closed: it went on from what those before it had left
-pub record FollowsOn (Before : List ℕ → List ℕ → List ℕ → Type 0) (p : Past) (taken b rest : List ℕ) : Type 0 where
+pub record FollowsOn (WentBefore : List ℕ → List ℕ → List ℕ → Type 0) (past : Past) (taken bytes rest : List ℕ) : Type 0 where
   pub took : List ℕ
   pub came : List ℕ
   pub left : List ℕ
   pub gave : List ℕ
   pub got : List ℕ
   pub held : RestState
-  pub before : Before took came left
-  pub is_left : IsLeft p.conn p.steps gave (left ++ got) held
+  pub before : WentBefore took came left
+  pub is_left : IsLeft past.conn past.steps gave (left ++ got) held
   pub taken_is : taken ≡ took ++ gave
-  pub bytes_are : b ≡ came ++ got
+  pub bytes_are : bytes ≡ came ++ got
   pub rest_is : rest ≡ is_left.rest
 
 -- Of one socket these connections were closed, each of which went on from what the one before it left. The writer took these
--- bytes, the reader gave the bytes b, and this rest of them was not asked.
+-- bytes, the reader gave these, and this rest of them was not asked.
 abbrev pub WentOn : List Past → List ℕ → List ℕ → List ℕ → Type 0
-WentOn [] taken b rest = (taken ≡ []) × (b ≡ []) × (rest ≡ [])
-WentOn (p ∷ ps) taken b rest = FollowsOn (WentOn ps) p taken b rest
+WentOn [] taken bytes rest = (taken ≡ []) × (bytes ≡ []) × (rest ≡ [])
+WentOn (past ∷ pasts) taken bytes rest = FollowsOn (WentOn pasts) past taken bytes rest
 
 -- And now an engine carries on: what it reads stands behind the rest. Of the whole socket the writer took these bytes, and the
--- reader gave the bytes b.
-pub record CarriesOn (ps : List Past) (e : Client) (H : History) (taken b : List ℕ) : Type 0 where
+-- reader gave these.
+pub record CarriesOn (pasts : List Past) (engine : Client) (steps : History) (taken bytes : List ℕ) : Type 0 where
   pub took : List ℕ
   pub came : List ℕ
   pub left : List ℕ
   pub gave : List ℕ
   pub got : List ℕ
-  pub before : WentOn ps took came left
-  pub carries : Carries e H gave (left ++ got)
+  pub before : WentOn pasts took came left
+  pub carries : Carries engine steps gave (left ++ got)
   pub taken_is : taken ≡ took ++ gave
-  pub bytes_are : b ≡ came ++ got
+  pub bytes_are : bytes ≡ came ++ got
 
 -- A socket's first engine carries on from nothing.
 abbrev pub SocketBegins : Type 0
@@ -112,10 +112,10 @@ SocketAnswersInOrder = (ps : List Past) (e : Client) (H : History) (taken b : Li
 
 -- And where the last of them ended, all that was asked up to and with the first request that finishes was accepted, handed out
 -- and taken.
-pub record IsSocketWhole (ps : List Past) (e : Client) (H : History) (taken : List ℕ) (rs : List Request) : Type 0 where
-  pub accepted_are : asked_before ps ++ asked_requests e.conn H ≡ up_to_last rs
-  pub all_handed : handed_count e.conn H ≡ accepted_count e.conn H
-  pub taken_is : taken ≡ said_before ps ++ transcript e.conn H
+pub record IsSocketWhole (pasts : List Past) (engine : Client) (steps : History) (taken : List ℕ) (requests : List Request) : Type 0 where
+  pub accepted_are : asked_before pasts ++ asked_requests engine.conn steps ≡ up_to_last requests
+  pub all_handed : handed_count engine.conn steps ≡ accepted_count engine.conn steps
+  pub taken_is : taken ≡ said_before pasts ++ transcript engine.conn steps
 
 -- Where the last connection ended and was not halted for a drain, all requests up to and with the first that finishes were
 -- accepted, handed out and taken.

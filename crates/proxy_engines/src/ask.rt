@@ -9,7 +9,7 @@ ghost use Rattle.proxy_history.specs.StepLaws.{is_last_answer};
 ghost use Rattle.proxy_history.specs.declared.answer.Answer.{Answer};
 ghost use Rattle.proxy_history.specs.declared.event.Event.{Event};
 ghost use Rattle.proxy_engines.specs.Turns.{KeepsTurns, own_history};
-ghost use Rattle.proxy_engines.specs.Turned.{Adds, IsDenied, denied_number, told_as};
+ghost use Rattle.proxy_engines.specs.OneTurn.{Adds, IsDenied, denied_number, told_as};
 
 use crate::error::EngineError;
 use proxy_core::{Answer, CoreTurns, Event, Local, Refusal, Request};

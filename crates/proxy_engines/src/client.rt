@@ -5,9 +5,9 @@ ghost use Rattle.proxy_history.specs.History.{History};
 ghost use Rattle.proxy_history.specs.declared.answer.Answer.{Answer};
 ghost use Rattle.proxy_history.specs.declared.event.Event.{Event};
 ghost use Rattle.proxy_engines.specs.Turns.{KeepsTurns, own_history};
-ghost use Rattle.proxy_devices.specs.Device.{HasFailed, HasPaused};
+ghost use Rattle.proxy_devices.specs.Device.{HasFailed, WasIdle};
 ghost use Rattle.proxy_engines.specs.Ends.{HasGivenAll};
-ghost use Rattle.proxy_engines.specs.Turned.{IsNumbered};
+ghost use Rattle.proxy_engines.specs.OneTurn.{IsNumbered};
 ghost use Rattle.journal_core.specs.Journal.{step_by};
 ghost use Rattle.proxy_engines.specs.Moves.{AsTold, told_by_step, told_by_turn};
 
@@ -105,7 +105,7 @@ impl<R: ReadTally, W: WriteTally> Model for ClientEngine<R, W> {
 #[tactic(auto, using(crate::proofs::ClientMoves::same_goes, crate::proofs::ClientMoves::goes_then))]
 impl<R: ReadTally, W: WriteTally> ClientEngine<R, W> {
     ghost use Rattle.proxy_engines.specs.Client.{AwaitsBytes, AwaitsReplies, Client, Carries, ClosesFirst, Cuts, Goes, HandsNothing, HasNext, HasNoFault, HasSameCounts, IsReadOut, IsHeldBack, IsIdle, IsLive, IsOver, MayGoOn};
-    ghost use Rattle.proxy_engines.specs.ClientSteps.{MovesClient, StaysHeld, TellsStep};
+    ghost use Rattle.proxy_engines.specs.ClientSteps.{EndsOnce, FetchesNext, HandsDue, HandsOne, LooksForNext, MovesClient, OffersOne, ReadsClient, StopsReading, TakesIn, TellsStep, WritesClient};
     ghost use Rattle.proxy_history.specs.declared.refusal.Refusal.{Refusal};
     ghost use Rattle.splitter.specs.declared.request.Request.{Request};
 
@@ -115,12 +115,8 @@ impl<R: ReadTally, W: WriteTally> ClientEngine<R, W> {
         requires nothing { self.old.outbox.pending ≡ [] }
         ensures moves { MovesClient T.pass T.setting T.seen T.cause turns.old turns.new
             self.old self.new (told_by_turn result) result }
-        ensures stage { self.new.stage ≡ self.old.stage }
-        ensures not_ready { IfOk result (λ b. b ≡ false → (self.new ≡ self.old)
-            × ((left : ℕ) × T.cause (T.setting turns.old) (Refusal.NotReady left)
-            (Event.Handed self.old.conn) (T.seen turns.new))) }
-        ensures err { IfErr result (λ e. (self.new ≡ self.old)
-            × ((n : ℕ) × (e ≡ EngineError.TurnRefused n))) }
+        ensures hands { HandsOne (T.cause (T.setting turns.old)) (T.seen turns.new)
+            self.old self.new result }
     {
         match tell(rt, turns, Event::Handed { conn: self.conn }) {
             Ok(Answer::Bytes { text }) => {
@@ -221,11 +217,8 @@ impl<R: ReadTally, W: WriteTally> ClientEngine<R, W> {
         requires last { self.old.is_drained ≡ true → self.old.next ≡ Some Request.Broken }
         ensures moves { MovesClient T.pass T.setting T.seen T.cause turns.old turns.new
             self.old self.new (told_by_step result) result }
-        ensures live { IsLive self.new.stage }
-        ensures ok { IfOk result (λ p. (p ≡ Progress.Moved) ⊎ ((p ≡ Progress.Idle)
-            × StaysHeld (T.cause (T.setting turns.old)) (T.seen turns.new) self.old self.new)) }
-        ensures err { IfErr result (λ e. (self.new ≡ self.old)
-            × ((n : ℕ) × (e ≡ EngineError.TurnRefused n))) }
+        ensures offers { OffersOne (T.cause (T.setting turns.old)) (T.seen turns.new)
+            self.old self.new result }
     {
         let Some(request) = self.next.take() else {
             return Ok(Progress::Idle);
@@ -251,10 +244,7 @@ impl<R: ReadTally, W: WriteTally> ClientEngine<R, W> {
         requires none { self.old.next ≡ None }
         requires reads { self.old.is_drained ≡ false }
         ensures goes { (H : History) → Goes self.old self.new H H false }
-        ensures keeps { (self.new.is_drained ≡ false) × (self.new.stage ≡ Stage.Open)
-            × HasSameCounts self.old self.new }
-        ensures next { IfOk result (HasNext self.new) }
-        ensures err { IfErr result (λ e. e ≡ EngineError.NoMemory) }
+        ensures fetches { FetchesNext self.old self.new result }
     {
         match self.inbox.next_request() {
             Ok(next) => {
@@ -271,10 +261,7 @@ impl<R: ReadTally, W: WriteTally> ClientEngine<R, W> {
         requires stage { self.old.stage ≡ Stage.Open }
         requires last { self.old.is_drained ≡ true → self.old.next ≡ Some Request.Broken }
         ensures goes { (H : History) → Goes self.old self.new H H false }
-        ensures keeps { (self.new.stage ≡ Stage.Open) × HasSameCounts self.old self.new }
-        ensures last { self.new.is_drained ≡ true → self.new.next ≡ Some Request.Broken }
-        ensures next { IfOk result (HasNext self.new) }
-        ensures err { IfErr result (λ e. e ≡ EngineError.NoMemory) }
+        ensures looks { LooksForNext self.old self.new result }
     {
         if self.next.is_none() {
             self.fetch()
@@ -293,16 +280,11 @@ impl<R: ReadTally, W: WriteTally> ClientEngine<R, W> {
         requires some { self.old.outbox.pending ≢ [] }
         ensures moves { MovesClient T.pass T.setting T.seen T.cause turns.old turns.new
             self.old self.new (told_by_step result) result }
-        ensures ok { IfOk result (λ p. (self.new.stage ≡ self.old.stage)
-            × ((p ≡ Progress.Moved) ⊎ ((p ≡ Progress.Idle)
-            × HasPaused self.old.outbox.counts self.new.outbox.counts))) }
-        ensures err { IfErr result (λ e.
-            ((e ≡ EngineError.WriteFailed) × HasFailed self.old.outbox.counts self.new.outbox.counts
-            × (self.new.stage ≡ Stage.Closed true)) ⊎ ((n : ℕ) × (e ≡ EngineError.TurnRefused n))) }
+        ensures writes { WritesClient self.old self.new result }
     {
         match self.outbox.write_once() {
             Told::Moved(_) => Ok(Progress::Moved),
-            Told::Paused => Ok(Progress::Idle),
+            Told::Idle => Ok(Progress::Idle),
             Told::End | Told::Failed => self.cut(rt, turns, Err(EngineError::WriteFailed)),
         }
     }
@@ -317,8 +299,7 @@ impl<R: ReadTally, W: WriteTally> ClientEngine<R, W> {
         requires done { IsReadOut self.old }
         ensures moves { MovesClient T.pass T.setting T.seen T.cause turns.old turns.new
             self.old self.new (told_by_step result) result }
-        ensures ok { IfOk result (λ p. IsLive self.new.stage × (p ≡ Progress.Moved)) }
-        ensures err { IfErr result (λ e. (n : ℕ) × (e ≡ EngineError.TurnRefused n)) }
+        ensures stops { StopsReading self.new result }
     {
         self.stage = Stage::AtEnd;
         self.is_halted = self.is_drained;
@@ -337,15 +318,11 @@ impl<R: ReadTally, W: WriteTally> ClientEngine<R, W> {
         requires all { HasGivenAll self.old.inbox }
         ensures moves { MovesClient T.pass T.setting T.seen T.cause turns.old turns.new
             self.old self.new (told_by_step result) result }
-        ensures ok { IfOk result (λ p. IsLive self.new.stage
-            × ((p ≡ Progress.Moved) ⊎ ((p ≡ Progress.Idle) × AwaitsBytes self.old self.new))) }
-        ensures err { IfErr result (λ e.
-            ((e ≡ EngineError.ReadFailed) × HasFailed self.old.inbox.counts self.new.inbox.counts
-            × (self.new.stage ≡ Stage.Closed true)) ⊎ ((n : ℕ) × (e ≡ EngineError.TurnRefused n))) }
+        ensures reads { ReadsClient self.old self.new result }
     {
         match self.inbox.read_once() {
             Told::Moved(_) => Ok(Progress::Moved),
-            Told::Paused => Ok(Progress::Idle),
+            Told::Idle => Ok(Progress::Idle),
             Told::End => self.stop_reading(rt, turns),
             Told::Failed => self.cut(rt, turns, Err(EngineError::ReadFailed)),
         }
@@ -370,14 +347,8 @@ impl<R: ReadTally, W: WriteTally> ClientEngine<R, W> {
         requires stage { self.old.stage ≡ Stage.Open }
         ensures moves { MovesClient T.pass T.setting T.seen T.cause turns.old turns.new
             self.old self.new (told_by_step result) result }
-        ensures ok { IfOk result (λ p. IsLive self.new.stage
-            × ((p ≡ Progress.Moved) ⊎ (p ≡ Progress.Idle))) }
-        ensures err { IfErr result (λ e. (e ≡ EngineError.NoMemory)
-            ⊎ ((e ≡ EngineError.ReadFailed) × HasFailed self.old.inbox.counts self.new.inbox.counts
-            × (self.new.stage ≡ Stage.Closed true)) ⊎ ((n : ℕ) × (e ≡ EngineError.TurnRefused n))) }
-        ensures idle { IfOk result (λ p. p ≡ Progress.Idle
-            → IsHeldBack (T.cause (T.setting turns.old)) self.new (T.seen turns.old)
-            (T.seen turns.new) ⊎ AwaitsBytes self.old self.new) }
+        ensures takes { TakesIn (T.cause (T.setting turns.old)) (T.seen turns.old) (T.seen turns.new)
+            self.old self.new result }
     {
         if self.is_to_stop() {
             return self.stop_reading(rt, turns);
@@ -398,10 +369,7 @@ impl<R: ReadTally, W: WriteTally> ClientEngine<R, W> {
         requires nothing { self.old.outbox.pending ≡ [] }
         ensures moves { MovesClient T.pass T.setting T.seen T.cause turns.old turns.new
             self.old self.new (told_by_step result) result }
-        ensures ok { IfOk result (λ p. (p ≡ Progress.Idle)
-            ⊎ ((p ≡ Progress.Ended) × (self.new.stage ≡ Stage.Closed false))) }
-        ensures err { IfErr result (λ e. (n : ℕ) × (e ≡ EngineError.TurnRefused n)) }
-        ensures idle { IfOk result (λ p. p ≡ Progress.Idle → AwaitsReplies self.new) }
+        ensures ends { EndsOnce self.new result }
     {
         if self.accepted != self.handed {
             return Ok(Progress::Idle);
@@ -419,12 +387,8 @@ impl<R: ReadTally, W: WriteTally> ClientEngine<R, W> {
         requires nothing { self.old.outbox.pending ≡ [] }
         ensures moves { MovesClient T.pass T.setting T.seen T.cause turns.old turns.new
             self.old self.new (told_by_turn result) result }
-        ensures stage { self.new.stage ≡ self.old.stage }
-        ensures nothing { IfOk result (λ b. b ≡ false → (self.new ≡ self.old)
-            × HandsNothing (T.cause (T.setting turns.old)) self.old (T.seen turns.old)
-            (T.seen turns.new)) }
-        ensures err { IfErr result (λ e. (self.new ≡ self.old)
-            × ((n : ℕ) × (e ≡ EngineError.TurnRefused n))) }
+        ensures hands { HandsDue (T.cause (T.setting turns.old)) (T.seen turns.old) (T.seen turns.new)
+            self.old self.new result }
     {
         if self.accepted == self.handed {
             return Ok(false);

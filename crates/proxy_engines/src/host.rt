@@ -5,17 +5,17 @@ ghost use Rattle.proxy_history.specs.Own.{host_steps};
 ghost use Rattle.proxy_history.specs.declared.event.Event.{Event};
 ghost use Rattle.proxy_history.specs.declared.refusal.Refusal.{Refusal};
 ghost use Rattle.proxy_engines.specs.Turns.{KeepsTurns, own_history};
-ghost use Rattle.proxy_engines.specs.Turned.{HasHeld};
+ghost use Rattle.proxy_engines.specs.OneTurn.{HasHeld};
 ghost use Rattle.proxy_engines.specs.Moves.{AsTold, told_by_turn};
 ghost use Rattle.proxy_engines.specs.Faults.{HasNoFaultOn, IsLate, IsNumberedOn, IsPlain};
 ghost use Rattle.proxy_engines.specs.Ends.{HasGivenAll};
-ghost use Rattle.proxy_engines.specs.Host.{LinkState, GoesOn, FailsHost, CarriesHost};
-ghost use Rattle.proxy_engines.specs.HostTurns.{MarksFault, MovesHost, MovesLine, TellsHost};
-ghost use Rattle.proxy_engines.specs.HostStep.{IsIdleOn, IsUnasked, Records, RestsHost, StepsHost, TellsFault, WorksHost, after_fault, answer_of};
+ghost use Rattle.proxy_engines.specs.Host.{LinkState, CarriesHost};
+ghost use Rattle.proxy_engines.specs.HostTurns.{MakesStep, MarksFault, MovesEnds, MovesHost, TellsHost, call_of};
+ghost use Rattle.proxy_engines.specs.HostStep.{TellsFault, after_fault, answer_of, ends_of};
 
 use crate::client::Progress;
 use crate::error::EngineError;
-use crate::line::Line;
+use crate::host_outbox::HostOutbox;
 use crate::link::{Link, Outcome};
 use proxy_core::{CoreTurns, Kind};
 use proxy_devices::{ReadTally, WriteTally};
@@ -25,11 +25,11 @@ use std::sync::Wait;
 
 /// A host's engine: takes and writes waiting parts, and turns input into replies.
 ///
-/// Contracts see its line, its link, if there is one, and a fault that isn't recorded yet.
+/// Contracts see its outbox, its link, if there is one, and a fault that isn't recorded yet.
 #[derive(Drop)]
 pub struct HostEngine<R: ReadTally, W: WriteTally> {
     alloc: Global,
-    line: Line,
+    outbox: HostOutbox,
     link: Option<Link<R, W>>,
     fault: Option<Kind>,
 }
@@ -56,7 +56,7 @@ impl<R: ReadTally, W: WriteTally> Model for HostEngine<R, W> {
 
     ghost coded = { Prim.hlevel (codes, tree_code, value.the_row.coded) };
 
-    ghost view = { λ e. record { line = e.line; link = e.link; fault = e.fault } };
+    ghost view = { λ e. record { outbox = e.outbox; link = e.link; fault = e.fault } };
 
     ghost invariant = { λ e. IsWhole e.fault e.link };
 }
@@ -64,7 +64,7 @@ impl<R: ReadTally, W: WriteTally> Model for HostEngine<R, W> {
 impl<R: ReadTally, W: WriteTally> HostEngine<R, W> {
     /// A host's engine without a link. A reply is late `reply_ms` milliseconds after its part was taken.
     pub fn new(alloc: Global, host: usize, reply_ms: u64) -> HostEngine<R, W>
-        ensures line { result.line ≡ record {
+        ensures outbox { result.outbox ≡ record {
           host = host;
           reply_ms = reply_ms;
           epoch = 0;
@@ -75,18 +75,18 @@ impl<R: ReadTally, W: WriteTally> HostEngine<R, W> {
         } }
         ensures link { (result.link ≡ None) × (result.fault ≡ None) }
         ensures carries { (H : History) → host_steps host H ≡ []
-            → CarriesHost result.line result.link H [] [] }
+            → CarriesHost result.outbox result.link H [] [] }
     {
         HostEngine {
             alloc,
-            line: Line::new(alloc, host, reply_ms),
+            outbox: HostOutbox::new(alloc, host, reply_ms),
             link: None,
             fault: None,
         }
     }
 }
 
-#[tactic(auto, using(crate::proofs::HostLemmas::works_on, crate::proofs::HostLemmas::works_left, crate::proofs::HostLemmas::works_fault))]
+#[tactic(auto, using(crate::proofs::HostLemmas::works_on, crate::proofs::HostLemmas::works_left, crate::proofs::HostLemmas::works_told))]
 impl<R: ReadTally + Drop, W: WriteTally + Drop> HostEngine<R, W> {
     // Records a fault and drops the link. If the turn is refused, the next step makes it first.
     fn record_fault<Rt: Wait, T: CoreTurns>(
@@ -100,7 +100,7 @@ impl<R: ReadTally + Drop, W: WriteTally + Drop> HostEngine<R, W> {
             self.old self.new kind moment result }
     {
         self.fault = Some(kind);
-        self.line.fail(rt, turns, kind, moment)?;
+        self.outbox.fail(rt, turns, kind, moment)?;
         drop(self.link.take());
         self.fault = None;
         Ok(())
@@ -112,12 +112,12 @@ impl<R: ReadTally + Drop, W: WriteTally + Drop> HostEngine<R, W> {
     pub fn attach(&mut self, reader: R, writer: W) -> Result<(), (EngineError, R, W)>
         requires none { self.old.link ≡ None }
         requires no_fault { self.old.fault ≡ None }
-        ensures line { self.new.line ≡ self.old.line }
+        ensures outbox { self.new.outbox ≡ self.old.outbox }
         ensures fault { self.new.fault ≡ None }
         ensures link { OnOk result ((k : LinkState) × (self.new.link ≡ Some k)
             × (k.inbox.left ≡ R.remaining reader) × (k.held ≡ W.contents writer)) }
-        ensures carries { OnOk result ((H : History) → CarriesHost self.old.line None H [] []
-            → CarriesHost self.new.line self.new.link H [] []) }
+        ensures carries { OnOk result ((H : History) → CarriesHost self.old.outbox None H [] []
+            → CarriesHost self.new.outbox self.new.link H [] []) }
         ensures err { IfErr result (λ e. (self.new ≡ self.old) × (e.0 ≡ EngineError.NoMemory)
             × (e.1 ≡ reader) × (e.2 ≡ writer)) }
     {
@@ -173,10 +173,10 @@ impl<R: ReadTally + Drop, W: WriteTally + Drop> HostEngine<R, W> {
         moment: u64,
     ) -> Result<Progress, EngineError>
         ensures turns { KeepsTurns T.pass T.setting T.seen turns.old turns.new }
-        ensures tells { TellsFault self.old self.new (own_history T.pass T.seen turns.old)
-            (own_history T.pass T.seen turns.new) kind error moment result }
+        ensures tells { TellsFault (call_of T.pass T.setting T.seen T.cause turns.old turns.new
+            self.old self.new moment) kind error result }
         ensures number { (result ≡ answer_of error) ⊎ IfErr result
-            (IsNumberedOn (T.cause (T.setting turns.old)) (T.seen turns.new) self.new.line) }
+            (IsNumberedOn (T.cause (T.setting turns.old)) (T.seen turns.new) self.new.outbox) }
     {
         self.record_fault(rt, turns, kind, moment)?;
         match error {
@@ -194,20 +194,14 @@ impl<R: ReadTally + Drop, W: WriteTally + Drop> HostEngine<R, W> {
     ) -> Result<Progress, EngineError>
         requires some { self.old.link ≢ None }
         requires no_fault { self.old.fault ≡ None }
-        ensures moves { MovesHost T.pass T.setting T.seen T.cause turns.old turns.new self.old.line
-            self.old.link self.new moment result }
-        ensures needs_link { IfOk result
-            (λ p. (p ≢ Progress.NeedsLink) × (self.new.link ≡ None → self.new.line.pending ≡ [])) }
-        ensures all { IfOk result (λ p. IfSome self.new.link
-            (λ k. (k.next ≡ None) × HasGivenAll k.inbox)) }
-        ensures tells { TellsHost (T.cause (T.setting turns.old)) (T.seen turns.old)
-            (T.seen turns.new) self.old.line self.old.link self.new moment result }
+        ensures moves { MovesHost T.pass T.setting T.seen T.cause turns.old turns.new
+            self.old self.new moment result }
     {
         let Some(link) = &mut self.link else {
             unreachable!()
         };
-        match link.attend(&mut self.line, rt, turns, moment)? {
-            Outcome::Still => Ok(Progress::Idle),
+        match link.step(&mut self.outbox, rt, turns, moment)? {
+            Outcome::Idle => Ok(Progress::Idle),
             Outcome::Moved => Ok(Progress::Moved),
             Outcome::Fault { kind, error } => {
                 self.fault = Some(kind);
@@ -224,19 +218,18 @@ impl<R: ReadTally + Drop, W: WriteTally + Drop> HostEngine<R, W> {
         moment: u64,
     ) -> Result<bool, EngineError>
         requires none { self.old.link ≡ None }
-        ensures moves { MovesLine T.pass T.setting T.seen T.cause turns.old turns.new self.old.line
-            self.new.line None None
-            moment (told_by_turn result) result }
+        ensures moves { MovesEnds T.pass T.setting T.seen T.cause turns.old turns.new
+            (ends_of self.old) (ends_of self.new) moment (told_by_turn result) result }
         ensures link { self.new.link ≡ None }
         ensures fault { self.new.fault ≡ self.old.fault }
         ensures nothing_waits { IfOk result
-            (λ b. b ≡ false → self.old.line.pending ≡ []
-            → T.cause (T.setting turns.old) Refusal.NothingWaiting (Event.Taken self.old.line.host)
+            (λ b. b ≡ false → self.old.outbox.pending ≡ []
+            → T.cause (T.setting turns.old) Refusal.NothingWaiting (Event.Taken self.old.outbox.host)
             (T.seen turns.new)) }
-        ensures same { IfOk result (λ b. b ≡ false → self.new.line ≡ self.old.line) }
+        ensures same { IfOk result (λ b. b ≡ false → self.new.outbox ≡ self.old.outbox) }
     {
-        if self.line.is_empty() {
-            self.line.take(rt, turns, moment)
+        if self.outbox.is_empty() {
+            self.outbox.take(rt, turns, moment)
         } else {
             Ok(false)
         }
@@ -251,19 +244,15 @@ impl<R: ReadTally + Drop, W: WriteTally + Drop> HostEngine<R, W> {
     ) -> Result<Progress, EngineError>
         requires none { self.old.link ≡ None }
         requires no_fault { self.old.fault ≡ None }
-        ensures moves { MovesHost T.pass T.setting T.seen T.cause turns.old turns.new self.old.line
-            None self.new moment result }
-        ensures needs_link { IfOk result
-            (λ p. (p ≡ Progress.NeedsLink) ↔ (self.new.line.pending ≢ [])) }
+        ensures moves { MovesHost T.pass T.setting T.seen T.cause turns.old turns.new
+            self.old self.new moment result }
         ensures link { self.new.link ≡ None }
-        ensures tells { TellsHost (T.cause (T.setting turns.old)) (T.seen turns.old)
-            (T.seen turns.new) self.old.line None (record self.new { link = None }) moment result }
     {
         let taken = self.take_one(rt, turns, moment)?;
-        if self.line.is_late(moment) {
+        if self.outbox.is_late(moment) {
             return self.tell_fault(rt, turns, Kind::Late, None, moment);
         }
-        if !self.line.is_empty() {
+        if !self.outbox.is_empty() {
             return Ok(Progress::NeedsLink);
         }
         if taken {
@@ -281,16 +270,9 @@ impl<R: ReadTally + Drop, W: WriteTally + Drop> HostEngine<R, W> {
         moment: u64,
     ) -> Result<Progress, EngineError>
         requires no_fault { self.old.fault ≡ None }
-        ensures moves { MovesHost T.pass T.setting T.seen T.cause turns.old turns.new self.old.line
-            self.old.link self.new moment result }
-        ensures needs_link { IfOk result
-            (λ p. (p ≡ Progress.NeedsLink)
-            ↔ ((self.new.link ≡ None) × (self.new.line.pending ≢ []))) }
-        ensures all { IfOk result (λ p. IfSome self.old.link
-            (λ _. IfSome self.new.link (λ k. (k.next ≡ None) × HasGivenAll k.inbox))) }
+        ensures moves { MovesHost T.pass T.setting T.seen T.cause turns.old turns.new
+            self.old self.new moment result }
         ensures alone { self.old.link ≡ None → self.new.link ≡ None }
-        ensures tells { TellsHost (T.cause (T.setting turns.old)) (T.seen turns.old)
-            (T.seen turns.new) self.old.line self.old.link self.new moment result }
     {
         if self.link.is_some() {
             self.go_on_link(rt, turns, moment)
@@ -314,22 +296,10 @@ impl<R: ReadTally + Drop, W: WriteTally + Drop> HostEngine<R, W> {
         turns: &mut T,
         moment: u64,
     ) -> Result<Progress, EngineError>
-        ensures turns { KeepsTurns T.pass T.setting T.seen turns.old turns.new }
-        ensures steps { StepsHost (IsUnasked (T.cause (T.setting turns.old) Refusal.Unasked)
-            (T.seen turns.old) (T.seen turns.new) moment) self.old self.new
-            (own_history T.pass T.seen turns.old) (own_history T.pass T.seen turns.new) moment
-            result ⊎ RestsHost self.old self.new (own_history T.pass T.seen turns.old)
-            (own_history T.pass T.seen turns.new) result }
-        ensures needs_link { IfOk result
-            (λ p. (p ≡ Progress.NeedsLink)
-            ↔ ((self.new.link ≡ None) × (self.new.line.pending ≢ []))) }
-        ensures all { IfOk result (λ p. self.old.fault ≡ None
-            → IfSome self.old.link (λ _. IfSome self.new.link
-            (λ k. (k.next ≡ None) × HasGivenAll k.inbox))) }
-        ensures tells { TellsHost (T.cause (T.setting turns.old)) (T.seen turns.old)
-            (T.seen turns.new) self.old.line self.old.link self.new moment result }
-        ensures number { IfErr result
-            (IsNumberedOn (T.cause (T.setting turns.old)) (T.seen turns.new) self.new.line) }
+        ensures makes { MakesStep T.pass T.setting T.seen T.cause turns.old turns.new
+            self.old self.new moment result }
+        ensures tells { TellsHost T.pass T.setting T.seen T.cause turns.old turns.new
+            self.old self.new moment result }
     {
         let Some(kind) = self.fault else {
             return self.go_on(rt, turns, moment);

@@ -1,10 +1,7 @@
 //! Input that isn't used yet.
 ghost use Rattle.std.specs.Prelude.{true, ◌≡◌, ◌≢◌, ◌≤◌, ◌↔◌, ◌++◌, ◌∷◌, ℕ, List, [], length, Some, None, IfOk, IfErr, IfSome, IfNone, OnErr, OnOk};
-ghost use Rattle.std.specs.Io.KnownBytes.{Consumes, IsAtEnd};
 ghost use Rattle.resp_core.specs.declared.error.RespError.{RespError};
 ghost use Rattle.splitter.specs.Request.{Request as Asked, request_of};
-ghost use Rattle.proxy_devices.specs.Device.{HasFailed, HasPaused, is_moved};
-ghost use Rattle.proxy_engines.specs.Moves.{has_moved};
 
 use proxy_devices::{ReadTally, Told};
 use resp_core::{Limits, Reader, RespError};
@@ -116,7 +113,7 @@ impl<R: ReadTally> Model for Inbox<R> {
 }
 
 impl<R: ReadTally> Inbox<R> {
-    ghost use Rattle.proxy_engines.specs.Ends.{GivesNext, Holds, IsCut, KeepsReader};
+    ghost use Rattle.proxy_engines.specs.Ends.{GivesNext, Holds, IsCut, KeepsReader, ReadsOnce};
 
     /// An inbox that has read nothing. Without memory for its buffer the reader comes back.
     pub(crate) fn new(alloc: Global, input: R, limits: Limits) -> Result<Inbox<R>, R>
@@ -215,24 +212,14 @@ impl<R: ReadTally> Inbox<R> {
     /// Reads once. The previous read must have been used.
     pub(crate) fn read_once(&mut self) -> Told
         requires { self.old.fresh ≡ [] }
-        ensures bytes { Consumes self.old.left self.new.left self.new.fresh }
         ensures few { length self.new.fresh ≤ READ_SIZE }
-        ensures told { is_moved result ≡ has_moved self.new.fresh [] [] }
-        ensures values { self.new.values ≡ self.old.values }
-        ensures moved { (n : ℕ) → result ≡ Told.Moved n → (self.new.fresh ≢ [])
-            × (self.new.counts ≡ self.old.counts) }
-        ensures end { result ≡ Told.End → (self.new.fresh ≡ []) × IsAtEnd self.new.left
-            × (self.new.counts ≡ self.old.counts) }
-        ensures paused { result ≡ Told.Paused → (self.new.fresh ≡ [])
-            × HasPaused self.old.counts self.new.counts }
-        ensures failed { result ≡ Told.Failed → (self.new.fresh ≡ [])
-            × HasFailed self.old.counts self.new.counts }
+        ensures reads { ReadsOnce self.old self.new result }
     {
         self.fit();
         let told = self.input.read_told(&mut self.buffer);
         self.fresh = match told {
             Told::Moved(n) => n,
-            Told::End | Told::Paused | Told::Failed => 0,
+            Told::End | Told::Idle | Told::Failed => 0,
         };
         if self.fresh > 0 {
             self.last = self.fresh.max(self.last / 2);

@@ -6,19 +6,19 @@ ghost use Rattle.proxy_history.specs.declared.event.Event.{Event};
 ghost use Rattle.proxy_history.specs.declared.refusal.Refusal.{Refusal};
 ghost use Rattle.resp_core.specs.declared.value.Value.{Value};
 ghost use Rattle.proxy_engines.specs.Turns.{KeepsTurns, own_history};
-ghost use Rattle.proxy_devices.specs.Device.{HasPaused, HasRisen};
-ghost use Rattle.proxy_engines.specs.Turned.{HasHeld};
+ghost use Rattle.proxy_devices.specs.Device.{WasIdle, HasRisen};
+ghost use Rattle.proxy_engines.specs.OneTurn.{HasHeld};
 ghost use Rattle.proxy_engines.specs.Ends.{HasGivenAll, KeepsReader};
-ghost use Rattle.proxy_engines.specs.LinkSteps.{FindsNext, HasReadAll, IsCalmOn, TellsNext};
-ghost use Rattle.proxy_engines.specs.HostTurns.{MovesLine};
-ghost use Rattle.proxy_engines.specs.Host.{LineState, LinkState, GoesOn};
+ghost use Rattle.proxy_engines.specs.LinkSteps.{AnswersAll, AnswersNext, AnswersValue, FindsNext, ReadsOnLink, Receives, SendsOnLink, WorksOnLink, WritesOnLink};
+ghost use Rattle.proxy_engines.specs.HostTurns.{MovesEnds};
+ghost use Rattle.proxy_engines.specs.Host.{HostOutboxState, LinkState, GoesWithoutTurn, on_link};
 ghost use Rattle.proxy_engines.specs.Moves.{AsTold};
-ghost use Rattle.proxy_engines.specs.Faults.{either, is_fault, HasNoFaultOn, HasRead, IfFault, IsCauseOf, IsLate, IsUnaskedNow, IsLateOn, IsPlain, told_by_moves, told_by_outcome};
+ghost use Rattle.proxy_engines.specs.Faults.{either, is_fault, HasNoFaultOn, HasRead, IfFault, IsCauseOf, IsLate, IsOfDevice, IsUnaskedNow, IsLateOn, IsPlain, told_by_moves, told_by_outcome};
 
 use crate::ask::give;
 use crate::error::EngineError;
+use crate::host_outbox::HostOutbox;
 use crate::inbox::Inbox;
-use crate::line::Line;
 use proxy_core::{CoreTurns, Kind, Request};
 use proxy_devices::{ReadTally, Told, WriteTally};
 use resp_core::{Limits, Value};
@@ -38,7 +38,7 @@ pub(crate) struct Link<R: ReadTally, W: WriteTally> {
 #[derive(Clone, Copy, Drop)]
 pub(crate) enum Outcome {
     /// Nothing could be done for now.
-    Still,
+    Idle,
     /// Bytes or steps were added.
     Moved,
     /// A fault of the link, and the step's error once the fault is recorded.
@@ -62,7 +62,7 @@ impl Outcome {
         ensures calm { is_fault self ≡ false → is_fault other ≡ false → is_fault result ≡ false }
     {
         match self {
-            Outcome::Still => other,
+            Outcome::Idle => other,
             moved => moved,
         }
     }
@@ -72,7 +72,7 @@ impl Outcome {
 #[derive(Clone, Copy, Drop)]
 enum Found {
     Value,
-    Nothing,
+    Idle,
     Garbled,
 }
 
@@ -119,20 +119,15 @@ impl<R: ReadTally, W: WriteTally> Link<R, W> {
     }
 
     // Writes pending bytes once.
-    fn write(&mut self, line: &mut Line) -> Outcome
-        requires some { line.old.pending ≢ [] }
-        ensures goes { (H : History) (m : ℕ)
-            → AsTold (GoesOn line.old line.new (Some self.old) (Some self.new) H H m)
+    fn write(&mut self, outbox: &mut HostOutbox) -> Outcome
+        requires some { outbox.old.pending ≢ [] }
+        ensures goes { GoesWithoutTurn (on_link outbox.old self.old) (on_link outbox.new self.new)
             (told_by_outcome result) }
-        ensures keeps { (self.new.inbox ≡ self.old.inbox) × (self.new.next ≡ self.old.next) }
-        ensures still { result ≡ Outcome.Still → HasPaused self.old.counts self.new.counts }
-        ensures writer { is_fault result ≡ false → self.new.counts.failed ≡ self.old.counts.failed }
-        ensures fault { IfFault result
-            (λ kind error. IsCauseOf kind error self.old self.new ⊥ ⊥) }
+        ensures writes { WritesOnLink (record { old = self.old; new = self.new }) result }
     {
-        match line.write_to(&mut self.writer) {
+        match outbox.write_to(&mut self.writer) {
             Told::Moved(_) => Outcome::Moved,
-            Told::Paused => Outcome::Still,
+            Told::Idle => Outcome::Idle,
             Told::End | Told::Failed => Outcome::Fault {
                 kind: Kind::Dropped,
                 error: Some(EngineError::WriteFailed),
@@ -141,10 +136,10 @@ impl<R: ReadTally, W: WriteTally> Link<R, W> {
     }
 
     // Looks for the next complete value.
-    fn seek(&mut self) -> Result<Found, EngineError>
+    fn next_value(&mut self) -> Result<Found, EngineError>
         requires whole { self.old.inbox.values.refusal ≡ None }
-        ensures goes { (l : LineState) (H : History) (m : ℕ)
-            → GoesOn l l (Some self.old) (Some self.new) H H m false }
+        ensures goes { (outbox : HostOutboxState)
+            → GoesWithoutTurn (on_link outbox self.old) (on_link outbox self.new) (Some false) }
         ensures found { IfOk result (FindsNext self.new) }
         ensures err { IfErr result (λ e. (e ≡ EngineError.NoMemory)
             × (self.new.inbox.values.refusal ≡ None)) }
@@ -160,7 +155,7 @@ impl<R: ReadTally, W: WriteTally> Link<R, W> {
                 Ok(Found::Value)
             }
             Ok(Some(Request::Broken)) => Ok(Found::Garbled),
-            Ok(None) => Ok(Found::Nothing),
+            Ok(None) => Ok(Found::Idle),
             Err(_) => Err(EngineError::NoMemory),
         }
     }
@@ -168,27 +163,25 @@ impl<R: ReadTally, W: WriteTally> Link<R, W> {
     // One Answered turn of the waiting value.
     fn answer<Rt: Wait, T: CoreTurns>(
         &mut self,
-        line: &mut Line,
+        outbox: &mut HostOutbox,
         rt: &Rt,
         turns: &mut T,
         moment: u64,
     ) -> Result<Outcome, EngineError>
         requires waits { self.old.next ≢ None }
-        ensures moves { MovesLine T.pass T.setting T.seen T.cause turns.old turns.new
-            line.old line.new (Some self.old) (Some self.new) moment (told_by_moves result) result }
-        ensures keeps { (self.new.inbox ≡ self.old.inbox) × (self.new.counts ≡ self.old.counts) }
-        ensures moved { IfOk result (λ o. o ≢ Outcome.Still) }
-        ensures fault { IfOk result (λ o. IfFault o
-            (λ kind error. IsCauseOf kind error self.old self.new
-            (IsUnaskedNow (T.cause (T.setting turns.old) Refusal.Unasked) (T.seen turns.new) moment
-            line.new self.new) ⊥)) }
+        ensures moves { MovesEnds T.pass T.setting T.seen T.cause turns.old turns.new
+            (on_link outbox.old self.old) (on_link outbox.new self.new) moment
+            (told_by_moves result) result }
+        ensures answers { AnswersValue (IsUnaskedNow (T.cause (T.setting turns.old) Refusal.Unasked) (T.seen turns.new) moment
+            outbox.new self.new)
+            (record { old = self.old; new = self.new }) result }
     {
         let Some(value) = self.next.take() else {
             return Ok(Outcome::Moved);
         };
-        match give(rt, turns, line.host(), line.epoch(), value, moment) {
+        match give(rt, turns, outbox.host(), outbox.epoch(), value, moment) {
             Ok(()) => {
-                line.forget_moment();
+                outbox.forget_moment();
                 Ok(Outcome::Moved)
             }
             Err((denied, value)) => {
@@ -202,22 +195,16 @@ impl<R: ReadTally, W: WriteTally> Link<R, W> {
     }
 
     // Reads once.
-    fn listen(&mut self) -> Outcome
+    fn read(&mut self) -> Outcome
         requires none { self.old.next ≡ None }
         requires given { HasGivenAll self.old.inbox }
-        ensures goes { (l : LineState) (H : History) (m : ℕ)
-            → AsTold (GoesOn l l (Some self.old) (Some self.new) H H m) (told_by_outcome result) }
-        ensures keeps { (self.new.inbox.values.refusal ≡ None)
-            × (self.new.counts ≡ self.old.counts) }
-        ensures still { result ≡ Outcome.Still
-            → HasPaused self.old.inbox.counts self.new.inbox.counts }
-        ensures reads { is_fault result ≡ false → HasRead self.old.inbox self.new.inbox }
-        ensures fault { IfFault result
-            (λ kind error. IsCauseOf kind error self.old self.new ⊥ ⊥) }
+        ensures goes { (outbox : HostOutboxState) → GoesWithoutTurn (on_link outbox self.old)
+            (on_link outbox self.new) (told_by_outcome result) }
+        ensures reads { ReadsOnLink (record { old = self.old; new = self.new }) result }
     {
         match self.inbox.read_once() {
             Told::Moved(_) => Outcome::Moved,
-            Told::Paused => Outcome::Still,
+            Told::Idle => Outcome::Idle,
             Told::End => Outcome::Fault {
                 kind: Kind::Dropped,
                 error: None,
@@ -232,58 +219,49 @@ impl<R: ReadTally, W: WriteTally> Link<R, W> {
     // Makes the turn of the next complete value, if there is one.
     fn answer_next<Rt: Wait, T: CoreTurns>(
         &mut self,
-        line: &mut Line,
+        outbox: &mut HostOutbox,
         rt: &Rt,
         turns: &mut T,
         moment: u64,
     ) -> Result<Outcome, EngineError>
         requires whole { self.old.inbox.values.refusal ≡ None }
-        ensures moves { MovesLine T.pass T.setting T.seen T.cause turns.old turns.new
-            line.old line.new (Some self.old) (Some self.new) moment (told_by_moves result) result }
-        ensures told { IfOk result (TellsNext self.new) }
-        ensures fault { IfOk result (λ o. IfFault o
-            (λ kind error. IsCauseOf kind error self.old self.new
-            (IsUnaskedNow (T.cause (T.setting turns.old) Refusal.Unasked) (T.seen turns.new) moment
-            line.new self.new) ⊥)) }
-        ensures keeps { KeepsReader self.old.inbox self.new.inbox
-            × (self.new.counts ≡ self.old.counts) }
-        ensures err { OnErr result (self.new.inbox.values.refusal ≡ None) }
+        ensures moves { MovesEnds T.pass T.setting T.seen T.cause turns.old turns.new
+            (on_link outbox.old self.old) (on_link outbox.new self.new) moment
+            (told_by_moves result) result }
+        ensures answers { AnswersNext (IsUnaskedNow (T.cause (T.setting turns.old) Refusal.Unasked) (T.seen turns.new) moment
+            outbox.new self.new)
+            (record { old = self.old; new = self.new }) result }
     {
-        match self.seek()? {
-            Found::Nothing => Ok(Outcome::Still),
+        match self.next_value()? {
+            Found::Idle => Ok(Outcome::Idle),
             Found::Garbled => Ok(Outcome::Fault {
                 kind: Kind::Garbled,
                 error: None,
             }),
-            Found::Value => self.answer(line, rt, turns, moment),
+            Found::Value => self.answer(outbox, rt, turns, moment),
         }
     }
 
     // Makes the turns of all complete values.
     fn answer_all<Rt: Wait, T: CoreTurns>(
         &mut self,
-        line: &mut Line,
+        outbox: &mut HostOutbox,
         rt: &Rt,
         turns: &mut T,
         moment: u64,
     ) -> Result<Outcome, EngineError>
         requires whole { self.old.inbox.values.refusal ≡ None }
-        ensures moves { MovesLine T.pass T.setting T.seen T.cause turns.old turns.new
-            line.old line.new (Some self.old) (Some self.new) moment (told_by_moves result) result }
-        ensures all { IfOk result (λ o. is_fault o ≡ false → (self.new.next ≡ None)
-            × HasGivenAll self.new.inbox) }
-        ensures fault { IfOk result (λ o. IfFault o
-            (λ kind error. IsCauseOf kind error self.old self.new
-            (IsUnaskedNow (T.cause (T.setting turns.old) Refusal.Unasked) (T.seen turns.new) moment
-            line.new self.new) ⊥)) }
-        ensures keeps { KeepsReader self.old.inbox self.new.inbox
-            × (self.new.counts ≡ self.old.counts) }
-        ensures err { OnErr result (self.new.inbox.values.refusal ≡ None) }
+        ensures moves { MovesEnds T.pass T.setting T.seen T.cause turns.old turns.new
+            (on_link outbox.old self.old) (on_link outbox.new self.new) moment
+            (told_by_moves result) result }
+        ensures answers { AnswersAll (IsUnaskedNow (T.cause (T.setting turns.old) Refusal.Unasked) (T.seen turns.new) moment
+            outbox.new self.new)
+            (record { old = self.old; new = self.new }) result }
     {
-        let mut outcome = Outcome::Still;
+        let mut outcome = Outcome::Idle;
         for _ in rt.forever() {
-            match self.answer_next(line, rt, turns, moment)? {
-                Outcome::Still => return Ok(outcome),
+            match self.answer_next(outbox, rt, turns, moment)? {
+                Outcome::Idle => return Ok(outcome),
                 Outcome::Moved => outcome = Outcome::Moved,
                 fault => return Ok(fault),
             }
@@ -294,63 +272,53 @@ impl<R: ReadTally, W: WriteTally> Link<R, W> {
     // Writes pending bytes once, or takes one part.
     fn send<Rt: Wait, T: CoreTurns>(
         &mut self,
-        line: &mut Line,
+        outbox: &mut HostOutbox,
         rt: &Rt,
         turns: &mut T,
         moment: u64,
     ) -> Result<Outcome, EngineError>
-        ensures moves { MovesLine T.pass T.setting T.seen T.cause turns.old turns.new
-            line.old line.new (Some self.old) (Some self.new) moment (told_by_moves result) result }
-        ensures keeps { (self.new.inbox ≡ self.old.inbox) × (self.new.next ≡ self.old.next) }
-        ensures idle { IfOk result (λ o. o ≡ Outcome.Still
-            → HasRisen self.old.counts.paused self.new.counts.paused
-            ⊎ ((line.old.pending ≡ []) × T.cause (T.setting turns.old) Refusal.NothingWaiting
-            (Event.Taken line.old.host) (T.seen turns.new))) }
-        ensures writer { IfOk result (λ o. is_fault o ≡ false → self.new.counts.failed
-            ≡ self.old.counts.failed) }
-        ensures fault { IfOk result (λ o. IfFault o
-            (λ kind error. IsCauseOf kind error self.old self.new ⊥ ⊥)) }
+        ensures moves { MovesEnds T.pass T.setting T.seen T.cause turns.old turns.new
+            (on_link outbox.old self.old) (on_link outbox.new self.new) moment
+            (told_by_moves result) result }
+        ensures sends { SendsOnLink ((outbox.old.pending ≡ []) × T.cause (T.setting turns.old)
+            Refusal.NothingWaiting (Event.Taken outbox.old.host) (T.seen turns.new))
+            (record { old = self.old; new = self.new }) result }
     {
-        if !line.is_empty() {
-            return Ok(self.write(line));
+        if !outbox.is_empty() {
+            return Ok(self.write(outbox));
         }
-        if line.take(rt, turns, moment)? {
+        if outbox.take(rt, turns, moment)? {
             Ok(Outcome::Moved)
         } else {
-            Ok(Outcome::Still)
+            Ok(Outcome::Idle)
         }
     }
 
     // Answers the values that have come, reads once, and answers those that came with it.
     fn receive<Rt: Wait, T: CoreTurns>(
         &mut self,
-        line: &mut Line,
+        outbox: &mut HostOutbox,
         rt: &Rt,
         turns: &mut T,
         moment: u64,
     ) -> Result<Outcome, EngineError>
         requires whole { self.old.inbox.values.refusal ≡ None }
-        ensures moves { MovesLine T.pass T.setting T.seen T.cause turns.old turns.new
-            line.old line.new (Some self.old) (Some self.new) moment (told_by_moves result) result }
-        ensures idle { IfOk result (λ o. o ≡ Outcome.Still
-            → HasRisen self.old.inbox.counts.paused self.new.inbox.counts.paused) }
-        ensures calm { IfOk result (λ o. is_fault o ≡ false → HasReadAll self.old self.new) }
-        ensures fault { IfOk result (λ o. IfFault o
-            (λ kind error. IsCauseOf kind error self.old self.new
-            (IsUnaskedNow (T.cause (T.setting turns.old) Refusal.Unasked) (T.seen turns.new) moment
-            line.new self.new) ⊥)) }
-        ensures writes { self.new.counts ≡ self.old.counts }
-        ensures err { OnErr result (self.new.inbox.values.refusal ≡ None) }
+        ensures moves { MovesEnds T.pass T.setting T.seen T.cause turns.old turns.new
+            (on_link outbox.old self.old) (on_link outbox.new self.new) moment
+            (told_by_moves result) result }
+        ensures receives { Receives (IsUnaskedNow (T.cause (T.setting turns.old) Refusal.Unasked) (T.seen turns.new) moment
+            outbox.new self.new)
+            (record { old = self.old; new = self.new }) result }
     {
-        let before = self.answer_all(line, rt, turns, moment)?;
+        let before = self.answer_all(outbox, rt, turns, moment)?;
         if before.is_fault() {
             return Ok(before);
         }
-        let heard = self.listen();
+        let heard = self.read();
         if heard.is_fault() {
             return Ok(heard);
         }
-        let after = self.answer_all(line, rt, turns, moment)?;
+        let after = self.answer_all(outbox, rt, turns, moment)?;
         if after.is_fault() {
             return Ok(after);
         }
@@ -358,40 +326,33 @@ impl<R: ReadTally, W: WriteTally> Link<R, W> {
     }
 
     /// One step on the link, until a fault must be recorded.
-    pub(crate) fn attend<Rt: Wait, T: CoreTurns>(
+    pub(crate) fn step<Rt: Wait, T: CoreTurns>(
         &mut self,
-        line: &mut Line,
+        outbox: &mut HostOutbox,
         rt: &Rt,
         turns: &mut T,
         moment: u64,
     ) -> Result<Outcome, EngineError>
         requires whole { self.old.inbox.values.refusal ≡ None }
-        ensures moves { MovesLine T.pass T.setting T.seen T.cause turns.old turns.new
-            line.old line.new (Some self.old) (Some self.new) moment (told_by_moves result) result }
-        ensures idle { IfOk result (λ o. o ≡ Outcome.Still
-            → HasRisen self.old.inbox.counts.paused self.new.inbox.counts.paused
-            × (HasRisen self.old.counts.paused self.new.counts.paused
-            ⊎ ((line.old.pending ≡ []) × HasHeld
-            (T.cause (T.setting turns.old) Refusal.NothingWaiting) (Event.Taken line.old.host)
-            (T.seen turns.old) (T.seen turns.new)))) }
-        ensures calm { IfOk result (λ o. is_fault o ≡ false → IsCalmOn self.old self.new line.new
-            moment) }
-        ensures fault { IfOk result (λ o. IfFault o
-            (λ kind error. IsCauseOf kind error self.old self.new
-            (IsUnaskedNow (T.cause (T.setting turns.old) Refusal.Unasked) (T.seen turns.new) moment
-            line.new self.new)
-            (IsLateOn line.new self.old self.new moment))) }
-        ensures err { OnErr result (self.new.inbox.values.refusal ≡ None) }
+        ensures moves { MovesEnds T.pass T.setting T.seen T.cause turns.old turns.new
+            (on_link outbox.old self.old) (on_link outbox.new self.new) moment
+            (told_by_moves result) result }
+        ensures works { WorksOnLink (IsUnaskedNow (T.cause (T.setting turns.old) Refusal.Unasked) (T.seen turns.new) moment
+            outbox.new self.new)
+            ((outbox.old.pending ≡ []) × HasHeld
+            (T.cause (T.setting turns.old) Refusal.NothingWaiting) (Event.Taken outbox.old.host)
+            (T.seen turns.old) (T.seen turns.new))
+            outbox.new (record { old = self.old; new = self.new }) moment result }
     {
-        let sent = self.send(line, rt, turns, moment)?;
+        let sent = self.send(outbox, rt, turns, moment)?;
         if sent.is_fault() {
             return Ok(sent);
         }
-        let received = self.receive(line, rt, turns, moment)?;
+        let received = self.receive(outbox, rt, turns, moment)?;
         if received.is_fault() {
             return Ok(received);
         }
-        if line.is_late(moment) {
+        if outbox.is_late(moment) {
             return Ok(Outcome::Fault {
                 kind: Kind::Late,
                 error: None,

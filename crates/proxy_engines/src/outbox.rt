@@ -1,8 +1,6 @@
 //! The output that isn't written yet.
-ghost use Rattle.std.specs.Prelude.{◌≡◌, ◌≢◌, ◌==◌, ◌<◌, ◌⊎◌, ℕ, List, length, []};
+ghost use Rattle.std.specs.Prelude.{◌≡◌, ◌≢◌, ◌==◌, length, []};
 ghost use Rattle.std.specs.Io.KnownBytes.{Keeps};
-ghost use Rattle.proxy_devices.specs.Device.{HasFailed, HasPaused, is_moved};
-ghost use Rattle.proxy_engines.specs.Moves.{has_moved};
 
 use bytes::Bytes;
 use proxy_devices::{Told, WriteTally};
@@ -30,7 +28,7 @@ impl<W: WriteTally> Model for Outbox<W> {
 }
 
 impl<W: WriteTally> Outbox<W> {
-    ghost use Rattle.proxy_engines.specs.Ends.{Sends};
+    ghost use Rattle.proxy_engines.specs.Ends.{WritesOnce};
 
     /// An outbox without a text.
     pub(crate) fn new(writer: W) -> Outbox<W>
@@ -62,14 +60,7 @@ impl<W: WriteTally> Outbox<W> {
     /// Writes once. There must be pending bytes.
     pub(crate) fn write_once(&mut self) -> Told
         requires some { self.old.pending ≢ [] }
-        ensures bytes { (gave : List ℕ) × Sends self.old self.new gave
-            × (is_moved result ≡ has_moved [] gave []) }
-        ensures moved { (n : ℕ) → result ≡ Told.Moved n
-            → (length self.new.pending < length self.old.pending)
-            × (self.new.counts ≡ self.old.counts) }
-        ensures failed { (result ≡ Told.End) ⊎ (result ≡ Told.Failed)
-            → HasFailed self.old.counts self.new.counts }
-        ensures paused { result ≡ Told.Paused → HasPaused self.old.counts self.new.counts }
+        ensures writes { WritesOnce self.old self.new result }
     {
         let told = self.writer.write_told(self.pending.as_slice());
         if let Told::Moved(n) = told {

@@ -6,7 +6,7 @@ use Rattle.splitter.specs.Requests.{AreRequests, up_to_last}
 use Rattle.splitter.proofs.CallerLemmas as splits
 use Rattle.proxy_history.specs.History.{History}
 use Rattle.proxy_engines.specs.Ends.{InboxState}
-use Rattle.proxy_engines.specs.Client.{Client, Carries, IsAtStage, IsDone, IsFinished, IsOver, asked_requests}
+use Rattle.proxy_engines.specs.Client.{Client, Carries, IsAtStage, IsDone, IsFinished, IsOver, asked_requests, intake_of}
 use Rattle.proxy_engines.specs.declared.client.Stage.{Stage}
 use Rattle.proxy_engines.proofs.CallerLemmas as engines
 
@@ -25,13 +25,13 @@ unhalted_of false d drained reads = refl
 
 -- A client that ended with no drain, the bytes that it read, and the whole input.
 module _ (e : Client) (H : History) (taken b input : List ℕ) (k : Carries e H taken b) (is : e.stage ≡ Stage.Closed false) (reads : e.is_drained ≡ false) where
-  pub at_end : IsFinished (asked_requests e.conn H) e.is_halted e.inbox e.next b k.given × IsDone e H
-  at_end = subst (λ (z : Stage). IsAtStage z (IsDone e H) (asked_requests e.conn H) e.is_halted e.inbox e.next b k.given) is k.stage_is
+  pub at_end : IsFinished (intake_of e H b k.given) × IsDone e H
+  at_end = subst (λ (z : Stage). IsAtStage z (IsDone e H) (intake_of e H b k.given)) is k.stage_is
 
   with_rest : (more : List ℕ) → e.inbox.left ≡ Some more → input ≡ b ++ more → (rs : List Request) → AreRequests input rs → asked_requests e.conn H ≡ up_to_last rs
   with_rest more left split rs are = by at_end.0
     where
-      by : IsFinished (asked_requests e.conn H) e.is_halted e.inbox e.next b k.given → asked_requests e.conn H ≡ up_to_last rs
+      by : IsFinished (intake_of e H b k.given) → asked_requests e.conn H ≡ up_to_last rs
       by (inl stays) =
           let none : more ≡ [] = rw left at (at_end_of e.is_halted e.is_drained e.inbox (λ h. (k.halted_is h).drained) reads stays.1.end) in
           let same : input ≡ b = split ∙ rw none (append-nil b) in

@@ -5,9 +5,9 @@ use Rattle.std.specs.List.{AllZip}
 use Rattle.proxy_history.specs.History.{Step}
 use Rattle.proxy_history.specs.declared.event.Event.{Event}
 use Rattle.proxy_history.specs.declared.refusal.Refusal.{Refusal}
-use Rattle.proxy_engines.specs.Host.{LineState, LinkState}
+use Rattle.proxy_engines.specs.Host.{HostOutboxState, LinkState}
 use Rattle.proxy_engines.specs.HostStep.{HostState, IsIdleOn}
-use Rattle.proxy_engines.specs.Turned.{HasHeld}
+use Rattle.proxy_engines.specs.OneTurn.{HasHeld}
 use Rattle.proxy_local.specs.Moves.{RestsIdle}
 use Rattle.ticket_gate.specs.Journal.{StartsWith}
 
@@ -66,7 +66,7 @@ zip_as R S (x ∷ xs) (y ∷ ys) f e = (f x y e.0, zip_as R S xs ys f e.1)
 
 -- IDLE HOSTS
 
-idle_as : (V W : Type 0) (l : LineState) (j k : Option LinkState) → (V → W) → IsIdleOn V l j k → IsIdleOn W l j k
+idle_as : (V W : Type 0) (l : HostOutboxState) (j k : Option LinkState) → (V → W) → IsIdleOn V l j k → IsIdleOn W l j k
 idle_as V W l None None f (none, waits) = (none, f waits)
 idle_as V W l None (Some k) f e = absurd e
 idle_as V W l (Some j) None f e = absurd e
@@ -79,7 +79,7 @@ held_around cause event w x y z before after (here, first, last, is) = (here, st
 
 pub rests_around : (cause : Refusal → Event → List Step → Type 0) (w x y z : List Step) (old new : HostState) → StartsWith x w → StartsWith z y → RestsIdle cause x y old new → RestsIdle cause w z old new
 rests_around cause w x y z old new before after rests =
-    idle_as _ _ old.line old.link new.link (held_around (cause Refusal.NothingWaiting) (Event.Taken old.line.host) w x y z before after) rests
+    idle_as _ _ old.outbox old.link new.link (held_around (cause Refusal.NothingWaiting) (Event.Taken old.outbox.host) w x y z before after) rests
 
 pub first_around : (cause : Refusal → Event → List Step → Type 0) (w y z : List Step) (n : ℕ) (xs ys : List HostState) → StartsWith z y → FirstZip (RestsIdle cause w y) n xs ys → FirstZip (RestsIdle cause w z) n xs ys
 first_around cause w y z n xs ys after e = first_as _ _ n xs ys (λ old new rests. rests_around cause w w y z old new (starts_same w) after rests) e

@@ -1,5 +1,5 @@
 -- What one client and some hosts do beside one another.
-use Rattle.std.proofs.Common.{◌≡◌, ◌⊎◌, ℕ, Bool, [], ◌∷◌, ◌++◌, Option, Some, None, append_assoc, append-nil, inl, inr, refl, sym, ◌∙◌}
+use Rattle.std.proofs.Common.{◌≡◌, ◌⊎◌, ℕ, Bool, [], ◌∷◌, ◌++◌, append_assoc, append-nil, inl, inr, refl, sym, ◌∙◌}
 use Rattle.std.specs.Prelude.{Result}
 use Rattle.std.proofs.lemmas.List.Elements.{filter-append}
 use Rattle.proxy_history.specs.History.{History, Step}
@@ -7,8 +7,8 @@ use Rattle.proxy_history.specs.Own.{connection_steps, is_connection_step}
 use Rattle.proxy_history.specs.declared.event.Event.{Event}
 use Rattle.proxy_history.specs.declared.event.Kind.{Kind}
 use Rattle.proxy_engines.specs.Client.{Client, Goes}
-use Rattle.proxy_engines.specs.Host.{LineState, LinkState, GoesOn}
-use Rattle.proxy_engines.specs.HostStep.{HostState, Records, RestsHost, StepsHost, WorksHost}
+use Rattle.proxy_engines.specs.Host.{HostMove, HostOutboxState, LinkState, GoesOn}
+use Rattle.proxy_engines.specs.HostStep.{HostCall, Records, RestsHost, StepsHost, WorksHost, behind, move_of, up_to}
 use Rattle.proxy_engines.specs.Moves.{AsTold}
 use Rattle.journal_core.specs.Journal.{step_by}
 use Rattle.proxy_engines.specs.declared.client.Progress.{Progress}
@@ -32,16 +32,16 @@ IsBeside-then x y z p q = record {
   none = λ c. none-append c q.later p.later (q.none c) (p.none c);
 }
 
-goes_on : (l l' : LineState) (k k' : Option LinkState) (H H' : History) (m : ℕ) (moved : Bool) → GoesOn l l' k k' H H' m moved → IsBeside H H'
-goes_on l l' k k' H H' m moved g = record {
+goes_on : (move : HostMove) (moved : Bool) → GoesOn move moved → IsBeside move.before move.after
+goes_on move moved g = record {
   later = g.steps;
   adds = g.adds;
-  none = (engines.hosts_leave_others l.host g.steps g.alone).1;
+  none = (engines.hosts_leave_others move.old.outbox.host g.steps g.alone).1;
 }
 
-records : (old new : HostState) (H H' : History) (kind : Kind) (m : ℕ) → Records old new H H' kind m → IsBeside H H'
-records old new H H' kind m r = record {
-  later = step_by r.fails.pass (Event.Failed old.line.host old.line.epoch kind m) r.fails.answer ∷ [];
+records : (call : HostCall) (kind : Kind) → Records call kind → IsBeside call.before call.after
+records call kind r = record {
+  later = step_by r.fails.pass (Event.Failed call.old.outbox.host call.old.outbox.epoch kind call.moment) r.fails.answer ∷ [];
   adds = r.fails.adds;
   none = λ c. refl;
 }
@@ -49,23 +49,22 @@ records old new H H' kind m r = record {
 same_steps : (H H' : History) → H' ≡ H → IsBeside H H'
 same_steps H H' e = record { later = []; adds = e; none = λ c. refl }
 
-works : (U : LineState → LinkState → Type 0) (old : LineState) (new : HostState) (k : Option LinkState) (H H' : History) (m : ℕ) (r : Result Progress EngineError)
-    → WorksHost U old new k H H' m r → IsBeside H H'
-works U old new k H H' m r w =
-    IsBeside-then H w.between H' (goes_on old w.last.line k w.last.link H w.between m w.moved w.goes)
-    (elim w.ends [ inl (_, _, same, _, _) ↦ same_steps w.between H' same | inr (kind, _, recorded, _, _) ↦ records w.last new w.between H' kind m recorded ])
+module _ (unasked : HostOutboxState → LinkState → Type 0) where
+  works : (call : HostCall) (result : Result Progress EngineError) → WorksHost unasked call result → IsBeside call.before call.after
+  works call result w =
+      IsBeside-then call.before w.between call.after (goes_on (move_of (up_to call w.last w.between)) w.moved w.goes)
+      (elim w.ends [ inl (_, _, same, _, _) ↦ same_steps w.between call.after same | inr (kind, _, recorded, _, _) ↦ records (behind call w.last w.between) kind recorded ])
 
-module _ (U : LineState → LinkState → Type 0) (old new : HostState) (H H' : History) (m : ℕ) (r : Result Progress EngineError) where
-  steps : StepsHost U old new H H' m r → IsBeside H H'
-  steps s =
-      IsBeside-then H s.between H'
-      (elim s.begins [ inl e ↦ same_steps H s.between e.1 | inr (kind, _, recorded, _) ↦ records old s.first H s.between kind m recorded ])
-      (works U s.first.line new s.first.link s.between H' m s.answer s.works)
+  steps : (call : HostCall) (result : Result Progress EngineError) → StepsHost unasked call result → IsBeside call.before call.after
+  steps call result s =
+      IsBeside-then call.before s.between call.after
+      (elim s.begins [ inl e ↦ same_steps call.before s.between e.1 | inr (kind, _, recorded, _) ↦ records (up_to call s.first s.between) kind recorded ])
+      (works (behind call s.first s.between) s.answer s.works)
 
   -- a step of a host is beside a client
-  pub IsBeside-step : (StepsHost U old new H H' m r ⊎ RestsHost old new H H' r) → IsBeside H H'
-  IsBeside-step (inl s) = steps s
-  IsBeside-step (inr (_, _, same, _)) = same_steps H H' same
+  pub IsBeside-step : (call : HostCall) (result : Result Progress EngineError) → (StepsHost unasked call result ⊎ RestsHost call result) → IsBeside call.before call.after
+  IsBeside-step call result (inl s) = steps call result s
+  IsBeside-step call result (inr (_, _, same, _)) = same_steps call.before call.after same
 
 -- THE CLIENT
 

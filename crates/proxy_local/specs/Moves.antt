@@ -8,7 +8,7 @@ use Rattle.proxy_history.specs.declared.event.Event.{Event}
 use Rattle.proxy_history.specs.declared.refusal.Refusal.{Refusal}
 use Rattle.proxy_engines.specs.Client.{Client, Carries}
 use Rattle.proxy_engines.specs.HostStep.{HostState, IsIdleOn}
-use Rattle.proxy_engines.specs.Turned.{HasHeld}
+use Rattle.proxy_engines.specs.OneTurn.{HasHeld}
 
 -- Some steps were made, none of them a connection's.
 pub record IsBeside (H H' : History) : Type 0 where
@@ -33,7 +33,7 @@ pub record GoesBeside (old new : Client) (H H' : History) : Type 0 where
 -- A host's engine did nothing in a step: nothing could be read; and nothing could be written, or nothing was pending and no part
 -- waited.
 abbrev pub RestsIdle : (Refusal → Event → List Step → Type 0) → List Step → List Step → HostState → HostState → Type 0
-RestsIdle cause x y old new = IsIdleOn (HasHeld (cause Refusal.NothingWaiting) (Event.Taken old.line.host) x y) old.line old.link new.link
+RestsIdle cause x y old new = IsIdleOn (HasHeld (cause Refusal.NothingWaiting) (Event.Taken old.outbox.host) x y) old.outbox old.link new.link
 
 -- Each host's engine did nothing in its last step, and those steps were made between these two.
 abbrev pub HaveRested : (Refusal → Event → List Step → Type 0) → List Step → List Step → List HostState → Type 0

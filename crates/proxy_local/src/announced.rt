@@ -77,14 +77,14 @@ impl<R: ReadTally> ReadTally for Announced<R> {
         ensures told { IsRead (R.remaining self.old.inner) (R.remaining self.new.inner)
             (with_pauses self.old.pauses (R.counts self.old.inner))
             (with_pauses self.new.pauses (R.counts self.new.inner)) buffer.new result }
-        ensures pauses { self.old.is_announced ≡ false → (result ≡ Told.Paused)
+        ensures pauses { self.old.is_announced ≡ false → (result ≡ Told.Idle)
             × (self.new.is_announced ≡ true) × (self.new.inner ≡ self.old.inner) }
         ensures reads { self.old.is_announced ≡ true → (self.new.is_announced ≡ false)
             × IsRead (R.remaining self.old.inner) (R.remaining self.new.inner)
             (R.counts self.old.inner) (R.counts self.new.inner) buffer.new result }
     {
         if self.pause() {
-            return Told::Paused;
+            return Told::Idle;
         }
         self.inner.read_told(buffer)
     }

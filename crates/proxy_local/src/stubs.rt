@@ -66,7 +66,7 @@ fn host_name(alloc: Global, bytes: &[u8]) -> Result<HostName, Ending>
 
 /// The hosts' engines, by their numbers, each with a link to an empty stub.
 pub(crate) fn stub_engines(alloc: Global) -> Result<Vec<StubEngine>, Ending>
-    ensures hosts { IfOk result (λ es. map (λ e. e.line.host) es.items ≡ 0 ∷ 1 ∷ 2 ∷ []) }
+    ensures hosts { IfOk result (λ es. map (λ e. e.outbox.host) es.items ≡ 0 ∷ 1 ∷ 2 ∷ []) }
     ensures err { IfErr result (λ e. e ≡ Memory) }
 {
     let mut engines = Vec::with_capacity(alloc, HOSTS)?;
@@ -78,7 +78,7 @@ pub(crate) fn stub_engines(alloc: Global) -> Result<Vec<StubEngine>, Ending>
 
 // The engine of one host, with a link to an empty stub.
 fn stub_engine(alloc: Global, host: usize) -> Result<StubEngine, Ending>
-    ensures host { IfOk result (λ e. e.line.host ≡ host) }
+    ensures host { IfOk result (λ e. e.outbox.host ≡ host) }
     ensures err { IfErr result (λ e. e ≡ Memory) }
 {
     let (reader, writer) = stub_ends(alloc)?;

@@ -1,5 +1,5 @@
 use Rattle.std.proofs.Common.{◌++◌}
-use Rattle.proxy_engines.proofs.OwnLemmas.{connection_steps-own_steps}
+use Rattle.proxy_engines.proofs.OwnHistoryLemmas.{connection_steps-own_steps}
 use Rattle.proxy_engines.proofs.ask.open.Goals as goal
 use Rattle.proxy_engines.proofs.ask.open.Goals.{in-Ok-Opened, in-Err}
 

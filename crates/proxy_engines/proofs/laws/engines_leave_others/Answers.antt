@@ -1,4 +1,4 @@
-use Rattle.proxy_engines.proofs.OtherLemmas.{clients_leave_others, hosts_leave_others}
+use Rattle.proxy_engines.proofs.LeaveOthersLemmas.{clients_leave_others, hosts_leave_others}
 use Rattle.proxy_engines.proofs.laws.engines_leave_others.Goals as goal
 
 pub returns : goal.returns

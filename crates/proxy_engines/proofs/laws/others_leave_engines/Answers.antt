@@ -1,5 +1,5 @@
 use Rattle.proxy_engines.proofs.ClientLemmas.{others_leave_clients}
-use Rattle.proxy_engines.proofs.OtherLemmas.{others_leave_hosts}
+use Rattle.proxy_engines.proofs.LeaveOthersLemmas.{others_leave_hosts}
 use Rattle.proxy_engines.proofs.laws.others_leave_engines.Goals as goal
 
 pub returns : goal.returns

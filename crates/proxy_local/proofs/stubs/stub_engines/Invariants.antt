@@ -4,4 +4,4 @@ use Rattle.proxy_local.proofs.stubs.stub_engines.Given as goal
 
 -- those of the hosts so far
 abbrev pub invariant-loop-host : goal.invariant-loop-host
-invariant-loop-host l = map (λ e. e.line.host) l.engines.items ≡ range_with_len 0 l.host
+invariant-loop-host l = map (λ e. e.outbox.host) l.engines.items ≡ range_with_len 0 l.host

@@ -1,8 +1,8 @@
 use Rattle.std.proofs.Common.{rules}
 use Rattle.proxy_devices.proofs.tally.Tallied.told.Goals as goal
 
-pub returns-in-WouldBlock-clause-paused : goal.returns-in-WouldBlock-clause-paused
-returns-in-WouldBlock-clause-paused g c = search rules
+pub returns-in-WouldBlock-clause-idle : goal.returns-in-WouldBlock-clause-idle
+returns-in-WouldBlock-clause-idle g c = search rules
 
 pub returns-in-WouldBlock-clause-counts : goal.returns-in-WouldBlock-clause-counts
 returns-in-WouldBlock-clause-counts g c = search rules

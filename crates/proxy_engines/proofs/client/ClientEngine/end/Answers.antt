@@ -1,8 +1,8 @@
-use Rattle.proxy_engines.proofs.OwnLemmas.{keeps_same}
+use Rattle.proxy_engines.proofs.OwnHistoryLemmas.{keeps_same}
 use Rattle.proxy_engines.proofs.ClientMoves.{same_goes}
 use Rattle.proxy_engines.specs.Client.{Client}
 use Rattle.proxy_engines.proofs.AnswerLemmas.{if_ok, if_err, on_ok}
-use Rattle.std.proofs.Common.{refl, inl, inr, ap}
+use Rattle.std.proofs.Common.{rules, refl, inl, inr, ap}
 use Rattle.proxy_engines.proofs.client.ClientEngine.end.Goals as goal
 
 pub returns-clause-moves : goal.returns-clause-moves
@@ -23,17 +23,18 @@ returns-then-self-clause-moves g c =
       number = tt;
     }
 
-pub returns-clause-ok : goal.returns-clause-ok
-returns-clause-ok g c = if_ok _ _ c.close.result (λ p (ended, new). inr (ended, ap (λ (e : Client). e.stage) new)) c.close.ensures.ok
+pub returns-clause-ends : goal.returns-clause-ends
+returns-clause-ends g c =
+    record {
+      ok = if_ok _ _ c.close.result (λ p (ended, new). inr (ended, ap (λ (e : Client). e.stage) new)) c.close.ensures.ok;
+      err = if_err _ _ c.close.result (λ e (_, _, turn). turn) c.close.ensures.err;
+      idle = if_ok _ _ c.close.result (λ p (ended, _) idle. absurd cc) c.close.ensures.ok;
+    }
 
-pub returns-clause-err : goal.returns-clause-err
-returns-clause-err g c = if_err _ _ c.close.result (λ e (_, _, turn). turn) c.close.ensures.err
-
-pub returns-clause-idle : goal.returns-clause-idle
-returns-clause-idle g c = if_ok _ _ c.close.result (λ p (ended, _) idle. absurd cc) c.close.ensures.ok
-
-pub returns-then-self-clause-ok : goal.returns-then-self-clause-ok
-returns-then-self-clause-ok g c = inl refl
-
-pub returns-then-self-clause-err : goal.returns-then-self-clause-err
-returns-then-self-clause-err g c = tt
+pub returns-then-self-clause-ends : goal.returns-then-self-clause-ends
+returns-then-self-clause-ends g c =
+    record {
+      ok = inl refl;
+      err = tt;
+      idle = search rules;
+    }

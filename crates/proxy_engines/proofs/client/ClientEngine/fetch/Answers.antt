@@ -14,22 +14,18 @@ returns-in-Err-clause-goes g c =
     λ H. rw (← c.self.view_is)
     (kept_goes _ c.next_request.new.self H (rw (← c.self.view_is) at c.requires.stage) c.next_request.ensures.keeps.0.0 c.next_request.ensures.keeps.0.1 c.next_request.ensures.keeps.1 c.in-Err.ensures.err.0)
 
-pub returns-in-Err-clause-err : goal.returns-in-Err-clause-err
-returns-in-Err-clause-err g c = refl
+pub returns-in-Err-clause-fetches : goal.returns-in-Err-clause-fetches
+returns-in-Err-clause-fetches g c =
+    record {
+      keeps = (search rules, ap (λ (e : Client). e.stage) c.self.view_is ∙ c.requires.stage, (c.next_request.ensures.keeps.0.1 ∙ ap (λ (e : Client). e.inbox.counts) c.self.view_is, ap (λ (e : Client). e.outbox.counts) c.self.view_is));
+      next = tt;
+      err = refl;
+    }
 
-pub returns-in-Ok-clause-err : goal.returns-in-Ok-clause-err
-returns-in-Ok-clause-err g c = tt
-
-pub returns-in-Err-clause-next : goal.returns-in-Err-clause-next
-returns-in-Err-clause-next g c = tt
-
-pub returns-in-Ok-clause-keeps : goal.returns-in-Ok-clause-keeps
-returns-in-Ok-clause-keeps g c =
-    (search rules, ap (λ (e : Client). e.stage) c.self.view_is ∙ c.requires.stage, (c.next_request.ensures.keeps.0.1 ∙ ap (λ (e : Client). e.inbox.counts) c.self.view_is, ap (λ (e : Client). e.outbox.counts) c.self.view_is))
-
-pub returns-in-Err-clause-keeps : goal.returns-in-Err-clause-keeps
-returns-in-Err-clause-keeps g c =
-    (search rules, ap (λ (e : Client). e.stage) c.self.view_is ∙ c.requires.stage, (c.next_request.ensures.keeps.0.1 ∙ ap (λ (e : Client). e.inbox.counts) c.self.view_is, ap (λ (e : Client). e.outbox.counts) c.self.view_is))
-
-pub returns-in-Ok-clause-next : goal.returns-in-Ok-clause-next
-returns-in-Ok-clause-next g c = record { some = search rules; none = search rules }
+pub returns-in-Ok-clause-fetches : goal.returns-in-Ok-clause-fetches
+returns-in-Ok-clause-fetches g c =
+    record {
+      keeps = (search rules, ap (λ (e : Client). e.stage) c.self.view_is ∙ c.requires.stage, (c.next_request.ensures.keeps.0.1 ∙ ap (λ (e : Client). e.inbox.counts) c.self.view_is, ap (λ (e : Client). e.outbox.counts) c.self.view_is));
+      next = record { some = search rules; none = search rules };
+      err = tt;
+    }

@@ -1,4 +1,4 @@
-use Rattle.proxy_engines.proofs.OwnLemmas.{keeps_then}
+use Rattle.proxy_engines.proofs.OwnHistoryLemmas.{keeps_then}
 use Rattle.proxy_engines.specs.Moves.{told_by_step}
 use Rattle.std.proofs.lemmas.Result.{IfOk-from_err, err_from_is_err_and}
 use Rattle.proxy_engines.proofs.AnswerLemmas.{if_ok, if_err, on_ok, idle_for, not_ended, not_cut, not_link, still_not_ended, still_not_cut, still_not_link, end_is, end_not_cut, end_not_link, turn_unread, turn_unwritten, write_unread, write_is, read_unwritten, read_is}
@@ -13,26 +13,26 @@ use Rattle.proxy_engines.proofs.client.ClientEngine.go_on.Goals as goal
 pub returns-in-Open-clause-tells : goal.returns-in-Open-clause-tells
 returns-in-Open-clause-tells g c =
     record {
-      ended = if_ok _ _ c.take_in.result (λ p h. still_not_ended _ p h.1) c.take_in.ensures.ok;
-      no_link = if_ok _ _ c.take_in.result (λ p h. still_not_link p h.1) c.take_in.ensures.ok;
-      read_failed = read_is _ _ c.take_in.result (rw ((c.in_ok-has_handed.ensures.nothing c.if-branch.false).0) at c.take_in.ensures.err);
-      write_failed = read_unwritten _ _ _ c.take_in.result c.take_in.ensures.err;
+      ended = if_ok _ _ c.take_in.result (λ p h. still_not_ended _ p h.1) c.take_in.ensures.takes.ok;
+      no_link = if_ok _ _ c.take_in.result (λ p h. still_not_link p h.1) c.take_in.ensures.takes.ok;
+      read_failed = read_is _ _ c.take_in.result (rw ((c.in_ok-has_handed.ensures.hands.nothing c.if-branch.false).0) at c.take_in.ensures.takes.err);
+      write_failed = read_unwritten _ _ _ c.take_in.result c.take_in.ensures.takes.err;
       idle = let empty : c.args.self.now.outbox.pending ≡ [] = ap (λ (e : Client). e.outbox.pending) (sym c.self.view_is) ∙ empty_is c.self.inside.outbox.pending c.is_empty.result c.is_empty.ensures c.if-not-is_empty.false in
-          let nothing = (c.in_ok-has_handed.ensures.nothing c.if-branch.false).1 in
+          let nothing = (c.in_ok-has_handed.ensures.hands.nothing c.if-branch.false).1 in
           if_ok _ _ c.take_in.result (λ p still e. idle_open (g.T.Turns.cause (g.T.Turns.setting c.args.turns.now)) c.args.self.now c.take_in.new.self _ _ _ c.has_handed.ensures.moves.turns.begins c.take_in.ensures.moves.turns.begins empty nothing (still e))
-          (rw ((c.in_ok-has_handed.ensures.nothing c.if-branch.false).0) at (rw c.has_handed.ensures.moves.turns.setting_is at c.take_in.ensures.idle));
+          (rw ((c.in_ok-has_handed.ensures.hands.nothing c.if-branch.false).0) at (rw c.has_handed.ensures.moves.turns.setting_is at c.take_in.ensures.takes.idle));
     }
 
 pub returns-in_default-clause-tells : goal.returns-in_default-clause-tells
 returns-in_default-clause-tells g c =
     record {
-      ended = if_ok _ _ c.end.result (λ p h. end_is _ p h) c.end.ensures.ok;
-      no_link = if_ok _ _ c.end.result (λ p h. end_not_link _ p h) c.end.ensures.ok;
-      read_failed = if_err _ _ c.end.result (λ e turn. turn_unread _ e turn) c.end.ensures.err;
-      write_failed = if_err _ _ c.end.result (λ e turn. turn_unwritten _ e turn) c.end.ensures.err;
+      ended = if_ok _ _ c.end.result (λ p h. end_is _ p h) c.end.ensures.ends.ok;
+      no_link = if_ok _ _ c.end.result (λ p h. end_not_link _ p h) c.end.ensures.ends.ok;
+      read_failed = if_err _ _ c.end.result (λ e turn. turn_unread _ e turn) c.end.ensures.ends.err;
+      write_failed = if_err _ _ c.end.result (λ e turn. turn_unwritten _ e turn) c.end.ensures.ends.err;
       idle = let empty : c.args.self.now.outbox.pending ≡ [] = ap (λ (e : Client). e.outbox.pending) (sym c.self.view_is) ∙ empty_is c.self.inside.outbox.pending c.is_empty.result c.is_empty.ensures c.if-not-is_empty.false in
-          let nothing = (c.in_ok-has_handed.ensures.nothing c.if-branch.false).1 in
-          if_ok _ _ c.end.result (λ p still e. idle_finishing (g.T.Turns.cause (g.T.Turns.setting c.args.turns.now)) c.args.self.now c.end.new.self _ _ _ c.has_handed.ensures.moves.turns.begins c.end.ensures.moves.turns.begins empty nothing (still e)) c.end.ensures.idle;
+          let nothing = (c.in_ok-has_handed.ensures.hands.nothing c.if-branch.false).1 in
+          if_ok _ _ c.end.result (λ p still e. idle_finishing (g.T.Turns.cause (g.T.Turns.setting c.args.turns.now)) c.args.self.now c.end.new.self _ _ _ c.has_handed.ensures.moves.turns.begins c.end.ensures.moves.turns.begins empty nothing (still e)) c.end.ensures.ends.idle;
     }
 
 pub returns-then-not-is_empty-clause-moves : goal.returns-then-not-is_empty-clause-moves
@@ -61,7 +61,7 @@ returns-in-Open-clause-moves g c =
     record {
       turns = keeps_then _ _ _ _ _ _ c.has_handed.ensures.moves.turns c.take_in.ensures.moves.turns;
       goes = told_then _ _ _ _ _ _ (told_by_step c.take_in.result) (rw c.if-branch.false at c.in_ok-has_handed.ensures.moves.goes) c.take_in.ensures.moves.goes;
-      unfailed = rw ((c.in_ok-has_handed.ensures.nothing c.if-branch.false).0) at c.take_in.ensures.moves.unfailed;
+      unfailed = rw ((c.in_ok-has_handed.ensures.hands.nothing c.if-branch.false).0) at c.take_in.ensures.moves.unfailed;
       number = rw c.has_handed.ensures.moves.turns.setting_is at c.take_in.ensures.moves.number;
     }
 
@@ -70,7 +70,7 @@ returns-in_default-clause-moves g c =
     record {
       turns = keeps_then _ _ _ _ _ _ c.has_handed.ensures.moves.turns c.end.ensures.moves.turns;
       goes = told_then _ _ _ _ _ _ (told_by_step c.end.result) (rw c.if-branch.false at c.in_ok-has_handed.ensures.moves.goes) c.end.ensures.moves.goes;
-      unfailed = rw ((c.in_ok-has_handed.ensures.nothing c.if-branch.false).0) at c.end.ensures.moves.unfailed;
+      unfailed = rw ((c.in_ok-has_handed.ensures.hands.nothing c.if-branch.false).0) at c.end.ensures.moves.unfailed;
       number = rw c.has_handed.ensures.moves.turns.setting_is at c.end.ensures.moves.number;
     }
 
@@ -87,23 +87,23 @@ returns-then-branch-clause-tells g c =
 pub returns-then-not-is_empty-clause-tells : goal.returns-then-not-is_empty-clause-tells
 returns-then-not-is_empty-clause-tells g c =
     record {
-      ended = if_ok _ _ c.write.result (λ p h. not_ended _ _ p h.1) c.write.ensures.ok;
-      no_link = if_ok _ _ c.write.result (λ p h. not_link _ p h.1) c.write.ensures.ok;
-      read_failed = write_unread _ _ _ c.write.result c.write.ensures.err;
-      write_failed = write_is _ _ c.write.result c.write.ensures.err;
-      idle = if_ok _ _ c.write.result (λ p h idle. inl (idle_for _ p h.1 idle)) c.write.ensures.ok;
+      ended = if_ok _ _ c.write.result (λ p h. not_ended _ _ p h.1) c.write.ensures.writes.ok;
+      no_link = if_ok _ _ c.write.result (λ p h. not_link _ p h.1) c.write.ensures.writes.ok;
+      read_failed = write_unread _ _ _ c.write.result c.write.ensures.writes.err;
+      write_failed = write_is _ _ c.write.result c.write.ensures.writes.err;
+      idle = if_ok _ _ c.write.result (λ p h idle. inl (idle_for _ p h.1 idle)) c.write.ensures.writes.ok;
     }
 
 pub returns-then-not-is_empty-clause-cut : goal.returns-then-not-is_empty-clause-cut
-returns-then-not-is_empty-clause-cut g c = if_ok _ _ c.write.result (λ p h. not_cut _ p h.1) c.write.ensures.ok
+returns-then-not-is_empty-clause-cut g c = if_ok _ _ c.write.result (λ p h. not_cut _ p h.1) c.write.ensures.writes.ok
 
 pub returns-in_err-has_handed-clause-tells : goal.returns-in_err-has_handed-clause-tells
 returns-in_err-has_handed-clause-tells g c =
     record {
       ended = IfOk-from_err c.from_residual.result _ c.from_residual.ensures.0;
       no_link = IfOk-from_err c.from_residual.result _ c.from_residual.ensures.0;
-      read_failed = let (_, result_is, error_is) = err_from_is_err_and c.from_residual.result c.from_residual.ensures.1 in rw (result_is, error_is) (turn_unread _ _ c.in_err-has_handed.ensures.err.1);
-      write_failed = let (_, result_is, error_is) = err_from_is_err_and c.from_residual.result c.from_residual.ensures.1 in rw (result_is, error_is) (turn_unwritten _ _ c.in_err-has_handed.ensures.err.1);
+      read_failed = let (_, result_is, error_is) = err_from_is_err_and c.from_residual.result c.from_residual.ensures.1 in rw (result_is, error_is) (turn_unread _ _ c.in_err-has_handed.ensures.hands.err.1);
+      write_failed = let (_, result_is, error_is) = err_from_is_err_and c.from_residual.result c.from_residual.ensures.1 in rw (result_is, error_is) (turn_unwritten _ _ c.in_err-has_handed.ensures.hands.err.1);
       idle = IfOk-from_err c.from_residual.result _ c.from_residual.ensures.0;
     }
 
@@ -118,12 +118,12 @@ returns-in-AtEnd-clause-moves g c =
     record {
       turns = keeps_then _ _ _ _ _ _ c.has_handed.ensures.moves.turns c.finish.ensures.moves.turns;
       goes = told_then _ _ _ _ _ _ (told_by_step c.finish.result) (rw c.if-branch.false at c.in_ok-has_handed.ensures.moves.goes) c.finish.ensures.moves.goes;
-      unfailed = on_ok _ _ c.finish.result (λ p (_, new). rw (new, (c.in_ok-has_handed.ensures.nothing c.if-branch.false).0) (refl, refl)) c.finish.ensures.ok;
+      unfailed = on_ok _ _ c.finish.result (λ p (_, new). rw (new, (c.in_ok-has_handed.ensures.hands.nothing c.if-branch.false).0) (refl, refl)) c.finish.ensures.ok;
       number = rw c.has_handed.ensures.moves.turns.setting_is at c.finish.ensures.moves.number;
     }
 
 pub returns-in-Open-clause-cut : goal.returns-in-Open-clause-cut
-returns-in-Open-clause-cut g c = if_ok _ _ c.take_in.result (λ p h. still_not_cut p h.1) c.take_in.ensures.ok
+returns-in-Open-clause-cut g c = if_ok _ _ c.take_in.result (λ p h. still_not_cut p h.1) c.take_in.ensures.takes.ok
 
 pub returns-in-AtEnd-clause-tells : goal.returns-in-AtEnd-clause-tells
 returns-in-AtEnd-clause-tells g c =
@@ -139,4 +139,4 @@ pub returns-in-AtEnd-clause-cut : goal.returns-in-AtEnd-clause-cut
 returns-in-AtEnd-clause-cut g c = if_ok _ _ c.finish.result (λ p h. still_not_cut p (inl h.0)) c.finish.ensures.ok
 
 pub returns-in_default-clause-cut : goal.returns-in_default-clause-cut
-returns-in_default-clause-cut g c = if_ok _ _ c.end.result (λ p h. end_not_cut _ p h) c.end.ensures.ok
+returns-in_default-clause-cut g c = if_ok _ _ c.end.result (λ p h. end_not_cut _ p h) c.end.ensures.ends.ok

@@ -18,15 +18,6 @@ returns-in-Ok-Bytes-clause-moves g c =
       number = tt;
     }
 
-pub returns-in-Ok-Bytes-clause-err : goal.returns-in-Ok-Bytes-clause-err
-returns-in-Ok-Bytes-clause-err g c = tt
-
-pub returns-in-Ok-Bytes-clause-stage : goal.returns-in-Ok-Bytes-clause-stage
-returns-in-Ok-Bytes-clause-stage g c = ap (λ (e : Client). e.stage) c.self.view_is
-
-pub returns-in-Ok-Bytes-clause-not_ready : goal.returns-in-Ok-Bytes-clause-not_ready
-returns-in-Ok-Bytes-clause-not_ready g c = λ e. absurd cc
-
 pub returns-in-Err-clause-moves : goal.returns-in-Err-clause-moves
 returns-in-Err-clause-moves g c =
     record {
@@ -36,17 +27,23 @@ returns-in-Err-clause-moves g c =
       number = told_number c.in-Err.denied false c.told_as.result c.told_as.ensures (g.T.Turns.cause (g.T.Turns.setting c.args.turns.now)) (Event.Handed c.self.inside.conn) (g.T.Turns.seen c.tell.new.turns) c.in-Err.ensures.denied.due;
     }
 
-pub returns-in-Err-clause-stage : goal.returns-in-Err-clause-stage
-returns-in-Err-clause-stage g c = refl
+pub returns-in-Ok-Bytes-clause-hands : goal.returns-in-Ok-Bytes-clause-hands
+returns-in-Ok-Bytes-clause-hands g c =
+    record {
+      stage = ap (λ (e : Client). e.stage) c.self.view_is;
+      not_ready = λ e. absurd cc;
+      err = tt;
+    }
 
-pub returns-in-Err-clause-not_ready : goal.returns-in-Err-clause-not_ready
-returns-in-Err-clause-not_ready g c =
-    let made = g.T.Turns.setting c.args.turns.now in
-    let seen = g.T.Turns.seen c.tell.new.turns in
-    let event = Event.Handed c.self.inside.conn in
-    rw (← c.self.view_is)
-    (told_ok c.in-Err.denied false c.told_as.result c.told_as.ensures _
-    (λ x is soft _. (refl, is_not_ready (λ r. g.T.Turns.cause made r event seen) c.self.inside.conn x (expected g.T.Turns.cause g.met.T.CoreTurns.refusals_mean made event seen c.in-Err.denied c.in-Err.ensures.denied.due x is soft))))
-
-pub returns-in-Err-clause-err : goal.returns-in-Err-clause-err
-returns-in-Err-clause-err g c = told_turn c.in-Err.denied false c.told_as.result c.told_as.ensures _ refl
+pub returns-in-Err-clause-hands : goal.returns-in-Err-clause-hands
+returns-in-Err-clause-hands g c =
+    record {
+      stage = refl;
+      not_ready = let made = g.T.Turns.setting c.args.turns.now in
+          let seen = g.T.Turns.seen c.tell.new.turns in
+          let event = Event.Handed c.self.inside.conn in
+          rw (← c.self.view_is)
+          (told_ok c.in-Err.denied false c.told_as.result c.told_as.ensures _
+          (λ x is soft _. (refl, is_not_ready (λ r. g.T.Turns.cause made r event seen) c.self.inside.conn x (expected g.T.Turns.cause g.met.T.CoreTurns.refusals_mean made event seen c.in-Err.denied c.in-Err.ensures.denied.due x is soft))));
+      err = told_turn c.in-Err.denied false c.told_as.result c.told_as.ensures _ refl;
+    }

@@ -1,5 +1,5 @@
 use Rattle.proxy_engines.proofs.AnswerLemmas.{any_ok}
-use Rattle.proxy_engines.proofs.OwnLemmas.{keeps_same}
+use Rattle.proxy_engines.proofs.OwnHistoryLemmas.{keeps_same}
 use Rattle.proxy_engines.specs.Client.{Client}
 use Rattle.proxy_engines.specs.declared.client.Progress.{Progress}
 use Rattle.std.proofs.Common.{◌≡◌, ◌∙◌, IfOk, Some, refl, sym, ap, inl, inr, rules}
@@ -43,32 +43,6 @@ returns-in-Err-clause-moves g c =
       number = told_number c.in-Err.denied Progress.Idle c.told_as.result c.told_as.ensures (g.T.Turns.cause (g.T.Turns.setting c.args.turns.now)) (Event.Arrived c.self.inside.conn c.in-Some.request) (g.T.Turns.seen c.arrive.new.turns) c.in-Err.ensures.denied.due;
     }
 
-pub returns-in-Err-clause-live : goal.returns-in-Err-clause-live
-returns-in-Err-clause-live g c = rw (ap (λ (e : Client). e.stage) c.self.view_is ∙ c.requires.stage) tt
-
-pub returns-in-Err-clause-ok : goal.returns-in-Err-clause-ok
-returns-in-Err-clause-ok g c =
-    let back = ap Some c.in-Err.ensures.back ∙ sym c.in-Some.is ∙ c.take.ensures.value in
-    let made = g.T.Turns.setting c.args.turns.now in
-    let seen = g.T.Turns.seen c.arrive.new.turns in
-    let event = Event.Arrived c.self.inside.conn c.in-Some.request in
-    rw (c.replace.ensures.after, ← c.self.view_is)
-    (told_ok c.in-Err.denied Progress.Idle c.told_as.result c.told_as.ensures _
-    (λ x is soft. inr (
-      refl,
-      record {
-        same = rw back refl;
-        request = c.in-Some.request;
-        waits = sym c.take.ensures.value ∙ c.in-Some.is;
-        crowded = is_crowded (λ r. g.T.Turns.cause made r event seen) c.self.inside.conn c.in-Some.request x (expected g.T.Turns.cause g.met.T.CoreTurns.refusals_mean made event seen c.in-Err.denied c.in-Err.ensures.denied.due x is soft);
-      },
-    )))
-
-pub returns-in-Err-clause-err : goal.returns-in-Err-clause-err
-returns-in-Err-clause-err g c =
-    let back = ap Some c.in-Err.ensures.back ∙ sym c.in-Some.is ∙ c.take.ensures.value in
-    told_turn c.in-Err.denied Progress.Idle c.told_as.result c.told_as.ensures _ (rw (c.replace.ensures.after, back) c.self.view_is)
-
 pub returns-in_default-clause-moves : goal.returns-in_default-clause-moves
 returns-in_default-clause-moves g c =
     record {
@@ -78,23 +52,49 @@ returns-in_default-clause-moves g c =
       number = tt;
     }
 
-pub returns-then-is_last-clause-err : goal.returns-then-is_last-clause-err
-returns-then-is_last-clause-err g c = tt
+pub returns-in-Err-clause-offers : goal.returns-in-Err-clause-offers
+returns-in-Err-clause-offers g c =
+    record {
+      live = rw (ap (λ (e : Client). e.stage) c.self.view_is ∙ c.requires.stage) tt;
+      ok = let back = ap Some c.in-Err.ensures.back ∙ sym c.in-Some.is ∙ c.take.ensures.value in
+          let made = g.T.Turns.setting c.args.turns.now in
+          let seen = g.T.Turns.seen c.arrive.new.turns in
+          let event = Event.Arrived c.self.inside.conn c.in-Some.request in
+          rw (c.replace.ensures.after, ← c.self.view_is)
+          (told_ok c.in-Err.denied Progress.Idle c.told_as.result c.told_as.ensures _
+          (λ x is soft. inr (
+            refl,
+            record {
+              same = rw back refl;
+              request = c.in-Some.request;
+              waits = sym c.take.ensures.value ∙ c.in-Some.is;
+              crowded = is_crowded (λ r. g.T.Turns.cause made r event seen) c.self.inside.conn c.in-Some.request x (expected g.T.Turns.cause g.met.T.CoreTurns.refusals_mean made event seen c.in-Err.denied c.in-Err.ensures.denied.due x is soft);
+            },
+          )));
+      err = let back = ap Some c.in-Err.ensures.back ∙ sym c.in-Some.is ∙ c.take.ensures.value in
+          told_turn c.in-Err.denied Progress.Idle c.told_as.result c.told_as.ensures _ (rw (c.replace.ensures.after, back) c.self.view_is);
+    }
 
-pub returns-else-is_last-clause-err : goal.returns-else-is_last-clause-err
-returns-else-is_last-clause-err g c = tt
+pub returns-then-is_last-clause-offers : goal.returns-then-is_last-clause-offers
+returns-then-is_last-clause-offers g c =
+    record {
+      live = tt;
+      ok = inl refl;
+      err = tt;
+    }
 
-pub returns-in_default-clause-err : goal.returns-in_default-clause-err
-returns-in_default-clause-err g c = tt
+pub returns-else-is_last-clause-offers : goal.returns-else-is_last-clause-offers
+returns-else-is_last-clause-offers g c =
+    record {
+      live = rw (ap (λ (e : Client). e.stage) c.self.view_is ∙ c.requires.stage) tt;
+      ok = inl refl;
+      err = tt;
+    }
 
-pub returns-then-is_last-clause-live : goal.returns-then-is_last-clause-live
-returns-then-is_last-clause-live g c = tt
-
-pub returns-then-is_last-clause-ok : goal.returns-then-is_last-clause-ok
-returns-then-is_last-clause-ok g c = inl refl
-
-pub returns-else-is_last-clause-live : goal.returns-else-is_last-clause-live
-returns-else-is_last-clause-live g c = rw (ap (λ (e : Client). e.stage) c.self.view_is ∙ c.requires.stage) tt
-
-pub returns-else-is_last-clause-ok : goal.returns-else-is_last-clause-ok
-returns-else-is_last-clause-ok g c = inl refl
+pub returns-in_default-clause-offers : goal.returns-in_default-clause-offers
+returns-in_default-clause-offers g c =
+    record {
+      live = search rules;
+      ok = search rules;
+      err = tt;
+    }

@@ -1,4 +1,4 @@
-use Rattle.proxy_engines.proofs.OwnLemmas.{keeps_same}
+use Rattle.proxy_engines.proofs.OwnHistoryLemmas.{keeps_same}
 use Rattle.std.proofs.Common.{None, [], refl, inl, inr, rules}
 use Rattle.proxy_engines.proofs.ClientMoves.{opened_carries}
 use Rattle.proxy_engines.proofs.InboxLemmas.{behind_none}

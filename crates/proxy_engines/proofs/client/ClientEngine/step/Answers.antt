@@ -1,4 +1,4 @@
-use Rattle.proxy_engines.proofs.OwnLemmas.{keeps_same}
+use Rattle.proxy_engines.proofs.OwnHistoryLemmas.{keeps_same}
 use Rattle.proxy_engines.proofs.AnswerLemmas.{if_ok, if_err, cut_told, cut_is, cut_turn, cut_unfailed, turn_unread, turn_unwritten}
 use Rattle.std.proofs.Common.{false, refl, rules}
 use Rattle.proxy_engines.proofs.ClientMoves.{same_goes}

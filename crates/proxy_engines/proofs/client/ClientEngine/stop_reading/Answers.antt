@@ -16,8 +16,9 @@ returns-clause-moves g c =
       number = c.finish.ensures.moves.number;
     }
 
-pub returns-clause-ok : goal.returns-clause-ok
-returns-clause-ok g c = if_ok _ _ c.finish.result (λ p (moved, new). (rw new tt, moved)) c.finish.ensures.ok
-
-pub returns-clause-err : goal.returns-clause-err
-returns-clause-err g c = if_err _ _ c.finish.result (λ e (_, _, turn). turn) c.finish.ensures.err
+pub returns-clause-stops : goal.returns-clause-stops
+returns-clause-stops g c =
+    record {
+      ok = if_ok _ _ c.finish.result (λ p (moved, new). (rw new tt, moved)) c.finish.ensures.ok;
+      err = if_err _ _ c.finish.result (λ e (_, _, turn). turn) c.finish.ensures.err;
+    }

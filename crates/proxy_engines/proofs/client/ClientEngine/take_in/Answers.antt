@@ -1,5 +1,5 @@
 use Rattle.proxy_engines.specs.ClientSteps.{StaysHeld}
-use Rattle.proxy_engines.proofs.OwnLemmas.{keeps_same}
+use Rattle.proxy_engines.proofs.OwnHistoryLemmas.{keeps_same}
 use Rattle.std.proofs.lemmas.Result.{IfOk-from_err, err_from_is_err_and}
 use Rattle.proxy_engines.proofs.AnswerLemmas.{if_ok, if_err, moved_or_idle, idle_for}
 use Rattle.std.proofs.Common.{false, inl, inr}
@@ -15,7 +15,7 @@ returns-then-not-branch-clause-moves g c =
     record {
       turns = c.read.ensures.moves.turns;
       goes = told_then _ _ _ _ _ _ (told_by_step c.read.result) (c.has_next.ensures.goes _) c.read.ensures.moves.goes;
-      unfailed = rw c.has_next.ensures.keeps.1.1 at (rw c.has_next.ensures.keeps.1.0 at c.read.ensures.moves.unfailed);
+      unfailed = rw c.has_next.ensures.looks.keeps.1.1 at (rw c.has_next.ensures.looks.keeps.1.0 at c.read.ensures.moves.unfailed);
       number = c.read.ensures.moves.number;
     }
 
@@ -25,7 +25,7 @@ returns-in_err-has_next-clause-moves g c =
       turns = keeps_same _ _ _ _;
       goes = step-err _ c.from_residual.result c.from_residual.ensures.0 (false, c.has_next.ensures.goes _);
       unfailed = IfOk-from_err c.from_residual.result _ c.from_residual.ensures.0;
-      number = let (_, result_is, error_is) = err_from_is_err_and c.from_residual.result c.from_residual.ensures.1 in rw (result_is, error_is, c.in_err-has_next.ensures.err) tt;
+      number = let (_, result_is, error_is) = err_from_is_err_and c.from_residual.result c.from_residual.ensures.1 in rw (result_is, error_is, c.in_err-has_next.ensures.looks.err) tt;
     }
 
 pub returns-clause-moves : goal.returns-clause-moves
@@ -33,39 +33,35 @@ returns-clause-moves g c =
     record {
       turns = c.offer.ensures.moves.turns;
       goes = told_then _ _ _ _ _ _ (told_by_step c.offer.result) (c.has_next.ensures.goes _) c.offer.ensures.moves.goes;
-      unfailed = rw c.has_next.ensures.keeps.1.1 at (rw c.has_next.ensures.keeps.1.0 at c.offer.ensures.moves.unfailed);
+      unfailed = rw c.has_next.ensures.looks.keeps.1.1 at (rw c.has_next.ensures.looks.keeps.1.0 at c.offer.ensures.moves.unfailed);
       number = c.offer.ensures.moves.number;
     }
 
-pub returns-clause-ok : goal.returns-clause-ok
-returns-clause-ok g c = if_ok _ _ c.offer.result (λ p told. (c.offer.ensures.live, moved_or_idle (StaysHeld _ _ _ _) p told)) c.offer.ensures.ok
-
-pub returns-clause-err : goal.returns-clause-err
-returns-clause-err g c = if_err _ _ c.offer.result (λ e (_, turn). inr (inr turn)) c.offer.ensures.err
-
-pub returns-clause-idle : goal.returns-clause-idle
-returns-clause-idle g c =
-    if_ok _ _ c.offer.result (λ p told idle.
-    let held = idle_for (StaysHeld _ _ _ _) p told idle in
-    rw held.same (inl (held.request, held.waits, held_now (g.T.Turns.cause (g.T.Turns.setting c.args.turns.now) Refusal.Crowded) _ _ _ c.offer.ensures.moves.turns.begins held.crowded))) c.offer.ensures.ok
-
-pub returns-then-not-branch-clause-ok : goal.returns-then-not-branch-clause-ok
-returns-then-not-branch-clause-ok g c = if_ok _ _ c.read.result (λ p (live, told). (live, moved_or_idle _ p told)) c.read.ensures.ok
-
-pub returns-then-not-branch-clause-err : goal.returns-then-not-branch-clause-err
-returns-then-not-branch-clause-err g c = if_err _ _ c.read.result (λ e told. inr told) (rw c.has_next.ensures.keeps.1.0 at c.read.ensures.err)
-
-pub returns-then-not-branch-clause-idle : goal.returns-then-not-branch-clause-idle
-returns-then-not-branch-clause-idle g c = if_ok _ _ c.read.result (λ p (_, told) idle. inr (idle_for _ p told idle)) (rw c.has_next.ensures.keeps.1.0 at c.read.ensures.ok)
-
-pub returns-in_err-has_next-clause-ok : goal.returns-in_err-has_next-clause-ok
-returns-in_err-has_next-clause-ok g c = IfOk-from_err c.from_residual.result _ c.from_residual.ensures.0
-
-pub returns-in_err-has_next-clause-idle : goal.returns-in_err-has_next-clause-idle
-returns-in_err-has_next-clause-idle g c = IfOk-from_err c.from_residual.result _ c.from_residual.ensures.0
-
-pub returns-in_err-has_next-clause-err : goal.returns-in_err-has_next-clause-err
-returns-in_err-has_next-clause-err g c = let (_, result_is, error_is) = err_from_is_err_and c.from_residual.result c.from_residual.ensures.1 in rw (result_is, error_is) (inl c.in_err-has_next.ensures.err)
-
 pub returns-then-is_to_stop-clause-moves : goal.returns-then-is_to_stop-clause-moves
 returns-then-is_to_stop-clause-moves g c = c.stop_reading.ensures.moves
+
+pub returns-clause-takes : goal.returns-clause-takes
+returns-clause-takes g c =
+    record {
+      ok = if_ok _ _ c.offer.result (λ p told. (c.offer.ensures.offers.live, moved_or_idle (StaysHeld _ _ _ _) p told)) c.offer.ensures.offers.ok;
+      err = if_err _ _ c.offer.result (λ e (_, turn). inr (inr turn)) c.offer.ensures.offers.err;
+      idle = if_ok _ _ c.offer.result (λ p told idle.
+          let held = idle_for (StaysHeld _ _ _ _) p told idle in
+          rw held.same (inl (held.request, held.waits, held_now (g.T.Turns.cause (g.T.Turns.setting c.args.turns.now) Refusal.Crowded) _ _ _ c.offer.ensures.moves.turns.begins held.crowded))) c.offer.ensures.offers.ok;
+    }
+
+pub returns-then-not-branch-clause-takes : goal.returns-then-not-branch-clause-takes
+returns-then-not-branch-clause-takes g c =
+    record {
+      ok = if_ok _ _ c.read.result (λ p (live, told). (live, moved_or_idle _ p told)) c.read.ensures.reads.ok;
+      err = if_err _ _ c.read.result (λ e told. inr told) (rw c.has_next.ensures.looks.keeps.1.0 at c.read.ensures.reads.err);
+      idle = if_ok _ _ c.read.result (λ p (_, told) idle. inr (idle_for _ p told idle)) (rw c.has_next.ensures.looks.keeps.1.0 at c.read.ensures.reads.ok);
+    }
+
+pub returns-in_err-has_next-clause-takes : goal.returns-in_err-has_next-clause-takes
+returns-in_err-has_next-clause-takes g c =
+    record {
+      ok = IfOk-from_err c.from_residual.result _ c.from_residual.ensures.0;
+      err = let (_, result_is, error_is) = err_from_is_err_and c.from_residual.result c.from_residual.ensures.1 in rw (result_is, error_is) (inl c.in_err-has_next.ensures.looks.err);
+      idle = IfOk-from_err c.from_residual.result _ c.from_residual.ensures.0;
+    }

@@ -1,4 +1,4 @@
-use Rattle.proxy_engines.proofs.OwnLemmas.{keeps_same}
+use Rattle.proxy_engines.proofs.OwnHistoryLemmas.{keeps_same}
 use Rattle.proxy_engines.specs.declared.error.EngineError.{EngineError}
 use Rattle.proxy_devices.specs.Device.{Counts, HasFailed}
 use Rattle.proxy_engines.specs.Client.{Client}
@@ -13,48 +13,50 @@ pub returns-in-Moved-clause-moves : goal.returns-in-Moved-clause-moves
 returns-in-Moved-clause-moves g c =
     record {
       turns = keeps_same _ _ _ _;
-      goes = let (gave, sends, moved) = c.in-Moved.ensures.bytes in
+      goes = let (gave, sends, moved) = c.in-Moved.ensures.writes.bytes in
           rw (← c.self.view_is) (wrote_goes _ c.write_once.new.self gave _ true (rw (← c.self.view_is) at c.requires.live) sends moved);
-      unfailed = rw (← c.self.view_is) (refl, ap (λ (n : Counts). n.failed) (c.write_once.ensures.moved _ c.in-Moved.is).1);
+      unfailed = rw (← c.self.view_is) (refl, ap (λ (n : Counts). n.failed) (c.write_once.ensures.writes.counts.moved _ c.in-Moved.is));
       number = tt;
     }
 
-pub returns-in-Paused-clause-moves : goal.returns-in-Paused-clause-moves
-returns-in-Paused-clause-moves g c =
+pub returns-in-Idle-clause-moves : goal.returns-in-Idle-clause-moves
+returns-in-Idle-clause-moves g c =
     record {
       turns = keeps_same _ _ _ _;
-      goes = let (gave, sends, moved) = rw c.in-Paused.is at c.write_once.ensures.bytes in
+      goes = let (gave, sends, moved) = rw c.in-Idle.is at c.write_once.ensures.writes.bytes in
           rw (← c.self.view_is) (wrote_goes _ c.write_once.new.self gave _ false (rw (← c.self.view_is) at c.requires.live) sends moved);
-      unfailed = rw (← c.self.view_is) (refl, (c.write_once.ensures.paused c.in-Paused.is).failed);
+      unfailed = rw (← c.self.view_is) (refl, (c.write_once.ensures.writes.counts.idle c.in-Idle.is).failed);
       number = tt;
     }
-
-pub returns-in-Moved-clause-err : goal.returns-in-Moved-clause-err
-returns-in-Moved-clause-err g c = tt
-
-pub returns-in-Paused-clause-err : goal.returns-in-Paused-clause-err
-returns-in-Paused-clause-err g c = tt
 
 pub returns-in-End-clause-moves : goal.returns-in-End-clause-moves
 returns-in-End-clause-moves g c =
     record {
       turns = c.cut.ensures.turns;
-      goes = let (gave, sends, moved) = c.write_once.ensures.bytes in
+      goes = let (gave, sends, moved) = c.write_once.ensures.writes.bytes in
           rw (← c.self.view_is) (cut_told _ _ _ _ _ _ _ _ c.cut.result refl (wrote_goes _ c.write_once.new.self gave _ _ (rw (← c.self.view_is) at c.requires.live) sends moved) c.cut.ensures.cuts);
       unfailed = cut_ok _ _ _ _ _ EngineError.WriteFailed c.cut.result c.cut.ensures.cuts;
       number = numbered_cut _ (Err EngineError.WriteFailed) c.cut.result tt c.cut.ensures.number;
     }
 
-pub returns-in-End-clause-ok : goal.returns-in-End-clause-ok
-returns-in-End-clause-ok g c = cut_ok _ _ _ _ _ EngineError.WriteFailed c.cut.result c.cut.ensures.cuts
+pub returns-in-Moved-clause-writes : goal.returns-in-Moved-clause-writes
+returns-in-Moved-clause-writes g c =
+    record {
+      ok = rw (← c.self.view_is) (refl, inl refl);
+      err = tt;
+    }
 
-pub returns-in-End-clause-err : goal.returns-in-End-clause-err
-returns-in-End-clause-err g c =
-    rw (← c.self.view_is)
-    (cut_err _ _ _ _ (λ (e : Client). HasFailed c.self.inside.outbox.counts e.outbox.counts) EngineError.WriteFailed c.cut.result (c.write_once.ensures.failed c.in-End.is) c.cut.ensures.cuts)
+pub returns-in-Idle-clause-writes : goal.returns-in-Idle-clause-writes
+returns-in-Idle-clause-writes g c =
+    record {
+      ok = rw (← c.self.view_is) (refl, inr (refl, c.write_once.ensures.writes.counts.idle c.in-Idle.is));
+      err = tt;
+    }
 
-pub returns-in-Moved-clause-ok : goal.returns-in-Moved-clause-ok
-returns-in-Moved-clause-ok g c = rw (← c.self.view_is) (refl, inl refl)
-
-pub returns-in-Paused-clause-ok : goal.returns-in-Paused-clause-ok
-returns-in-Paused-clause-ok g c = rw (← c.self.view_is) (refl, inr (refl, c.write_once.ensures.paused c.in-Paused.is))
+pub returns-in-End-clause-writes : goal.returns-in-End-clause-writes
+returns-in-End-clause-writes g c =
+    record {
+      ok = cut_ok _ _ _ _ _ EngineError.WriteFailed c.cut.result c.cut.ensures.cuts;
+      err = rw (← c.self.view_is)
+          (cut_err _ _ _ _ (λ (e : Client). HasFailed c.self.inside.outbox.counts e.outbox.counts) EngineError.WriteFailed c.cut.result (c.write_once.ensures.writes.counts.failed c.in-End.is) c.cut.ensures.cuts);
+    }

@@ -3,8 +3,8 @@ use Rattle.proxy_engines.specs.HostStep.{HostState}
 use Rattle.std.proofs.Common.{ap, refl, ◌∙◌}
 use Rattle.proxy_engines.proofs.host.HostEngine.attach.Goals as goal
 
-pub returns-in-Ok-clause-line : goal.returns-in-Ok-clause-line
-returns-in-Ok-clause-line g c = ap (λ (h : HostState). h.line) c.self.view_is
+pub returns-in-Ok-clause-outbox : goal.returns-in-Ok-clause-outbox
+returns-in-Ok-clause-outbox g c = ap (λ (h : HostState). h.outbox) c.self.view_is
 
 pub returns-in-Ok-clause-fault : goal.returns-in-Ok-clause-fault
 returns-in-Ok-clause-fault g c = ap (λ (h : HostState). h.fault) c.self.view_is ∙ c.requires.no_fault
@@ -20,8 +20,8 @@ returns-in-Ok-clause-carries g c =
     let (_, most, whole) = c.in-Ok.ensures.inbox in
     λ H k. rw c.replace.ensures.after (attached _ c.in-Ok.link H c.in-Ok.ensures.holds most whole c.in-Ok.ensures.next (rw (← c.self.view_is) at k))
 
-pub returns-in-Err-clause-line : goal.returns-in-Err-clause-line
-returns-in-Err-clause-line g c = refl
+pub returns-in-Err-clause-outbox : goal.returns-in-Err-clause-outbox
+returns-in-Err-clause-outbox g c = refl
 
 pub returns-in-Err-clause-fault : goal.returns-in-Err-clause-fault
 returns-in-Err-clause-fault g c = c.requires.no_fault

@@ -7,7 +7,7 @@ returns g c =
     record {
       marks = record {
         turns = c.fail.ensures.turns;
-        records = rw (c.take.ensures.after, ← c.self.view_is) (record { fails = c.in_ok-fail.ensures.fails _; link = refl; fault = refl });
+        records = rw (c.take.ensures.after, ← c.self.view_is) (record { fails = c.in_ok-fail.ensures.fails _; fault = refl });
         kept = tt;
         err = tt;
         number = tt;

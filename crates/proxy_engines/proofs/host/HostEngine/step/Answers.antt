@@ -1,8 +1,8 @@
-use Rattle.proxy_engines.proofs.OwnLemmas.{keeps_then}
+use Rattle.proxy_engines.proofs.OwnHistoryLemmas.{keeps_then}
 use Rattle.proxy_engines.specs.declared.error.EngineError.{EngineError}
 use Rattle.proxy_engines.specs.declared.client.Progress.{Progress}
 use Rattle.std.specs.Prelude.{Result, Err, IfOk, IfErr}
-use Rattle.std.proofs.Common.{◌∙◌, Ok, sym, ap, inl, ◌≡◌, ◌↔◌}
+use Rattle.std.proofs.Common.{◌∙◌, Ok, sym, ap, inl, refl, rules, ◌≡◌, ◌↔◌}
 use Rattle.std.proofs.lemmas.Result.{IfOk-from_err, err_from_is_err_and}
 use Rattle.proxy_history.specs.declared.refusal.Refusal.{Refusal}
 use Rattle.proxy_engines.specs.HostStep.{HostState, after_fault}
@@ -46,33 +46,34 @@ module _ (A : Type 0) where
   after_any (Ok Progress.Ended) a = a
   after_any (Err e) a = tt
 
-pub returns-clause-steps : goal.returns-clause-steps
-returns-clause-steps g c =
-    let was = ap (λ (h : HostState). h.fault) (sym c.self.view_is) ∙ c.in-Some.is in
-    let records = c.in_ok-record_fault.ensures.marks.records in
-    inl (steps_after (g.T.Turns.cause (g.T.Turns.setting c.args.turns.now) Refusal.Unasked) (g.T.Turns.seen c.args.turns.now) (g.T.Turns.seen c.record_fault.new.turns) (g.T.Turns.seen c.go_on-2.new.turns) c.args.moment c.record_fault.ensures.marks.turns.begins
-    c.args.self.now c.record_fault.new.self c.go_on-2.new.self c.in-Some.kind _ _ _ c.go_on-2.result _ was records.fails records.link records.fault (rw c.record_fault.ensures.marks.turns.setting_is at c.go_on-2.ensures.moves.works) c.after_fault.ensures)
+pub returns-clause-makes : goal.returns-clause-makes
+returns-clause-makes g c =
+    record {
+      turns = keeps_then _ _ _ _ _ _ c.record_fault.ensures.marks.turns c.go_on-2.ensures.moves.turns;
+      steps = let was = ap (λ (h : HostState). h.fault) (sym c.self.view_is) ∙ c.in-Some.is in
+          inl (steps_after (g.T.Turns.cause (g.T.Turns.setting c.args.turns.now) Refusal.Unasked) (g.T.Turns.seen c.args.turns.now) (g.T.Turns.seen c.record_fault.new.turns) (g.T.Turns.seen c.go_on-2.new.turns) c.args.moment c.record_fault.ensures.marks.turns.begins
+          c.args.self.now c.record_fault.new.self c.go_on-2.new.self c.in-Some.kind _ _ _ c.go_on-2.result _ was c.in_ok-record_fault.ensures.marks.records (rw c.record_fault.ensures.marks.turns.setting_is at c.go_on-2.ensures.moves.works) c.after_fault.ensures);
+      number = rw c.after_fault.ensures (after_err _ c.go_on-2.result (rw c.record_fault.ensures.marks.turns.setting_is at c.go_on-2.ensures.moves.number));
+    }
 
-pub returns-clause-turns : goal.returns-clause-turns
-returns-clause-turns g c = keeps_then _ _ _ _ _ _ c.record_fault.ensures.marks.turns c.go_on-2.ensures.moves.turns
+pub returns-in_default-clause-makes : goal.returns-in_default-clause-makes
+returns-in_default-clause-makes g c =
+    record {
+      turns = c.go_on.ensures.moves.turns;
+      steps = inl (record { first = c.args.self.now; between = _; answer = c.go_on.result; begins = inl (refl, refl, refl); whole = search rules; works = c.go_on.ensures.moves.works });
+      number = c.go_on.ensures.moves.number;
+    }
 
-pub returns-in_default-clause-turns : goal.returns-in_default-clause-turns
-returns-in_default-clause-turns g c = c.go_on.ensures.moves.turns
-
-pub returns-in_err-record_fault-clause-turns : goal.returns-in_err-record_fault-clause-turns
-returns-in_err-record_fault-clause-turns g c = c.record_fault.ensures.marks.turns
-
-pub returns-in_default-clause-needs_link : goal.returns-in_default-clause-needs_link
-returns-in_default-clause-needs_link g c = c.go_on.ensures.needs_link
+pub returns-in_err-record_fault-clause-makes : goal.returns-in_err-record_fault-clause-makes
+returns-in_err-record_fault-clause-makes g c =
+    record {
+      turns = c.record_fault.ensures.marks.turns;
+      steps = search rules;
+      number = let (_, result_is, error_is) = err_from_is_err_and c.from_residual.result c.from_residual.ensures.1 in rw (result_is, error_is) c.in_err-record_fault.ensures.marks.number;
+    }
 
 pub returns-in_default-clause-tells : goal.returns-in_default-clause-tells
-returns-in_default-clause-tells g c = c.go_on.ensures.tells
-
-pub returns-in_err-record_fault-clause-needs_link : goal.returns-in_err-record_fault-clause-needs_link
-returns-in_err-record_fault-clause-needs_link g c = IfOk-from_err c.from_residual.result _ c.from_residual.ensures.0
-
-pub returns-in_err-record_fault-clause-all : goal.returns-in_err-record_fault-clause-all
-returns-in_err-record_fault-clause-all g c = IfOk-from_err c.from_residual.result _ c.from_residual.ensures.0
+returns-in_default-clause-tells g c = c.go_on.ensures.moves.tells
 
 pub returns-in_err-record_fault-clause-tells : goal.returns-in_err-record_fault-clause-tells
 returns-in_err-record_fault-clause-tells g c =
@@ -81,26 +82,19 @@ returns-in_err-record_fault-clause-tells g c =
       unfailed = IfOk-from_err c.from_residual.result _ c.from_residual.ensures.0;
       in_time = IfOk-from_err c.from_residual.result _ c.from_residual.ensures.0;
       idle = IfOk-from_err c.from_residual.result _ c.from_residual.ensures.0;
+      needs_link = IfOk-from_err c.from_residual.result _ c.from_residual.ensures.0;
+      answered = IfOk-from_err c.from_residual.result _ c.from_residual.ensures.0;
     }
-
-pub returns-clause-needs_link : goal.returns-clause-needs_link
-returns-clause-needs_link g c = rw c.after_fault.ensures (after_needs _ c.go_on-2.result c.go_on-2.ensures.needs_link)
 
 pub returns-clause-tells : goal.returns-clause-tells
 returns-clause-tells g c =
     record {
-      recorded = rw c.after_fault.ensures (after_any _ c.go_on-2.result c.go_on-2.ensures.tells.recorded);
-      unfailed = let none = c.in_ok-record_fault.ensures.marks.records.link in
+      recorded = rw c.after_fault.ensures (after_any _ c.go_on-2.result c.go_on-2.ensures.moves.tells.recorded);
+      unfailed = let none = c.in_ok-record_fault.ensures.marks.records.fails.link in
           rw c.after_fault.ensures (after_any _ c.go_on-2.result (any_ok _ c.go_on-2.result (no_link HasNoFaultOn c.args.self.now.link c.go_on-2.new.self.link (c.go_on-2.ensures.alone none))));
-      in_time = rw c.after_fault.ensures (after_any _ c.go_on-2.result c.go_on-2.ensures.tells.in_time);
+      in_time = rw c.after_fault.ensures (after_any _ c.go_on-2.result c.go_on-2.ensures.moves.tells.in_time);
       idle = rw c.after_fault.ensures (after_idle _ c.go_on-2.result);
+      needs_link = rw c.after_fault.ensures (after_needs _ c.go_on-2.result c.go_on-2.ensures.moves.tells.needs_link);
+      answered = let was = ap (λ (h : HostState). h.fault) (sym c.self.view_is) ∙ c.in-Some.is in
+          any_ok _ c.after_fault.result (λ none. let clash = sym was ∙ none in absurd cc);
     }
-
-pub returns-in_default-clause-number : goal.returns-in_default-clause-number
-returns-in_default-clause-number g c = c.go_on.ensures.moves.number
-
-pub returns-in_err-record_fault-clause-number : goal.returns-in_err-record_fault-clause-number
-returns-in_err-record_fault-clause-number g c = let (_, result_is, error_is) = err_from_is_err_and c.from_residual.result c.from_residual.ensures.1 in rw (result_is, error_is) c.in_err-record_fault.ensures.marks.number
-
-pub returns-clause-number : goal.returns-clause-number
-returns-clause-number g c = rw c.after_fault.ensures (after_err _ c.go_on-2.result (rw c.record_fault.ensures.marks.turns.setting_is at c.go_on-2.ensures.moves.number))

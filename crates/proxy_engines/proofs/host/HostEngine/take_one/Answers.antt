@@ -1,23 +1,19 @@
-use Rattle.proxy_engines.proofs.OwnLemmas.{keeps_same}
+use Rattle.proxy_engines.proofs.OwnHistoryLemmas.{keeps_same}
 use Rattle.std.proofs.lemmas.Result.{IfOk-weaker}
 use Rattle.proxy_engines.specs.HostStep.{HostState}
-use Rattle.std.proofs.Common.{None, refl, ap, ◌∙◌}
+use Rattle.std.proofs.Common.{refl, ap, ◌∙◌}
 use Rattle.proxy_engines.proofs.HostMoves.{stays_on}
 use Rattle.proxy_engines.proofs.host.HostEngine.take_one.Goals as goal
 
 pub returns-then-is_empty-clause-moves : goal.returns-then-is_empty-clause-moves
 returns-then-is_empty-clause-moves g c =
-    record {
-      turns = c.take.ensures.turns;
-      goes = rw (← c.self.view_is) (c.take.ensures.goes None);
-      plain = c.take.ensures.plain;
-    }
+    rw (← c.self.view_is) (c.take.ensures.moves c.self.inside.link)
 
 pub returns-else-is_empty-clause-moves : goal.returns-else-is_empty-clause-moves
 returns-else-is_empty-clause-moves g c =
     record {
       turns = keeps_same _ _ _ _;
-      goes = stays_on _ None _ _ c.args.moment refl;
+      goes = stays_on _ _ _ _ c.args.moment refl;
       plain = tt;
     }
 

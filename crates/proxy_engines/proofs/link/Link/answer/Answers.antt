@@ -1,4 +1,4 @@
-use Rattle.proxy_engines.proofs.OwnLemmas.{keeps_same}
+use Rattle.proxy_engines.proofs.OwnHistoryLemmas.{keeps_same}
 use Rattle.proxy_engines.specs.Host.{LinkState}
 use Rattle.std.proofs.Common.{◌≡◌, ◌∙◌, ap, sym, Some, None, false, refl, inl, inr, rules}
 use Rattle.proxy_history.specs.declared.event.Event.{Event}
@@ -22,7 +22,7 @@ returns-in-Ok-clause-moves g c =
       goes = let now = c.in-Ok.ensures.answered in
           let steps = rw (c.host.ensures, c.epoch.ensures) at now.1.steps in
           rw (c.forget_moment.ensures, c.take.ensures.after, steps, ← c.self.view_is)
-          (answered_on c.args.line.now _ c.in-Some.value (g.T.Turns.pass c.args.turns.now) _ now.0 c.args.moment (sym c.take.ensures.value ∙ c.in-Some.is));
+          (answered_on c.args.outbox.now _ c.in-Some.value (g.T.Turns.pass c.args.turns.now) _ now.0 c.args.moment (sym c.take.ensures.value ∙ c.in-Some.is));
       plain = tt;
     }
 
@@ -32,29 +32,12 @@ returns-in-Err-clause-moves g c =
       turns = c.give.ensures.turns;
       goes = let same : Some c.in-Err.value ≡ c.self.inside.next = ap Some c.in-Err.ensures.back ∙ sym c.in-Some.is ∙ c.take.ensures.value in
           let unmoved = told_ok c.in-Err.denied garbled c.told_as.result c.told_as.ensures (λ o. told_by_outcome o ≡ None) (λ x is soft. refl) in
-          moves_none _ c.told_as.result unmoved (false, rw (c.replace.ensures.after, same, ← c.self.view_is) (stays_on c.args.line.now _ _ _ c.args.moment c.in-Err.ensures.denied.rests));
-      plain = let l = c.args.line.now in
+          moves_none _ c.told_as.result unmoved (false, rw (c.replace.ensures.after, same, ← c.self.view_is) (stays_on c.args.outbox.now _ _ _ c.args.moment c.in-Err.ensures.denied.rests));
+      plain = let l = c.args.outbox.now in
           let due = rw (c.host.ensures, c.epoch.ensures) at c.in-Err.ensures.denied.due in
           if_err _ _ c.told_as.result (λ e (plain, number). (plain, inl number))
           (told_plain c.in-Err.denied garbled c.told_as.result c.told_as.ensures (g.T.Turns.cause (g.T.Turns.setting c.args.turns.now)) (Event.Answered l.host l.epoch c.in-Some.value c.args.moment) (g.T.Turns.seen c.give.new.turns) due);
     }
-
-pub returns-in-Err-clause-keeps : goal.returns-in-Err-clause-keeps
-returns-in-Err-clause-keeps g c = (ap (λ (k : LinkState). k.inbox) c.self.view_is, ap (λ (k : LinkState). k.counts) c.self.view_is)
-
-pub returns-in-Err-clause-moved : goal.returns-in-Err-clause-moved
-returns-in-Err-clause-moved g c = told_ok c.in-Err.denied garbled c.told_as.result c.told_as.ensures _ (λ x is soft still. absurd cc)
-
-pub returns-in-Err-clause-fault : goal.returns-in-Err-clause-fault
-returns-in-Err-clause-fault g c =
-    let made = g.T.Turns.setting c.args.turns.now in
-    let seen = g.T.Turns.seen c.give.new.turns in
-    let l = c.args.line.now in
-    let v = c.in-Some.value in
-    let event = Event.Answered l.host l.epoch v c.args.moment in
-    let due = rw (c.host.ensures, c.epoch.ensures) at c.in-Err.ensures.denied.due in
-    told_ok c.in-Err.denied garbled c.told_as.result c.told_as.ensures _
-    (λ x is soft. inr (v, rw c.replace.ensures.after (ap Some c.in-Err.ensures.back), is_unasked (λ r. g.T.Turns.cause made r event seen) l.host l.epoch v c.args.moment x (expected g.T.Turns.cause g.met.T.CoreTurns.refusals_mean made event seen c.in-Err.denied due x is soft)))
 
 pub returns-in_default-clause-moves : goal.returns-in_default-clause-moves
 returns-in_default-clause-moves g c =
@@ -64,14 +47,33 @@ returns-in_default-clause-moves g c =
       plain = tt;
     }
 
-pub returns-in-Ok-clause-fault : goal.returns-in-Ok-clause-fault
-returns-in-Ok-clause-fault g c = tt
+pub returns-in-Err-clause-answers : goal.returns-in-Err-clause-answers
+returns-in-Err-clause-answers g c =
+    record {
+      keeps = (ap (λ (k : LinkState). k.inbox) c.self.view_is, ap (λ (k : LinkState). k.counts) c.self.view_is);
+      moved = told_ok c.in-Err.denied garbled c.told_as.result c.told_as.ensures _ (λ x is soft idle. absurd cc);
+      fault = let made = g.T.Turns.setting c.args.turns.now in
+          let seen = g.T.Turns.seen c.give.new.turns in
+          let l = c.args.outbox.now in
+          let v = c.in-Some.value in
+          let event = Event.Answered l.host l.epoch v c.args.moment in
+          let due = rw (c.host.ensures, c.epoch.ensures) at c.in-Err.ensures.denied.due in
+          told_ok c.in-Err.denied garbled c.told_as.result c.told_as.ensures _
+          (λ x is soft. inr (v, rw c.replace.ensures.after (ap Some c.in-Err.ensures.back), is_unasked (λ r. g.T.Turns.cause made r event seen) l.host l.epoch v c.args.moment x (expected g.T.Turns.cause g.met.T.CoreTurns.refusals_mean made event seen c.in-Err.denied due x is soft)));
+    }
 
-pub returns-in_default-clause-fault : goal.returns-in_default-clause-fault
-returns-in_default-clause-fault g c = tt
+pub returns-in-Ok-clause-answers : goal.returns-in-Ok-clause-answers
+returns-in-Ok-clause-answers g c =
+    record {
+      keeps = (ap (λ (k : LinkState). k.inbox) c.self.view_is, ap (λ (k : LinkState). k.counts) c.self.view_is);
+      moved = λ idle. absurd cc;
+      fault = tt;
+    }
 
-pub returns-in-Ok-clause-keeps : goal.returns-in-Ok-clause-keeps
-returns-in-Ok-clause-keeps g c = (ap (λ (k : LinkState). k.inbox) c.self.view_is, ap (λ (k : LinkState). k.counts) c.self.view_is)
-
-pub returns-in-Ok-clause-moved : goal.returns-in-Ok-clause-moved
-returns-in-Ok-clause-moved g c = λ still. absurd cc
+pub returns-in_default-clause-answers : goal.returns-in_default-clause-answers
+returns-in_default-clause-answers g c =
+    record {
+      keeps = search rules;
+      moved = search rules;
+      fault = tt;
+    }

@@ -1,9 +1,9 @@
-use Rattle.proxy_engines.proofs.OwnLemmas.{keeps_same, keeps_then}
+use Rattle.proxy_engines.proofs.OwnHistoryLemmas.{keeps_same, keeps_then}
 use Rattle.proxy_devices.specs.Device.{Counts}
 use Rattle.proxy_engines.proofs.FaultLemmas.{faulty_calm, default_faulty, fault_later, no_fault}
 use Rattle.std.proofs.lemmas.Result.{IfOk-from_err, err_from_is_err_and}
 use Rattle.std.proofs.Common.{◌∙◌, refl, ap}
-use Rattle.proxy_engines.proofs.HostMoves.{stays_on, told_still, told_moved, told_both}
+use Rattle.proxy_engines.proofs.HostMoves.{stays_on, told_idle, told_moved, told_both}
 use Rattle.proxy_engines.proofs.MoveLemmas.{moves-err, as_fault, any_err}
 use Rattle.proxy_engines.proofs.link.Link.answer_all.Goals as goal
 
@@ -14,9 +14,9 @@ pub loop-preserved : goal.loop-preserved
 loop-preserved g c =
     let (goes, _, reads, writes, _, turns) = c.loop.invariant in (
       told_moved _ _ _ _ _ _ _ _ _ _ _ goes (rw c.in-Moved.is at c.in_ok-fault.ensures.moves.goes),
-      c.in_ok-fault.ensures.told.moved c.in-Moved.is,
-      (c.answer_next.ensures.keeps.0.0 ∙ reads.0, c.answer_next.ensures.keeps.0.1 ∙ reads.1),
-      c.answer_next.ensures.keeps.1 ∙ writes,
+      c.in_ok-fault.ensures.answers.told.moved c.in-Moved.is,
+      (c.answer_next.ensures.answers.keeps.0.0 ∙ reads.0, c.answer_next.ensures.answers.keeps.0.1 ∙ reads.1),
+      c.answer_next.ensures.answers.keeps.1 ∙ writes,
       refl,
       keeps_then _ _ _ _ _ _ turns c.answer_next.ensures.moves.turns,
     )
@@ -37,56 +37,43 @@ returns-in_default-clause-moves g c =
     record {
       turns = let (_, _, _, _, _, turns) = c.loop.invariant in keeps_then _ _ _ _ _ _ turns c.answer_next.ensures.moves.turns;
       goes = let (goes, _, _, _, _, _) = c.loop.invariant in
-          as_fault _ c.in_ok-fault.fault c.in_default.not-Still c.in_default.not-Moved (told_both _ _ _ _ _ _ _ _ _ _ _ _ goes c.answer_next.ensures.moves.goes);
+          as_fault _ c.in_ok-fault.fault c.in_default.not-Idle c.in_default.not-Moved (told_both _ _ _ _ _ _ _ _ _ _ _ _ goes c.answer_next.ensures.moves.goes);
       plain = tt;
     }
 
-pub returns-in-Still-clause-moves : goal.returns-in-Still-clause-moves
-returns-in-Still-clause-moves g c =
+pub returns-in-Idle-clause-moves : goal.returns-in-Idle-clause-moves
+returns-in-Idle-clause-moves g c =
     record {
       turns = let (_, _, _, _, _, turns) = c.loop.invariant in keeps_then _ _ _ _ _ _ turns c.answer_next.ensures.moves.turns;
       goes = let (goes, _, _, _, _, _) = c.loop.invariant in
-          told_still _ _ _ _ _ _ _ _ _ _ _ goes (rw c.in-Still.is at c.in_ok-fault.ensures.moves.goes);
+          told_idle _ _ _ _ _ _ _ _ _ _ _ goes (rw c.in-Idle.is at c.in_ok-fault.ensures.moves.goes);
       plain = tt;
     }
 
-pub returns-in-Still-clause-keeps : goal.returns-in-Still-clause-keeps
-returns-in-Still-clause-keeps g c =
-    (let (_, _, reads, _, _, _) = c.loop.invariant in (c.answer_next.ensures.keeps.0.0 ∙ reads.0, c.answer_next.ensures.keeps.0.1 ∙ reads.1), let (_, _, _, writes, _, _) = c.loop.invariant in c.answer_next.ensures.keeps.1 ∙ writes)
+pub returns-in-Idle-clause-answers : goal.returns-in-Idle-clause-answers
+returns-in-Idle-clause-answers g c =
+    record {
+      all = λ _. c.in_ok-fault.ensures.answers.told.idle c.in-Idle.is;
+      fault = let (_, _, _, _, calm, _) = c.loop.invariant in no_fault c.loop.outcome _ calm;
+      keeps = (let (_, _, reads, _, _, _) = c.loop.invariant in (c.answer_next.ensures.answers.keeps.0.0 ∙ reads.0, c.answer_next.ensures.answers.keeps.0.1 ∙ reads.1), let (_, _, _, writes, _, _) = c.loop.invariant in c.answer_next.ensures.answers.keeps.1 ∙ writes);
+      err = tt;
+    }
 
-pub returns-in_default-clause-keeps : goal.returns-in_default-clause-keeps
-returns-in_default-clause-keeps g c =
-    (let (_, _, reads, _, _, _) = c.loop.invariant in (c.answer_next.ensures.keeps.0.0 ∙ reads.0, c.answer_next.ensures.keeps.0.1 ∙ reads.1), let (_, _, _, writes, _, _) = c.loop.invariant in c.answer_next.ensures.keeps.1 ∙ writes)
+pub returns-in_default-clause-answers : goal.returns-in_default-clause-answers
+returns-in_default-clause-answers g c =
+    record {
+      all = λ calm. faulty_calm _ c.in_ok-fault.fault (default_faulty c.in_ok-fault.fault c.in_default.not-Idle c.in_default.not-Moved) calm;
+      fault = let (_, _, reads, writes, _, turns) = c.loop.invariant in
+          fault_later c.args.self.now c.loop.self c.answer_next.new.self _ _ _ _ (ap (λ (n : Counts). n.failed) reads.1) (ap (λ (n : Counts). n.failed) writes) (λ x. x) (λ x. x) c.in_ok-fault.fault (rw turns.setting_is at c.in_ok-fault.ensures.answers.fault);
+      keeps = (let (_, _, reads, _, _, _) = c.loop.invariant in (c.answer_next.ensures.answers.keeps.0.0 ∙ reads.0, c.answer_next.ensures.answers.keeps.0.1 ∙ reads.1), let (_, _, _, writes, _, _) = c.loop.invariant in c.answer_next.ensures.answers.keeps.1 ∙ writes);
+      err = tt;
+    }
 
-pub returns-in_err-fault-clause-keeps : goal.returns-in_err-fault-clause-keeps
-returns-in_err-fault-clause-keeps g c =
-    (let (_, _, reads, _, _, _) = c.loop.invariant in (c.answer_next.ensures.keeps.0.0 ∙ reads.0, c.answer_next.ensures.keeps.0.1 ∙ reads.1), let (_, _, _, writes, _, _) = c.loop.invariant in c.answer_next.ensures.keeps.1 ∙ writes)
-
-pub returns-in-Still-clause-err : goal.returns-in-Still-clause-err
-returns-in-Still-clause-err g c = tt
-
-pub returns-in_default-clause-err : goal.returns-in_default-clause-err
-returns-in_default-clause-err g c = tt
-
-pub returns-in_err-fault-clause-all : goal.returns-in_err-fault-clause-all
-returns-in_err-fault-clause-all g c = IfOk-from_err c.from_residual.result _ c.from_residual.ensures.0
-
-pub returns-in_err-fault-clause-fault : goal.returns-in_err-fault-clause-fault
-returns-in_err-fault-clause-fault g c = IfOk-from_err c.from_residual.result _ c.from_residual.ensures.0
-
-pub returns-in_err-fault-clause-err : goal.returns-in_err-fault-clause-err
-returns-in_err-fault-clause-err g c = any_err _ c.from_residual.result c.in_err-fault.ensures.err
-
-pub returns-in_default-clause-all : goal.returns-in_default-clause-all
-returns-in_default-clause-all g c = λ calm. faulty_calm _ c.in_ok-fault.fault (default_faulty c.in_ok-fault.fault c.in_default.not-Still c.in_default.not-Moved) calm
-
-pub returns-in_default-clause-fault : goal.returns-in_default-clause-fault
-returns-in_default-clause-fault g c =
-    let (_, _, reads, writes, _, turns) = c.loop.invariant in
-    fault_later c.args.self.now c.loop.self c.answer_next.new.self _ _ _ _ (ap (λ (n : Counts). n.failed) reads.1) (ap (λ (n : Counts). n.failed) writes) (λ x. x) (λ x. x) c.in_ok-fault.fault (rw turns.setting_is at c.in_ok-fault.ensures.fault)
-
-pub returns-in-Still-clause-all : goal.returns-in-Still-clause-all
-returns-in-Still-clause-all g c = λ _. c.in_ok-fault.ensures.told.still c.in-Still.is
-
-pub returns-in-Still-clause-fault : goal.returns-in-Still-clause-fault
-returns-in-Still-clause-fault g c = let (_, _, _, _, calm, _) = c.loop.invariant in no_fault c.loop.outcome _ calm
+pub returns-in_err-fault-clause-answers : goal.returns-in_err-fault-clause-answers
+returns-in_err-fault-clause-answers g c =
+    record {
+      all = IfOk-from_err c.from_residual.result _ c.from_residual.ensures.0;
+      fault = IfOk-from_err c.from_residual.result _ c.from_residual.ensures.0;
+      keeps = (let (_, _, reads, _, _, _) = c.loop.invariant in (c.answer_next.ensures.answers.keeps.0.0 ∙ reads.0, c.answer_next.ensures.answers.keeps.0.1 ∙ reads.1), let (_, _, _, writes, _, _) = c.loop.invariant in c.answer_next.ensures.answers.keeps.1 ∙ writes);
+      err = any_err _ c.from_residual.result c.in_err-fault.ensures.answers.err;
+    }

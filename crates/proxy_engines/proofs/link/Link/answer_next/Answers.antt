@@ -1,4 +1,4 @@
-use Rattle.proxy_engines.proofs.OwnLemmas.{keeps_same}
+use Rattle.proxy_engines.proofs.OwnHistoryLemmas.{keeps_same}
 use Rattle.proxy_engines.specs.Ends.{InboxState}
 use Rattle.proxy_devices.specs.Device.{Counts}
 use Rattle.proxy_engines.proofs.MoveLemmas.{any_err, moves-err}
@@ -12,7 +12,7 @@ pub returns-in-Value-clause-moves : goal.returns-in-Value-clause-moves
 returns-in-Value-clause-moves g c =
     record {
       turns = c.answer.ensures.moves.turns;
-      goes = told_then _ _ _ _ _ _ _ _ _ _ _ (c.seek.ensures.goes _ _ _) c.answer.ensures.moves.goes;
+      goes = told_then _ _ _ _ _ _ _ _ _ _ _ (c.next_value.ensures.goes _ _ _) c.answer.ensures.moves.goes;
       plain = c.answer.ensures.moves.plain;
     }
 
@@ -20,87 +20,70 @@ pub returns-in-Garbled-clause-moves : goal.returns-in-Garbled-clause-moves
 returns-in-Garbled-clause-moves g c =
     record {
       turns = keeps_same _ _ _ _;
-      goes = (false, c.seek.ensures.goes _ _ _);
+      goes = (false, c.next_value.ensures.goes _ _ _);
       plain = tt;
     }
 
-pub returns-in-Nothing-clause-moves : goal.returns-in-Nothing-clause-moves
-returns-in-Nothing-clause-moves g c =
+pub returns-in-Idle-clause-moves : goal.returns-in-Idle-clause-moves
+returns-in-Idle-clause-moves g c =
     record {
       turns = keeps_same _ _ _ _;
-      goes = c.seek.ensures.goes _ _ _;
+      goes = c.next_value.ensures.goes _ _ _;
       plain = tt;
     }
 
-pub returns-in_err-seek-clause-moves : goal.returns-in_err-seek-clause-moves
-returns-in_err-seek-clause-moves g c =
+pub returns-in_err-next_value-clause-moves : goal.returns-in_err-next_value-clause-moves
+returns-in_err-next_value-clause-moves g c =
     record {
       turns = keeps_same _ _ _ _;
-      goes = moves-err _ c.from_residual.result c.from_residual.ensures.0 (false, c.seek.ensures.goes _ _ _);
-      plain = let (_, result_is, error_is) = err_from_is_err_and c.from_residual.result c.from_residual.ensures.1 in rw (result_is, error_is, c.in_err-seek.ensures.err.0) (tt, inl tt);
+      goes = moves-err _ c.from_residual.result c.from_residual.ensures.0 (false, c.next_value.ensures.goes _ _ _);
+      plain = let (_, result_is, error_is) = err_from_is_err_and c.from_residual.result c.from_residual.ensures.1 in rw (result_is, error_is, c.in_err-next_value.ensures.err.0) (tt, inl tt);
     }
 
-pub returns-in-Garbled-clause-err : goal.returns-in-Garbled-clause-err
-returns-in-Garbled-clause-err g c = tt
-
-pub returns-in-Nothing-clause-err : goal.returns-in-Nothing-clause-err
-returns-in-Nothing-clause-err g c = tt
-
-pub returns-in-Nothing-clause-fault : goal.returns-in-Nothing-clause-fault
-returns-in-Nothing-clause-fault g c = tt
-
-pub returns-in_err-seek-clause-fault : goal.returns-in_err-seek-clause-fault
-returns-in_err-seek-clause-fault g c = IfOk-from_err c.from_residual.result _ c.from_residual.ensures.0
-
-pub returns-in_err-seek-clause-keeps : goal.returns-in_err-seek-clause-keeps
-returns-in_err-seek-clause-keeps g c = (c.seek.ensures.counts.0, c.seek.ensures.counts.1)
-
-pub returns-in_err-seek-clause-err : goal.returns-in_err-seek-clause-err
-returns-in_err-seek-clause-err g c = any_err _ c.from_residual.result c.in_err-seek.ensures.err.1
-
-pub returns-in-Nothing-clause-told : goal.returns-in-Nothing-clause-told
-returns-in-Nothing-clause-told g c =
+pub returns-in-Garbled-clause-answers : goal.returns-in-Garbled-clause-answers
+returns-in-Garbled-clause-answers g c =
     record {
-      still = λ _. c.in_ok-seek.ensures.found.nothing c.in-Nothing.is;
-      moved = λ moved. absurd cc;
+      told = record {
+        idle = λ idle. absurd cc;
+        moved = λ moved. absurd cc;
+      };
+      fault = inl (c.in_ok-next_value.ensures.found.garbled c.in-Garbled.is);
+      keeps = (c.next_value.ensures.counts.0, c.next_value.ensures.counts.1);
+      err = tt;
     }
 
-pub returns-in-Nothing-clause-keeps : goal.returns-in-Nothing-clause-keeps
-returns-in-Nothing-clause-keeps g c = (c.seek.ensures.counts.0, c.seek.ensures.counts.1)
-
-pub returns-in-Garbled-clause-told : goal.returns-in-Garbled-clause-told
-returns-in-Garbled-clause-told g c =
+pub returns-in-Idle-clause-answers : goal.returns-in-Idle-clause-answers
+returns-in-Idle-clause-answers g c =
     record {
-      still = λ still. absurd cc;
-      moved = λ moved. absurd cc;
+      told = record {
+        idle = λ _. c.in_ok-next_value.ensures.found.idle c.in-Idle.is;
+        moved = λ moved. absurd cc;
+      };
+      fault = tt;
+      keeps = (c.next_value.ensures.counts.0, c.next_value.ensures.counts.1);
+      err = tt;
     }
 
-pub returns-in-Garbled-clause-fault : goal.returns-in-Garbled-clause-fault
-returns-in-Garbled-clause-fault g c = inl (c.in_ok-seek.ensures.found.garbled c.in-Garbled.is)
+pub returns-in_err-next_value-clause-answers : goal.returns-in_err-next_value-clause-answers
+returns-in_err-next_value-clause-answers g c =
+    record {
+      told = IfOk-from_err c.from_residual.result _ c.from_residual.ensures.0;
+      fault = IfOk-from_err c.from_residual.result _ c.from_residual.ensures.0;
+      keeps = (c.next_value.ensures.counts.0, c.next_value.ensures.counts.1);
+      err = any_err _ c.from_residual.result c.in_err-next_value.ensures.err.1;
+    }
 
-pub returns-in-Garbled-clause-keeps : goal.returns-in-Garbled-clause-keeps
-returns-in-Garbled-clause-keeps g c = (c.seek.ensures.counts.0, c.seek.ensures.counts.1)
-
-pub returns-in-Value-clause-fault : goal.returns-in-Value-clause-fault
-returns-in-Value-clause-fault g c =
-    IfOk-weaker c.answer.result _ _
-    (λ o. fault_later c.args.self.now c.seek.new.self c.answer.new.self _ _ _ _ (ap (λ (n : Counts). n.failed) c.seek.ensures.counts.0.1) (ap (λ (n : Counts). n.failed) c.seek.ensures.counts.1) (λ x. x) (λ x. x) o)
-    c.answer.ensures.fault
-
-pub returns-in-Value-clause-keeps : goal.returns-in-Value-clause-keeps
-returns-in-Value-clause-keeps g c =
-    ((ap (λ (i : InboxState). i.left) c.answer.ensures.keeps.0 ∙ c.seek.ensures.counts.0.0, ap (λ (i : InboxState). i.counts) c.answer.ensures.keeps.0 ∙ c.seek.ensures.counts.0.1), c.answer.ensures.keeps.1 ∙ c.seek.ensures.counts.1)
-
-pub returns-in-Value-clause-err : goal.returns-in-Value-clause-err
-returns-in-Value-clause-err g c = any_err _ c.answer.result (ap (λ (i : InboxState). i.values.refusal) c.answer.ensures.keeps.0 ∙ (c.in_ok-seek.ensures.found.value c.in-Value.is).1)
-
-pub returns-in-Value-clause-told : goal.returns-in-Value-clause-told
-returns-in-Value-clause-told g c =
-    IfOk-weaker c.answer.result _ _
-    (λ o never. record {
-      still = λ still. absurd (never still);
-      moved = λ _. (ap (λ (i : InboxState). i.values.refusal) c.answer.ensures.keeps.0 ∙ (c.in_ok-seek.ensures.found.value c.in-Value.is).1);
-    }) c.answer.ensures.moved
-
-pub returns-in_err-seek-clause-told : goal.returns-in_err-seek-clause-told
-returns-in_err-seek-clause-told g c = IfOk-from_err c.from_residual.result _ c.from_residual.ensures.0
+pub returns-in-Value-clause-answers : goal.returns-in-Value-clause-answers
+returns-in-Value-clause-answers g c =
+    record {
+      told = IfOk-weaker c.answer.result _ _
+          (λ o never. record {
+            idle = λ idle. absurd (never idle);
+            moved = λ _. (ap (λ (i : InboxState). i.values.refusal) c.answer.ensures.answers.keeps.0 ∙ (c.in_ok-next_value.ensures.found.value c.in-Value.is).1);
+          }) c.answer.ensures.answers.moved;
+      fault = IfOk-weaker c.answer.result _ _
+          (λ o. fault_later c.args.self.now c.next_value.new.self c.answer.new.self _ _ _ _ (ap (λ (n : Counts). n.failed) c.next_value.ensures.counts.0.1) (ap (λ (n : Counts). n.failed) c.next_value.ensures.counts.1) (λ x. x) (λ x. x) o)
+          c.answer.ensures.answers.fault;
+      keeps = ((ap (λ (i : InboxState). i.left) c.answer.ensures.answers.keeps.0 ∙ c.next_value.ensures.counts.0.0, ap (λ (i : InboxState). i.counts) c.answer.ensures.answers.keeps.0 ∙ c.next_value.ensures.counts.0.1), c.answer.ensures.answers.keeps.1 ∙ c.next_value.ensures.counts.1);
+      err = any_err _ c.answer.result (ap (λ (i : InboxState). i.values.refusal) c.answer.ensures.answers.keeps.0 ∙ (c.in_ok-next_value.ensures.found.value c.in-Value.is).1);
+    }

@@ -1,4 +1,4 @@
-use Rattle.proxy_engines.proofs.OwnLemmas.{keeps_same, keeps_then}
+use Rattle.proxy_engines.proofs.OwnHistoryLemmas.{keeps_same, keeps_then}
 use Rattle.proxy_engines.proofs.AnswerLemmas.{failed_is}
 use Rattle.std.proofs.lemmas.Result.{IfOk-from_err, err_from_is_err_and}
 use Rattle.std.proofs.Common.{◌∙◌, refl, false}

@@ -1,7 +1,7 @@
 use Rattle.std.proofs.Common.{◌∙◌, sym, refl, Some, None, [], append-nil, ap, rules}
 use Rattle.proxy_engines.proofs.HostMoves.{sought_on, sought_none, stays_on, none_is, refused_is, with_refusal}
 use Rattle.proxy_engines.specs.Host.{waiting_requests, LinkState}
-use Rattle.proxy_engines.proofs.link.Link.seek.Goals as goal
+use Rattle.proxy_engines.proofs.link.Link.next_value.Goals as goal
 
 pub returns-then-is_some-clause-goes : goal.returns-then-is_some-clause-goes
 returns-then-is_some-clause-goes g c = λ l H m. stays_on l _ H H m refl
@@ -12,10 +12,10 @@ returns-in-Ok-Some-Read-clause-goes g c =
     let none = none_is c.self.inside.next (sym c.is_some.ensures ∙ c.if-is_some.false) in
     let next = rw (c.in-Ok-Some-Read.field-0-is, c.in-Ok-Some-Read.field-0-0-is) at c.in-Ok-Some-Read.ensures.next.some in
     let whole = rw (c.in-Ok-Some-Read.field-0-is, c.in-Ok-Some-Read.field-0-0-is) at c.in-Ok-Some-Read.ensures.next.whole in
-    let still = whole (λ e. absurd cc) in
+    let unrefused = whole (λ e. absurd cc) in
     rw (c.replace.ensures.after, ← c.self.view_is)
     (sought_on l _ c.next_request.new.self (Some c.in-Ok-Some-Read.value) H m none (rw (← c.self.view_is) at c.requires.whole) c.next_request.ensures.keeps.0.0 c.next_request.ensures.keeps.1
-    (λ b rs h. with_refusal c.next_request.new.self b rs (waiting_requests (Some c.in-Ok-Some-Read.value)) None still (next b rs h)))
+    (λ b rs h. with_refusal c.next_request.new.self b rs (waiting_requests (Some c.in-Ok-Some-Read.value)) None unrefused (next b rs h)))
 
 pub returns-in-Ok-Some-Broken-clause-goes : goal.returns-in-Ok-Some-Broken-clause-goes
 returns-in-Ok-Some-Broken-clause-goes g c =
@@ -31,11 +31,11 @@ pub returns-in-Ok-None-clause-goes : goal.returns-in-Ok-None-clause-goes
 returns-in-Ok-None-clause-goes g c =
     λ l H m.
     let none = none_is c.self.inside.next (sym c.is_some.ensures ∙ c.if-is_some.false) in
-    let still = (rw c.in-Ok-None.field-0-is at c.in-Ok-None.ensures.next.whole) (λ e. absurd cc) in
+    let unrefused = (rw c.in-Ok-None.field-0-is at c.in-Ok-None.ensures.next.whole) (λ e. absurd cc) in
     let kept = rw c.in-Ok-None.field-0-is at c.in-Ok-None.ensures.next.none in
     rw (← c.self.view_is)
     (sought_none l _ c.next_request.new.self H m none (rw (← c.self.view_is) at c.requires.whole) c.next_request.ensures.keeps.0.0 c.next_request.ensures.keeps.1
-    (λ b rs h. with_refusal c.next_request.new.self b rs [] None still (rw (append-nil rs) (kept b rs h))))
+    (λ b rs h. with_refusal c.next_request.new.self b rs [] None unrefused (rw (append-nil rs) (kept b rs h))))
 
 pub returns-in-Err-clause-goes : goal.returns-in-Err-clause-goes
 returns-in-Err-clause-goes g c =
@@ -48,7 +48,7 @@ returns-in-Err-clause-goes g c =
 pub returns-then-is_some-clause-found : goal.returns-then-is_some-clause-found
 returns-then-is_some-clause-found g c =
     record {
-      nothing = λ nothing. absurd cc;
+      idle = λ idle. absurd cc;
       value = search rules;
       garbled = λ garbled. absurd cc;
     }
@@ -62,7 +62,7 @@ returns-then-is_some-clause-counts g c = ((refl, refl), refl)
 pub returns-in-Ok-Some-Read-clause-found : goal.returns-in-Ok-Some-Read-clause-found
 returns-in-Ok-Some-Read-clause-found g c =
     record {
-      nothing = λ nothing. absurd cc;
+      idle = λ idle. absurd cc;
       value = let whole = rw (c.in-Ok-Some-Read.field-0-is, c.in-Ok-Some-Read.field-0-0-is) at c.in-Ok-Some-Read.ensures.next.whole in
           λ _. ((λ none. let e = sym c.replace.ensures.after ∙ none in absurd cc), whole (λ broken. absurd cc));
       garbled = λ garbled. absurd cc;
@@ -78,7 +78,7 @@ returns-in-Ok-Some-Read-clause-counts g c =
 pub returns-in-Ok-Some-Broken-clause-found : goal.returns-in-Ok-Some-Broken-clause-found
 returns-in-Ok-Some-Broken-clause-found g c =
     record {
-      nothing = λ nothing. absurd cc;
+      idle = λ idle. absurd cc;
       value = λ value. absurd cc;
       garbled = let told = rw (c.in-Ok-Some-Broken.field-0-is, c.in-Ok-Some-Broken.field-0-0-is) at c.in-Ok-Some-Broken.ensures.next.told in
           λ _. told refl;
@@ -94,7 +94,7 @@ returns-in-Ok-Some-Broken-clause-counts g c =
 pub returns-in-Ok-None-clause-found : goal.returns-in-Ok-None-clause-found
 returns-in-Ok-None-clause-found g c =
     record {
-      nothing = let none = none_is c.self.inside.next (sym c.is_some.ensures ∙ c.if-is_some.false) in
+      idle = let none = none_is c.self.inside.next (sym c.is_some.ensures ∙ c.if-is_some.false) in
           λ _. (none, rw c.in-Ok-None.field-0-is at c.in-Ok-None.ensures.next.all);
       value = λ value. absurd cc;
       garbled = λ garbled. absurd cc;

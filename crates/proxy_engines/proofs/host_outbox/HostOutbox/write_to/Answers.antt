@@ -1,6 +1,6 @@
 use Rattle.std.proofs.Common.{take, drop, take-append-drop, sym, refl}
 use Rattle.proxy_engines.proofs.MoveLemmas.{has_moved-take}
-use Rattle.proxy_engines.proofs.line.Line.write_to.Goals as goal
+use Rattle.proxy_engines.proofs.host_outbox.HostOutbox.write_to.Goals as goal
 
 pub returns-in-Moved-clause-bytes : goal.returns-in-Moved-clause-bytes
 returns-in-Moved-clause-bytes g c =

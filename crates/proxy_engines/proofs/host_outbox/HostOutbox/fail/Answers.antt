@@ -1,8 +1,8 @@
 use Rattle.std.proofs.Common.{◌∙◌, ap, refl, sym, inl, inr}
-use Rattle.proxy_engines.specs.Host.{LineState}
+use Rattle.proxy_engines.specs.Host.{HostOutboxState}
 use Rattle.proxy_engines.proofs.NumberLemmas.{is_numbered}
 use Rattle.proxy_engines.proofs.HostMoves.{fault_records}
-use Rattle.proxy_engines.proofs.line.Line.fail.Goals as goal
+use Rattle.proxy_engines.proofs.host_outbox.HostOutbox.fail.Goals as goal
 
 pub returns-in-Ok-clause-turns : goal.returns-in-Ok-clause-turns
 returns-in-Ok-clause-turns g c = c.tell.ensures.turns
@@ -31,7 +31,7 @@ pub returns-in-Err-clause-err : goal.returns-in-Err-clause-err
 returns-in-Err-clause-err g c = (_, c.error.ensures)
 
 pub returns-then-self-clause-number : goal.returns-then-self-clause-number
-returns-then-self-clause-number g c = inr (ap (λ (l : LineState). l.is_astray) (sym c.self.view_is) ∙ c.if-self.true, refl)
+returns-then-self-clause-number g c = inr (ap (λ (l : HostOutboxState). l.is_astray) (sym c.self.view_is) ∙ c.if-self.true, refl)
 
 pub returns-in-Ok-clause-number : goal.returns-in-Ok-clause-number
 returns-in-Ok-clause-number g c = tt

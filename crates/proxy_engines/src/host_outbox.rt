@@ -1,13 +1,15 @@
 //! The output for a host: its pending text, and when each part without a reply was taken.
-ghost use Rattle.std.specs.Prelude.{◌≡◌, ◌≢◌, ◌⊎◌, ◌++◌, ◌==◌, ◌↔◌, ℕ, List, [], Option, true, false, length, drop, IfOk, IfErr, OnOk, OnErr};
+ghost use Rattle.std.specs.Prelude.{◌≡◌, ◌≢◌, ◌⊎◌, ◌++◌, ◌==◌, ◌↔◌, ℕ, List, [], Option, None, true, false, length, drop, IfOk, IfErr, OnOk, OnErr};
 ghost use Rattle.std.specs.Io.KnownBytes.{Appends};
 ghost use Rattle.proxy_history.specs.declared.event.Event.{Event};
 ghost use Rattle.proxy_history.specs.declared.refusal.Refusal.{Refusal};
 ghost use Rattle.proxy_engines.specs.Turns.{KeepsTurns, own_history};
-ghost use Rattle.proxy_devices.specs.Device.{HasFailed, HasPaused, is_moved};
-ghost use Rattle.proxy_engines.specs.Moves.{AsTold, has_moved, told_by_turn};
-ghost use Rattle.proxy_engines.specs.Faults.{IsLate, IsNumberedOn, IsPlain};
-ghost use Rattle.proxy_engines.specs.Host.{LinkState, GoesOn, FailsHost};
+ghost use Rattle.proxy_devices.specs.Device.{is_moved};
+ghost use Rattle.proxy_engines.specs.Ends.{CountsWritten};
+ghost use Rattle.proxy_engines.specs.Moves.{has_moved, told_by_turn};
+ghost use Rattle.proxy_engines.specs.HostTurns.{MovesEnds};
+ghost use Rattle.proxy_engines.specs.Faults.{IsLate, IsNumberedOn};
+ghost use Rattle.proxy_engines.specs.Host.{LinkState, FailsHost};
 
 use crate::ask::tell;
 use crate::error::EngineError;
@@ -24,7 +26,7 @@ const STALE: u16 = 1006;
 
 /// A host's engine without its link.
 #[derive(Drop)]
-pub(crate) struct Line {
+pub(crate) struct HostOutbox {
     host: usize,
     reply_ms: u64,
     epoch: u64,
@@ -35,10 +37,10 @@ pub(crate) struct Line {
     is_astray: bool,
 }
 
-impl Model for Line {
-    ghost use Rattle.proxy_engines.specs.Host.{LineState};
+impl Model for HostOutbox {
+    ghost use Rattle.proxy_engines.specs.Host.{HostOutboxState};
 
-    ghost Value = { LineState };
+    ghost Value = { HostOutboxState };
 
     ghost view = { λ l. record {
       host = l.host;
@@ -50,9 +52,9 @@ impl Model for Line {
     } };
 }
 
-impl Line {
-    /// The line of this host, whose replies are late after `reply_ms` milliseconds.
-    pub(crate) fn new(alloc: Global, host: usize, reply_ms: u64) -> Line
+impl HostOutbox {
+    /// The outbox of this host, whose replies are late after `reply_ms` milliseconds.
+    pub(crate) fn new(alloc: Global, host: usize, reply_ms: u64) -> HostOutbox
         ensures { result ≡ record {
           host = host;
           reply_ms = reply_ms;
@@ -62,7 +64,7 @@ impl Line {
           is_astray = false;
         } }
     {
-        Line {
+        HostOutbox {
             host,
             reply_ms,
             epoch: 0,
@@ -80,16 +82,13 @@ impl Line {
         moment: u64,
     ) -> Result<bool, EngineError>
         requires nothing { self.old.pending ≡ [] }
-        ensures turns { KeepsTurns T.pass T.setting T.seen turns.old turns.new }
-        ensures goes { (k : Option LinkState)
-            → AsTold (GoesOn self.old self.new k k (own_history T.pass T.seen turns.old)
-            (own_history T.pass T.seen turns.new) moment) (told_by_turn result) }
+        ensures moves { (link : Option LinkState) → MovesEnds T.pass T.setting T.seen T.cause turns.old
+            turns.new (record { outbox = self.old; link = link })
+            (record { outbox = self.new; link = link }) moment (told_by_turn result) result }
         ensures none { IfOk result (λ b. b ≡ false → self.new ≡ self.old) }
         ensures nothing_waits { IfOk result
             (λ b. b ≡ false → T.cause (T.setting turns.old) Refusal.NothingWaiting
             (Event.Taken self.old.host) (T.seen turns.new)) }
-        ensures plain { IfErr result
-            (IsPlain (T.cause (T.setting turns.old)) (T.seen turns.new) self.new) }
     {
         if self.is_astray {
             return Err(EngineError::TurnRefused { number: STALE });
@@ -121,9 +120,13 @@ impl Line {
         moment: u64,
     ) -> Result<(), EngineError>
         ensures turns { KeepsTurns T.pass T.setting T.seen turns.old turns.new }
-        ensures fails { OnOk result ((k : Option LinkState)
-            → FailsHost self.old self.new k (own_history T.pass T.seen turns.old)
-            (own_history T.pass T.seen turns.new) kind moment) }
+        ensures fails { OnOk result ((link : Option LinkState) → FailsHost (record {
+          old = record { outbox = self.old; link = link };
+          new = record { outbox = self.new; link = None };
+          before = own_history T.pass T.seen turns.old;
+          after = own_history T.pass T.seen turns.new;
+          moment = moment;
+        }) kind) }
         ensures same { OnErr result ((self.new ≡ self.old) × (own_history T.pass T.seen turns.new
             ≡ own_history T.pass T.seen turns.old)) }
         ensures err { IfErr result (λ e. (n : ℕ) × (e ≡ EngineError.TurnRefused n)) }
@@ -189,12 +192,7 @@ impl Line {
             × Appends (W.contents writer.old) (W.contents writer.new) gave
             × (self.old.pending ≡ gave ++ rest) × (self.new ≡ record self.old { pending = rest })
             × (is_moved result ≡ has_moved [] gave []) }
-        ensures failed { (result ≡ Told.End) ⊎ (result ≡ Told.Failed)
-            → HasFailed (W.counts writer.old) (W.counts writer.new) }
-        ensures moved { (n : ℕ) → result ≡ Told.Moved n → W.counts writer.new
-            ≡ W.counts writer.old }
-        ensures paused { result ≡ Told.Paused
-            → HasPaused (W.counts writer.old) (W.counts writer.new) }
+        ensures counts { CountsWritten (W.counts writer.old) (W.counts writer.new) result }
     {
         let told = writer.write_told(self.pending.as_slice());
         if let Told::Moved(n) = told {
