@@ -1,5 +1,5 @@
 -- What a call of a device tells, and what it counts.
-use Rattle.std.specs.Prelude.{Bool, true, false, ◌≡◌, ◌≢◌, ◌⊎◌, ◌<◌, ◌≤◌, ◌+◌, ◌-◌, ◌^◌, min, ℕ, List, [], Option, Result, Ok, Err, length, take}
+use Rattle.std.specs.Prelude.{Bool, true, false, ◌≡◌, ◌≢◌, ◌⊎◌, ◌<◌, ◌≤◌, ◌+◌, ◌-◌, ◌^◌, ◌++◌, min, ℕ, List, [], Option, Result, Ok, Err, length, take}
 use Rattle.std.specs.Io.KnownBytes.{Consumes, Appends, Keeps, IsAtEnd}
 use Rattle.std.specs.IoError.{error_kind}
 use Rattle.std.specs.declared.io.Error.{Error}
@@ -31,21 +31,65 @@ abbrev pub is_moved : Told → Bool
 is_moved (Told.Moved n) = true
 is_moved told = false
 
+-- what clauses see of a reader: the bytes that it has left, as far as it tells; all that it told, the oldest first; its counts
+pub record ReadState : Type 0 where
+  pub remaining : Option (List ℕ)
+  pub told : List ℕ
+  pub counts : Counts
+
+-- a reader's state, by the functions of its type
+abbrev pub reader_state : {R : Type 0} → (R → Option (List ℕ)) → (R → List ℕ) → (R → Counts) → R → ReadState
+reader_state remaining told counts r = record { remaining = remaining r; told = told r; counts = counts r }
+
+-- the reader told the first n bytes of the buffer, at least one: the next of those that it had left
+pub record TellsBytes (old new : ReadState) (buffer : List ℕ) (n : ℕ) : Type 0 where
+  pub some : 0 < n
+  pub fits : n ≤ length buffer
+  pub next : Consumes old.remaining new.remaining (take n buffer)
+  pub told : new.told ≡ old.told ++ take n buffer
+  pub counts : new.counts ≡ old.counts
+
+-- the reader told no byte
+pub record TellsNone (old new : ReadState) : Type 0 where
+  pub kept : Keeps old.remaining new.remaining
+  pub told : new.told ≡ old.told
+
 -- what a read told: bytes came, or none did, at the end of the input, for a pause or for a fault
-abbrev pub IsRead : Option (List ℕ) → Option (List ℕ) → Counts → Counts → List ℕ → Told → Type 0
-IsRead old new counts counts' buffer (Told.Moved n) =
-    (0 < n) × (n ≤ length buffer) × Consumes old new (take n buffer) × (counts' ≡ counts)
-IsRead old new counts counts' buffer Told.End = Keeps old new × IsAtEnd new × (counts' ≡ counts)
-IsRead old new counts counts' buffer Told.Idle = Keeps old new × WasIdle counts counts'
-IsRead old new counts counts' buffer Told.Failed = Keeps old new × HasFailed counts counts'
+abbrev pub IsRead : ReadState → ReadState → List ℕ → Told → Type 0
+IsRead old new buffer (Told.Moved n) = TellsBytes old new buffer n
+IsRead old new buffer Told.End = TellsNone old new × IsAtEnd new.remaining × (new.counts ≡ old.counts)
+IsRead old new buffer Told.Idle = TellsNone old new × WasIdle old.counts new.counts
+IsRead old new buffer Told.Failed = TellsNone old new × HasFailed old.counts new.counts
+
+-- what clauses see of a writer: its bytes, as far as it tells; all that it took, the oldest first; its counts
+pub record WriteState : Type 0 where
+  pub contents : Option (List ℕ)
+  pub taken : List ℕ
+  pub counts : Counts
+
+-- a writer's state, by the functions of its type
+abbrev pub writer_state : {W : Type 0} → (W → Option (List ℕ)) → (W → List ℕ) → (W → Counts) → W → WriteState
+writer_state contents taken counts w = record { contents = contents w; taken = taken w; counts = counts w }
+
+-- the writer took the first n of these bytes, at least one
+pub record TakesBytes (old new : WriteState) (bytes : List ℕ) (n : ℕ) : Type 0 where
+  pub some : 0 < n
+  pub fits : n ≤ length bytes
+  pub next : Appends old.contents new.contents (take n bytes)
+  pub taken : new.taken ≡ old.taken ++ take n bytes
+  pub counts : new.counts ≡ old.counts
+
+-- the writer took no byte
+pub record TakesNone (old new : WriteState) : Type 0 where
+  pub kept : Keeps old.contents new.contents
+  pub taken : new.taken ≡ old.taken
 
 -- what a write told: bytes were taken, or none were, for a pause or for a fault
-abbrev pub IsWritten : Option (List ℕ) → Option (List ℕ) → Counts → Counts → List ℕ → Told → Type 0
-IsWritten old new counts counts' bytes (Told.Moved n) =
-    (0 < n) × (n ≤ length bytes) × Appends old new (take n bytes) × (counts' ≡ counts)
-IsWritten old new counts counts' bytes Told.End = Keeps old new × HasFailed counts counts'
-IsWritten old new counts counts' bytes Told.Idle = Keeps old new × WasIdle counts counts'
-IsWritten old new counts counts' bytes Told.Failed = Keeps old new × HasFailed counts counts'
+abbrev pub IsWritten : WriteState → WriteState → List ℕ → Told → Type 0
+IsWritten old new bytes (Told.Moved n) = TakesBytes old new bytes n
+IsWritten old new bytes Told.End = TakesNone old new × HasFailed old.counts new.counts
+IsWritten old new bytes Told.Idle = TakesNone old new × WasIdle old.counts new.counts
+IsWritten old new bytes Told.Failed = TakesNone old new × HasFailed old.counts new.counts
 
 -- an error that says no more than that there is nothing for now
 abbrev pub IsPause : ErrorKind → Type 0
@@ -65,3 +109,8 @@ abbrev pub CountsWrite : List ℕ → Result ℕ Error → Counts → Counts →
 CountsWrite bytes (Ok n) counts counts' =
     ((n ≡ 0) × (bytes ≢ []) × HasFailed counts counts') ⊎ (((n ≢ 0) ⊎ (bytes ≡ [])) × (counts' ≡ counts))
 CountsWrite bytes (Err e) counts counts' = CountsError (error_kind e) counts counts'
+
+-- what is logged of a call by its answer: the first n of these bytes where it moved n, and else nothing
+abbrev pub LogsCall : List ℕ → Result ℕ Error → List ℕ → List ℕ → Type 0
+LogsCall bytes (Ok n) log log' = log' ≡ log ++ take n bytes
+LogsCall bytes (Err e) log log' = log' ≡ log

@@ -4,7 +4,7 @@ ghost use Rattle.std.specs.Io.{ReadsAtMost, WritesAtMost};
 ghost use Rattle.std.specs.Io.KnownBytes.{Keeps, ReadConsumes, WriteAppends};
 ghost use Rattle.std.specs.IoError.{error_kind};
 ghost use Rattle.proxy_devices.specs.declared.tally.Told.{Told};
-ghost use Rattle.proxy_devices.specs.Device.{IsRead, IsWritten};
+ghost use Rattle.proxy_devices.specs.Device.{IsRead, IsWritten, reader_state, writer_state};
 ghost use Rattle.proxy_devices.specs.Faulty.{moved_count, with_failures};
 
 use crate::tally::{ReadTally, Tally, Told, WriteTally};
@@ -14,7 +14,7 @@ use std::io::{ErrorKind, Read, Write};
 /// Passes a number of bytes of another reader or writer, and then fails at each call. It is for tests in which a
 /// connection or link fails at any byte.
 ///
-/// Its counts are the other's, with its own failures.
+/// Its counts are the other's, with its own failures, and its log is the other's.
 #[derive(Drop)]
 pub struct Faulty<S> {
     inner: S,
@@ -101,8 +101,9 @@ impl<S: ReadTally> Faulty<S> {
     /// fails, and the other one isn't called.
     pub fn read_passed(&mut self, buffer: &mut [u8]) -> Told
         requires room { 0 < length buffer.old }
-        ensures passes { 0 < self.old.left → IsRead (S.remaining self.old.inner)
-            (S.remaining self.new.inner) (S.counts self.old.inner) (S.counts self.new.inner)
+        ensures passes { 0 < self.old.left → IsRead
+            (reader_state S.remaining S.told S.counts self.old.inner)
+            (reader_state S.remaining S.told S.counts self.new.inner)
             (take (min (length buffer.new) self.old.left) buffer.new) result }
         ensures spent { self.old.left ≡ self.new.left + moved_count result }
         ensures kept { 0 < self.old.left → self.new.failures ≡ self.old.failures }
@@ -125,8 +126,9 @@ impl<S: WriteTally> Faulty<S> {
     /// the other one isn't called.
     pub fn write_passed(&mut self, bytes: &[u8]) -> Told
         requires some { bytes.now ≢ [] }
-        ensures passes { 0 < self.old.left → IsWritten (S.contents self.old.inner)
-            (S.contents self.new.inner) (S.counts self.old.inner) (S.counts self.new.inner)
+        ensures passes { 0 < self.old.left → IsWritten
+            (writer_state S.contents S.taken S.counts self.old.inner)
+            (writer_state S.contents S.taken S.counts self.new.inner)
             (take self.old.left bytes.now) result }
         ensures spent { self.old.left ≡ self.new.left + moved_count result }
         ensures kept { 0 < self.old.left → self.new.failures ≡ self.old.failures }
@@ -201,13 +203,21 @@ impl<S: Write> Write for Faulty<S> {
 }
 
 impl<S: ReadTally> ReadTally for Faulty<S> {
+    ghost told = { λ f. S.told f.inner };
+
     fn read_told(&mut self, buffer: &mut [u8]) -> Told {
         self.read_passed(buffer)
     }
 }
 
 impl<S: WriteTally> WriteTally for Faulty<S> {
+    ghost taken = { λ f. S.taken f.inner };
+
     fn write_told(&mut self, bytes: &[u8]) -> Told {
         self.write_passed(bytes)
+    }
+
+    fn flush_told(&mut self) -> io::Result<()> {
+        self.inner.flush_told()
     }
 }

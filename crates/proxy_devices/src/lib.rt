@@ -6,7 +6,9 @@
 #![tactic(auto)]
 
 mod faulty;
+mod log;
 mod tally;
 
 pub use faulty::Faulty;
+pub use log::Log;
 pub use tally::{ReadTally, Tallied, Tally, Told, WriteTally};

@@ -1,10 +1,11 @@
-//! Readers and writers that count their failures and pauses.
-ghost use Rattle.std.specs.Prelude.{◌≡◌, ◌≢◌, ◌<◌, ◌⊎◌, ◌↔◌, [], ℕ, length};
+//! Readers and writers that count their failures and pauses, with a log of their bytes for contracts.
+ghost use Rattle.std.specs.Prelude.{◌≡◌, ◌≢◌, ◌<◌, ◌⊎◌, ◌↔◌, [], ℕ, List, length};
 ghost use Rattle.std.specs.Io.{ReadsAtMost, WritesAtMost};
 ghost use Rattle.std.specs.Io.KnownBytes.{Keeps, ReadConsumes, WriteAppends};
-ghost use Rattle.proxy_devices.specs.Tallied.{counts_of};
-ghost use Rattle.proxy_devices.specs.Device.{Counts, CountsError, CountsRead, CountsWrite, HasFailed, WasIdle, IsPause, IsRead, IsWritten};
+ghost use Rattle.proxy_devices.specs.Tallied.{HasSameLogs, counts_of};
+ghost use Rattle.proxy_devices.specs.Device.{Counts, CountsError, CountsRead, CountsWrite, HasFailed, WasIdle, IsPause, IsRead, IsWritten, LogsCall, TakesNone, reader_state, writer_state};
 
+use crate::log::Log;
 use std::io;
 use std::io::{ErrorKind, Read, Write};
 
@@ -37,41 +38,61 @@ pub enum Told {
 
 /// A reader that returns what each read did, and counts.
 pub trait ReadTally: Read + Tally {
+    /// All bytes that it told since it was made, the oldest first. Proofs alone have this log.
+    ghost told: { Self → List ℕ };
+
     /// Reads once into a buffer that isn't empty.
     fn read_told(&mut self, buffer: &mut [u8]) -> Told
         requires room { 0 < length buffer.old }
-        ensures told { IsRead (Self.remaining self.old) (Self.remaining self.new)
-            (Self.counts self.old) (Self.counts self.new) buffer.new result };
+        ensures told { IsRead (reader_state Self.remaining told Self.counts self.old)
+            (reader_state Self.remaining told Self.counts self.new) buffer.new result };
 }
 
 /// A writer that returns what each write did, and counts.
 pub trait WriteTally: Write + Tally {
+    /// All bytes that it took since it was made, the oldest first. Proofs alone have this log.
+    ghost taken: { Self → List ℕ };
+
     /// Writes once, at least one byte.
     fn write_told(&mut self, bytes: &[u8]) -> Told
         requires some { bytes.now ≢ [] }
-        ensures told { IsWritten (Self.contents self.old) (Self.contents self.new)
-            (Self.counts self.old) (Self.counts self.new) bytes.now result };
+        ensures told { IsWritten (writer_state Self.contents taken Self.counts self.old)
+            (writer_state Self.contents taken Self.counts self.new) bytes.now result };
+
+    /// Flushes. It takes no byte, and counts nothing.
+    fn flush_told(&mut self) -> io::Result<()>
+        ensures none { TakesNone (writer_state Self.contents taken Self.counts self.old)
+            (writer_state Self.contents taken Self.counts self.new) }
+        ensures counts { Self.counts self.new ≡ Self.counts self.old };
 }
 
-/// A reader or a writer with its counts.
+/// A reader or a writer with its counts, and a log of its bytes.
 #[derive(Drop)]
 pub struct Tallied<S> {
     inner: S,
     failures: u64,
     pauses: u64,
+    // The bytes that it told as a reader.
+    told: Log,
+    // The bytes that it took as a writer.
+    taken: Log,
 }
 
 impl<S> Tallied<S> {
-    /// With no counts yet.
+    /// With no counts and an empty log.
     pub fn new(inner: S) -> Tallied<S>
         ensures inner { result.inner ≡ inner }
         ensures failures { result.failures ≡ 0 }
         ensures pauses { result.pauses ≡ 0 }
+        ensures told { result.told.bytes ≡ [] }
+        ensures taken { result.taken.bytes ≡ [] }
     {
         Tallied {
             inner,
             failures: 0,
             pauses: 0,
+            told: Log::new(),
+            taken: Log::new(),
         }
     }
 
@@ -86,14 +107,16 @@ impl<S> Tallied<S> {
     // Counts a failure.
     fn failed(&mut self)
         ensures inner { self.new.inner ≡ self.old.inner }
+        ensures logs { HasSameLogs self.old self.new }
         ensures counts { HasFailed (counts_of self.old) (counts_of self.new) }
     {
         self.failures = self.failures.saturating_add(1);
     }
 
     // Counts an error by its kind.
-    fn told(&mut self, kind: ErrorKind) -> Told
+    fn tell(&mut self, kind: ErrorKind) -> Told
         ensures inner { self.new.inner ≡ self.old.inner }
+        ensures logs { HasSameLogs self.old self.new }
         ensures told { ((result ≡ Told.Idle)
             × WasIdle (counts_of self.old) (counts_of self.new))
             ⊎ ((result ≡ Told.Failed) × HasFailed (counts_of self.old) (counts_of self.new)) }
@@ -134,11 +157,15 @@ impl<S: Read> Read for Tallied<S> {
         ensures bytes { ReadConsumes (S.remaining self.old.inner) (S.remaining self.new.inner)
             result buffer.new }
         ensures counts { CountsRead result (counts_of self.old) (counts_of self.new) }
+        ensures log { LogsCall buffer.new result self.old.told.bytes self.new.told.bytes }
     {
         match self.inner.read(buffer) {
-            Ok(n) => Ok(n),
+            Ok(n) => {
+                self.told = self.told.and(buffer, n);
+                Ok(n)
+            }
             Err(error) => {
-                let _told = self.told(error.kind());
+                let _told = self.tell(error.kind());
                 Err(error)
             }
         }
@@ -154,16 +181,18 @@ impl<S: Write> Write for Tallied<S> {
         ensures bytes { WriteAppends (S.contents self.old.inner) (S.contents self.new.inner)
             result bytes.now }
         ensures counts { CountsWrite bytes.now result (counts_of self.old) (counts_of self.new) }
+        ensures log { LogsCall bytes.now result self.old.taken.bytes self.new.taken.bytes }
     {
         match self.inner.write(bytes) {
             Ok(n) => {
+                self.taken = self.taken.and(bytes, n);
                 if n == 0 && !bytes.is_empty() {
                     self.failed();
                 }
                 Ok(n)
             }
             Err(error) => {
-                let _told = self.told(error.kind());
+                let _refused = self.tell(error.kind());
                 Err(error)
             }
         }
@@ -173,30 +202,45 @@ impl<S: Write> Write for Tallied<S> {
     fn flush(&mut self) -> io::Result<()>
         ensures bytes { Keeps (S.contents self.old.inner) (S.contents self.new.inner) }
         ensures counts { counts_of self.new ≡ counts_of self.old }
+        ensures log { HasSameLogs self.old self.new }
     {
         self.inner.flush()
     }
 }
 
 impl<S: Read> ReadTally for Tallied<S> {
+    ghost told = { λ t. t.told.bytes };
+
     fn read_told(&mut self, buffer: &mut [u8]) -> Told {
         match self.inner.read(buffer) {
             Ok(0) => Told::End,
-            Ok(n) => Told::Moved(n),
-            Err(error) => self.told(error.kind()),
+            Ok(n) => {
+                self.told = self.told.and(buffer, n);
+                Told::Moved(n)
+            }
+            Err(error) => self.tell(error.kind()),
         }
     }
 }
 
 impl<S: Write> WriteTally for Tallied<S> {
+    ghost taken = { λ t. t.taken.bytes };
+
     fn write_told(&mut self, bytes: &[u8]) -> Told {
         match self.inner.write(bytes) {
             Ok(0) => {
                 self.failed();
                 Told::End
             }
-            Ok(n) => Told::Moved(n),
-            Err(error) => self.told(error.kind()),
+            Ok(n) => {
+                self.taken = self.taken.and(bytes, n);
+                Told::Moved(n)
+            }
+            Err(error) => self.tell(error.kind()),
         }
+    }
+
+    fn flush_told(&mut self) -> io::Result<()> {
+        self.inner.flush()
     }
 }

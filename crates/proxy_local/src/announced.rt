@@ -1,7 +1,7 @@
 //! A reader that pauses before each read.
 ghost use Rattle.std.specs.Prelude.{◌≡◌, ◌<◌, ◌+◌, ◌-◌, ◌^◌, min, length, true, false};
-ghost use Rattle.proxy_devices.specs.Device.{IsRead};
-ghost use Rattle.proxy_local.specs.Announced.{with_pauses};
+ghost use Rattle.proxy_devices.specs.Device.{IsRead, reader_state};
+ghost use Rattle.proxy_local.specs.Announced.{announced, with_pauses};
 
 use proxy_engines::{ReadTally, Tally, Told};
 use std::io;
@@ -71,17 +71,20 @@ impl<R: Read> Read for Announced<R> {
 }
 
 impl<R: ReadTally> ReadTally for Announced<R> {
+    ghost told = { λ a. R.told a.inner };
+
     /// Pauses without a read, or, after a pause, reads and returns the result.
     fn read_told(&mut self, buffer: &mut [u8]) -> Told
         requires room { 0 < length buffer.old }
-        ensures told { IsRead (R.remaining self.old.inner) (R.remaining self.new.inner)
-            (with_pauses self.old.pauses (R.counts self.old.inner))
-            (with_pauses self.new.pauses (R.counts self.new.inner)) buffer.new result }
+        ensures told { IsRead
+            (announced self.old.pauses (reader_state R.remaining R.told R.counts self.old.inner))
+            (announced self.new.pauses (reader_state R.remaining R.told R.counts self.new.inner))
+            buffer.new result }
         ensures pauses { self.old.is_announced ≡ false → (result ≡ Told.Idle)
             × (self.new.is_announced ≡ true) × (self.new.inner ≡ self.old.inner) }
         ensures reads { self.old.is_announced ≡ true → (self.new.is_announced ≡ false)
-            × IsRead (R.remaining self.old.inner) (R.remaining self.new.inner)
-            (R.counts self.old.inner) (R.counts self.new.inner) buffer.new result }
+            × IsRead (reader_state R.remaining R.told R.counts self.old.inner)
+            (reader_state R.remaining R.told R.counts self.new.inner) buffer.new result }
     {
         if self.pause() {
             return Told::Idle;

@@ -1,13 +1,11 @@
 //! A socket that is read and written only when the poll reported it, and in large pieces.
-ghost use Rattle.std.specs.Prelude.{List, ℕ};
 ghost use Rattle.std.specs.Io.{ReadsAtMost, WritesAtMost};
 
-use limits::MAX_LAST;
 use mio::event::Event;
 use mio::net::TcpStream;
 use mio::unix::SourceFd;
 use mio::{Interest, Registry, Token};
-use proxy_serve_core::WriteBuffer;
+use proxy_serve_core::{ReadEnd, WriteBuffer};
 use std::alloc::Global;
 use std::cell::RefCell;
 use std::io;
@@ -16,24 +14,14 @@ use std::net::Shutdown;
 use std::os::fd::AsRawFd;
 use std::rc::Rc;
 
-// The most reads of a closed connection's socket in a round.
-const MAX_THROWN: u32 = 64;
-
 /// A socket, what is known of it, and its unwritten bytes.
 pub(crate) struct Socket {
     output: WriteBuffer<TcpStream>,
-    is_readable: bool,
-    // The peer sends nothing more: the input ends behind the unread bytes.
-    is_ended: bool,
+    input: ReadEnd,
     // The last write took less than it was given.
     is_short: bool,
     // The poll has reported room since then.
     has_room: bool,
-    // The number of bytes read.
-    taken: u64,
-    // The number of bytes still to read before the input ends, if it is to end behind what has
-    // come.
-    left: Option<u64>,
 }
 
 // Written out so that a drop is one call: each function that holds one is proved sooner.
@@ -41,12 +29,9 @@ impl Drop for Socket {
     fn drop(self) {
         let Socket {
             output: _,
-            is_readable: _,
-            is_ended: _,
+            input: _,
             is_short: _,
             has_room: _,
-            taken: _,
-            left: _,
         } = self;
     }
 }
@@ -60,12 +45,9 @@ impl Socket {
     pub(crate) fn new(alloc: Global, stream: TcpStream) -> Socket {
         Socket {
             output: WriteBuffer::new(alloc, stream),
-            is_readable: true,
-            is_ended: false,
+            input: ReadEnd::new(),
             is_short: false,
             has_room: false,
-            taken: 0,
-            left: None,
         }
     }
 
@@ -77,7 +59,7 @@ impl Socket {
             token,
             Interest::READABLE | Interest::WRITABLE,
         )?;
-        self.is_readable = true;
+        self.input.set_readable();
         self.output.set_writable();
         self.has_room = self.is_short;
         Ok(())
@@ -92,10 +74,10 @@ impl Socket {
     /// Records what the poll reports.
     pub(crate) fn on_readiness(&mut self, event: &Event) {
         if event.is_readable() || event.is_read_closed() || event.is_error() {
-            self.is_readable = true;
+            self.input.set_readable();
         }
         if event.is_read_closed() || event.is_error() {
-            self.is_ended = true;
+            self.input.set_closed();
         }
         if event.is_writable() || event.is_write_closed() || event.is_error() {
             self.output.set_writable();
@@ -106,25 +88,22 @@ impl Socket {
     /// Makes reads and writes fail from here on.
     pub(crate) fn break_off(&mut self) {
         self.output.break_off();
-        self.is_readable = true;
+        self.input.set_readable();
     }
 
     /// Ends the input behind what has come, or after `MAX_LAST` bytes at the latest.
     pub(crate) fn end_input(&mut self) {
-        if self.left.is_none() {
-            self.left = Some(MAX_LAST);
-            self.is_readable = true;
-        }
+        self.input.end_input();
     }
 
     /// The number of bytes read.
     pub(crate) fn taken(&self) -> u64 {
-        self.taken
+        self.input.count()
     }
 
     /// Whether a read may return bytes.
     pub(crate) fn may_read(&self) -> bool {
-        self.is_readable
+        self.input.may_read()
     }
 
     /// Whether the socket may take buffered bytes, or the rest of a text that it took in part.
@@ -170,70 +149,14 @@ impl Socket {
         if self.output.is_broken() {
             return Err(io::Error::from(ErrorKind::BrokenPipe));
         }
-        if self.left == Some(0) {
-            return Ok(0);
-        }
-        let read = if self.is_readable {
-            self.read_socket(buffer)
-        } else {
-            Err(paused())
-        };
-        self.end_where_it_pauses(read)
-    }
-
-    // Where the input is to end behind what has come, treats a pause as its end.
-    fn end_where_it_pauses(&mut self, read: io::Result<usize>) -> io::Result<usize>
-        ensures { (bytes : List ℕ) → ReadsAtMost read bytes → ReadsAtMost result bytes }
-    {
-        let Some(left) = self.left else {
-            return read;
-        };
-        match read {
-            Ok(count) => {
-                self.left = Some(left.saturating_sub(count as u64));
-                Ok(count)
-            }
-            Err(error) if error.kind() == ErrorKind::WouldBlock => {
-                self.left = Some(0);
-                Ok(0)
-            }
-            Err(error) => Err(error),
-        }
-    }
-
-    // Reads once. A short read has taken all that there was; the poll reports later bytes.
-    fn read_socket(&mut self, buffer: &mut [u8]) -> io::Result<usize>
-        ensures { ReadsAtMost result buffer.new }
-    {
         let mut stream: &TcpStream = self.output.writer();
-        match stream.read(buffer) {
-            Ok(count) => {
-                self.taken = self.taken.saturating_add(count as u64);
-                if count < buffer.len() && count > 0 && !self.is_ended {
-                    self.is_readable = false;
-                }
-                Ok(count)
-            }
-            Err(error) => {
-                if error.kind() == ErrorKind::WouldBlock {
-                    self.is_readable = false;
-                }
-                Err(error)
-            }
-        }
+        self.input.read(&mut stream, buffer)
     }
 
     /// Reads and discards what has come. True: the input has ended or failed.
     pub(crate) fn throw_away(&mut self) -> bool {
-        let mut piece = [0u8; 1_024];
-        for _ in 0..MAX_THROWN {
-            match self.read_socket(&mut piece) {
-                Ok(0) => return true,
-                Ok(_) => {}
-                Err(error) => return error.kind() != ErrorKind::WouldBlock,
-            }
-        }
-        true
+        let mut stream: &TcpStream = self.output.writer();
+        self.input.throw_away(&mut stream)
     }
 
     /// Closes the sending half.

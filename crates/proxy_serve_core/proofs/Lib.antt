@@ -1,2 +1,3 @@
 mod WriteBufferLemmas
+mod ReadEndLemmas
 mod AssignmentLemmas

@@ -3,7 +3,7 @@ use Rattle.std.proofs.Math.Bool.{and-false}
 use Rattle.std.proofs.Math.Seq.{take-length}
 use Rattle.std.proofs.lemmas.List.{drop-drop}
 use Rattle.std.specs.Io.KnownBytes.{Appends, Keeps, WriteAppends}
-use Rattle.proxy_serve_core.specs.WriteBuffer.{WriteBufferState, GoesOut}
+use Rattle.proxy_serve_core.specs.WriteBuffer.{WriteBufferState, GoesOut, accepted}
 
 -- nothing was taken
 pub Appends-none : (a : Option (List ℕ)) → Appends a a []
@@ -33,18 +33,25 @@ pub Keeps-interrupted : {E : Type 0} (a b c : Option (List ℕ)) (r : Result ℕ
 Keeps-interrupted a b c (Ok n) bytes again kept wrote ok is_so = absurd (grind (arith, ok, is_so))
 Keeps-interrupted a b c (Err e) bytes again kept wrote ok is_so = Keeps-write a b c (Err e) bytes kept wrote
 
+-- all that was accepted grows by these bytes
+pub accepted_goes_out : (a b : WriteBufferState) (bytes : List ℕ) → GoesOut a b bytes → accepted b ≡ accepted a ++ bytes
+accepted_goes_out a b bytes out =
+    ap (λ t. t ++ b.buffered) out.taken ∙ append_assoc a.taken out.gave b.buffered ∙ ap (λ t. a.taken ++ t) out.left
+    ∙ sym (append_assoc a.taken a.buffered bytes)
+
 -- nothing happened
 pub GoesOut-none : (a : WriteBufferState) → GoesOut a a []
-GoesOut-none a = ([], Appends-none a.held, sym (append-nil a.buffered))
+GoesOut-none a = record { gave = []; taken = sym (append-nil a.taken); held = Appends-none a.held; left = sym (append-nil a.buffered) }
 
 -- what was buffered before goes out, and then these bytes behind what is left
 pub GoesOut-then : (a b c : WriteBufferState) (bytes : List ℕ) → GoesOut a b [] → GoesOut b c bytes → GoesOut a c bytes
-GoesOut-then a b c bytes (first, takes, left) (second, takes_more, left_then) = (
-  first ++ second,
-  Appends-append a.held b.held c.held first second takes takes_more,
-  append_assoc first second c.buffered ∙ ap (λ t. first ++ t) left_then ∙ sym (append_assoc first b.buffered bytes)
-      ∙ ap (λ t. t ++ bytes) (left ∙ append-nil a.buffered),
-)
+GoesOut-then a b c bytes first second = record {
+  gave = first.gave ++ second.gave;
+  taken = second.taken ∙ ap (λ t. t ++ second.gave) first.taken ∙ append_assoc a.taken first.gave second.gave;
+  held = Appends-append a.held b.held c.held first.gave second.gave first.held second.held;
+  left = append_assoc first.gave second.gave c.buffered ∙ ap (λ t. first.gave ++ t) second.left
+      ∙ sym (append_assoc first.gave b.buffered bytes) ∙ ap (λ t. t ++ bytes) (first.left ∙ append-nil a.buffered);
+}
 
 -- what is left behind what was written
 pub drop-written : (written count : ℕ) (bytes : List ℕ) → take count (drop written bytes) ++ drop (written + count) bytes ≡ drop written bytes ++ []
@@ -60,4 +67,5 @@ may_write-broken is_writable n = rw (and-false is_writable) refl
 pub GoesOut-append : (a b c : WriteBufferState) (bytes : List ℕ) → GoesOut a b [] → c ≡ record b { buffered = b.buffered ++ bytes }
     → GoesOut a c (take (length bytes) bytes)
 GoesOut-append a b c bytes out is = rw (is, take-length bytes)
-    (GoesOut-then a b (record b { buffered = b.buffered ++ bytes }) bytes out ([], Appends-none b.held, refl))
+    (GoesOut-then a b (record b { buffered = b.buffered ++ bytes }) bytes out
+    (record { gave = []; taken = sym (append-nil b.taken); held = Appends-none b.held; left = refl }))

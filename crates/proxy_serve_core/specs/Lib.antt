@@ -1,4 +1,5 @@
 pub mod WriteBuffer
+pub mod ReadEnd
 pub mod Sockets
 pub mod Assignment
 pub mod EjectionLog

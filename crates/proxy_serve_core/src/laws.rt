@@ -1,9 +1,21 @@
-//! The limit of buffered bytes, as the contract of a function that does nothing.
+//! The limit of buffered bytes and two laws of bytes, as contracts of functions that do nothing.
 ghost use Rattle.std.specs.Prelude.{◌≡◌};
+ghost use Rattle.proxy_serve_core.specs.ReadEnd.{ToldIsHeard};
+ghost use Rattle.proxy_serve_core.specs.WriteBuffer.{AcceptedGoesOut};
 
 use limits::MAX_BUFFERED;
 
 /// From 65,536 buffered bytes on, some are written before more are buffered.
 pub fn buffered_is_limited()
     ensures { MAX_BUFFERED ≡ 65536 }
+{}
+
+/// What a writer took and what is buffered for it are all bytes that were accepted, in order, for any writer.
+pub fn accepted_goes_out()
+    ensures { AcceptedGoesOut }
+{}
+
+/// What a reading end told its caller is what its reader told it, for any reader.
+pub fn told_is_heard()
+    ensures { ToldIsHeard }
 {}

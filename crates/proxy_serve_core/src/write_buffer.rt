@@ -6,6 +6,7 @@ ghost use Rattle.std.specs.IoError.{error_kind};
 ghost use Rattle.proxy_serve_core.specs.WriteBuffer.{GoesOut, may_write};
 
 use limits::MAX_BUFFERED;
+use proxy_devices::Log;
 use std::alloc::{AllocError, Global};
 use std::io::{ErrorKind, Write};
 use std::marker::Model;
@@ -19,12 +20,14 @@ const MAX_INTERRUPTIONS: u32 = 1_000;
 /// An interrupted write is made again; 1,000 interruptions in a row are a failed write. A write that takes nothing has
 /// failed too. After one that takes less than it was given, the writer takes no more for now.
 ///
-/// Contracts see the bytes that the writer took, as far as it reports them, the buffered bytes, whether the writer may
-/// take more, and whether a write failed.
+/// Contracts see the writer's bytes, as far as it reports them, all that it took since the buffer was made, the buffered
+/// bytes, whether the writer may take more, and whether a write failed.
 #[derive(Drop)]
 pub struct WriteBuffer<W: Write> {
     alloc: Global,
     writer: W,
+    // The bytes that the writer took, for proofs.
+    taken: Log,
     bytes: Vec<u8>,
     // The number of bytes in front that are written.
     written: usize,
@@ -41,6 +44,7 @@ impl<W: Write> Model for WriteBuffer<W> {
 
     ghost view = { λ g. record {
       held = W.contents g.writer;
+      taken = g.taken.bytes;
       buffered = drop g.written g.bytes.items;
       is_writable = g.is_writable;
       is_broken = g.is_broken;
@@ -91,6 +95,7 @@ impl<W: Write> WriteBuffer<W> {
     /// Nothing is buffered, and the writer may take bytes.
     pub fn new(alloc: Global, writer: W) -> WriteBuffer<W>
         ensures held { result.held ≡ W.contents writer }
+        ensures taken { result.taken ≡ [] }
         ensures buffered { result.buffered ≡ [] }
         ensures open { result.is_writable ≡ true }
         ensures whole { result.is_broken ≡ false }
@@ -98,6 +103,7 @@ impl<W: Write> WriteBuffer<W> {
         WriteBuffer {
             alloc,
             writer,
+            taken: Log::new(),
             bytes: Vec::new(alloc),
             written: 0,
             is_writable: true,
@@ -148,8 +154,11 @@ impl<W: Write> WriteBuffer<W> {
     }
 
     /// Lends a buffer, in which bytes are buffered from here on, unless some are already. Its old content is dropped.
+    /// What stands in its place is empty.
     pub fn lend_buffer(&mut self, buffer: &mut Vec<u8>)
-        ensures { self.new ≡ self.old }
+        ensures same { self.new ≡ self.old }
+        ensures lent { self.old.buffered ≡ [] → buffer.new.items ≡ [] }
+        ensures stays { self.old.buffered ≢ [] → buffer.new.items ≡ buffer.old.items }
     {
         if self.is_empty() {
             buffer.clear();
@@ -160,13 +169,15 @@ impl<W: Write> WriteBuffer<W> {
     }
 
     /// Writes buffered bytes as far as the writer takes them. Afterwards nothing is buffered, or the writer takes no
-    /// more until `set_writable`, or a write has failed. The buffer is returned once all is taken. After a failed write
-    /// nothing is written and nothing changes.
+    /// more until `set_writable`, or a write has failed. The buffer is returned once all is taken, and is empty. After a
+    /// failed write nothing is written and nothing changes.
     pub fn write_out(&mut self, buffer: &mut Vec<u8>)
         ensures goes_out { GoesOut self.old self.new [] }
         ensures ends { may_write self.new ≡ false }
         ensures broken { self.old.is_broken ≡ true → self.new ≡ self.old }
+        ensures back { buffer.new.items ≡ [] }
     {
+        buffer.clear();
         self.write_gathered();
         if !self.is_empty() {
             return;
@@ -188,6 +199,7 @@ impl<W: Write> WriteBuffer<W> {
         match write_once(&mut self.writer, rest) {
             Ok(0) => self.is_broken = true,
             Ok(count) => {
+                self.taken = self.taken.and(rest, count);
                 self.written += count;
                 self.is_writable = self.is_empty();
             }
@@ -198,6 +210,7 @@ impl<W: Write> WriteBuffer<W> {
     // Records why a write took nothing.
     fn note_refused(&mut self, kind: ErrorKind)
         ensures held { self.new.held ≡ self.old.held }
+        ensures taken { self.new.taken ≡ self.old.taken }
         ensures buffered { self.new.buffered ≡ self.old.buffered }
         ensures paused { kind ≡ ErrorKind.WouldBlock
             → self.new ≡ record self.old { is_writable = false } }
@@ -254,6 +267,7 @@ impl<W: Write> WriteBuffer<W> {
     {
         match write_once(&mut self.writer, bytes) {
             Ok(count) => {
+                self.taken = self.taken.and(bytes, count);
                 self.is_writable = count == bytes.len();
                 if count == 0 && !bytes.is_empty() {
                     self.break_off();

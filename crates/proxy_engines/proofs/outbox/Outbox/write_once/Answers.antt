@@ -4,19 +4,19 @@ use Rattle.proxy_engines.proofs.outbox.Outbox.write_once.Goals as goal
 
 pub returns-in-Moved : goal.returns-in-Moved
 returns-in-Moved g c =
-    let (some, within, appended, same) = c.in-Moved.ensures.told in
+    let told = c.in-Moved.ensures.told in
     record {
       writes = record {
         bytes = (
           take c.in-Moved.n c.self.inside.pending,
           record {
-            held = rw (← c.self.view_is) (rw c.as_slice.ensures at appended);
+            held = rw (← c.self.view_is) (rw c.as_slice.ensures at told.next);
             pending = rw (← c.self.view_is, c.advance.ensures) (sym (take-append-drop c.in-Moved.n c.self.inside.pending));
           },
-          has_moved-take c.in-Moved.n c.self.inside.pending some (rw c.as_slice.ensures at within),
+          has_moved-take c.in-Moved.n c.self.inside.pending told.some (rw c.as_slice.ensures at told.fits),
         );
-        fewer = let inside = rw c.as_slice.ensures at within in
-            rw (← c.self.view_is, c.advance.ensures) (λ n is. omega (arith, length-drop c.in-Moved.n c.self.inside.pending, some, inside));
+        fewer = let inside = rw c.as_slice.ensures at told.fits in
+            rw (← c.self.view_is, c.advance.ensures) (λ n is. omega (arith, length-drop c.in-Moved.n c.self.inside.pending, told.some, inside));
         counts = search rules;
       };
     }

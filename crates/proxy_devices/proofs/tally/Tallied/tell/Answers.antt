@@ -1,5 +1,5 @@
 use Rattle.std.proofs.Common.{rules}
-use Rattle.proxy_devices.proofs.tally.Tallied.told.Goals as goal
+use Rattle.proxy_devices.proofs.tally.Tallied.tell.Goals as goal
 
 pub returns-in-WouldBlock-clause-idle : goal.returns-in-WouldBlock-clause-idle
 returns-in-WouldBlock-clause-idle g c = search rules

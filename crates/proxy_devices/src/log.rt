@@ -1,0 +1,50 @@
+//! A list of bytes that only proofs read. It takes no memory, and its methods do nothing at run time.
+ghost use Rattle.std.specs.Prelude.{◌≡◌, ◌++◌, ℕ, List, [], take};
+ghost use Rattle.std.specs.Borrow.{ftrue};
+
+use std::marker::{Model, Send};
+
+/// The bytes that a device moved, the oldest first. Contracts read them as `bytes`.
+#[derive(Drop)]
+pub struct Log {
+    pub ghost bytes: { List ℕ },
+}
+
+impl Model for Log {
+    ghost also_owns = { λ _. ftrue };
+}
+
+// The first `count` of these bytes.
+#[derive(Clone, Copy, Drop)]
+struct Piece<'a> {
+    bytes: &'a [u8],
+    count: usize,
+}
+
+impl Log {
+    /// Without a byte.
+    #[inline(always)]
+    pub fn new() -> Log
+        ensures { result.bytes ≡ [] }
+    {
+        Log {}
+    }
+
+    #[inline(always)]
+    fn then(&self, _piece: &Piece<'_>) -> Log
+        ensures { result.bytes ≡ self.now.bytes ++ take _piece.now.count _piece.now.bytes.now }
+    {
+        Log {}
+    }
+
+    /// Its bytes, and behind them the first `count` of these.
+    #[inline(always)]
+    pub fn and(&self, bytes: &[u8], count: usize) -> Log
+        ensures { result.bytes ≡ self.now.bytes ++ take count bytes.now }
+    {
+        self.then(&Piece { bytes, count })
+    }
+}
+
+// It owns nothing.
+unsafe impl Send for Log {}
