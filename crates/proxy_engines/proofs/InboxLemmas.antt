@@ -17,10 +17,6 @@ use Rattle.proxy_engines.specs.Ends.{InboxState, RestState, Holds, HoldsBehind, 
 pub kept_then : (i j k : InboxState) → KeepsReader i j → KeepsReader j k → KeepsReader i k
 kept_then i j k (left, told, counts) (left', told', counts') = (left' ∙ left, told' ∙ told, counts' ∙ counts)
 
--- the same end has the same reader
-pub kept_same : (i j : InboxState) → j ≡ i → KeepsReader i j
-kept_same i j same = (ap (λ (z : InboxState). z.left) same, ap (λ (z : InboxState). z.told) same, ap (λ (z : InboxState). z.counts) same)
-
 after-none : (i : InboxState) → i.fresh ≡ [] → IfSome i.values.refusal (λ _. i.fresh ≡ [])
 after-none i e = if_some i.values.refusal e
   where

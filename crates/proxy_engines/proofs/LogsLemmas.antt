@@ -1,12 +1,11 @@
 -- What an engine carries over the logs of its devices.
-use Rattle.std.proofs.Common.{◌≡◌, ◌∙◌, ℕ, Bool, List, [], ◌∷◌, ◌++◌, Option, Some, None, ap, append_assoc, append-nil, sym, refl, subst}
+use Rattle.std.proofs.Common.{◌≡◌, ◌∙◌, ℕ, List, [], ◌∷◌, ◌++◌, Option, Some, None, ap, append_assoc, append-nil, sym, subst}
 use Rattle.proxy_history.specs.History.{History}
-use Rattle.proxy_history.specs.declared.event.Kind.{Kind}
-use Rattle.proxy_engines.specs.Ends.{RestState}
-use Rattle.proxy_engines.specs.Client.{Client, Carries, Goes}
-use Rattle.proxy_engines.specs.Socket.{Past, CarriesOn}
-use Rattle.proxy_engines.specs.Host.{HostMove, HostOutboxState, LinkState, CarriesHost, FailsHost, GoesOn, ReadsOn, WritesOn}
-use Rattle.proxy_engines.specs.Logs.{Logs, Since, client_logs, link_logs, CarriesLogs, CarriesHostLogs, LogsBegin, LogsMove, LogsStay, LogsServe, SocketLogsBegin, SocketLogsMove, SocketLogsStay, SocketLogsGoOver, SocketLogsServe, HostLogsBegin, HostLogsMove, HostLogsFail, HostLogsStay, HostLogsSend}
+use Rattle.proxy_history.specs.Own.{host_steps}
+use Rattle.proxy_engines.specs.Client.{Carries}
+use Rattle.proxy_engines.specs.Socket.{CarriesOn}
+use Rattle.proxy_engines.specs.Host.{HostOutboxState, LinkState, CarriesHost, ReadsOn, WritesOn}
+use Rattle.proxy_engines.specs.Logs.{Logs, Since, client_logs, link_logs, CarriesHostLogs, ClientsCarryLogs, HostsCarryLogs, SocketsCarryLogs}
 use Rattle.proxy_engines.proofs.ClientMoves.{carries_beside, log-append}
 use Rattle.proxy_engines.proofs.ClientLemmas.{accepted_first}
 use Rattle.proxy_engines.proofs.LeaveOthersLemmas.{others_leave_hosts}
@@ -33,53 +32,39 @@ so_then begun now P Q f s = record { taken = s.taken; told = s.told; taken_is = 
 
 -- CLIENTS
 
-pub logs_begin : LogsBegin
-logs_begin e H k = begins (client_logs e) (Carries e H) k
-
-pub logs_move : LogsMove
-logs_move old new H H' moved begun g s = moves_on begun (client_logs old) (client_logs new) (Carries old H) (Carries new H') g.gave g.got g.writes.taken g.reads.told (λ t b k. g.carries t b k) s
-
-pub logs_stay : LogsStay
-logs_stay e H later begun others s = so_then begun (client_logs e) (Carries e H) (Carries e (later ++ H)) (λ t b k. carries_beside e H later others t b k) s
-
-pub logs_serve : LogsServe
-logs_serve e H begun s = record {
-  told = s.told;
-  told_is = s.told_is;
-  taken_is = ap (λ z. z ++ e.outbox.pending) s.taken_is ∙ append_assoc begun.taken s.taken e.outbox.pending ∙ ap (λ z. begun.taken ++ z) s.so.out_is;
-  asked_are = λ rs are. accepted_first e H s.taken s.told s.so rs are;
+pub clients_carry_logs : ClientsCarryLogs
+clients_carry_logs = record {
+  begins = λ e H k. begins (client_logs e) (Carries e H) k;
+  moves = λ old new H H' moved begun g s. moves_on begun (client_logs old) (client_logs new) (Carries old H) (Carries new H') g.gave g.got g.writes.taken g.reads.told (λ t b k. g.carries t b k) s;
+  stays = λ e H later begun others s. so_then begun (client_logs e) (Carries e H) (Carries e (later ++ H)) (λ t b k. carries_beside e H later others t b k) s;
+  serves = λ e H begun s. record {
+    told = s.told;
+    told_is = s.told_is;
+    taken_is = ap (λ z. z ++ e.outbox.pending) s.taken_is ∙ append_assoc begun.taken s.taken e.outbox.pending ∙ ap (λ z. begun.taken ++ z) s.so.out_is;
+    asked_are = λ rs are. accepted_first e H s.taken s.told s.so rs are;
+  };
 }
 
 -- SOCKETS
 
-pub socket_logs_begin : SocketLogsBegin
-socket_logs_begin e H begun s = so_then begun (client_logs e) (Carries e H) (CarriesOn [] e H) (λ t b k. socket_begins e H t b k) s
-
-pub socket_logs_move : SocketLogsMove
-socket_logs_move ps old new H H' moved begun g s = moves_on begun (client_logs old) (client_logs new) (CarriesOn ps old H) (CarriesOn ps new H') g.gave g.got g.writes.taken g.reads.told (λ t b k. socket_moves ps old new H H' moved t b g k) s
-
-pub socket_logs_stay : SocketLogsStay
-socket_logs_stay ps e H later begun others s = so_then begun (client_logs e) (CarriesOn ps e H) (CarriesOn ps e (later ++ H)) (λ t b k. socket_stays ps e H later t b others k) s
-
-pub socket_logs_go_over : SocketLogsGoOver
-socket_logs_go_over ps e next H H' r begun leaves opens same s =
-    let past : Past = record { conn = e.conn; steps = H } in
-    subst (λ (z : Logs). Since begun z (CarriesOn (past ∷ ps) next H')) (sym same)
-    (so_then begun (client_logs e) (CarriesOn ps e H) (CarriesOn (past ∷ ps) next H') (λ t b k. socket_goes_over ps e next H H' r t b leaves opens k) s)
-
-pub socket_logs_serve : SocketLogsServe
-socket_logs_serve ps e H begun s = record {
-  told = s.told;
-  told_is = s.told_is;
-  taken_is = ap (λ z. z ++ e.outbox.pending) s.taken_is ∙ append_assoc begun.taken s.taken e.outbox.pending
-      ∙ ap (λ z. begun.taken ++ z) (socket_answers_in_order ps e H s.taken s.told s.so);
-  asked_are = λ rs are. socket_asks_in_order ps e H s.taken s.told s.so rs are;
+pub sockets_carry_logs : SocketsCarryLogs
+sockets_carry_logs = record {
+  begins = λ e H begun s. so_then begun (client_logs e) (Carries e H) (CarriesOn [] e H) (λ t b k. socket_begins e H t b k) s;
+  moves = λ ps old new H H' moved begun g s. moves_on begun (client_logs old) (client_logs new) (CarriesOn ps old H) (CarriesOn ps new H') g.gave g.got g.writes.taken g.reads.told (λ t b k. socket_moves ps old new H H' moved t b g k) s;
+  stays = λ ps e H later begun others s. so_then begun (client_logs e) (CarriesOn ps e H) (CarriesOn ps e (later ++ H)) (λ t b k. socket_stays ps e H later t b others k) s;
+  goes_over = λ ps old new H H' r begun over s.
+      subst (λ (z : Logs). Since begun z (CarriesOn (record { conn = old.conn; steps = H } ∷ ps) new H')) (sym over.logs)
+      (so_then begun (client_logs old) (CarriesOn ps old H) (CarriesOn (record { conn = old.conn; steps = H } ∷ ps) new H') (λ t b k. socket_goes_over ps old new H H' r t b over.leaves over.opens k) s);
+  serves = λ ps e H begun s. record {
+    told = s.told;
+    told_is = s.told_is;
+    taken_is = ap (λ z. z ++ e.outbox.pending) s.taken_is ∙ append_assoc begun.taken s.taken e.outbox.pending
+        ∙ ap (λ z. begun.taken ++ z) (socket_answers_in_order ps e H s.taken s.told s.so);
+    asked_are = λ rs are. socket_asks_in_order ps e H s.taken s.told s.so rs are;
+  };
 }
 
 -- HOSTS
-
-pub host_logs_begin : HostLogsBegin
-host_logs_begin l k H c = begins (link_logs k) (CarriesHost l (Some k) H) c
 
 host_moves : (l l' : HostOutboxState) (j k : Option LinkState) (H H' : History) (begun : Logs) (gave got : List ℕ) → ReadsOn j k got → WritesOn j k gave
     → ((t b : List ℕ) → CarriesHost l j H t b → CarriesHost l' k H' (t ++ gave) (b ++ got)) → CarriesHostLogs l j H begun → CarriesHostLogs l' k H' begun
@@ -89,21 +74,26 @@ host_moves l l' (Some j) None H H' begun gave got reads writes f c = absurd read
 host_moves l l' (Some j) (Some k) H H' begun gave got reads writes f c =
     moves_on begun (link_logs j) (link_logs k) (CarriesHost l (Some j) H) (CarriesHost l' (Some k) H') gave got writes.taken reads.told f c
 
-pub host_logs_move : HostLogsMove
-host_logs_move move moved begun g c = host_moves move.old.outbox move.new.outbox move.old.link move.new.link move.before move.after begun g.gave g.got g.reads g.writes g.carries c
+host_fails : (l l' : HostOutboxState) (j : Option LinkState) (H H' : History) (begun : Logs) → ((t b : List ℕ) → CarriesHost l j H t b → CarriesHost l' None H' [] [])
+    → CarriesHostLogs l j H begun → CarriesHost l' None H' [] []
+host_fails l l' None H H' begun f c = f [] [] c
+host_fails l l' (Some k) H H' begun f c = f c.taken c.told c.so
 
-pub host_logs_fail : HostLogsFail
-host_logs_fail move kind begun next f c = by move.old.link (λ t b k. f.carries t b k) c
-  where
-    by : (j : Option LinkState) → ((t b : List ℕ) → CarriesHost move.old.outbox j move.before t b → CarriesHost move.new.outbox None move.after [] [])
-        → CarriesHostLogs move.old.outbox j move.before begun → CarriesHost move.new.outbox None move.after [] []
-    by None g c = g [] [] c
-    by (Some k) g c = g c.taken c.told c.so
-
-pub host_logs_stay : HostLogsStay
-host_logs_stay l None H later begun others c = others_leave_hosts l None H later [] [] others c
-host_logs_stay l (Some k) H later begun others c =
+host_stays : (l : HostOutboxState) (k : Option LinkState) (H later : History) (begun : Logs) → host_steps l.host later ≡ [] → CarriesHostLogs l k H begun → CarriesHostLogs l k (later ++ H) begun
+host_stays l None H later begun others c = others_leave_hosts l None H later [] [] others c
+host_stays l (Some k) H later begun others c =
     so_then begun (link_logs k) (CarriesHost l (Some k) H) (CarriesHost l (Some k) (later ++ H)) (λ t b x. others_leave_hosts l (Some k) H later t b others x) c
 
-pub host_logs_send : HostLogsSend
-host_logs_send l k H begun s = ap (λ z. z ++ l.pending) s.taken_is ∙ append_assoc begun.taken s.taken l.pending ∙ ap (λ z. begun.taken ++ z) s.so.out_is
+pub hosts_carry_logs : HostsCarryLogs
+hosts_carry_logs = record {
+  begins = λ l k H c. begins (link_logs k) (CarriesHost l (Some k) H) c;
+  moves = λ move moved begun g c. host_moves move.old.outbox move.new.outbox move.old.link move.new.link move.before move.after begun g.gave g.got g.reads g.writes g.carries c;
+  fails = λ move kind begun next f c. host_fails move.old.outbox move.new.outbox move.old.link move.before move.after begun f.carries c;
+  stays = host_stays;
+  serves = λ l k H begun s. record {
+    told = s.told;
+    told_is = s.told_is;
+    taken_is = ap (λ z. z ++ l.pending) s.taken_is ∙ append_assoc begun.taken s.taken l.pending ∙ ap (λ z. begun.taken ++ z) s.so.out_is;
+    came_are = s.so.link_is;
+  };
+}

@@ -113,8 +113,8 @@ pub record TellsStep (cause : Refusal → Event → List Step → Type 0) (seen_
       → HasFailed old.outbox.counts new.outbox.counts × (new.stage ≡ Stage.Closed true))
   pub idle : IfOk result (λ p. p ≡ Progress.Idle → IsIdle cause old new seen_before seen_after)
 
--- A connection was opened, by one turn of this pass: what its reader has left and told, and what its writer holds and took, are
--- as those of this reader and this writer; requests are taken, and the engine is not drained.
+-- A connection was opened, by one turn of this pass, over a reader and a writer in these states: requests are taken, and the
+-- engine is not drained.
 pub record OpensClient (pass : ℕ) (before after : History) (reader : ReadState) (writer : WriteState) (new : Client) : Type 0 where
   pub opened : after ≡ step_by pass Event.Opened (Answer.Opened new.conn) ∷ before
   pub left_is : new.inbox.left ≡ reader.remaining

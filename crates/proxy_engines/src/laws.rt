@@ -1,7 +1,7 @@
 //! Laws of engines, and the limit of one read. Each is the contract of a function that does nothing.
 ghost use Rattle.std.specs.Prelude.{◌≡◌};
 ghost use Rattle.proxy_engines.specs.Laws.{AcceptedAreFirst, ClientsLeaveOthers, EndedIsOver, EndedIsWhole, HostsLeaveOthers, OthersLeaveClients, OthersLeaveHosts};
-ghost use Rattle.proxy_engines.specs.Logs.{HostLogsBegin, HostLogsFail, HostLogsMove, HostLogsSend, HostLogsStay, LogsBegin, LogsMove, LogsServe, LogsStay, SocketLogsBegin, SocketLogsGoOver, SocketLogsMove, SocketLogsServe, SocketLogsStay};
+ghost use Rattle.proxy_engines.specs.Logs.{ClientsCarryLogs, HostsCarryLogs, SocketsCarryLogs};
 ghost use Rattle.proxy_engines.specs.Socket.{SocketAnswersInOrder, SocketAsksInOrder, SocketBegins, SocketEndsWhole, SocketGoesOver, SocketMoves, SocketStays};
 
 use crate::inbox::READ_SIZE;
@@ -52,36 +52,22 @@ pub fn sockets_go_on()
     ensures ends { SocketEndsWhole }
 {}
 
-/// Over whatever devices, sockets included: a client's engine carries all that its writer took and its reader told since
-/// it was opened. So the writer's log, with pending bytes, grew by what was handed out. The accepted requests are the first
-/// ones that the bytes told since then give.
-///
-/// This holds where an engine is opened, and stays true over its moves and over other callers' steps.
+/// At any device, sockets included, a client's engine carries all that its writer took and its reader told since it was
+/// opened: over its moves, and over other callers' steps. So the writer's log, with pending bytes, grew by what was handed
+/// out. The accepted requests are the first ones that the bytes told since then give.
 pub fn clients_carry_logs()
-    ensures begins { LogsBegin }
-    ensures moves { LogsMove }
-    ensures stays { LogsStay }
-    ensures serves { LogsServe }
+    ensures { ClientsCarryLogs }
 {}
 
-/// The same over one connection after another of a socket, each in its own generation.
+/// The same over all connections of a socket, one after another.
 pub fn sockets_carry_logs()
-    ensures begins { SocketLogsBegin }
-    ensures moves { SocketLogsMove }
-    ensures stays { SocketLogsStay }
-    ensures goes_over { SocketLogsGoOver }
-    ensures serves { SocketLogsServe }
+    ensures { SocketsCarryLogs }
 {}
 
-/// A host's engine carries all that its link's writer took and its reader told since it was attached. So the writer's
-/// log, with pending bytes, grew by what was sent to the host in its epoch.
-///
-/// This holds where a link is attached, and stays true over the engine's moves, over a fault, which gives up the link, and
-/// over other callers' steps.
+/// A host's engine carries all that its link's writer took and its reader told since the link was attached: over its
+/// moves, over a fault, which gives up the link, and over other callers' steps. So the writer's log, with pending bytes,
+/// grew by what was sent to the host in its epoch. The replies that came are the first values of the bytes told since
+/// then.
 pub fn hosts_carry_logs()
-    ensures begins { HostLogsBegin }
-    ensures moves { HostLogsMove }
-    ensures fails { HostLogsFail }
-    ensures stays { HostLogsStay }
-    ensures sends { HostLogsSend }
+    ensures { HostsCarryLogs }
 {}

@@ -17,7 +17,7 @@ returns-in-Err-clause-goes g c =
 pub returns-in-Err-clause-fetches : goal.returns-in-Err-clause-fetches
 returns-in-Err-clause-fetches g c =
     record {
-      keeps = (search rules, ap (λ (e : Client). e.stage) c.self.view_is ∙ c.requires.stage, (c.next_request.ensures.keeps.0.1.1 ∙ ap (λ (e : Client). e.inbox.counts) c.self.view_is, ap (λ (e : Client). e.outbox.counts) c.self.view_is));
+      keeps = (search rules, ap (λ (e : Client). e.stage) c.self.view_is ∙ c.requires.stage, (c.next_request.ensures.keeps.0.2 ∙ ap (λ (e : Client). e.inbox.counts) c.self.view_is, ap (λ (e : Client). e.outbox.counts) c.self.view_is));
       next = tt;
       err = refl;
     }
@@ -25,7 +25,7 @@ returns-in-Err-clause-fetches g c =
 pub returns-in-Ok-clause-fetches : goal.returns-in-Ok-clause-fetches
 returns-in-Ok-clause-fetches g c =
     record {
-      keeps = (search rules, ap (λ (e : Client). e.stage) c.self.view_is ∙ c.requires.stage, (c.next_request.ensures.keeps.0.1.1 ∙ ap (λ (e : Client). e.inbox.counts) c.self.view_is, ap (λ (e : Client). e.outbox.counts) c.self.view_is));
+      keeps = (search rules, ap (λ (e : Client). e.stage) c.self.view_is ∙ c.requires.stage, (c.next_request.ensures.keeps.0.2 ∙ ap (λ (e : Client). e.inbox.counts) c.self.view_is, ap (λ (e : Client). e.outbox.counts) c.self.view_is));
       next = record { some = search rules; none = search rules };
       err = tt;
     }

@@ -73,7 +73,7 @@ returns-in-Ok-Some-Read-clause-err g c = tt
 
 pub returns-in-Ok-Some-Read-clause-counts : goal.returns-in-Ok-Some-Read-clause-counts
 returns-in-Ok-Some-Read-clause-counts g c =
-    ((c.next_request.ensures.keeps.0.0 ∙ ap (λ (k : LinkState). k.inbox.left) c.self.view_is, c.next_request.ensures.keeps.0.1.0 ∙ ap (λ (k : LinkState). k.inbox.told) c.self.view_is, c.next_request.ensures.keeps.0.1.1 ∙ ap (λ (k : LinkState). k.inbox.counts) c.self.view_is), ap (λ (k : LinkState). k.counts) c.self.view_is)
+    ((c.next_request.ensures.keeps.0.0 ∙ ap (λ (k : LinkState). k.inbox.left) c.self.view_is, c.next_request.ensures.keeps.0.1 ∙ ap (λ (k : LinkState). k.inbox.told) c.self.view_is, c.next_request.ensures.keeps.0.2 ∙ ap (λ (k : LinkState). k.inbox.counts) c.self.view_is), ap (λ (k : LinkState). k.counts) c.self.view_is)
 
 pub returns-in-Ok-Some-Broken-clause-found : goal.returns-in-Ok-Some-Broken-clause-found
 returns-in-Ok-Some-Broken-clause-found g c =
@@ -89,7 +89,7 @@ returns-in-Ok-Some-Broken-clause-err g c = tt
 
 pub returns-in-Ok-Some-Broken-clause-counts : goal.returns-in-Ok-Some-Broken-clause-counts
 returns-in-Ok-Some-Broken-clause-counts g c =
-    ((c.next_request.ensures.keeps.0.0 ∙ ap (λ (k : LinkState). k.inbox.left) c.self.view_is, c.next_request.ensures.keeps.0.1.0 ∙ ap (λ (k : LinkState). k.inbox.told) c.self.view_is, c.next_request.ensures.keeps.0.1.1 ∙ ap (λ (k : LinkState). k.inbox.counts) c.self.view_is), ap (λ (k : LinkState). k.counts) c.self.view_is)
+    ((c.next_request.ensures.keeps.0.0 ∙ ap (λ (k : LinkState). k.inbox.left) c.self.view_is, c.next_request.ensures.keeps.0.1 ∙ ap (λ (k : LinkState). k.inbox.told) c.self.view_is, c.next_request.ensures.keeps.0.2 ∙ ap (λ (k : LinkState). k.inbox.counts) c.self.view_is), ap (λ (k : LinkState). k.counts) c.self.view_is)
 
 pub returns-in-Ok-None-clause-found : goal.returns-in-Ok-None-clause-found
 returns-in-Ok-None-clause-found g c =
@@ -105,7 +105,7 @@ returns-in-Ok-None-clause-err g c = tt
 
 pub returns-in-Ok-None-clause-counts : goal.returns-in-Ok-None-clause-counts
 returns-in-Ok-None-clause-counts g c =
-    ((c.next_request.ensures.keeps.0.0 ∙ ap (λ (k : LinkState). k.inbox.left) c.self.view_is, c.next_request.ensures.keeps.0.1.0 ∙ ap (λ (k : LinkState). k.inbox.told) c.self.view_is, c.next_request.ensures.keeps.0.1.1 ∙ ap (λ (k : LinkState). k.inbox.counts) c.self.view_is), ap (λ (k : LinkState). k.counts) c.self.view_is)
+    ((c.next_request.ensures.keeps.0.0 ∙ ap (λ (k : LinkState). k.inbox.left) c.self.view_is, c.next_request.ensures.keeps.0.1 ∙ ap (λ (k : LinkState). k.inbox.told) c.self.view_is, c.next_request.ensures.keeps.0.2 ∙ ap (λ (k : LinkState). k.inbox.counts) c.self.view_is), ap (λ (k : LinkState). k.counts) c.self.view_is)
 
 pub returns-in-Err-clause-found : goal.returns-in-Err-clause-found
 returns-in-Err-clause-found g c = tt
@@ -115,4 +115,4 @@ returns-in-Err-clause-err g c = (refl, c.in-Err.ensures.err.1)
 
 pub returns-in-Err-clause-counts : goal.returns-in-Err-clause-counts
 returns-in-Err-clause-counts g c =
-    ((c.next_request.ensures.keeps.0.0 ∙ ap (λ (k : LinkState). k.inbox.left) c.self.view_is, c.next_request.ensures.keeps.0.1.0 ∙ ap (λ (k : LinkState). k.inbox.told) c.self.view_is, c.next_request.ensures.keeps.0.1.1 ∙ ap (λ (k : LinkState). k.inbox.counts) c.self.view_is), ap (λ (k : LinkState). k.counts) c.self.view_is)
+    ((c.next_request.ensures.keeps.0.0 ∙ ap (λ (k : LinkState). k.inbox.left) c.self.view_is, c.next_request.ensures.keeps.0.1 ∙ ap (λ (k : LinkState). k.inbox.told) c.self.view_is, c.next_request.ensures.keeps.0.2 ∙ ap (λ (k : LinkState). k.inbox.counts) c.self.view_is), ap (λ (k : LinkState). k.counts) c.self.view_is)
