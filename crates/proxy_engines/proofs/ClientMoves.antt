@@ -18,12 +18,12 @@ use Rattle.proxy_history.specs.OwnLaws.{SameOfConnection}
 use Rattle.proxy_history.specs.declared.event.Event.{Event}
 use Rattle.proxy_history.specs.declared.answer.Answer.{Answer}
 use Rattle.proxy_history.proofs.CallerLemmas as history
-use Rattle.proxy_engines.specs.Ends.{OutboxState, Sends, InboxState, Holds, HoldsBehind, HasGivenAll}
+use Rattle.proxy_engines.specs.Ends.{OutboxState, Sends, InboxState, Holds, HoldsBehind, HasGivenAll, KeepsReader, Reads, Writes}
 use Rattle.journal_core.specs.Journal.{step_by}
 use Rattle.proxy_engines.specs.Client.{Client, Carries, Goes, IsAtStage, IsDone, IsHalted, IsLive, IsOver, IsToldAt, IsUntaken, NoneFinishes, asked_requests, waiting_requests, Intake, intake_of}
 use Rattle.proxy_engines.specs.Moves.{has_moved, AsTold, IsEndOf, last_text, text_handed, told_by_step}
 use Rattle.proxy_engines.proofs.MoveLemmas.{end_then, has_moved-append, whole_end}
-use Rattle.proxy_engines.proofs.InboxLemmas.{behind_all, behind_kept, behind_more, behind_read}
+use Rattle.proxy_engines.proofs.InboxLemmas.{behind_all, behind_kept, behind_more, behind_read, kept_then}
 use Rattle.proxy_engines.specs.declared.client.Progress.{Progress}
 use Rattle.proxy_engines.specs.declared.client.Stage.{Stage}
 use Rattle.proxy_engines.specs.declared.error.EngineError.{EngineError}
@@ -50,6 +50,22 @@ Appends-append (Some xs) None c g h x y = absurd x
 Appends-append (Some xs) (Some ys) None g h x y = absurd y
 Appends-append (Some xs) (Some ys) (Some zs) g h x y = grind (arith, append_assoc)
 
+-- no byte was read, or written
+pub reads-none : (i j : InboxState) → KeepsReader i j → Reads i j []
+reads-none i j (left, told, _) = record { left = rw left (Consumes-none i.left); told = told ∙ sym (append-nil i.told) }
+
+pub writes-none : (o p : OutboxState) → (p.held ≡ o.held) × (p.taken ≡ o.taken) → Writes o p []
+writes-none o p (held, taken) = record { held = rw held (Appends-none o.held); taken = taken ∙ sym (append-nil o.taken) }
+
+pub log-append : (a b c g h : List ℕ) → b ≡ a ++ g → c ≡ b ++ h → c ≡ a ++ (g ++ h)
+log-append a b c g h p q = q ∙ ap (λ z. z ++ h) p ∙ append_assoc a g h
+
+pub reads-append : (a b c : InboxState) (g h : List ℕ) → Reads a b g → Reads b c h → Reads a c (g ++ h)
+reads-append a b c g h p q = record { left = Consumes-append a.left b.left c.left g h p.left q.left; told = log-append a.told b.told c.told g h p.told q.told }
+
+pub writes-append : (a b c : OutboxState) (g h : List ℕ) → Writes a b g → Writes b c h → Writes a c (g ++ h)
+writes-append a b c g h p q = record { held = Appends-append a.held b.held c.held g h p.held q.held; taken = log-append a.taken b.taken c.taken g h p.taken q.taken }
+
 true_not_false : true ≢ false
 true_not_false same = absurd cc
 
@@ -63,17 +79,17 @@ untaken : (old new : Client) → new.accepted ≡ old.accepted → new.next ≡ 
 untaken old new accepted next = λ _ _. record { accepted = accepted; next = next }
 
 -- no bytes, and one step of the connection
-turn_goes : (old new : Client) (H : History) (s : Step) → is_connection_step old.conn s.event s.answer ≡ true → IsEndOf new.outbox.pending (last_text text_handed old.outbox.pending (s ∷ [])) → TakesFit old new → new.conn ≡ old.conn → new.is_drained ≡ old.is_drained → new.inbox.left ≡ old.inbox.left → new.inbox.counts ≡ old.inbox.counts → new.outbox.held ≡ old.outbox.held
+turn_goes : (old new : Client) (H : History) (s : Step) → is_connection_step old.conn s.event s.answer ≡ true → IsEndOf new.outbox.pending (last_text text_handed old.outbox.pending (s ∷ [])) → TakesFit old new → new.conn ≡ old.conn → new.is_drained ≡ old.is_drained → KeepsReader old.inbox new.inbox → (new.outbox.held ≡ old.outbox.held) × (new.outbox.taken ≡ old.outbox.taken)
     → ((taken b : List ℕ) → Carries old H taken b → Carries new (s ∷ H) taken b) → Goes old new H (s ∷ H) true
-turn_goes old new H s mine one takes conn drained left counts held f = record {
+turn_goes old new H s mine one takes conn drained kept wrote f = record {
   got = [];
   gave = [];
   steps = s ∷ [];
-  reads = rw left (Consumes-none old.inbox.left);
-  writes = rw held (Appends-none old.outbox.held);
+  reads = reads-none old.inbox new.inbox kept;
+  writes = writes-none old.outbox new.outbox wrote;
   conn = conn;
   drained = drained;
-  unread = λ _. record { none = refl; left = left; counts = counts };
+  unread = λ _. record { none = refl; kept = kept };
   untaken = takes;
   adds = refl;
   moved_is = refl;
@@ -83,17 +99,17 @@ turn_goes old new H s mine one takes conn drained left counts held f = record {
 }
 
 -- no bytes, and no step
-still_goes : (old new : Client) (H : History) → TakesFit old new → new.conn ≡ old.conn → new.is_drained ≡ old.is_drained → new.inbox.left ≡ old.inbox.left → new.inbox.counts ≡ old.inbox.counts → new.outbox ≡ old.outbox
+still_goes : (old new : Client) (H : History) → TakesFit old new → new.conn ≡ old.conn → new.is_drained ≡ old.is_drained → KeepsReader old.inbox new.inbox → new.outbox ≡ old.outbox
     → ((taken b : List ℕ) → Carries old H taken b → Carries new H taken b) → Goes old new H H false
-still_goes old new H takes conn drained left counts outbox f = record {
+still_goes old new H takes conn drained kept outbox f = record {
   got = [];
   gave = [];
   steps = [];
-  reads = rw left (Consumes-none old.inbox.left);
-  writes = rw outbox (Appends-none old.outbox.held);
+  reads = reads-none old.inbox new.inbox kept;
+  writes = writes-none old.outbox new.outbox (ap (λ (o : OutboxState). o.held) outbox, ap (λ (o : OutboxState). o.taken) outbox);
   conn = conn;
   drained = drained;
-  unread = λ _. record { none = refl; left = left; counts = counts };
+  unread = λ _. record { none = refl; kept = kept };
   untaken = takes;
   adds = refl;
   moved_is = refl;
@@ -104,7 +120,7 @@ still_goes old new H takes conn drained left counts outbox f = record {
 
 -- nothing at all
 pub same_goes : (e : Client) (H H' : History) → H' ≡ H → Goes e e H H' false
-same_goes e H H' same = rw same (still_goes e e H (untaken e e refl refl) refl refl refl refl refl (λ taken b k. k))
+same_goes e H H' same = rw same (still_goes e e H (untaken e e refl refl) refl refl (refl, refl, refl) refl (λ taken b k. k))
 
 -- a turn that wasn't answered
 pub unanswered_goes : (e : Client) (H H' : History) (result : Result Progress EngineError) → H' ≡ H → IfOk result (λ p. p ≡ Progress.Idle) → AsTold (Goes e e H H') (told_by_step result)
@@ -117,11 +133,11 @@ goes_then a b c x y z m n p q = record {
   got = p.got ++ q.got;
   gave = p.gave ++ q.gave;
   steps = q.steps ++ p.steps;
-  reads = Consumes-append a.inbox.left b.inbox.left c.inbox.left p.got q.got p.reads q.reads;
-  writes = Appends-append a.outbox.held b.outbox.held c.outbox.held p.gave q.gave p.writes q.writes;
+  reads = reads-append a.inbox b.inbox c.inbox p.got q.got p.reads q.reads;
+  writes = writes-append a.outbox b.outbox c.outbox p.gave q.gave p.writes q.writes;
   conn = q.conn ∙ p.conn;
   drained = q.drained ∙ p.drained;
-  unread = λ d. let first = p.unread d in let second = q.unread (p.drained ∙ d) in record { none = rw (first.none, second.none) refl; left = second.left ∙ first.left; counts = second.counts ∙ first.counts };
+  unread = λ d. let first = p.unread d in let second = q.unread (p.drained ∙ d) in record { none = rw (first.none, second.none) refl; kept = kept_then a.inbox b.inbox c.inbox first.kept second.kept };
   untaken = λ d fit.
       let first = p.untaken d fit in
       let second = q.untaken (p.drained ∙ d) (rw first.next fit) in
@@ -193,7 +209,7 @@ module _ (e : Client) (pass : ℕ) (H : History) (t : List ℕ) where
       }
 
   pub handed_goes : length (step_by pass (Event.Handed e.conn) (Answer.Bytes t) ∷ H) ≤ max_steps → e.outbox.pending ≡ [] → IsLive e.stage → Goes e after_hand H (step_by pass (Event.Handed e.conn) (Answer.Bytes t) ∷ H) true
-  handed_goes few empty live = turn_goes e after_hand H (step_by pass (Event.Handed e.conn) (Answer.Bytes t)) (rw (eq-eqb e.conn e.conn refl) refl) (whole_end t) (untaken e after_hand refl refl) refl refl refl refl refl (handed_carries few empty live)
+  handed_goes few empty live = turn_goes e after_hand H (step_by pass (Event.Handed e.conn) (Answer.Bytes t)) (rw (eq-eqb e.conn e.conn refl) refl) (whole_end t) (untaken e after_hand refl refl) refl refl (refl, refl, refl) (refl, refl) (handed_carries few empty live)
 
 -- STEPS THAT HAND OUT NOTHING AND ACCEPT NOTHING
 
@@ -211,7 +227,7 @@ quiet_goes : (e : Client) (stage : Stage) (s : Step) (H : History) → stage ≢
     → IsAtStage stage (IsDone (record e { stage = stage }) (s ∷ H)) (intake_of e H b given))
     → (IsToldAt e.stage (is_finishing e.conn H) (is_closed e.conn H) → IsToldAt stage (is_finishing e.conn (s ∷ H)) (is_closed e.conn (s ∷ H)))
     → Goes e (record e { stage = stage }) H (s ∷ H) true
-quiet_goes e stage s H past q f told = turn_goes e (record e { stage = stage }) H s q.mine (rw q.no_text (whole_end e.outbox.pending)) (untaken e (record e { stage = stage }) refl refl) refl refl refl refl refl (λ taken b k. record {
+quiet_goes e stage s H past q f told = turn_goes e (record e { stage = stage }) H s q.mine (rw q.no_text (whole_end e.outbox.pending)) (untaken e (record e { stage = stage }) refl refl) refl refl (refl, refl, refl) (refl, refl) (λ taken b k. record {
   given = k.given;
   out_is = k.out_is ∙ sym q.same_transcript;
   holds = k.holds;
@@ -255,7 +271,7 @@ pub cut_goes : (e : Client) (pass : ℕ) (a : Answer) (H : History) → Goes e (
 cut_goes e pass a H = quiet_goes e (Stage.Closed true) (step_by pass (Event.Closed e.conn) a) H (λ o. absurd cc) (quiet_closed e.conn pass a H) (λ b given at. tt) (λ told. rw (eq-eqb e.conn e.conn refl) refl)
 
 pub failed_goes : (e : Client) (H H' : History) → H' ≡ H → Goes e (record e { stage = Stage.Failed }) H H' false
-failed_goes e H H' same = rw same (still_goes e (record e { stage = Stage.Failed }) H (untaken e (record e { stage = Stage.Failed }) refl refl) refl refl refl refl refl (λ taken b k. record {
+failed_goes e H H' same = rw same (still_goes e (record e { stage = Stage.Failed }) H (untaken e (record e { stage = Stage.Failed }) refl refl) refl refl (refl, refl, refl) refl (λ taken b k. record {
   given = k.given;
   out_is = k.out_is;
   holds = k.holds;
@@ -283,11 +299,11 @@ wrote_goes e o gave H moved live sends told = record {
   got = [];
   gave = gave;
   steps = [];
-  reads = Consumes-none e.inbox.left;
-  writes = sends.held;
+  reads = reads-none e.inbox e.inbox (refl, refl, refl);
+  writes = sends.writes;
   conn = refl;
   drained = refl;
-  unread = λ _. record { none = refl; left = refl; counts = refl };
+  unread = λ _. record { none = refl; kept = (refl, refl, refl) };
   untaken = λ _ _. record { accepted = refl; next = refl };
   adds = refl;
   moved_is = told;
@@ -321,7 +337,7 @@ module _ (e : Client) (r : Request') (pass : ℕ) (H : History) (a : Answer) (op
   arrived_as stage f told =
       let mine : (e.conn == e.conn) ≡ true = eq-eqb e.conn e.conn refl in
       let new : Client = record e { next = None; accepted = min (e.accepted + 1) (2 ^ 64 - 1); stage = stage } in
-      turn_goes e new H (step_by pass (Event.Arrived e.conn r) a) (rw mine refl) (whole_end e.outbox.pending) (λ d fit. absurd (fit (last d))) refl refl refl refl refl (λ taken b k. record {
+      turn_goes e new H (step_by pass (Event.Arrived e.conn r) a) (rw mine refl) (whole_end e.outbox.pending) (λ d fit. absurd (fit (last d))) refl refl (refl, refl, refl) (refl, refl) (λ taken b k. record {
         given = k.given;
         out_is = k.out_is ∙ sym (append-nil (transcript e.conn H));
         holds = k.holds;
@@ -345,9 +361,9 @@ module _ (e : Client) (r : Request') (pass : ℕ) (H : History) (a : Answer) (op
 -- WHAT COMES IN
 
 -- a request has come whole, or none has
-pub fetched_goes : (e : Client) (i : InboxState) (next : Option Request') (H : History) → e.stage ≡ Stage.Open → e.next ≡ None → e.is_drained ≡ false → i.left ≡ e.inbox.left → i.counts ≡ e.inbox.counts → i.values.most ≡ e.inbox.values.most
+pub fetched_goes : (e : Client) (i : InboxState) (next : Option Request') (H : History) → e.stage ≡ Stage.Open → e.next ≡ None → e.is_drained ≡ false → KeepsReader e.inbox i → i.values.most ≡ e.inbox.values.most
     → ((b : List ℕ) (rs : List Request) → Holds e.inbox b rs → Holds i b (rs ++ waiting_requests next)) → Goes e (record e { inbox = i; next = next }) H H false
-fetched_goes e i next H open_is none reads left counts most f = still_goes e (record e { inbox = i; next = next }) H (λ d _. absurd (true_not_false (sym d ∙ reads))) refl refl left counts refl (λ taken b k. record {
+fetched_goes e i next H open_is none reads kept most f = still_goes e (record e { inbox = i; next = next }) H (λ d _. absurd (true_not_false (sym d ∙ reads))) refl refl kept refl (λ taken b k. record {
   given = k.given ++ waiting_requests next;
   out_is = k.out_is;
   holds = behind_more e.inbox i (waiting_requests next) f b k.given k.holds;
@@ -361,9 +377,9 @@ fetched_goes e i next H open_is none reads left counts most f = still_goes e (re
 })
 
 -- the reader of values went on, and gave none
-pub kept_goes : (e : Client) (i : InboxState) (H : History) → e.stage ≡ Stage.Open → i.left ≡ e.inbox.left → i.counts ≡ e.inbox.counts → i.values.most ≡ e.inbox.values.most
+pub kept_goes : (e : Client) (i : InboxState) (H : History) → e.stage ≡ Stage.Open → KeepsReader e.inbox i → i.values.most ≡ e.inbox.values.most
     → ((b : List ℕ) (rs : List Request) → Holds e.inbox b rs → Holds i b rs) → Goes e (record e { inbox = i }) H H false
-kept_goes e i H open_is left counts most f = still_goes e (record e { inbox = i }) H (untaken e (record e { inbox = i }) refl refl) refl refl left counts refl (λ taken b k. record {
+kept_goes e i H open_is kept most f = still_goes e (record e { inbox = i }) H (untaken e (record e { inbox = i }) refl refl) refl refl kept refl (λ taken b k. record {
   given = k.given;
   out_is = k.out_is;
   holds = behind_kept e.inbox i f b k.given k.holds;
@@ -392,14 +408,14 @@ read_holds i j b rs whole empty same h = record {
   after = rw (same, whole) tt;
 }
 
-pub read_goes : (e : Client) (i : InboxState) (H : History) (moved : Bool) → moved ≡ has_moved i.fresh [] [] → e.stage ≡ Stage.Open → e.is_drained ≡ false → e.inbox.values.refusal ≡ None → e.inbox.fresh ≡ [] → Consumes e.inbox.left i.left i.fresh → i.values ≡ e.inbox.values
+pub read_goes : (e : Client) (i : InboxState) (H : History) (moved : Bool) → moved ≡ has_moved i.fresh [] [] → e.stage ≡ Stage.Open → e.is_drained ≡ false → e.inbox.values.refusal ≡ None → e.inbox.fresh ≡ [] → Reads e.inbox i i.fresh → i.values ≡ e.inbox.values
     → Goes e (record e { inbox = i }) H H moved
 read_goes e i H moved told open_is reads whole empty input same = record {
   got = i.fresh;
   gave = [];
   steps = [];
   reads = input;
-  writes = Appends-none e.outbox.held;
+  writes = writes-none e.outbox e.outbox (refl, refl);
   conn = refl;
   drained = refl;
   unread = λ d. absurd (true_not_false (sym d ∙ reads));
@@ -425,7 +441,7 @@ read_goes e i H moved told open_is reads whole empty input same = record {
 -- no byte is read any more
 pub over_goes : (e : Client) (H : History) → e.stage ≡ Stage.Open → e.next ≢ Some Request'.Broken → (e.is_drained ≡ false → e.next ≡ None) → (e.is_drained ≡ false → HasGivenAll e.inbox) → IsOver e.is_drained e.inbox
     → Goes e (record e { stage = Stage.AtEnd; is_halted = e.is_drained }) H H false
-over_goes e H open_is unbroken none all over = still_goes e (record e { stage = Stage.AtEnd; is_halted = e.is_drained }) H (untaken e (record e { stage = Stage.AtEnd; is_halted = e.is_drained }) refl refl) refl refl refl refl refl (λ taken b k. record {
+over_goes e H open_is unbroken none all over = still_goes e (record e { stage = Stage.AtEnd; is_halted = e.is_drained }) H (untaken e (record e { stage = Stage.AtEnd; is_halted = e.is_drained }) refl refl) refl refl (refl, refl, refl) refl (λ taken b k. record {
   given = k.given;
   out_is = k.out_is;
   holds = k.holds;

@@ -56,8 +56,8 @@ module _ (i j k : LinkState) (P L : Type 0) (inbox : j.inbox.counts.failed ≡ i
 
 -- a read, and moves before and after it that make none
 pub read_kept : (i j k l : InboxState) → KeepsReader i j → KeepsReader k l → HasRead j k → HasRead i l
-read_kept i j k l (left, counts) (left', counts') (failed, inl (got, some, took)) = (rw (counts', ← counts) failed, inl (got, some, rw (left', ← left) took))
-read_kept i j k l (left, counts) (left', counts') (failed, inr paused) = (rw (counts', ← counts) failed, inr (rw (counts', ← counts) paused))
+read_kept i j k l (left, told, counts) (left', told', counts') (failed, inl (got, some, took)) = (rw (counts', ← counts) failed, inl (got, some, record { left = rw (left', ← left) took.left; told = rw (told', ← told) took.told }))
+read_kept i j k l (left, told, counts) (left', told', counts') (failed, inr paused) = (rw (counts', ← counts) failed, inr (rw (counts', ← counts) paused))
 
 -- the error of a fault tells of no turn
 pub cause_numbered : (cause : Refusal → Event → List Step → Type 0) (seen : List Step) (on : HostOutboxState) (kind : Kind) (error : Option EngineError) (j k : LinkState) (P L : Type 0) → IsCauseOf P L (from_to j k) kind error → IfErr (answer_of error) (IsNumberedOn cause seen on)

@@ -1,11 +1,11 @@
 -- A writer that passes on what it gathered moves nothing of what an engine carries.
-use Rattle.std.proofs.Common.{◌≡◌, ℕ, false, true, List, [], Option, Some, None, append-nil, refl}
+use Rattle.std.proofs.Common.{◌≡◌, ◌∙◌, ℕ, false, true, List, [], Option, Some, None, append-nil, refl, sym}
 use Rattle.std.specs.Io.KnownBytes.{Appends, Keeps}
 use Rattle.proxy_history.specs.History.{History}
 use Rattle.proxy_engines.specs.Ends.{OutboxState}
 use Rattle.proxy_engines.specs.Client.{Client, Goes, IsAtStage, IsDone, Intake, intake_of}
 use Rattle.proxy_engines.specs.declared.client.Stage.{Stage}
-use Rattle.proxy_engines.proofs.ClientMoves.{Consumes-none}
+use Rattle.proxy_engines.proofs.ClientMoves.{reads-none}
 use Rattle.proxy_engines.proofs.MoveLemmas.{whole_end}
 
 Appends-kept : (a b : Option (List ℕ)) → Keeps a b → Appends a b []
@@ -27,16 +27,16 @@ module _ (e : Client) (o : OutboxState) (H : History) (same : o.pending ≡ e.ou
   done_still : IsDone e H → IsDone (record e { outbox = o }) H
   done_still d = record { all_written = rw same d.all_written; all_handed = d.all_handed; closed = d.closed }
 
-  pub flushed_goes : Keeps e.outbox.held o.held → Goes e (record e { outbox = o }) H H false
-  flushed_goes held = record {
+  pub flushed_goes : Keeps e.outbox.held o.held → o.taken ≡ e.outbox.taken → Goes e (record e { outbox = o }) H H false
+  flushed_goes held taken_is = record {
     got = [];
     gave = [];
     steps = [];
-    reads = Consumes-none e.inbox.left;
-    writes = Appends-kept e.outbox.held o.held held;
+    reads = reads-none e.inbox e.inbox (refl, refl, refl);
+    writes = record { held = Appends-kept e.outbox.held o.held held; taken = taken_is ∙ sym (append-nil e.outbox.taken) };
     conn = refl;
     drained = refl;
-    unread = λ _. record { none = refl; left = refl; counts = refl };
+    unread = λ _. record { none = refl; kept = (refl, refl, refl) };
     untaken = λ _ _. record { accepted = refl; next = refl };
     adds = refl;
     moved_is = refl;

@@ -2,7 +2,7 @@
 use Rattle.std.proofs.Common.{◌≡◌, ◌≢◌, ◌∙◌, ◌≤◌, ◌<◌, ◌+◌, ◌-◌, ◌^◌, ◌==◌, min, ℕ, Bool, true, false, List, [], ◌∷◌, ◌++◌, Option, Some, None, map, ap, append_assoc, append-nil, length, refl, sym, arith, eq-eqb, subst}
 use Rattle.std.specs.Prelude.{drop, slice_index_or, ◌||◌}
 use Rattle.std.specs.Option.{is_some}
-use Rattle.std.specs.Io.KnownBytes.{Consumes, Appends}
+use Rattle.std.specs.Io.KnownBytes.{Appends}
 use Rattle.std.proofs.lemmas.Bool.{ne_eqb}
 use Rattle.std.proofs.lemmas.List.{map-append}
 use Rattle.std.proofs.lemmas.List.Elements.{filter-append, All-append, All-cons, All-nil}
@@ -23,14 +23,14 @@ use Rattle.proxy_history.specs.declared.event.Event.{Event}
 use Rattle.proxy_history.specs.declared.event.Kind.{Kind}
 use Rattle.proxy_history.specs.declared.answer.Answer.{Answer}
 use Rattle.proxy_history.proofs.CallerLemmas as history
-use Rattle.proxy_engines.specs.Ends.{InboxState, Holds, HasGivenAll, refusal_requests}
+use Rattle.proxy_engines.specs.Ends.{InboxState, Holds, HasGivenAll, KeepsReader, Reads, refusal_requests}
 use Rattle.journal_core.specs.Journal.{step_by}
-use Rattle.proxy_engines.specs.Host.{HostMove, HostOutboxState, LinkState, IsOnLink, CarriesHost, GoesOn, FailsHost, IsReplyAt, ReadsOn, WritesOn, moments_by, moments_after, waiting_requests, next_link}
+use Rattle.proxy_engines.specs.Host.{HostMove, HostOutboxState, LinkState, IsOnLink, CarriesHost, GoesOn, FailsHost, IsReplyAt, ReadsOn, WritesLink, WritesOn, moments_by, moments_after, waiting_requests, next_link}
 use Rattle.proxy_engines.specs.Moves.{has_moved, AsTold, IsEndOf, text_sent}
 use Rattle.proxy_engines.specs.Faults.{either, told_by_outcome}
 use Rattle.proxy_engines.specs.declared.link.Outcome.{Outcome}
 use Rattle.proxy_engines.proofs.MoveLemmas.{empty_end, end_then, has_moved-append, or-false, or-true, whole_end}
-use Rattle.proxy_engines.proofs.ClientMoves.{Consumes-none, Appends-none, Consumes-append, Appends-append, read_holds}
+use Rattle.proxy_engines.proofs.ClientMoves.{Appends-none, Appends-append, log-append, reads-append, reads-none, read_holds}
 
 -- moves from one outbox and link to the next
 abbrev pub moves : HostOutboxState → HostOutboxState → Option LinkState → Option LinkState → History → History → ℕ → HostMove
@@ -43,11 +43,14 @@ GoesBy l l' k k' H H' m = GoesOn (moves l l' k k' H H' m)
 
 reads_none : (k : Option LinkState) → ReadsOn k k []
 reads_none None = refl
-reads_none (Some k) = Consumes-none k.inbox.left
+reads_none (Some k) = reads-none k.inbox k.inbox (refl, refl, refl)
+
+link_writes_none : (j k : LinkState) → (k.held ≡ j.held) × (k.taken ≡ j.taken) → WritesLink j k []
+link_writes_none j k (held, taken) = record { held = rw held (Appends-none j.held); taken = taken ∙ sym (append-nil j.taken) }
 
 writes_none : (k : Option LinkState) → WritesOn k k []
 writes_none None = refl
-writes_none (Some k) = Appends-none k.held
+writes_none (Some k) = link_writes_none k k (refl, refl)
 
 reads_then : (a b c : Option LinkState) (g h : List ℕ) → ReadsOn a b g → ReadsOn b c h → ReadsOn a c (g ++ h)
 reads_then None None None g h x y = rw (x, y) refl
@@ -55,7 +58,7 @@ reads_then None None (Some k) g h x y = absurd y
 reads_then None (Some k) c g h x y = absurd x
 reads_then (Some j) None c g h x y = absurd x
 reads_then (Some j) (Some k) None g h x y = absurd y
-reads_then (Some i) (Some j) (Some k) g h x y = Consumes-append i.inbox.left j.inbox.left k.inbox.left g h x y
+reads_then (Some i) (Some j) (Some k) g h x y = reads-append i.inbox j.inbox k.inbox g h x y
 
 writes_then : (a b c : Option LinkState) (g h : List ℕ) → WritesOn a b g → WritesOn b c h → WritesOn a c (g ++ h)
 writes_then None None None g h x y = rw (x, y) refl
@@ -63,7 +66,7 @@ writes_then None None (Some k) g h x y = absurd y
 writes_then None (Some k) c g h x y = absurd x
 writes_then (Some j) None c g h x y = absurd x
 writes_then (Some j) (Some k) None g h x y = absurd y
-writes_then (Some i) (Some j) (Some k) g h x y = Appends-append i.held j.held k.held g h x y
+writes_then (Some i) (Some j) (Some k) g h x y = record { held = Appends-append i.held j.held k.held g h x.held y.held; taken = log-append i.taken j.taken k.taken g h x.taken y.taken }
 
 -- MOVES
 
@@ -239,9 +242,9 @@ first_is (y ∷ ys) x l e = (ys, ap (λ z. z ∷ ys) (sym e))
 -- A LINK
 
 -- what was read goes on to the reader of values
-pub sought_on : (l : HostOutboxState) (k : LinkState) (i : InboxState) (next : Option Value) (H : History) (m : ℕ) → k.next ≡ None → k.inbox.values.refusal ≡ None → i.left ≡ k.inbox.left → i.values.most ≡ k.inbox.values.most
+pub sought_on : (l : HostOutboxState) (k : LinkState) (i : InboxState) (next : Option Value) (H : History) (m : ℕ) → k.next ≡ None → k.inbox.values.refusal ≡ None → KeepsReader k.inbox i → i.values.most ≡ k.inbox.values.most
     → ((b : List ℕ) (rs : List Request) → Holds k.inbox b rs → Holds i b (rs ++ (waiting_requests next ++ refusal_requests i.values.refusal))) → GoesBy l l (Some k) (Some (record k { inbox = i; next = next })) H H m false
-sought_on l k i next H m none whole left most f = rests_on l (Some k) (Some (record k { inbox = i; next = next })) H m (rw left (Consumes-none k.inbox.left)) (Appends-none k.held) (λ came taken b h. record {
+sought_on l k i next H m none whole kept most f = rests_on l (Some k) (Some (record k { inbox = i; next = next })) H m (reads-none k.inbox i kept) (link_writes_none k (record k { inbox = i; next = next }) (refl, refl)) (λ came taken b h. record {
   given = h.given ++ (waiting_requests next ++ refusal_requests i.values.refusal);
   holds = f b h.given h.holds;
   most_is = most ∙ h.most_is;
@@ -249,9 +252,9 @@ sought_on l k i next H m none whole left most f = rests_on l (Some k) (Some (rec
 })
 
 -- and no value came by it
-pub sought_none : (l : HostOutboxState) (k : LinkState) (i : InboxState) (H : History) (m : ℕ) → k.next ≡ None → k.inbox.values.refusal ≡ None → i.left ≡ k.inbox.left → i.values.most ≡ k.inbox.values.most
+pub sought_none : (l : HostOutboxState) (k : LinkState) (i : InboxState) (H : History) (m : ℕ) → k.next ≡ None → k.inbox.values.refusal ≡ None → KeepsReader k.inbox i → i.values.most ≡ k.inbox.values.most
     → ((b : List ℕ) (rs : List Request) → Holds k.inbox b rs → Holds i b (rs ++ refusal_requests i.values.refusal)) → GoesBy l l (Some k) (Some (record k { inbox = i })) H H m false
-sought_none l k i H m none whole left most f = rests_on l (Some k) (Some (record k { inbox = i })) H m (rw left (Consumes-none k.inbox.left)) (Appends-none k.held) (λ came taken b h. record {
+sought_none l k i H m none whole kept most f = rests_on l (Some k) (Some (record k { inbox = i })) H m (reads-none k.inbox i kept) (link_writes_none k (record k { inbox = i }) (refl, refl)) (λ came taken b h. record {
   given = h.given ++ refusal_requests i.values.refusal;
   holds = f b h.given h.holds;
   most_is = most ∙ h.most_is;
@@ -285,8 +288,8 @@ answered_on l k v pass H a m next = record {
   epoch = refl;
   moments = refl;
   replies_at = All-cons (λ (s : Step). IsReplyAt m s.event) _ [] refl (All-nil (λ (s : Step). IsReplyAt m s.event));
-  reads = Consumes-none k.inbox.left;
-  writes = Appends-none k.held;
+  reads = reads-none k.inbox k.inbox (refl, refl, refl);
+  writes = link_writes_none k (record k { next = None }) (refl, refl);
   one_text = whole_end l.pending;
   carries = λ taken b c. rw (append-nil taken, append-nil b) (record {
     out_is = c.out_is ∙ sym (append-nil (upstream l.host l.epoch H));
@@ -312,9 +315,9 @@ answered_on l k v pass H a m next = record {
     more_came before after rest e = rw (e, map-append read before (tree_of v ∷ [])) (sym (append_assoc (map read before) (read (tree_of v) ∷ []) rest))
 
 -- a write
-pub wrote_on : (l : HostOutboxState) (k k' : LinkState) (gave rest : List ℕ) (H : History) (m : ℕ) (moved : Bool) → moved ≡ has_moved [] gave [] → k'.inbox ≡ k.inbox → k'.next ≡ k.next → Appends k.held k'.held gave → l.pending ≡ gave ++ rest
+pub wrote_on : (l : HostOutboxState) (k k' : LinkState) (gave rest : List ℕ) (H : History) (m : ℕ) (moved : Bool) → moved ≡ has_moved [] gave [] → k'.inbox ≡ k.inbox → k'.next ≡ k.next → Appends k.held k'.held gave → k'.taken ≡ k.taken ++ gave → l.pending ≡ gave ++ rest
     → GoesBy l (record l { pending = rest }) (Some k) (Some k') H H m moved
-wrote_on l k k' gave rest H m moved told inbox next writes split = record {
+wrote_on l k k' gave rest H m moved told inbox next held taken_is split = record {
   got = [];
   gave = gave;
   steps = [];
@@ -327,8 +330,8 @@ wrote_on l k k' gave rest H m moved told inbox next writes split = record {
   epoch = refl;
   moments = refl;
   replies_at = All-nil (λ (s : Step). IsReplyAt m s.event);
-  reads = rw inbox (Consumes-none k.inbox.left);
-  writes = writes;
+  reads = rw inbox (reads-none k.inbox k.inbox (refl, refl, refl));
+  writes = record { held = held; taken = taken_is };
   one_text = (gave, split);
   carries = λ taken b c. rw (append-nil b) (record {
     out_is = append_assoc taken gave rest ∙ ap (λ z. taken ++ z) (sym split) ∙ c.out_is;
@@ -340,7 +343,7 @@ wrote_on l k k' gave rest H m moved told inbox next writes split = record {
 }
 
 -- a read, where nothing waits for the reader of values
-pub heard_on : (l : HostOutboxState) (k : LinkState) (i : InboxState) (H : History) (m : ℕ) (moved : Bool) → moved ≡ has_moved i.fresh [] [] → HasGivenAll k.inbox → Consumes k.inbox.left i.left i.fresh → i.values ≡ k.inbox.values → GoesBy l l (Some k) (Some (record k { inbox = i })) H H m moved
+pub heard_on : (l : HostOutboxState) (k : LinkState) (i : InboxState) (H : History) (m : ℕ) (moved : Bool) → moved ≡ has_moved i.fresh [] [] → HasGivenAll k.inbox → Reads k.inbox i i.fresh → i.values ≡ k.inbox.values → GoesBy l l (Some k) (Some (record k { inbox = i })) H H m moved
 heard_on l k i H m moved told all input same = record {
   got = i.fresh;
   gave = [];
@@ -355,7 +358,7 @@ heard_on l k i H m moved told all input same = record {
   moments = refl;
   replies_at = All-nil (λ (s : Step). IsReplyAt m s.event);
   reads = input;
-  writes = Appends-none k.held;
+  writes = link_writes_none k (record k { inbox = i }) (refl, refl);
   one_text = whole_end l.pending;
   carries = λ taken b c. rw (append-nil taken) (record {
     out_is = c.out_is;

@@ -11,7 +11,11 @@ use Rattle.splitter.specs.Request.{Request as Asked, read, broken}
 use Rattle.splitter.specs.Requests.{AreRequests as Asks}
 use Rattle.splitter.proofs.CallerLemmas as splits
 use Rattle.proxy_devices.specs.Device.{Counts}
-use Rattle.proxy_engines.specs.Ends.{InboxState, RestState, Holds, HoldsBehind, HasGivenAll, AreRequests, IsCut, end_with}
+use Rattle.proxy_engines.specs.Ends.{InboxState, RestState, Holds, HoldsBehind, HasGivenAll, AreRequests, IsCut, KeepsReader, end_with}
+
+-- two moves after one another that leave the reader as it was
+pub kept_then : (i j k : InboxState) → KeepsReader i j → KeepsReader j k → KeepsReader i k
+kept_then i j k (left, told, counts) (left', told', counts') = (left' ∙ left, told' ∙ told, counts' ∙ counts)
 
 after-none : (i : InboxState) → i.fresh ≡ [] → IfSome i.values.refusal (λ _. i.fresh ≡ [])
 after-none i e = if_some i.values.refusal e
@@ -76,7 +80,7 @@ cut-holds i r b rs none same none' f h =
       rest = behind.rest ++ r.fresh;
       requests = rw (none, append-nil (map read h.given)) at h.requests;
       splits = rw (h.bytes, same) (splits_fed i.values.most h.fed behind.rest i.fresh h.given behind.splits);
-      holds = λ left counts. record {
+      holds = λ left told counts. record {
         fed = behind.rest;
         given = [];
         bytes = refl;
@@ -132,7 +136,7 @@ behind_all i b rs most all h =
     rw (most, h.requests) here
 
 -- an end with a rest
-with-holds : (i : InboxState) (r : RestState) (b : List ℕ) (rs : List Asked) → i.fresh ≡ r.fresh → i.values ≡ r.values → Holds (end_with i.left i.counts r) b rs → Holds i b rs
+with-holds : (i : InboxState) (r : RestState) (b : List ℕ) (rs : List Asked) → i.fresh ≡ r.fresh → i.values ≡ r.values → Holds (end_with i.left i.told i.counts r) b rs → Holds i b rs
 with-holds i r b rs fresh values h = record {
   fed = h.fed;
   given = h.given;
@@ -142,5 +146,5 @@ with-holds i r b rs fresh values h = record {
   after = rw (values, fresh) h.after;
 }
 
-pub with-behind : (i : InboxState) (r : RestState) (b : List ℕ) (rs : List Asked) → i.fresh ≡ r.fresh → i.values ≡ r.values → ((left : Option (List ℕ)) (counts : Counts) → HoldsBehind (end_with left counts r) b rs) → HoldsBehind i b rs
-with-behind i r b rs fresh values f = behind_kept (end_with i.left i.counts r) i (λ x qs h. with-holds i r x qs fresh values h) b rs (f i.left i.counts)
+pub with-behind : (i : InboxState) (r : RestState) (b : List ℕ) (rs : List Asked) → i.fresh ≡ r.fresh → i.values ≡ r.values → ((left : Option (List ℕ)) (told : List ℕ) (counts : Counts) → HoldsBehind (end_with left told counts r) b rs) → HoldsBehind i b rs
+with-behind i r b rs fresh values f = behind_kept (end_with i.left i.told i.counts r) i (λ x qs h. with-holds i r x qs fresh values h) b rs (f i.left i.told i.counts)

@@ -15,3 +15,4 @@ pub mod FlushLemmas
 pub mod ZipLemmas
 pub mod SendLemmas
 pub mod AnswerLemmas
+pub mod LogsLemmas

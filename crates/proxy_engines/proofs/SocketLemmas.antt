@@ -53,7 +53,7 @@ module _ (e : Client) (H : History) (taken b : List ℕ) (k : Carries e H taken 
     rest : List ℕ
     splits : Splits MAX_CLIENT_MEMBERS b values rest
     ask : map read values ≡ asked_requests e.conn H ++ waiting_requests e.next
-    holds : (left : Option (List ℕ)) (counts : Counts) → Holds (end_with left counts r) rest []
+    holds : (left : Option (List ℕ)) (told : List ℕ) (counts : Counts) → Holds (end_with left told counts r) rest []
 
   given : ((x : List ℕ) (rs : List Request) → Holds e.inbox x rs → IsCut e.inbox.values.most x rs r) → Given
   given f =
@@ -84,12 +84,12 @@ module _ (e : Client) (H : History) (taken b : List ℕ) (k : Carries e H taken 
         goes_on = halted.goes_on;
         stands = record {
           most_is = most ∙ k.most_is;
-          holds = λ left counts. record {
+          holds = λ left told counts. record {
             first = asks.back;
             own = all.rest;
             splits = back;
             given = [];
-            holds = all.holds left counts;
+            holds = all.holds left told counts;
             requests = ap waiting_requests next ∙ sym asks.back_asks ∙ sym (append-nil (map read asks.back));
           };
         };

@@ -1,7 +1,7 @@
 -- What contracts see of a client's engine, and how it stands to the steps of its caller.
 use Rattle.std.specs.Prelude.{◌≡◌, ◌≢◌, ⊤, ◌⊎◌, ℕ, Bool, true, false, List, [], ◌∷◌, ◌++◌, Option, Some, None, map, Result, Ok, Err}
 use Rattle.std.specs.List.{list_any}
-use Rattle.std.specs.Io.KnownBytes.{Consumes, Appends, IsAtEnd}
+use Rattle.std.specs.Io.KnownBytes.{IsAtEnd}
 use Rattle.resp_core.specs.declared.error.RespError.{RespError}
 use Rattle.limits.specs.declared.messages.TheConstants.{MAX_CLIENT_MEMBERS}
 use Rattle.splitter.specs.Request.{Request, request_of}
@@ -14,7 +14,7 @@ use Rattle.proxy_history.specs.Output.{transcript}
 use Rattle.proxy_history.specs.Own.{connection_steps}
 use Rattle.proxy_engines.specs.Moves.{has_moved, IsEndOf, last_text, text_handed}
 use Rattle.proxy_devices.specs.Device.{WasIdle}
-use Rattle.proxy_engines.specs.Ends.{OutboxState, InboxState, HoldsBehind, HasGivenAll, AreRequests}
+use Rattle.proxy_engines.specs.Ends.{OutboxState, InboxState, HoldsBehind, HasGivenAll, AreRequests, KeepsReader, Reads, Writes}
 use Rattle.proxy_engines.specs.OneTurn.{HasHeld}
 use Rattle.proxy_engines.specs.declared.client.Progress.{Progress}
 use Rattle.proxy_engines.specs.declared.client.Stage.{Stage}
@@ -206,8 +206,7 @@ IsIdle cause old new seen_before seen_after =
 -- Nothing was read: no bytes came, and the reader is as it was.
 pub record IsUnread (old new : InboxState) (got : List ℕ) : Type 0 where
   pub none : got ≡ []
-  pub left : new.left ≡ old.left
-  pub counts : new.counts ≡ old.counts
+  pub kept : KeepsReader old new
 
 -- Nothing was taken in: no request was accepted, and what waited still waits.
 pub record IsUntaken (old new : Client) : Type 0 where
@@ -221,8 +220,8 @@ pub record Goes (old new : Client) (before after : History) (moved : Bool) : Typ
   pub got : List ℕ
   pub gave : List ℕ
   pub steps : History
-  pub reads : Consumes old.inbox.left new.inbox.left got
-  pub writes : Appends old.outbox.held new.outbox.held gave
+  pub reads : Reads old.inbox new.inbox got
+  pub writes : Writes old.outbox new.outbox gave
   pub conn : new.conn ≡ old.conn
   pub drained : new.is_drained ≡ old.is_drained
   pub unread : old.is_drained ≡ true → IsUnread old.inbox new.inbox got

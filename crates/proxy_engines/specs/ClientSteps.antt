@@ -6,7 +6,7 @@ use Rattle.proxy_history.specs.declared.answer.Answer.{Answer}
 use Rattle.proxy_history.specs.declared.event.Event.{Event}
 use Rattle.proxy_history.specs.declared.refusal.Refusal.{Refusal}
 use Rattle.journal_core.specs.Journal.{step_by}
-use Rattle.proxy_devices.specs.Device.{HasFailed, WasIdle}
+use Rattle.proxy_devices.specs.Device.{HasFailed, ReadState, WasIdle, WriteState}
 use Rattle.proxy_engines.specs.Turns.{KeepsTurns, own_history}
 use Rattle.proxy_engines.specs.OneTurn.{IsNumbered}
 use Rattle.proxy_engines.specs.Moves.{AsTold}
@@ -113,11 +113,14 @@ pub record TellsStep (cause : Refusal → Event → List Step → Type 0) (seen_
       → HasFailed old.outbox.counts new.outbox.counts × (new.stage ≡ Stage.Closed true))
   pub idle : IfOk result (λ p. p ≡ Progress.Idle → IsIdle cause old new seen_before seen_after)
 
--- A connection was opened, by one turn of this pass: what its reader has left and what its writer took are these, requests are
--- taken, and the engine is not drained.
-pub record OpensClient (pass : ℕ) (before after : History) (left held : Option (List ℕ)) (new : Client) : Type 0 where
+-- A connection was opened, by one turn of this pass, over a reader and a writer in these states: requests are taken, and the
+-- engine is not drained.
+pub record OpensClient (pass : ℕ) (before after : History) (reader : ReadState) (writer : WriteState) (new : Client) : Type 0 where
   pub opened : after ≡ step_by pass Event.Opened (Answer.Opened new.conn) ∷ before
-  pub left_is : new.inbox.left ≡ left
-  pub held_is : new.outbox.held ≡ held
+  pub left_is : new.inbox.left ≡ reader.remaining
+  pub told_is : new.inbox.told ≡ reader.told
+  pub held_is : new.outbox.held ≡ writer.contents
+  pub taken_is : new.outbox.taken ≡ writer.taken
+  pub counts_are : (new.inbox.counts ≡ reader.counts) × (new.outbox.counts ≡ writer.counts)
   pub stage : new.stage ≡ Stage.Open
   pub reads : new.is_drained ≡ false

@@ -14,15 +14,21 @@ use Rattle.proxy_devices.specs.Device.{Counts, HasFailed, WasIdle, is_moved}
 use Rattle.proxy_devices.specs.declared.tally.Told.{Told}
 use Rattle.proxy_engines.specs.Moves.{has_moved}
 
--- a writer's contents, where they are known, its counts, and what is to be written next
+-- a writer's contents, where they are known, its log, which is all that it took, its counts, and what is to be written next
 pub record OutboxState : Type 0 where
   pub held : Option (List ℕ)
+  pub taken : List ℕ
   pub counts : Counts
   pub pending : List ℕ
 
+-- the writer took these bytes: they are the last of its contents, where those are known, and of its log
+pub record Writes (old new : OutboxState) (gave : List ℕ) : Type 0 where
+  pub held : Appends old.held new.held gave
+  pub taken : new.taken ≡ old.taken ++ gave
+
 -- the writer took these bytes from the front of what was to be written
 pub record Sends (old new : OutboxState) (gave : List ℕ) : Type 0 where
-  pub held : Appends old.held new.held gave
+  pub writes : Writes old new gave
   pub pending : old.pending ≡ gave ++ new.pending
 
 -- what one write has counted, by what it told: a fault where it took nothing or failed, and a pause where it was idle
@@ -38,21 +44,28 @@ pub record WritesOnce (old new : OutboxState) (told : Told) : Type 0 where
   pub fewer : (n : ℕ) → told ≡ Told.Moved n → length new.pending < length old.pending
   pub counts : CountsWritten old.counts new.counts told
 
--- what a reader has left, where it is known, its counts, the bytes that came last, and the reader of values
+-- what a reader has left, where it is known, its log, which is all that it told, its counts, the bytes that came last, and the
+-- reader of values
 pub record InboxState : Type 0 where
   pub left : Option (List ℕ)
+  pub told : List ℕ
   pub counts : Counts
   pub fresh : List ℕ
   pub values : ReaderState
 
--- the reader is as it was: it has left what it had, and its counts are the same
+-- the reader told these bytes: they are the next of what it had left, where that is known, and the last of its log
+pub record Reads (old new : InboxState) (got : List ℕ) : Type 0 where
+  pub left : Consumes old.left new.left got
+  pub told : new.told ≡ old.told ++ got
+
+-- the reader is as it was: it has left what it had, and its log and its counts are the same
 abbrev pub KeepsReader : InboxState → InboxState → Type 0
-KeepsReader old new = (new.left ≡ old.left) × (new.counts ≡ old.counts)
+KeepsReader old new = (new.left ≡ old.left) × (new.told ≡ old.told) × (new.counts ≡ old.counts)
 
 -- One read, by what it told: bytes came, the input ended, none came for now, or the reader failed. What came is not looked at
 -- yet.
 pub record ReadsOnce (old new : InboxState) (told : Told) : Type 0 where
-  pub bytes : Consumes old.left new.left new.fresh
+  pub bytes : Reads old new new.fresh
   pub values : new.values ≡ old.values
   pub is_told : is_moved told ≡ has_moved new.fresh [] []
   pub moved : (n : ℕ) → told ≡ Told.Moved n → (new.fresh ≢ []) × (new.counts ≡ old.counts)
@@ -91,8 +104,8 @@ pub record RestState : Type 0 where
   pub values : ReaderState
 
 -- the end with these, behind a reader of which the others are told
-abbrev pub end_with : Option (List ℕ) → Counts → RestState → InboxState
-end_with left counts rest = record { left = left; counts = counts; fresh = rest.fresh; values = rest.values }
+abbrev pub end_with : Option (List ℕ) → List ℕ → Counts → RestState → InboxState
+end_with left told counts rest = record { left = left; told = told; counts = counts; fresh = rest.fresh; values = rest.values }
 
 -- Where the bytes that came made these requests, they are the texts of those, and then others. Behind whatever reader, an end with this
 -- rest was given these others alone.
@@ -101,7 +114,7 @@ pub record IsCut (most : ℕ) (came : List ℕ) (made : List Request) (kept : Re
   pub rest : List ℕ
   pub requests : made ≡ map read asked
   pub splits : Splits most came asked rest
-  pub holds : (left : Option (List ℕ)) (counts : Counts) → Holds (end_with left counts kept) rest []
+  pub holds : (left : Option (List ℕ)) (told : List ℕ) (counts : Counts) → Holds (end_with left told counts kept) rest []
 
 -- these are the requests of bytes whose arrays may have so many members: their values in order, and then a broken one where
 -- a byte behind them is refused

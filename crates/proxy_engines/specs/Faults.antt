@@ -1,13 +1,13 @@
 -- What a move of a host's engine came to, and why a link broke.
 use Rattle.std.specs.Prelude.{◌≡◌, ◌≢◌, ◌⊎◌, ◌≤◌, ◌-◌, ⊤, ℕ, Bool, true, false, List, [], ◌∷◌, Option, Some, None, Result, Ok, Err}
-use Rattle.std.specs.Io.KnownBytes.{Consumes, IsAtEnd}
+use Rattle.std.specs.Io.KnownBytes.{IsAtEnd}
 use Rattle.proxy_history.specs.History.{Step}
 use Rattle.proxy_history.specs.declared.event.Event.{Event}
 use Rattle.proxy_history.specs.declared.event.Kind.{Kind}
 use Rattle.proxy_history.specs.declared.refusal.Refusal.{Refusal}
 use Rattle.resp_core.specs.declared.value.Value.{Value}
 use Rattle.proxy_devices.specs.Device.{HasRisen}
-use Rattle.proxy_engines.specs.Ends.{InboxState, HasGivenAll}
+use Rattle.proxy_engines.specs.Ends.{InboxState, HasGivenAll, Reads}
 use Rattle.proxy_engines.specs.Host.{HostOutboxState, LinkState}
 use Rattle.proxy_engines.specs.OneTurn.{IsNumbered}
 use Rattle.proxy_engines.specs.declared.error.EngineError.{EngineError}
@@ -61,11 +61,11 @@ IfFault Outcome.Idle P = ⊤
 abbrev pub IsLate : HostOutboxState → ℕ → Type 0
 IsLate outbox moment = (first : ℕ) × (rest : List ℕ) × (outbox.moments ≡ first ∷ rest) × (outbox.reply_ms ≤ moment - first)
 
--- a read was made, which didn't fail: it brought bytes, as far as the reader tells them, or it paused
+-- a read was made, which didn't fail: it brought bytes, or it paused
 abbrev pub HasRead : InboxState → InboxState → Type 0
 HasRead old new =
     (new.counts.failed ≡ old.counts.failed)
-    × (((got : List ℕ) × (got ≢ []) × Consumes old.left new.left got) ⊎ HasRisen old.counts.paused new.counts.paused)
+    × (((got : List ℕ) × (got ≢ []) × Reads old new got) ⊎ HasRisen old.counts.paused new.counts.paused)
 
 -- from one state of a link to the next neither its reader nor its writer has failed
 abbrev pub HasNoFaultOn : LinkState → LinkState → Type 0

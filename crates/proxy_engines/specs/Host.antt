@@ -1,6 +1,6 @@
 -- What contracts see of a host's engine, and how it stands to the steps of its caller.
 use Rattle.std.specs.Prelude.{◌≡◌, ◌<◌, ◌+◌, ◌-◌, ◌^◌, min, ⊤, ℕ, Bool, false, All, List, [], ◌∷◌, ◌++◌, map, drop, Option, Some, None}
-use Rattle.std.specs.Io.KnownBytes.{Consumes, Appends}
+use Rattle.std.specs.Io.KnownBytes.{Appends}
 use Rattle.resp_core.specs.Tree.{Tree}
 use Rattle.resp_core.specs.Value.{tree_of}
 use Rattle.resp_core.specs.declared.value.Value.{Value}
@@ -15,7 +15,7 @@ use Rattle.proxy_history.specs.declared.event.Kind.{Kind}
 use Rattle.proxy_history.specs.declared.answer.Answer.{Answer}
 use Rattle.proxy_devices.specs.Device.{Counts}
 use Rattle.proxy_engines.specs.Moves.{AsTold, has_moved, IsEndOf, last_text, text_sent}
-use Rattle.proxy_engines.specs.Ends.{InboxState, Holds, refusal_requests}
+use Rattle.proxy_engines.specs.Ends.{InboxState, Holds, Reads, refusal_requests}
 use Rattle.journal_core.specs.Journal.{step_by}
 
 -- The engine without its link: its host, after how many milliseconds a reply is late, the epoch, the text that is pending, and
@@ -29,10 +29,12 @@ pub record HostOutboxState : Type 0 where
   pub moments : List ℕ
   pub is_astray : Bool
 
--- a link: what is read, the writer's contents, where they are known, and its counts, and a value whose turn was not answered
+-- a link: what is read, the writer's contents, where they are known, its log and its counts, and a value whose turn was not
+-- answered
 pub record LinkState : Type 0 where
   pub inbox : InboxState
   pub held : Option (List ℕ)
+  pub taken : List ℕ
   pub counts : Counts
   pub next : Option Value
 
@@ -94,13 +96,18 @@ moments_after m (s ∷ before) ms = moments_by m s.event (moments_after m before
 -- the bytes that a link read, and those that it wrote
 abbrev pub ReadsOn : Option LinkState → Option LinkState → List ℕ → Type 0
 ReadsOn None None got = got ≡ []
-ReadsOn (Some k) (Some k') got = Consumes k.inbox.left k'.inbox.left got
+ReadsOn (Some k) (Some k') got = Reads k.inbox k'.inbox got
 ReadsOn k k' got = ⊥
+
+-- the writer of a link took these bytes: they are the last of its contents, where those are known, and of its log
+pub record WritesLink (old new : LinkState) (gave : List ℕ) : Type 0 where
+  pub held : Appends old.held new.held gave
+  pub taken : new.taken ≡ old.taken ++ gave
 
 -- the link's writer took these bytes more; without a link none
 abbrev pub WritesOn : Option LinkState → Option LinkState → List ℕ → Type 0
 WritesOn None None gave = gave ≡ []
-WritesOn (Some k) (Some k') gave = Appends k.held k'.held gave
+WritesOn (Some k) (Some k') gave = WritesLink k k' gave
 WritesOn k k' gave = ⊥
 
 -- where the event is a reply, it came at this moment

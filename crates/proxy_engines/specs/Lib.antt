@@ -13,3 +13,4 @@ pub mod HostStep
 pub mod HostTurns
 pub mod Works
 pub mod Laws
+pub mod Logs

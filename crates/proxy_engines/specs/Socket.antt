@@ -16,7 +16,7 @@ use Rattle.proxy_engines.specs.declared.client.Stage.{Stage}
 -- these bytes are a rest: behind whatever reader, an end with it was given them and has given the request that waits alone
 pub record IsRest (rest : RestState) (bytes : List ℕ) : Type 0 where
   pub most_is : rest.values.most ≡ MAX_CLIENT_MEMBERS
-  pub holds : (left : Option (List ℕ)) (counts : Counts) → HoldsBehind (end_with left counts rest) bytes (waiting_requests rest.next)
+  pub holds : (left : Option (List ℕ)) (told : List ℕ) (counts : Counts) → HoldsBehind (end_with left told counts rest) bytes (waiting_requests rest.next)
 
 -- A connection was closed with all answered, and left this rest. The bytes are the texts of what it asked, none of which
 -- finishes it, and then this rest; and the writer took all that was handed out.

@@ -5,7 +5,7 @@ ghost use Rattle.proxy_history.specs.History.{History};
 ghost use Rattle.proxy_history.specs.declared.answer.Answer.{Answer};
 ghost use Rattle.proxy_history.specs.declared.event.Event.{Event};
 ghost use Rattle.proxy_engines.specs.Turns.{KeepsTurns, own_history};
-ghost use Rattle.proxy_devices.specs.Device.{HasFailed, WasIdle};
+ghost use Rattle.proxy_devices.specs.Device.{HasFailed, WasIdle, reader_state, writer_state};
 ghost use Rattle.proxy_engines.specs.Ends.{HasGivenAll};
 ghost use Rattle.proxy_engines.specs.OneTurn.{IsNumbered};
 ghost use Rattle.journal_core.specs.Journal.{step_by};
@@ -507,7 +507,8 @@ impl<R: ReadTally + Drop, W: WriteTally + Drop> ClientEngine<R, W> {
         ensures turns { KeepsTurns T.pass T.setting T.seen turns.old turns.new }
         ensures opened { IfOk result (λ e. OpensClient (T.pass turns.old)
             (own_history T.pass T.seen turns.old) (own_history T.pass T.seen turns.new)
-            (R.remaining reader) (W.contents writer) e) }
+            (reader_state R.remaining R.told R.counts reader)
+            (writer_state W.contents W.taken W.counts writer) e) }
         ensures carries { IfOk result (λ e. Carries e (own_history T.pass T.seen turns.new) [] []) }
         ensures err { IfErr result (λ e. (own_history T.pass T.seen turns.new ≡ own_history T.pass
             T.seen turns.old) × ((e ≡ EngineError.NoMemory)
@@ -557,7 +558,8 @@ impl<R: ReadTally + Drop, W: WriteTally + Drop> ClientEngine<R, W> {
         ensures turns { KeepsTurns T.pass T.setting T.seen turns.old turns.new }
         ensures opened { IfOk result (λ e. OpensClient (T.pass turns.old)
             (own_history T.pass T.seen turns.old) (own_history T.pass T.seen turns.new)
-            (R.remaining reader) (W.contents writer) e) }
+            (reader_state R.remaining R.told R.counts reader)
+            (writer_state W.contents W.taken W.counts writer) e) }
         ensures carries { IfOk result (λ e. (b : List ℕ) → IsRest rest b → Carries e
             (own_history T.pass T.seen turns.new) [] b) }
         ensures err { IfErr result (λ x. (own_history T.pass T.seen turns.new ≡ own_history T.pass
@@ -592,6 +594,8 @@ impl<R: ReadTally + Drop, W: WriteTally + Drop> ClientEngine<R, W> {
         ensures none { IfNone result (MayGoOn self → ⊥) }
         ensures ends { IfSome result (λ o. (R.remaining o.0 ≡ self.inbox.left)
             × (W.contents o.1 ≡ self.outbox.held)) }
+        ensures logs { IfSome result (λ o. (R.told o.0 ≡ self.inbox.told)
+            × (W.taken o.1 ≡ self.outbox.taken)) }
         ensures left { IfSome result (λ o. (H : History) (taken b : List ℕ) → Carries self H taken b
             → IsLeft self.conn H taken b o.2) }
     {
@@ -611,7 +615,8 @@ impl<R: ReadTally + Drop, W: WriteTally + Drop> ClientEngine<R, W> {
 
     /// The writer. Pending bytes and the reader are dropped.
     pub fn into_writer(self) -> W
-        ensures { W.contents result ≡ self.outbox.held }
+        ensures held { W.contents result ≡ self.outbox.held }
+        ensures taken { W.taken result ≡ self.outbox.taken }
     {
         let ClientEngine {
             inbox,

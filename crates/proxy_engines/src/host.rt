@@ -115,7 +115,8 @@ impl<R: ReadTally + Drop, W: WriteTally + Drop> HostEngine<R, W> {
         ensures outbox { self.new.outbox ≡ self.old.outbox }
         ensures fault { self.new.fault ≡ None }
         ensures link { OnOk result ((k : LinkState) × (self.new.link ≡ Some k)
-            × (k.inbox.left ≡ R.remaining reader) × (k.held ≡ W.contents writer)) }
+            × (k.inbox.left ≡ R.remaining reader) × (k.held ≡ W.contents writer)
+            × (k.inbox.told ≡ R.told reader) × (k.taken ≡ W.taken writer)) }
         ensures carries { OnOk result ((H : History) → CarriesHost self.old.outbox None H [] []
             → CarriesHost self.new.outbox self.new.link H [] []) }
         ensures err { IfErr result (λ e. (self.new ≡ self.old) × (e.0 ≡ EngineError.NoMemory)

@@ -190,6 +190,7 @@ impl HostOutbox {
         requires some { self.old.pending ≢ [] }
         ensures bytes { (gave rest : List ℕ)
             × Appends (W.contents writer.old) (W.contents writer.new) gave
+            × (W.taken writer.new ≡ W.taken writer.old ++ gave)
             × (self.old.pending ≡ gave ++ rest) × (self.new ≡ record self.old { pending = rest })
             × (is_moved result ≡ has_moved [] gave []) }
         ensures counts { CountsWritten (W.counts writer.old) (W.counts writer.new) result }

@@ -102,6 +102,7 @@ impl<R: ReadTally> Model for Inbox<R> {
 
     ghost view = { λ i. record {
       left = R.remaining i.input;
+      told = R.told i.input;
       counts = R.counts i.input;
       fresh = take i.fresh i.buffer.items;
       values = i.values;
@@ -118,6 +119,7 @@ impl<R: ReadTally> Inbox<R> {
     /// An inbox that has read nothing. Without memory for its buffer the reader comes back.
     pub(crate) fn new(alloc: Global, input: R, limits: Limits) -> Result<Inbox<R>, R>
         ensures left { IfOk result (λ i. i.left ≡ R.remaining input) }
+        ensures told { IfOk result (λ i. (i.told ≡ R.told input) × (i.counts ≡ R.counts input)) }
         ensures most { IfOk result (λ i. i.values.most ≡ limits.array) }
         ensures holds { IfOk result (λ i. Holds i [] []) }
         ensures whole { IfOk result (λ i. i.values.refusal ≡ None) }
@@ -140,6 +142,7 @@ impl<R: ReadTally> Inbox<R> {
     /// An inbox that goes on from this rest, and the waiting request.
     pub(crate) fn with(input: R, rest: Rest) -> (Inbox<R>, Option<Request>)
         ensures left { result.0.left ≡ R.remaining input }
+        ensures told { (result.0.told ≡ R.told input) × (result.0.counts ≡ R.counts input) }
         ensures fresh { result.0.fresh ≡ rest.fresh }
         ensures values { result.0.values ≡ rest.values }
         ensures whole { result.0.values.refusal ≡ None }
@@ -169,6 +172,7 @@ impl<R: ReadTally> Inbox<R> {
     pub(crate) fn into_rest(self, next: Option<Request>) -> (R, Rest)
         requires { self.values.refusal ≡ None }
         ensures left { R.remaining result.0 ≡ self.left }
+        ensures told { (R.told result.0 ≡ self.told) × (R.counts result.0 ≡ self.counts) }
         ensures cut { (b : List ℕ) (rs : List Asked) → Holds self b rs
             → IsCut self.values.most b rs result.1 }
         ensures most { result.1.values.most ≡ self.values.most }

@@ -1,6 +1,7 @@
 //! Laws of engines, and the limit of one read. Each is the contract of a function that does nothing.
 ghost use Rattle.std.specs.Prelude.{◌≡◌};
 ghost use Rattle.proxy_engines.specs.Laws.{AcceptedAreFirst, ClientsLeaveOthers, EndedIsOver, EndedIsWhole, HostsLeaveOthers, OthersLeaveClients, OthersLeaveHosts};
+ghost use Rattle.proxy_engines.specs.Logs.{ClientsCarryLogs, HostsCarryLogs, SocketsCarryLogs};
 ghost use Rattle.proxy_engines.specs.Socket.{SocketAnswersInOrder, SocketAsksInOrder, SocketBegins, SocketEndsWhole, SocketGoesOver, SocketMoves, SocketStays};
 
 use crate::inbox::READ_SIZE;
@@ -49,4 +50,24 @@ pub fn sockets_go_on()
     ensures asks { SocketAsksInOrder }
     ensures answers { SocketAnswersInOrder }
     ensures ends { SocketEndsWhole }
+{}
+
+/// At any device, sockets included, a client's engine carries all that its writer took and its reader told since it was
+/// opened: over its moves, and over other callers' steps. So the writer's log, with pending bytes, grew by what was handed
+/// out. The accepted requests are the first ones that the bytes told since then give.
+pub fn clients_carry_logs()
+    ensures { ClientsCarryLogs }
+{}
+
+/// The same over all connections of a socket, one after another.
+pub fn sockets_carry_logs()
+    ensures { SocketsCarryLogs }
+{}
+
+/// A host's engine carries all that its link's writer took and its reader told since the link was attached: over its
+/// moves, over a fault, which gives up the link, and over other callers' steps. So the writer's log, with pending bytes,
+/// grew by what was sent to the host in its epoch. The replies that came are the first values of the bytes told since
+/// then.
+pub fn hosts_carry_logs()
+    ensures { HostsCarryLogs }
 {}

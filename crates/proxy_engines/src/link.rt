@@ -90,6 +90,7 @@ impl<R: ReadTally, W: WriteTally> Model for Link<R, W> {
     ghost view = { λ k. record {
       inbox = k.inbox;
       held = W.contents k.writer;
+      taken = W.taken k.writer;
       counts = W.counts k.writer;
       next = k.next;
     } };
@@ -105,6 +106,8 @@ impl<R: ReadTally, W: WriteTally> Link<R, W> {
             × (k.inbox.values.most ≡ MAX_HOST_MEMBERS) × (k.inbox.values.refusal ≡ None)) }
         ensures holds { IfOk result (λ k. Holds k.inbox [] []) }
         ensures held { IfOk result (λ k. k.held ≡ W.contents writer) }
+        ensures logs { IfOk result (λ k. (k.inbox.told ≡ R.told reader)
+            × (k.taken ≡ W.taken writer)) }
         ensures next { IfOk result (λ k. k.next ≡ None) }
         ensures back { IfErr result (λ ends. (ends.0 ≡ reader) × (ends.1 ≡ writer)) }
     {

@@ -22,6 +22,7 @@ impl<W: WriteTally> Model for Outbox<W> {
 
     ghost view = { λ o. record {
       held = W.contents o.writer;
+      taken = W.taken o.writer;
       counts = W.counts o.writer;
       pending = o.pending;
     } };
@@ -33,6 +34,7 @@ impl<W: WriteTally> Outbox<W> {
     /// An outbox without a text.
     pub(crate) fn new(writer: W) -> Outbox<W>
         ensures held { result.held ≡ W.contents writer }
+        ensures taken { result.taken ≡ W.taken writer }
         ensures counts { result.counts ≡ W.counts writer }
         ensures pending { result.pending ≡ [] }
     {
@@ -72,14 +74,17 @@ impl<W: WriteTally> Outbox<W> {
     /// Flushes the writer.
     pub(crate) fn flush(&mut self) -> io::Result<()>
         ensures held { Keeps self.old.held self.new.held }
+        ensures taken { self.new.taken ≡ self.old.taken }
+        ensures counts { self.new.counts ≡ self.old.counts }
         ensures pending { self.new.pending ≡ self.old.pending }
     {
-        self.writer.flush()
+        self.writer.flush_told()
     }
 
     /// The writer. Pending bytes are dropped.
     pub(crate) fn into_writer(self) -> W
-        ensures { W.contents result ≡ self.held }
+        ensures held { W.contents result ≡ self.held }
+        ensures taken { W.taken result ≡ self.taken }
     {
         let Outbox { writer, pending: _ } = self;
         writer

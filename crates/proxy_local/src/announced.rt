@@ -22,6 +22,7 @@ impl<R> Announced<R> {
     pub(crate) fn new(inner: R) -> Announced<R>
         ensures inner { result.inner ≡ inner }
         ensures next { result.is_announced ≡ false }
+        ensures pauses { result.pauses ≡ 0 }
     {
         Announced {
             inner,

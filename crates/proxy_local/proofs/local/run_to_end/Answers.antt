@@ -4,7 +4,7 @@ use Rattle.proxy_local.proofs.local.run_to_end.Goals as goal
 pub returns-clause-runs : goal.returns-clause-runs
 returns-clause-runs g c = (
   c.run_client-ran.new.client,
-  rw c.into_writer.ensures at c.in_ok-writer.ensures.ok,
+  rw c.into_writer.ensures.held at c.in_ok-writer.ensures.ok,
   c.run_client-ran.ensures.goes,
   c.run_client-ran.ensures.ended,
 )

@@ -25,7 +25,10 @@ returns-in-Ok-clause-opened g c =
     record {
       opened = c.in-Ok.ensures.answered;
       left_is = search rules;
+      told_is = search rules;
       held_is = search rules;
+      taken_is = search rules;
+      counts_are = (search rules, search rules);
       stage = refl;
       reads = refl;
     }

@@ -10,7 +10,7 @@ pub returns-in-Ok-clause-fault : goal.returns-in-Ok-clause-fault
 returns-in-Ok-clause-fault g c = ap (λ (h : HostState). h.fault) c.self.view_is ∙ c.requires.no_fault
 
 pub returns-in-Ok-clause-link : goal.returns-in-Ok-clause-link
-returns-in-Ok-clause-link g c = (c.in-Ok.link, c.replace.ensures.after, c.in-Ok.ensures.inbox.0, c.in-Ok.ensures.held)
+returns-in-Ok-clause-link g c = (c.in-Ok.link, c.replace.ensures.after, c.in-Ok.ensures.inbox.0, c.in-Ok.ensures.held, c.in-Ok.ensures.logs.0, c.in-Ok.ensures.logs.1)
 
 pub returns-in-Ok-clause-err : goal.returns-in-Ok-clause-err
 returns-in-Ok-clause-err g c = tt

@@ -52,16 +52,16 @@ returns-else-is_memory-clause-next g c =
     }
 
 pub returns-in-Ok-Some-clause-keeps : goal.returns-in-Ok-Some-clause-keeps
-returns-in-Ok-Some-clause-keeps g c = ((ap (λ (z : InboxState). z.left) c.self-2.view_is ∙ c.feed.ensures.keeps.0.0, ap (λ (z : InboxState). z.counts) c.self-2.view_is ∙ c.feed.ensures.keeps.0.1), search rules)
+returns-in-Ok-Some-clause-keeps g c = (let (left, told, counts) = c.feed.ensures.keeps.0 in (ap (λ (z : InboxState). z.left) c.self-2.view_is ∙ left, ap (λ (z : InboxState). z.told) c.self-2.view_is ∙ told, ap (λ (z : InboxState). z.counts) c.self-2.view_is ∙ counts), search rules)
 
 pub returns-in-Ok-None-clause-keeps : goal.returns-in-Ok-None-clause-keeps
-returns-in-Ok-None-clause-keeps g c = ((ap (λ (z : InboxState). z.left) c.self-2.view_is ∙ c.feed.ensures.keeps.0.0, ap (λ (z : InboxState). z.counts) c.self-2.view_is ∙ c.feed.ensures.keeps.0.1), search rules)
+returns-in-Ok-None-clause-keeps g c = (let (left, told, counts) = c.feed.ensures.keeps.0 in (ap (λ (z : InboxState). z.left) c.self-2.view_is ∙ left, ap (λ (z : InboxState). z.told) c.self-2.view_is ∙ told, ap (λ (z : InboxState). z.counts) c.self-2.view_is ∙ counts), search rules)
 
 pub returns-else-is_memory-clause-keeps : goal.returns-else-is_memory-clause-keeps
-returns-else-is_memory-clause-keeps g c = ((ap (λ (z : InboxState). z.left) c.self-2.view_is ∙ c.feed.ensures.keeps.0.0, ap (λ (z : InboxState). z.counts) c.self-2.view_is ∙ c.feed.ensures.keeps.0.1), search rules)
+returns-else-is_memory-clause-keeps g c = (let (left, told, counts) = c.feed.ensures.keeps.0 in (ap (λ (z : InboxState). z.left) c.self-2.view_is ∙ left, ap (λ (z : InboxState). z.told) c.self-2.view_is ∙ told, ap (λ (z : InboxState). z.counts) c.self-2.view_is ∙ counts), search rules)
 
 pub returns-then-is_memory-clause-keeps : goal.returns-then-is_memory-clause-keeps
-returns-then-is_memory-clause-keeps g c = ((ap (λ (z : InboxState). z.left) c.self-2.view_is ∙ c.feed.ensures.keeps.0.0, ap (λ (z : InboxState). z.counts) c.self-2.view_is ∙ c.feed.ensures.keeps.0.1), search rules)
+returns-then-is_memory-clause-keeps g c = (let (left, told, counts) = c.feed.ensures.keeps.0 in (ap (λ (z : InboxState). z.left) c.self-2.view_is ∙ left, ap (λ (z : InboxState). z.told) c.self-2.view_is ∙ told, ap (λ (z : InboxState). z.counts) c.self-2.view_is ∙ counts), search rules)
 
 pub returns-in-Ok-Some-clause-err : goal.returns-in-Ok-Some-clause-err
 returns-in-Ok-Some-clause-err g c = tt

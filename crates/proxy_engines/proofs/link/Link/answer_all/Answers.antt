@@ -8,14 +8,14 @@ use Rattle.proxy_engines.proofs.MoveLemmas.{moves-err, as_fault, any_err}
 use Rattle.proxy_engines.proofs.link.Link.answer_all.Goals as goal
 
 pub loop-init : goal.loop-init
-loop-init g c = (stays_on _ _ _ _ _ refl, c.requires.whole, (refl, refl), refl, refl, keeps_same _ _ _ _)
+loop-init g c = (stays_on _ _ _ _ _ refl, c.requires.whole, (refl, refl, refl), refl, refl, keeps_same _ _ _ _)
 
 pub loop-preserved : goal.loop-preserved
 loop-preserved g c =
     let (goes, _, reads, writes, _, turns) = c.loop.invariant in (
       told_moved _ _ _ _ _ _ _ _ _ _ _ goes (rw c.in-Moved.is at c.in_ok-fault.ensures.moves.goes),
       c.in_ok-fault.ensures.answers.told.moved c.in-Moved.is,
-      (c.answer_next.ensures.answers.keeps.0.0 ∙ reads.0, c.answer_next.ensures.answers.keeps.0.1 ∙ reads.1),
+      (c.answer_next.ensures.answers.keeps.0.0 ∙ reads.0, c.answer_next.ensures.answers.keeps.0.1 ∙ reads.1, c.answer_next.ensures.answers.keeps.0.2 ∙ reads.2),
       c.answer_next.ensures.answers.keeps.1 ∙ writes,
       refl,
       keeps_then _ _ _ _ _ _ turns c.answer_next.ensures.moves.turns,
@@ -55,7 +55,7 @@ returns-in-Idle-clause-answers g c =
     record {
       all = λ _. c.in_ok-fault.ensures.answers.told.idle c.in-Idle.is;
       fault = let (_, _, _, _, calm, _) = c.loop.invariant in no_fault c.loop.outcome _ calm;
-      keeps = (let (_, _, reads, _, _, _) = c.loop.invariant in (c.answer_next.ensures.answers.keeps.0.0 ∙ reads.0, c.answer_next.ensures.answers.keeps.0.1 ∙ reads.1), let (_, _, _, writes, _, _) = c.loop.invariant in c.answer_next.ensures.answers.keeps.1 ∙ writes);
+      keeps = (let (_, _, reads, _, _, _) = c.loop.invariant in (c.answer_next.ensures.answers.keeps.0.0 ∙ reads.0, c.answer_next.ensures.answers.keeps.0.1 ∙ reads.1, c.answer_next.ensures.answers.keeps.0.2 ∙ reads.2), let (_, _, _, writes, _, _) = c.loop.invariant in c.answer_next.ensures.answers.keeps.1 ∙ writes);
       err = tt;
     }
 
@@ -64,8 +64,8 @@ returns-in_default-clause-answers g c =
     record {
       all = λ calm. faulty_calm _ c.in_ok-fault.fault (default_faulty c.in_ok-fault.fault c.in_default.not-Idle c.in_default.not-Moved) calm;
       fault = let (_, _, reads, writes, _, turns) = c.loop.invariant in
-          fault_later c.args.self.now c.loop.self c.answer_next.new.self _ _ _ _ (ap (λ (n : Counts). n.failed) reads.1) (ap (λ (n : Counts). n.failed) writes) (λ x. x) (λ x. x) c.in_ok-fault.fault (rw turns.setting_is at c.in_ok-fault.ensures.answers.fault);
-      keeps = (let (_, _, reads, _, _, _) = c.loop.invariant in (c.answer_next.ensures.answers.keeps.0.0 ∙ reads.0, c.answer_next.ensures.answers.keeps.0.1 ∙ reads.1), let (_, _, _, writes, _, _) = c.loop.invariant in c.answer_next.ensures.answers.keeps.1 ∙ writes);
+          fault_later c.args.self.now c.loop.self c.answer_next.new.self _ _ _ _ (ap (λ (n : Counts). n.failed) reads.2) (ap (λ (n : Counts). n.failed) writes) (λ x. x) (λ x. x) c.in_ok-fault.fault (rw turns.setting_is at c.in_ok-fault.ensures.answers.fault);
+      keeps = (let (_, _, reads, _, _, _) = c.loop.invariant in (c.answer_next.ensures.answers.keeps.0.0 ∙ reads.0, c.answer_next.ensures.answers.keeps.0.1 ∙ reads.1, c.answer_next.ensures.answers.keeps.0.2 ∙ reads.2), let (_, _, _, writes, _, _) = c.loop.invariant in c.answer_next.ensures.answers.keeps.1 ∙ writes);
       err = tt;
     }
 
@@ -74,6 +74,6 @@ returns-in_err-fault-clause-answers g c =
     record {
       all = IfOk-from_err c.from_residual.result _ c.from_residual.ensures.0;
       fault = IfOk-from_err c.from_residual.result _ c.from_residual.ensures.0;
-      keeps = (let (_, _, reads, _, _, _) = c.loop.invariant in (c.answer_next.ensures.answers.keeps.0.0 ∙ reads.0, c.answer_next.ensures.answers.keeps.0.1 ∙ reads.1), let (_, _, _, writes, _, _) = c.loop.invariant in c.answer_next.ensures.answers.keeps.1 ∙ writes);
+      keeps = (let (_, _, reads, _, _, _) = c.loop.invariant in (c.answer_next.ensures.answers.keeps.0.0 ∙ reads.0, c.answer_next.ensures.answers.keeps.0.1 ∙ reads.1, c.answer_next.ensures.answers.keeps.0.2 ∙ reads.2), let (_, _, _, writes, _, _) = c.loop.invariant in c.answer_next.ensures.answers.keeps.1 ∙ writes);
       err = any_err _ c.from_residual.result c.in_err-fault.ensures.answers.err;
     }

@@ -82,8 +82,8 @@ returns-in-Value-clause-answers g c =
             moved = λ _. (ap (λ (i : InboxState). i.values.refusal) c.answer.ensures.answers.keeps.0 ∙ (c.in_ok-next_value.ensures.found.value c.in-Value.is).1);
           }) c.answer.ensures.answers.moved;
       fault = IfOk-weaker c.answer.result _ _
-          (λ o. fault_later c.args.self.now c.next_value.new.self c.answer.new.self _ _ _ _ (ap (λ (n : Counts). n.failed) c.next_value.ensures.counts.0.1) (ap (λ (n : Counts). n.failed) c.next_value.ensures.counts.1) (λ x. x) (λ x. x) o)
+          (λ o. fault_later c.args.self.now c.next_value.new.self c.answer.new.self _ _ _ _ (ap (λ (n : Counts). n.failed) c.next_value.ensures.counts.0.2) (ap (λ (n : Counts). n.failed) c.next_value.ensures.counts.1) (λ x. x) (λ x. x) o)
           c.answer.ensures.answers.fault;
-      keeps = ((ap (λ (i : InboxState). i.left) c.answer.ensures.answers.keeps.0 ∙ c.next_value.ensures.counts.0.0, ap (λ (i : InboxState). i.counts) c.answer.ensures.answers.keeps.0 ∙ c.next_value.ensures.counts.0.1), c.answer.ensures.answers.keeps.1 ∙ c.next_value.ensures.counts.1);
+      keeps = ((ap (λ (i : InboxState). i.left) c.answer.ensures.answers.keeps.0 ∙ c.next_value.ensures.counts.0.0, ap (λ (i : InboxState). i.told) c.answer.ensures.answers.keeps.0 ∙ c.next_value.ensures.counts.0.1, ap (λ (i : InboxState). i.counts) c.answer.ensures.answers.keeps.0 ∙ c.next_value.ensures.counts.0.2), c.answer.ensures.answers.keeps.1 ∙ c.next_value.ensures.counts.1);
       err = any_err _ c.answer.result (ap (λ (i : InboxState). i.values.refusal) c.answer.ensures.answers.keeps.0 ∙ (c.in_ok-next_value.ensures.found.value c.in-Value.is).1);
     }

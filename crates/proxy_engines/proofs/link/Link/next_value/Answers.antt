@@ -14,7 +14,7 @@ returns-in-Ok-Some-Read-clause-goes g c =
     let whole = rw (c.in-Ok-Some-Read.field-0-is, c.in-Ok-Some-Read.field-0-0-is) at c.in-Ok-Some-Read.ensures.next.whole in
     let unrefused = whole (λ e. absurd cc) in
     rw (c.replace.ensures.after, ← c.self.view_is)
-    (sought_on l _ c.next_request.new.self (Some c.in-Ok-Some-Read.value) H m none (rw (← c.self.view_is) at c.requires.whole) c.next_request.ensures.keeps.0.0 c.next_request.ensures.keeps.1
+    (sought_on l _ c.next_request.new.self (Some c.in-Ok-Some-Read.value) H m none (rw (← c.self.view_is) at c.requires.whole) c.next_request.ensures.keeps.0 c.next_request.ensures.keeps.1
     (λ b rs h. with_refusal c.next_request.new.self b rs (waiting_requests (Some c.in-Ok-Some-Read.value)) None unrefused (next b rs h)))
 
 pub returns-in-Ok-Some-Broken-clause-goes : goal.returns-in-Ok-Some-Broken-clause-goes
@@ -24,7 +24,7 @@ returns-in-Ok-Some-Broken-clause-goes g c =
     let next = rw (c.in-Ok-Some-Broken.field-0-is, c.in-Ok-Some-Broken.field-0-0-is) at c.in-Ok-Some-Broken.ensures.next.some in
     let told = rw (c.in-Ok-Some-Broken.field-0-is, c.in-Ok-Some-Broken.field-0-0-is) at c.in-Ok-Some-Broken.ensures.next.told in
     rw (← c.self.view_is)
-    (sought_none l _ c.next_request.new.self H m none (rw (← c.self.view_is) at c.requires.whole) c.next_request.ensures.keeps.0.0 c.next_request.ensures.keeps.1
+    (sought_none l _ c.next_request.new.self H m none (rw (← c.self.view_is) at c.requires.whole) c.next_request.ensures.keeps.0 c.next_request.ensures.keeps.1
     (λ b rs h. rw (refused_is c.next_request.new.self.values.refusal (told refl)) (next b rs h)))
 
 pub returns-in-Ok-None-clause-goes : goal.returns-in-Ok-None-clause-goes
@@ -34,7 +34,7 @@ returns-in-Ok-None-clause-goes g c =
     let unrefused = (rw c.in-Ok-None.field-0-is at c.in-Ok-None.ensures.next.whole) (λ e. absurd cc) in
     let kept = rw c.in-Ok-None.field-0-is at c.in-Ok-None.ensures.next.none in
     rw (← c.self.view_is)
-    (sought_none l _ c.next_request.new.self H m none (rw (← c.self.view_is) at c.requires.whole) c.next_request.ensures.keeps.0.0 c.next_request.ensures.keeps.1
+    (sought_none l _ c.next_request.new.self H m none (rw (← c.self.view_is) at c.requires.whole) c.next_request.ensures.keeps.0 c.next_request.ensures.keeps.1
     (λ b rs h. with_refusal c.next_request.new.self b rs [] None unrefused (rw (append-nil rs) (kept b rs h))))
 
 pub returns-in-Err-clause-goes : goal.returns-in-Err-clause-goes
@@ -42,7 +42,7 @@ returns-in-Err-clause-goes g c =
     λ l H m.
     let none = none_is c.self.inside.next (sym c.is_some.ensures ∙ c.if-is_some.false) in
     rw (← c.self.view_is)
-    (sought_none l _ c.next_request.new.self H m none (rw (← c.self.view_is) at c.requires.whole) c.next_request.ensures.keeps.0.0 c.next_request.ensures.keeps.1
+    (sought_none l _ c.next_request.new.self H m none (rw (← c.self.view_is) at c.requires.whole) c.next_request.ensures.keeps.0 c.next_request.ensures.keeps.1
     (λ b rs h. with_refusal c.next_request.new.self b rs [] None c.in-Err.ensures.err.1 (rw (append-nil rs) (c.in-Err.ensures.err.0 b rs h))))
 
 pub returns-then-is_some-clause-found : goal.returns-then-is_some-clause-found
@@ -57,7 +57,7 @@ pub returns-then-is_some-clause-err : goal.returns-then-is_some-clause-err
 returns-then-is_some-clause-err g c = tt
 
 pub returns-then-is_some-clause-counts : goal.returns-then-is_some-clause-counts
-returns-then-is_some-clause-counts g c = ((refl, refl), refl)
+returns-then-is_some-clause-counts g c = ((refl, refl, refl), refl)
 
 pub returns-in-Ok-Some-Read-clause-found : goal.returns-in-Ok-Some-Read-clause-found
 returns-in-Ok-Some-Read-clause-found g c =
@@ -73,7 +73,7 @@ returns-in-Ok-Some-Read-clause-err g c = tt
 
 pub returns-in-Ok-Some-Read-clause-counts : goal.returns-in-Ok-Some-Read-clause-counts
 returns-in-Ok-Some-Read-clause-counts g c =
-    ((c.next_request.ensures.keeps.0.0 ∙ ap (λ (k : LinkState). k.inbox.left) c.self.view_is, c.next_request.ensures.keeps.0.1 ∙ ap (λ (k : LinkState). k.inbox.counts) c.self.view_is), ap (λ (k : LinkState). k.counts) c.self.view_is)
+    ((c.next_request.ensures.keeps.0.0 ∙ ap (λ (k : LinkState). k.inbox.left) c.self.view_is, c.next_request.ensures.keeps.0.1 ∙ ap (λ (k : LinkState). k.inbox.told) c.self.view_is, c.next_request.ensures.keeps.0.2 ∙ ap (λ (k : LinkState). k.inbox.counts) c.self.view_is), ap (λ (k : LinkState). k.counts) c.self.view_is)
 
 pub returns-in-Ok-Some-Broken-clause-found : goal.returns-in-Ok-Some-Broken-clause-found
 returns-in-Ok-Some-Broken-clause-found g c =
@@ -89,7 +89,7 @@ returns-in-Ok-Some-Broken-clause-err g c = tt
 
 pub returns-in-Ok-Some-Broken-clause-counts : goal.returns-in-Ok-Some-Broken-clause-counts
 returns-in-Ok-Some-Broken-clause-counts g c =
-    ((c.next_request.ensures.keeps.0.0 ∙ ap (λ (k : LinkState). k.inbox.left) c.self.view_is, c.next_request.ensures.keeps.0.1 ∙ ap (λ (k : LinkState). k.inbox.counts) c.self.view_is), ap (λ (k : LinkState). k.counts) c.self.view_is)
+    ((c.next_request.ensures.keeps.0.0 ∙ ap (λ (k : LinkState). k.inbox.left) c.self.view_is, c.next_request.ensures.keeps.0.1 ∙ ap (λ (k : LinkState). k.inbox.told) c.self.view_is, c.next_request.ensures.keeps.0.2 ∙ ap (λ (k : LinkState). k.inbox.counts) c.self.view_is), ap (λ (k : LinkState). k.counts) c.self.view_is)
 
 pub returns-in-Ok-None-clause-found : goal.returns-in-Ok-None-clause-found
 returns-in-Ok-None-clause-found g c =
@@ -105,7 +105,7 @@ returns-in-Ok-None-clause-err g c = tt
 
 pub returns-in-Ok-None-clause-counts : goal.returns-in-Ok-None-clause-counts
 returns-in-Ok-None-clause-counts g c =
-    ((c.next_request.ensures.keeps.0.0 ∙ ap (λ (k : LinkState). k.inbox.left) c.self.view_is, c.next_request.ensures.keeps.0.1 ∙ ap (λ (k : LinkState). k.inbox.counts) c.self.view_is), ap (λ (k : LinkState). k.counts) c.self.view_is)
+    ((c.next_request.ensures.keeps.0.0 ∙ ap (λ (k : LinkState). k.inbox.left) c.self.view_is, c.next_request.ensures.keeps.0.1 ∙ ap (λ (k : LinkState). k.inbox.told) c.self.view_is, c.next_request.ensures.keeps.0.2 ∙ ap (λ (k : LinkState). k.inbox.counts) c.self.view_is), ap (λ (k : LinkState). k.counts) c.self.view_is)
 
 pub returns-in-Err-clause-found : goal.returns-in-Err-clause-found
 returns-in-Err-clause-found g c = tt
@@ -115,4 +115,4 @@ returns-in-Err-clause-err g c = (refl, c.in-Err.ensures.err.1)
 
 pub returns-in-Err-clause-counts : goal.returns-in-Err-clause-counts
 returns-in-Err-clause-counts g c =
-    ((c.next_request.ensures.keeps.0.0 ∙ ap (λ (k : LinkState). k.inbox.left) c.self.view_is, c.next_request.ensures.keeps.0.1 ∙ ap (λ (k : LinkState). k.inbox.counts) c.self.view_is), ap (λ (k : LinkState). k.counts) c.self.view_is)
+    ((c.next_request.ensures.keeps.0.0 ∙ ap (λ (k : LinkState). k.inbox.left) c.self.view_is, c.next_request.ensures.keeps.0.1 ∙ ap (λ (k : LinkState). k.inbox.told) c.self.view_is, c.next_request.ensures.keeps.0.2 ∙ ap (λ (k : LinkState). k.inbox.counts) c.self.view_is), ap (λ (k : LinkState). k.counts) c.self.view_is)

@@ -64,7 +64,7 @@ returns-then-is_fault-2-clause-receives g c =
     record {
       idle = λ idle. faulty_not_idle _ c.read-heard.result (sym c.is_fault-2.ensures ∙ c.if-is_fault-2.true) idle;
       calm = λ calm. faulty_calm _ c.read-heard.result (sym c.is_fault-2.ensures ∙ c.if-is_fault-2.true) calm;
-      fault = fault_of_device c.args.self.now c.answer_all.new.self c.read-heard.new.self _ _ (ap (λ (n : Counts). n.failed) c.answer_all.ensures.answers.keeps.0.1) (ap (λ (n : Counts). n.failed) c.answer_all.ensures.answers.keeps.1) c.read-heard.result c.read-heard.ensures.reads.fault;
+      fault = fault_of_device c.args.self.now c.answer_all.new.self c.read-heard.new.self _ _ (ap (λ (n : Counts). n.failed) c.answer_all.ensures.answers.keeps.0.2) (ap (λ (n : Counts). n.failed) c.answer_all.ensures.answers.keeps.1) c.read-heard.result c.read-heard.ensures.reads.fault;
       writes = c.read-heard.ensures.reads.keeps.1 ∙ c.answer_all.ensures.answers.keeps.1;
       err = tt;
     }
@@ -76,7 +76,7 @@ returns-clause-receives g c =
           let last = either_idle c.or.result c.in_ok-after.after (sym c.or-2.ensures.is ∙ e) in
           let first = either_idle c.in_ok-before.before c.read-heard.result (sym c.or.ensures.is ∙ last.0) in
           let idle = c.read-heard.ensures.reads.idle first.1 in
-          rw c.answer_all-2.ensures.answers.keeps.0.1 (rw c.answer_all.ensures.answers.keeps.0.1 at idle.paused);
+          rw c.answer_all-2.ensures.answers.keeps.0.2 (rw c.answer_all.ensures.answers.keeps.0.2 at idle.paused);
       calm = λ calm. record {
         all = c.in_ok-after.ensures.answers.all (sym c.is_fault-3.ensures ∙ c.if-is_fault-3.false);
         reads = read_kept c.args.self.now.inbox c.answer_all.new.self.inbox c.read-heard.new.self.inbox c.answer_all-2.new.self.inbox c.answer_all.ensures.answers.keeps.0 c.answer_all-2.ensures.answers.keeps.0 (c.read-heard.ensures.reads.reads (sym c.is_fault-2.ensures ∙ c.if-is_fault-2.false));
@@ -101,7 +101,7 @@ returns-then-is_fault-3-clause-receives g c =
     record {
       idle = λ idle. faulty_not_idle _ c.in_ok-after.after (sym c.is_fault-3.ensures ∙ c.if-is_fault-3.true) idle;
       calm = λ calm. faulty_calm _ c.in_ok-after.after (sym c.is_fault-3.ensures ∙ c.if-is_fault-3.true) calm;
-      fault = fault_later c.args.self.now c.read-heard.new.self c.answer_all-2.new.self _ _ _ _ ((c.read-heard.ensures.reads.reads (sym c.is_fault-2.ensures ∙ c.if-is_fault-2.false)).0 ∙ ap (λ (n : Counts). n.failed) c.answer_all.ensures.answers.keeps.0.1) (ap (λ (n : Counts). n.failed) (c.read-heard.ensures.reads.keeps.1 ∙ c.answer_all.ensures.answers.keeps.1)) (λ x. x) (λ x. x) c.in_ok-after.after (rw c.answer_all.ensures.moves.turns.setting_is at c.in_ok-after.ensures.answers.fault);
+      fault = fault_later c.args.self.now c.read-heard.new.self c.answer_all-2.new.self _ _ _ _ ((c.read-heard.ensures.reads.reads (sym c.is_fault-2.ensures ∙ c.if-is_fault-2.false)).0 ∙ ap (λ (n : Counts). n.failed) c.answer_all.ensures.answers.keeps.0.2) (ap (λ (n : Counts). n.failed) (c.read-heard.ensures.reads.keeps.1 ∙ c.answer_all.ensures.answers.keeps.1)) (λ x. x) (λ x. x) c.in_ok-after.after (rw c.answer_all.ensures.moves.turns.setting_is at c.in_ok-after.ensures.answers.fault);
       writes = c.answer_all-2.ensures.answers.keeps.1 ∙ c.read-heard.ensures.reads.keeps.1 ∙ c.answer_all.ensures.answers.keeps.1;
       err = tt;
     }

@@ -10,7 +10,10 @@ returns-in-Moved g c =
         bytes = (
           take c.in-Moved.n c.self.inside.pending,
           record {
-            held = rw (← c.self.view_is) (rw c.as_slice.ensures at told.next);
+            writes = record {
+              held = rw (← c.self.view_is) (rw c.as_slice.ensures at told.next);
+              taken = rw (← c.self.view_is) (rw c.as_slice.ensures at told.taken);
+            };
             pending = rw (← c.self.view_is, c.advance.ensures) (sym (take-append-drop c.in-Moved.n c.self.inside.pending));
           },
           has_moved-take c.in-Moved.n c.self.inside.pending told.some (rw c.as_slice.ensures at told.fits),
