@@ -2,7 +2,7 @@
 ghost use Rattle.std.specs.Prelude.{◌≡◌, ◌++◌, ℕ, List, [], take};
 ghost use Rattle.std.specs.Borrow.{ftrue};
 
-use std::marker::{Model, Send};
+use std::marker::Model;
 
 /// The bytes that a device moved, the oldest first. Contracts read them as `bytes`.
 #[derive(Drop)]
@@ -45,6 +45,3 @@ impl Log {
         self.then(&Piece { bytes, count })
     }
 }
-
-// It owns nothing.
-unsafe impl Send for Log {}
