@@ -236,7 +236,8 @@ pub record Goes (old new : Client) (before after : History) (moved : Bool) : Typ
 abbrev pub Cuts : Client → Client → History → History → Result Progress EngineError → Result Progress EngineError → Type 0
 Cuts old new before after answer result =
     (Goes old new before after true × (new ≡ record old { stage = Stage.Closed true }) × (result ≡ answer))
-    ⊎ (Goes old new before after false × (new ≡ record old { stage = Stage.Failed }) × ((n : ℕ) × (result ≡ Err (EngineError.TurnRefused n))))
+    ⊎ (Goes old new before after false × (new ≡ record old { stage = Stage.Failed })
+    × ((n : ℕ) × (result ≡ Err (EngineError.TurnRefused n))))
 
 -- What a step comes to where the connection was closed, and where it is to be closed for a fault: nothing more, or that close.
 abbrev pub ClosesFirst : Stage → Client → Client → History → History → Result Progress EngineError → Type 0

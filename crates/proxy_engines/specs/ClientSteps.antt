@@ -33,7 +33,8 @@ pub record StaysHeld (cause : Refusal → Event → List Step → Type 0) (seen 
   pub crowded : cause Refusal.Crowded (Event.Arrived old.conn request) seen
 
 -- One reply was handed out, or the next one hasn't come, or the turn was refused and the engine is as it was.
-pub record HandsOne (cause : Refusal → Event → List Step → Type 0) (seen : List Step) (old new : Client) (result : Result Bool EngineError) : Type 0 where
+pub record HandsOne (cause : Refusal → Event → List Step → Type 0) (seen : List Step) (old new : Client)
+    (result : Result Bool EngineError) : Type 0 where
   pub stage : new.stage ≡ old.stage
   pub not_ready : IfOk result (λ b. b ≡ false → (new ≡ old) × ((left : ℕ) × cause (Refusal.NotReady left) (Event.Handed old.conn) seen))
   pub err : IfErr result (λ e. (new ≡ old) × ((n : ℕ) × (e ≡ EngineError.TurnRefused n)))

@@ -86,7 +86,8 @@ pub record IsLateOn (outbox : HostOutboxState) (move : LinkMove) (moment : ℕ) 
 
 -- a value waits for its turn that was refused since nobody asked for it
 abbrev pub IsUnaskedNow : (Event → List Step → Type 0) → List Step → ℕ → HostOutboxState → LinkState → Type 0
-IsUnaskedNow cause seen moment outbox link = (value : Value) × (link.next ≡ Some value) × cause (Event.Answered outbox.host outbox.epoch value moment) seen
+IsUnaskedNow cause seen moment outbox link = (value : Value) × (link.next ≡ Some value)
+    × cause (Event.Answered outbox.host outbox.epoch value moment) seen
 
 -- A device gave the fault, which has this kind and error: the input ended, or a read or a write failed.
 abbrev pub IsOfDevice : LinkMove → Kind → Option EngineError → Type 0

@@ -80,7 +80,8 @@ answer_of (Some e) = Err e
 abbrev pub TellsFault : HostCall → Kind → Option EngineError → Result Progress EngineError → Type 0
 TellsFault call kind error result =
     (Records call kind × (result ≡ answer_of error))
-    ⊎ ((call.new ≡ record call.old { fault = Some kind }) × (call.after ≡ call.before) × ((n : ℕ) × (result ≡ Err (EngineError.TurnRefused n))))
+    ⊎ ((call.new ≡ record call.old { fault = Some kind }) × (call.after ≡ call.before)
+    × ((n : ℕ) × (result ≡ Err (EngineError.TurnRefused n))))
 
 -- what a step that recorded no fault answers: whether anything moved, and nothing of a device
 abbrev pub IsAnswered : Bool → Result Progress EngineError → Type 0
@@ -92,7 +93,8 @@ IsAnswered moved result = ⊥
 
 -- Moves on the link or without one, and then a fault for its cause, if there is one, which is recorded or left to the next
 -- step.
-pub record WorksHost (unasked : HostOutboxState → LinkState → Type 0) (call : HostCall) (result : Result Progress EngineError) : Type 0 where
+pub record WorksHost (unasked : HostOutboxState → LinkState → Type 0) (call : HostCall)
+    (result : Result Progress EngineError) : Type 0 where
   pub last : HostState
   pub between : History
   pub moved : Bool
@@ -114,7 +116,8 @@ RestsHost call result = (call.old.fault ≢ None) × (call.new ≡ call.old) × 
     × ((n : ℕ) × (result ≡ Err (EngineError.TurnRefused n)))
 
 -- A step: the fault of an earlier step is recorded, if there is one, and the work goes on.
-pub record StepsHost (unasked : HostOutboxState → LinkState → Type 0) (call : HostCall) (result : Result Progress EngineError) : Type 0 where
+pub record StepsHost (unasked : HostOutboxState → LinkState → Type 0) (call : HostCall)
+    (result : Result Progress EngineError) : Type 0 where
   pub first : HostState
   pub between : History
   pub answer : Result Progress EngineError

@@ -1,5 +1,5 @@
 -- What the functions of a host's engine come to that make turns.
-use Rattle.std.specs.Prelude.{◌≡◌, ◌≢◌, ◌⊎◌, ◌↔◌, ℕ, Bool, Option, List, [], Result, IfOk, IfErr, IfSome, OnOk, OnErr, None, Some}
+use Rattle.std.specs.Prelude.{◌≡◌, ◌≢◌, ◌⊎◌, ◌↔◌, ℕ, Bool, false, Option, List, [], Result, IfOk, IfErr, IfSome, OnOk, OnErr, None, Some}
 use Rattle.proxy_history.specs.History.{Step}
 use Rattle.proxy_history.specs.declared.event.Event.{Event}
 use Rattle.proxy_history.specs.declared.event.Kind.{Kind}
@@ -9,7 +9,7 @@ use Rattle.proxy_engines.specs.OneTurn.{HasHeld}
 use Rattle.proxy_engines.specs.Moves.{AsTold}
 use Rattle.proxy_engines.specs.Ends.{HasGivenAll}
 use Rattle.proxy_engines.specs.Faults.{HasNoFaultOn, IsLate, IsNumberedOn, IsPlain}
-use Rattle.proxy_engines.specs.Host.{HostEnds, GoesOn}
+use Rattle.proxy_engines.specs.Host.{FailsHost, GoesOn, HostEnds, HostOutboxState, LinkState}
 use Rattle.proxy_engines.specs.HostStep.{HostCall, HostState, IsIdleOn, IsUnasked, Records, RestsHost, StepsHost, WorksHost}
 use Rattle.proxy_engines.specs.declared.client.Progress.{Progress}
 use Rattle.proxy_engines.specs.declared.error.EngineError.{EngineError}
@@ -18,14 +18,43 @@ module _ {Turns Setting : Type 0} (pass_of : Turns → ℕ) (setting_of : Turns 
     (cause : Setting → Refusal → Event → List Step → Type 0) (before after : Turns) where
   -- Some turns were made, or none, from `before` to `after`. The outbox and its link made moves, whether any as was told; and an
   -- error tells of no device, and of a turn by its number.
-  pub record MovesEnds {Answered : Type 0} (old new : HostEnds) (moment : ℕ) (told : Option Bool) (result : Result Answered EngineError) : Type 0 where
+  pub record MovesEnds {Answered : Type 0} (old new : HostEnds) (moment : ℕ) (told : Option Bool)
+      (result : Result Answered EngineError) : Type 0 where
     pub turns : KeepsTurns pass_of setting_of seen_of before after
-    pub goes : AsTold (GoesOn (record { old = old; new = new; before = own_history pass_of seen_of before; after = own_history pass_of seen_of after; moment = moment })) told
+    pub goes : AsTold (GoesOn (record {
+      old = old;
+      new = new;
+      before = own_history pass_of seen_of before;
+      after = own_history pass_of seen_of after;
+      moment = moment;
+    })) told
     pub plain : IfErr result (IsPlain (cause (setting_of before)) (seen_of after) new.outbox)
+
+  -- One fault of this kind is recorded, by one turn, and the link is given up, if there is one; or that turn was refused, with its
+  -- number, and the outbox is as it was.
+  pub record FailsOutbox {Answered : Type 0} (old new : HostOutboxState) (kind : Kind) (moment : ℕ)
+      (result : Result Answered EngineError) : Type 0 where
+    pub turns : KeepsTurns pass_of setting_of seen_of before after
+    pub fails : OnOk result ((link : Option LinkState) → FailsHost (record {
+      old = record { outbox = old; link = link };
+      new = record { outbox = new; link = None };
+      before = own_history pass_of seen_of before;
+      after = own_history pass_of seen_of after;
+      moment = moment;
+    }) kind)
+    pub same : OnErr result ((new ≡ old) × (own_history pass_of seen_of after ≡ own_history pass_of seen_of before))
+    pub err : IfErr result (λ e. (n : ℕ) × (e ≡ EngineError.TurnRefused n))
+    pub number : IfErr result (IsNumberedOn (cause (setting_of before)) (seen_of after) new)
 
   -- a call of the engine, over the turns from `before` to `after`
   abbrev pub call_of : HostState → HostState → ℕ → HostCall
-  call_of old new moment = record { old = old; new = new; before = own_history pass_of seen_of before; after = own_history pass_of seen_of after; moment = moment }
+  call_of old new moment = record {
+    old = old;
+    new = new;
+    before = own_history pass_of seen_of before;
+    after = own_history pass_of seen_of after;
+    moment = moment;
+  }
 
   -- What the answer of a call tells that began with this engine: no fault is still to be recorded, and no reply is late. A link
   -- that stays has not failed, and where no fault was to be recorded each value that came on it was answered. `NeedsLink` tells
@@ -33,7 +62,8 @@ module _ {Turns Setting : Type 0} (pass_of : Turns → ℕ) (setting_of : Turns 
   pub record TellsHost (old new : HostState) (moment : ℕ) (result : Result Progress EngineError) : Type 0 where
     pub recorded : OnOk result (new.fault ≡ None)
     pub unfailed : OnOk result (IfSome old.link (λ before. IfSome new.link (HasNoFaultOn before)))
-    pub answered : OnOk result (old.fault ≡ None → IfSome old.link (λ _. IfSome new.link (λ link. (link.next ≡ None) × HasGivenAll link.inbox)))
+    pub answered : OnOk result (old.fault ≡ None
+        → IfSome old.link (λ _. IfSome new.link (λ link. (link.next ≡ None) × HasGivenAll link.inbox)))
     pub in_time : IfOk result (λ _. ¬ IsLate new.outbox moment)
     pub needs_link : IfOk result (λ p. (p ≡ Progress.NeedsLink) ↔ ((new.link ≡ None) × (new.outbox.pending ≢ [])))
     pub idle : IfOk result (λ p. p ≡ Progress.Idle → IsIdleOn
@@ -44,7 +74,8 @@ module _ {Turns Setting : Type 0} (pass_of : Turns → ℕ) (setting_of : Turns 
   -- where a turn was refused the error has its number.
   pub record MovesHost (old new : HostState) (moment : ℕ) (result : Result Progress EngineError) : Type 0 where
     pub turns : KeepsTurns pass_of setting_of seen_of before after
-    pub works : WorksHost (IsUnasked (cause (setting_of before) Refusal.Unasked) (seen_of before) (seen_of after) moment) (call_of old new moment) result
+    pub works : WorksHost (IsUnasked (cause (setting_of before) Refusal.Unasked) (seen_of before) (seen_of after) moment)
+        (call_of old new moment) result
     pub number : IfErr result (IsNumberedOn (cause (setting_of before)) (seen_of after) new.outbox)
     pub tells : TellsHost old new moment result
 
@@ -52,16 +83,28 @@ module _ {Turns Setting : Type 0} (pass_of : Turns → ℕ) (setting_of : Turns 
   -- refused the error has its number.
   pub record MakesStep (old new : HostState) (moment : ℕ) (result : Result Progress EngineError) : Type 0 where
     pub turns : KeepsTurns pass_of setting_of seen_of before after
-    pub steps : StepsHost (IsUnasked (cause (setting_of before) Refusal.Unasked) (seen_of before) (seen_of after) moment) (call_of old new moment) result
+    pub steps : StepsHost (IsUnasked (cause (setting_of before) Refusal.Unasked) (seen_of before) (seen_of after) moment)
+        (call_of old new moment) result
         ⊎ RestsHost (call_of old new moment) result
     pub number : IfErr result (IsNumberedOn (cause (setting_of before)) (seen_of after) new.outbox)
 
   -- Some turns were made, or none, from `before` to `after`: a fault of this kind is recorded, and the link given up; or that
   -- turn was refused, with its number, and the fault left to the next step.
-  pub record MarksFault {Answered : Type 0} (old new : HostState) (kind : Kind) (moment : ℕ) (result : Result Answered EngineError) : Type 0 where
+  pub record MarksFault {Answered : Type 0} (old new : HostState) (kind : Kind) (moment : ℕ)
+      (result : Result Answered EngineError) : Type 0 where
     pub turns : KeepsTurns pass_of setting_of seen_of before after
     pub records : OnOk result (Records (call_of old new moment) kind)
     pub kept : OnErr result ((new ≡ record old { fault = Some kind })
         × (own_history pass_of seen_of after ≡ own_history pass_of seen_of before))
     pub err : IfErr result (λ e. (n : ℕ) × (e ≡ EngineError.TurnRefused n))
     pub number : IfErr result (IsNumberedOn (cause (setting_of before)) (seen_of after) new.outbox)
+
+-- One part was taken, or none: there is no link, and no fault was recorded. Where none was, the outbox is as it was; and if nothing
+-- was pending no part waited.
+pub record TakesOne (cause : Refusal → Event → List Step → Type 0) (seen : List Step) (old new : HostState)
+    (result : Result Bool EngineError) : Type 0 where
+  pub link : new.link ≡ None
+  pub fault : new.fault ≡ old.fault
+  pub nothing_waits : IfOk result (λ b. b ≡ false → old.outbox.pending ≡ []
+      → cause Refusal.NothingWaiting (Event.Taken old.outbox.host) seen)
+  pub same : IfOk result (λ b. b ≡ false → new.outbox ≡ old.outbox)

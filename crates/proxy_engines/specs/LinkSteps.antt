@@ -1,5 +1,5 @@
 -- What the parts of a step on a link come to.
-use Rattle.std.specs.Prelude.{◌≡◌, ◌≢◌, ◌⊎◌, ℕ, false, None, Result, IfOk, OnErr}
+use Rattle.std.specs.Prelude.{◌≡◌, ◌≢◌, ◌⊎◌, ℕ, false, None, Result, IfOk, IfErr, OnErr}
 use Rattle.proxy_devices.specs.Device.{HasRisen, WasIdle}
 use Rattle.proxy_engines.specs.Ends.{HasGivenAll, KeepsReader}
 use Rattle.proxy_engines.specs.Host.{HostOutboxState, LinkState}
@@ -13,6 +13,13 @@ pub record FindsNext (link : LinkState) (found : Found) : Type 0 where
   pub idle : found ≡ Found.Idle → (link.next ≡ None) × HasGivenAll link.inbox
   pub value : found ≡ Found.Value → (link.next ≢ None) × (link.inbox.values.refusal ≡ None)
   pub garbled : found ≡ Found.Garbled → link.inbox.values.refusal ≢ None
+
+-- The next value was looked for: what was found is told, or there was no memory, and nothing is refused. Both devices are as they
+-- were.
+pub record LooksForValue (move : LinkMove) (result : Result Found EngineError) : Type 0 where
+  pub found : IfOk result (FindsNext move.new)
+  pub err : IfErr result (λ e. (e ≡ EngineError.NoMemory) × (move.new.inbox.values.refusal ≡ None))
+  pub counts : KeepsReader move.old.inbox move.new.inbox × (move.new.counts ≡ move.old.counts)
 
 -- After the turn of the next value, if there is one: all values that came were answered, or no byte is refused, as was told.
 pub record TellsNext (link : LinkState) (outcome : Outcome) : Type 0 where

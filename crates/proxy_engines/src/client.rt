@@ -347,8 +347,8 @@ impl<R: ReadTally, W: WriteTally> ClientEngine<R, W> {
         requires stage { self.old.stage ≡ Stage.Open }
         ensures moves { MovesClient T.pass T.setting T.seen T.cause turns.old turns.new
             self.old self.new (told_by_step result) result }
-        ensures takes { TakesIn (T.cause (T.setting turns.old)) (T.seen turns.old) (T.seen turns.new)
-            self.old self.new result }
+        ensures takes { TakesIn (T.cause (T.setting turns.old)) (T.seen turns.old)
+            (T.seen turns.new) self.old self.new result }
     {
         if self.is_to_stop() {
             return self.stop_reading(rt, turns);
@@ -387,8 +387,8 @@ impl<R: ReadTally, W: WriteTally> ClientEngine<R, W> {
         requires nothing { self.old.outbox.pending ≡ [] }
         ensures moves { MovesClient T.pass T.setting T.seen T.cause turns.old turns.new
             self.old self.new (told_by_turn result) result }
-        ensures hands { HandsDue (T.cause (T.setting turns.old)) (T.seen turns.old) (T.seen turns.new)
-            self.old self.new result }
+        ensures hands { HandsDue (T.cause (T.setting turns.old)) (T.seen turns.old)
+            (T.seen turns.new) self.old self.new result }
     {
         if self.accepted == self.handed {
             return Ok(false);

@@ -10,7 +10,7 @@ ghost use Rattle.proxy_engines.specs.Moves.{AsTold, told_by_turn};
 ghost use Rattle.proxy_engines.specs.Faults.{HasNoFaultOn, IsLate, IsNumberedOn, IsPlain};
 ghost use Rattle.proxy_engines.specs.Ends.{HasGivenAll};
 ghost use Rattle.proxy_engines.specs.Host.{LinkState, CarriesHost};
-ghost use Rattle.proxy_engines.specs.HostTurns.{MakesStep, MarksFault, MovesEnds, MovesHost, TellsHost, call_of};
+ghost use Rattle.proxy_engines.specs.HostTurns.{MakesStep, MarksFault, MovesEnds, MovesHost, TakesOne, TellsHost, call_of};
 ghost use Rattle.proxy_engines.specs.HostStep.{TellsFault, after_fault, answer_of, ends_of};
 
 use crate::client::Progress;
@@ -221,13 +221,8 @@ impl<R: ReadTally + Drop, W: WriteTally + Drop> HostEngine<R, W> {
         requires none { self.old.link ≡ None }
         ensures moves { MovesEnds T.pass T.setting T.seen T.cause turns.old turns.new
             (ends_of self.old) (ends_of self.new) moment (told_by_turn result) result }
-        ensures link { self.new.link ≡ None }
-        ensures fault { self.new.fault ≡ self.old.fault }
-        ensures nothing_waits { IfOk result
-            (λ b. b ≡ false → self.old.outbox.pending ≡ []
-            → T.cause (T.setting turns.old) Refusal.NothingWaiting (Event.Taken self.old.outbox.host)
-            (T.seen turns.new)) }
-        ensures same { IfOk result (λ b. b ≡ false → self.new.outbox ≡ self.old.outbox) }
+        ensures takes { TakesOne (T.cause (T.setting turns.old)) (T.seen turns.new)
+            self.old self.new result }
     {
         if self.outbox.is_empty() {
             self.outbox.take(rt, turns, moment)

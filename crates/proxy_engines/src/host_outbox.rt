@@ -7,7 +7,7 @@ ghost use Rattle.proxy_engines.specs.Turns.{KeepsTurns, own_history};
 ghost use Rattle.proxy_devices.specs.Device.{is_moved};
 ghost use Rattle.proxy_engines.specs.Ends.{CountsWritten};
 ghost use Rattle.proxy_engines.specs.Moves.{has_moved, told_by_turn};
-ghost use Rattle.proxy_engines.specs.HostTurns.{MovesEnds};
+ghost use Rattle.proxy_engines.specs.HostTurns.{FailsOutbox, MovesEnds};
 ghost use Rattle.proxy_engines.specs.Faults.{IsLate, IsNumberedOn};
 ghost use Rattle.proxy_engines.specs.Host.{LinkState, FailsHost};
 
@@ -82,8 +82,8 @@ impl HostOutbox {
         moment: u64,
     ) -> Result<bool, EngineError>
         requires nothing { self.old.pending ≡ [] }
-        ensures moves { (link : Option LinkState) → MovesEnds T.pass T.setting T.seen T.cause turns.old
-            turns.new (record { outbox = self.old; link = link })
+        ensures moves { (link : Option LinkState) → MovesEnds T.pass T.setting T.seen T.cause
+            turns.old turns.new (record { outbox = self.old; link = link })
             (record { outbox = self.new; link = link }) moment (told_by_turn result) result }
         ensures none { IfOk result (λ b. b ≡ false → self.new ≡ self.old) }
         ensures nothing_waits { IfOk result
@@ -119,19 +119,8 @@ impl HostOutbox {
         kind: Kind,
         moment: u64,
     ) -> Result<(), EngineError>
-        ensures turns { KeepsTurns T.pass T.setting T.seen turns.old turns.new }
-        ensures fails { OnOk result ((link : Option LinkState) → FailsHost (record {
-          old = record { outbox = self.old; link = link };
-          new = record { outbox = self.new; link = None };
-          before = own_history T.pass T.seen turns.old;
-          after = own_history T.pass T.seen turns.new;
-          moment = moment;
-        }) kind) }
-        ensures same { OnErr result ((self.new ≡ self.old) × (own_history T.pass T.seen turns.new
-            ≡ own_history T.pass T.seen turns.old)) }
-        ensures err { IfErr result (λ e. (n : ℕ) × (e ≡ EngineError.TurnRefused n)) }
-        ensures number { IfErr result
-            (IsNumberedOn (T.cause (T.setting turns.old)) (T.seen turns.new) self.new) }
+        ensures records { FailsOutbox T.pass T.setting T.seen T.cause turns.old turns.new
+            self.old self.new kind moment result }
     {
         if self.is_astray {
             return Err(EngineError::TurnRefused { number: STALE });

@@ -9,7 +9,7 @@ ghost use Rattle.proxy_engines.specs.Turns.{KeepsTurns, own_history};
 ghost use Rattle.proxy_devices.specs.Device.{WasIdle, HasRisen};
 ghost use Rattle.proxy_engines.specs.OneTurn.{HasHeld};
 ghost use Rattle.proxy_engines.specs.Ends.{HasGivenAll, KeepsReader};
-ghost use Rattle.proxy_engines.specs.LinkSteps.{AnswersAll, AnswersNext, AnswersValue, FindsNext, ReadsOnLink, Receives, SendsOnLink, WorksOnLink, WritesOnLink};
+ghost use Rattle.proxy_engines.specs.LinkSteps.{AnswersAll, AnswersNext, AnswersValue, LooksForValue, ReadsOnLink, Receives, SendsOnLink, WorksOnLink, WritesOnLink};
 ghost use Rattle.proxy_engines.specs.HostTurns.{MovesEnds};
 ghost use Rattle.proxy_engines.specs.Host.{HostOutboxState, LinkState, GoesWithoutTurn, on_link};
 ghost use Rattle.proxy_engines.specs.Moves.{AsTold};
@@ -143,11 +143,7 @@ impl<R: ReadTally, W: WriteTally> Link<R, W> {
         requires whole { self.old.inbox.values.refusal ≡ None }
         ensures goes { (outbox : HostOutboxState)
             → GoesWithoutTurn (on_link outbox self.old) (on_link outbox self.new) (Some false) }
-        ensures found { IfOk result (FindsNext self.new) }
-        ensures err { IfErr result (λ e. (e ≡ EngineError.NoMemory)
-            × (self.new.inbox.values.refusal ≡ None)) }
-        ensures counts { KeepsReader self.old.inbox self.new.inbox
-            × (self.new.counts ≡ self.old.counts) }
+        ensures looks { LooksForValue (record { old = self.old; new = self.new }) result }
     {
         if self.next.is_some() {
             return Ok(Found::Value);
@@ -175,8 +171,9 @@ impl<R: ReadTally, W: WriteTally> Link<R, W> {
         ensures moves { MovesEnds T.pass T.setting T.seen T.cause turns.old turns.new
             (on_link outbox.old self.old) (on_link outbox.new self.new) moment
             (told_by_moves result) result }
-        ensures answers { AnswersValue (IsUnaskedNow (T.cause (T.setting turns.old) Refusal.Unasked) (T.seen turns.new) moment
-            outbox.new self.new)
+        ensures answers { AnswersValue
+            (IsUnaskedNow (T.cause (T.setting turns.old) Refusal.Unasked) (T.seen turns.new)
+            moment outbox.new self.new)
             (record { old = self.old; new = self.new }) result }
     {
         let Some(value) = self.next.take() else {
@@ -231,8 +228,9 @@ impl<R: ReadTally, W: WriteTally> Link<R, W> {
         ensures moves { MovesEnds T.pass T.setting T.seen T.cause turns.old turns.new
             (on_link outbox.old self.old) (on_link outbox.new self.new) moment
             (told_by_moves result) result }
-        ensures answers { AnswersNext (IsUnaskedNow (T.cause (T.setting turns.old) Refusal.Unasked) (T.seen turns.new) moment
-            outbox.new self.new)
+        ensures answers { AnswersNext
+            (IsUnaskedNow (T.cause (T.setting turns.old) Refusal.Unasked) (T.seen turns.new)
+            moment outbox.new self.new)
             (record { old = self.old; new = self.new }) result }
     {
         match self.next_value()? {
@@ -257,8 +255,9 @@ impl<R: ReadTally, W: WriteTally> Link<R, W> {
         ensures moves { MovesEnds T.pass T.setting T.seen T.cause turns.old turns.new
             (on_link outbox.old self.old) (on_link outbox.new self.new) moment
             (told_by_moves result) result }
-        ensures answers { AnswersAll (IsUnaskedNow (T.cause (T.setting turns.old) Refusal.Unasked) (T.seen turns.new) moment
-            outbox.new self.new)
+        ensures answers { AnswersAll
+            (IsUnaskedNow (T.cause (T.setting turns.old) Refusal.Unasked) (T.seen turns.new)
+            moment outbox.new self.new)
             (record { old = self.old; new = self.new }) result }
     {
         let mut outcome = Outcome::Idle;
@@ -309,8 +308,9 @@ impl<R: ReadTally, W: WriteTally> Link<R, W> {
         ensures moves { MovesEnds T.pass T.setting T.seen T.cause turns.old turns.new
             (on_link outbox.old self.old) (on_link outbox.new self.new) moment
             (told_by_moves result) result }
-        ensures receives { Receives (IsUnaskedNow (T.cause (T.setting turns.old) Refusal.Unasked) (T.seen turns.new) moment
-            outbox.new self.new)
+        ensures receives { Receives
+            (IsUnaskedNow (T.cause (T.setting turns.old) Refusal.Unasked) (T.seen turns.new)
+            moment outbox.new self.new)
             (record { old = self.old; new = self.new }) result }
     {
         let before = self.answer_all(outbox, rt, turns, moment)?;
@@ -340,8 +340,9 @@ impl<R: ReadTally, W: WriteTally> Link<R, W> {
         ensures moves { MovesEnds T.pass T.setting T.seen T.cause turns.old turns.new
             (on_link outbox.old self.old) (on_link outbox.new self.new) moment
             (told_by_moves result) result }
-        ensures works { WorksOnLink (IsUnaskedNow (T.cause (T.setting turns.old) Refusal.Unasked) (T.seen turns.new) moment
-            outbox.new self.new)
+        ensures works { WorksOnLink
+            (IsUnaskedNow (T.cause (T.setting turns.old) Refusal.Unasked) (T.seen turns.new)
+            moment outbox.new self.new)
             ((outbox.old.pending ≡ []) × HasHeld
             (T.cause (T.setting turns.old) Refusal.NothingWaiting) (Event.Taken outbox.old.host)
             (T.seen turns.old) (T.seen turns.new))

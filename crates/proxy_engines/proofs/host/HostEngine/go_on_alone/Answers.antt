@@ -20,8 +20,8 @@ returns-clause-moves g c =
     record {
       turns = c.take_one.ensures.moves.turns;
       works = elim c.if-taken.branch [
-        | then-taken w ↦ rw w.result-is (works_on _ _ c.take_one.new.self _ _ c.args.moment true _ (rw w.if-taken.true at c.in_ok-taken.ensures.moves.goes) refl (c.take_one.ensures.fault ∙ c.requires.no_fault))
-        | else-taken w ↦ rw w.result-is (works_on _ _ c.take_one.new.self _ _ c.args.moment false _ (rw w.if-taken.false at c.in_ok-taken.ensures.moves.goes) refl (c.take_one.ensures.fault ∙ c.requires.no_fault))
+        | then-taken w ↦ rw w.result-is (works_on _ _ c.take_one.new.self _ _ c.args.moment true _ (rw w.if-taken.true at c.in_ok-taken.ensures.moves.goes) refl (c.take_one.ensures.takes.fault ∙ c.requires.no_fault))
+        | else-taken w ↦ rw w.result-is (works_on _ _ c.take_one.new.self _ _ c.args.moment false _ (rw w.if-taken.false at c.in_ok-taken.ensures.moves.goes) refl (c.take_one.ensures.takes.fault ∙ c.requires.no_fault))
       ];
       number = elim c.if-taken.branch [
         | then-taken w ↦ rw w.result-is tt
@@ -29,8 +29,8 @@ returns-clause-moves g c =
       ];
       tells = record {
         recorded = elim c.if-taken.branch [
-          | then-taken w ↦ rw w.result-is (c.take_one.ensures.fault ∙ c.requires.no_fault)
-          | else-taken w ↦ rw w.result-is (c.take_one.ensures.fault ∙ c.requires.no_fault)
+          | then-taken w ↦ rw w.result-is (c.take_one.ensures.takes.fault ∙ c.requires.no_fault)
+          | else-taken w ↦ rw w.result-is (c.take_one.ensures.takes.fault ∙ c.requires.no_fault)
         ];
         unfailed = elim c.if-taken.branch [
           | then-taken w ↦ rw (w.result-is, c.requires.none) tt
@@ -44,10 +44,10 @@ returns-clause-moves g c =
         idle = elim c.if-taken.branch [
           | then-taken w ↦ rw w.result-is (λ e. absurd cc)
           | else-taken w ↦
-              let same = c.in_ok-taken.ensures.same w.if-taken.false in
+              let same = c.in_ok-taken.ensures.takes.same w.if-taken.false in
               let empty : c.args.self.now.outbox.pending ≡ [] =
               ap (λ (l : HostOutboxState). l.pending) (sym same) ∙ ap (λ (h : HostState). h.outbox.pending) (sym c.self.view_is) ∙ empty_is c.self.inside.outbox.pending c.is_empty.result c.is_empty.ensures c.if-not-is_empty.false in
-              rw (w.result-is, c.requires.none, c.take_one.ensures.link) (λ e. (empty, (g.T.Turns.seen c.take_one.new.turns, c.take_one.ensures.moves.turns.begins, ([], sym (append-nil (g.T.Turns.seen c.take_one.new.turns))), c.in_ok-taken.ensures.nothing_waits w.if-taken.false empty)))
+              rw (w.result-is, c.requires.none, c.take_one.ensures.takes.link) (λ e. (empty, (g.T.Turns.seen c.take_one.new.turns, c.take_one.ensures.moves.turns.begins, ([], sym (append-nil (g.T.Turns.seen c.take_one.new.turns))), c.in_ok-taken.ensures.takes.nothing_waits w.if-taken.false empty)))
         ];
         needs_link = let empty : c.take_one.new.self.outbox.pending ≡ [] = ap (λ (h : HostState). h.outbox.pending) (sym c.self.view_is) ∙ empty_is c.self.inside.outbox.pending c.is_empty.result c.is_empty.ensures c.if-not-is_empty.false in
             elim c.if-taken.branch [
@@ -68,7 +68,7 @@ returns-in_err-taken-clause-moves g c =
       works = let (_, result_is, error_is) = err_from_is_err_and c.from_residual.result c.from_residual.ensures.1 in
           let went = c.in_err-taken.ensures.moves.goes in
           rw (result_is, error_is)
-          (works_on _ _ c.take_one.new.self _ _ c.args.moment went.0 _ went.1 c.in_err-taken.ensures.moves.plain.0 (c.take_one.ensures.fault ∙ c.requires.no_fault));
+          (works_on _ _ c.take_one.new.self _ _ c.args.moment went.0 _ went.1 c.in_err-taken.ensures.moves.plain.0 (c.take_one.ensures.takes.fault ∙ c.requires.no_fault));
       number = let (_, result_is, error_is) = err_from_is_err_and c.from_residual.result c.from_residual.ensures.1 in rw (result_is, error_is) c.in_err-taken.ensures.moves.plain.1;
       tells = record {
         recorded = IfOk-from_err c.from_residual.result _ c.from_residual.ensures.0;
@@ -84,14 +84,14 @@ pub returns-then-not-is_empty-clause-moves : goal.returns-then-not-is_empty-clau
 returns-then-not-is_empty-clause-moves g c =
     record {
       turns = c.take_one.ensures.moves.turns;
-      works = works_on _ _ c.take_one.new.self _ _ c.args.moment c.in_ok-taken.taken _ c.in_ok-taken.ensures.moves.goes tt (c.take_one.ensures.fault ∙ c.requires.no_fault);
+      works = works_on _ _ c.take_one.new.self _ _ c.args.moment c.in_ok-taken.taken _ c.in_ok-taken.ensures.moves.goes tt (c.take_one.ensures.takes.fault ∙ c.requires.no_fault);
       number = tt;
       tells = record {
-        recorded = c.take_one.ensures.fault ∙ c.requires.no_fault;
+        recorded = c.take_one.ensures.takes.fault ∙ c.requires.no_fault;
         unfailed = rw c.requires.none tt;
         in_time = rw (← c.self.view_is) (not_late c.self.inside.outbox c.args.moment c.is_late.result c.if-is_late.false c.is_late.ensures);
         idle = λ idle. absurd cc;
-        needs_link = needs_alone (Ok Progress.NeedsLink) c.take_one.new.self.link c.take_one.new.self.outbox.pending c.take_one.ensures.link (search rules);
+        needs_link = needs_alone (Ok Progress.NeedsLink) c.take_one.new.self.link c.take_one.new.self.outbox.pending c.take_one.ensures.takes.link (search rules);
         answered = λ _. rw c.requires.none tt;
       };
     }
@@ -103,7 +103,7 @@ returns-then-is_late-clause-moves g c =
       works = let went = some_told _ (told_by_turn c.take_one.result) c.take_one.ensures.moves.goes in
           let late : IsLate c.take_one.new.self.outbox c.args.moment = rw (← c.self.view_is) (c.is_late.ensures.0 c.if-is_late.true) in
           works_told _ _ c.take_one.new.self c.tell_fault.new.self Kind.Late None _ _ _ c.args.moment went.0 c.tell_fault.result went.1
-          c.tell_fault.ensures.tells (rw (c.requires.none, c.take_one.ensures.link) (refl, refl, late));
+          c.tell_fault.ensures.tells (rw (c.requires.none, c.take_one.ensures.takes.link) (refl, refl, late));
       number = numbered_cut _ _ c.tell_fault.result tt (rw c.take_one.ensures.moves.turns.setting_is at c.tell_fault.ensures.number);
       tells = record {
         recorded = told_recorded _ _ _ _ _ _ None c.tell_fault.result c.tell_fault.ensures.tells;
@@ -116,7 +116,7 @@ returns-then-is_late-clause-moves g c =
     }
 
 pub returns-then-is_late-clause-link : goal.returns-then-is_late-clause-link
-returns-then-is_late-clause-link g c = told_link _ _ _ _ _ _ None c.tell_fault.result c.take_one.ensures.link c.tell_fault.ensures.tells
+returns-then-is_late-clause-link g c = told_link _ _ _ _ _ _ None c.tell_fault.result c.take_one.ensures.takes.link c.tell_fault.ensures.tells
 
 pub returns-in_err-taken-clause-link : goal.returns-in_err-taken-clause-link
-returns-in_err-taken-clause-link g c = c.take_one.ensures.link
+returns-in_err-taken-clause-link g c = c.take_one.ensures.takes.link

@@ -6,8 +6,8 @@ pub returns : goal.returns
 returns g c =
     record {
       marks = record {
-        turns = c.fail.ensures.turns;
-        records = rw (c.take.ensures.after, ← c.self.view_is) (record { fails = c.in_ok-fail.ensures.fails _; fault = refl });
+        turns = c.fail.ensures.records.turns;
+        records = rw (c.take.ensures.after, ← c.self.view_is) (record { fails = c.in_ok-fail.ensures.records.fails _; fault = refl });
         kept = tt;
         err = tt;
         number = tt;
@@ -19,10 +19,10 @@ returns-in_err-fail g c =
     let (_, result_is, error_is) = err_from_is_err_and c.from_residual.result c.from_residual.ensures.1 in
     record {
       marks = record {
-        turns = c.fail.ensures.turns;
+        turns = c.fail.ensures.records.turns;
         records = IfOk-from_err c.from_residual.result _ c.from_residual.ensures.0;
-        kept = rw result_is (rw (c.in_err-fail.ensures.same.0, ← c.self.view_is) (refl, c.in_err-fail.ensures.same.1));
-        err = rw (result_is, error_is) c.in_err-fail.ensures.err;
-        number = rw (result_is, error_is) c.in_err-fail.ensures.number;
+        kept = rw result_is (rw (c.in_err-fail.ensures.records.same.0, ← c.self.view_is) (refl, c.in_err-fail.ensures.records.same.1));
+        err = rw (result_is, error_is) c.in_err-fail.ensures.records.err;
+        number = rw (result_is, error_is) c.in_err-fail.ensures.records.number;
       };
     }

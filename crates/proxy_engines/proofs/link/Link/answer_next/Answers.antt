@@ -37,7 +37,7 @@ returns-in_err-next_value-clause-moves g c =
     record {
       turns = keeps_same _ _ _ _;
       goes = moves-err _ c.from_residual.result c.from_residual.ensures.0 (false, c.next_value.ensures.goes _ _ _);
-      plain = let (_, result_is, error_is) = err_from_is_err_and c.from_residual.result c.from_residual.ensures.1 in rw (result_is, error_is, c.in_err-next_value.ensures.err.0) (tt, inl tt);
+      plain = let (_, result_is, error_is) = err_from_is_err_and c.from_residual.result c.from_residual.ensures.1 in rw (result_is, error_is, c.in_err-next_value.ensures.looks.err.0) (tt, inl tt);
     }
 
 pub returns-in-Garbled-clause-answers : goal.returns-in-Garbled-clause-answers
@@ -47,8 +47,8 @@ returns-in-Garbled-clause-answers g c =
         idle = λ idle. absurd cc;
         moved = λ moved. absurd cc;
       };
-      fault = inl (c.in_ok-next_value.ensures.found.garbled c.in-Garbled.is);
-      keeps = (c.next_value.ensures.counts.0, c.next_value.ensures.counts.1);
+      fault = inl (c.in_ok-next_value.ensures.looks.found.garbled c.in-Garbled.is);
+      keeps = (c.next_value.ensures.looks.counts.0, c.next_value.ensures.looks.counts.1);
       err = tt;
     }
 
@@ -56,11 +56,11 @@ pub returns-in-Idle-clause-answers : goal.returns-in-Idle-clause-answers
 returns-in-Idle-clause-answers g c =
     record {
       told = record {
-        idle = λ _. c.in_ok-next_value.ensures.found.idle c.in-Idle.is;
+        idle = λ _. c.in_ok-next_value.ensures.looks.found.idle c.in-Idle.is;
         moved = λ moved. absurd cc;
       };
       fault = tt;
-      keeps = (c.next_value.ensures.counts.0, c.next_value.ensures.counts.1);
+      keeps = (c.next_value.ensures.looks.counts.0, c.next_value.ensures.looks.counts.1);
       err = tt;
     }
 
@@ -69,8 +69,8 @@ returns-in_err-next_value-clause-answers g c =
     record {
       told = IfOk-from_err c.from_residual.result _ c.from_residual.ensures.0;
       fault = IfOk-from_err c.from_residual.result _ c.from_residual.ensures.0;
-      keeps = (c.next_value.ensures.counts.0, c.next_value.ensures.counts.1);
-      err = any_err _ c.from_residual.result c.in_err-next_value.ensures.err.1;
+      keeps = (c.next_value.ensures.looks.counts.0, c.next_value.ensures.looks.counts.1);
+      err = any_err _ c.from_residual.result c.in_err-next_value.ensures.looks.err.1;
     }
 
 pub returns-in-Value-clause-answers : goal.returns-in-Value-clause-answers
@@ -79,11 +79,11 @@ returns-in-Value-clause-answers g c =
       told = IfOk-weaker c.answer.result _ _
           (λ o never. record {
             idle = λ idle. absurd (never idle);
-            moved = λ _. (ap (λ (i : InboxState). i.values.refusal) c.answer.ensures.answers.keeps.0 ∙ (c.in_ok-next_value.ensures.found.value c.in-Value.is).1);
+            moved = λ _. (ap (λ (i : InboxState). i.values.refusal) c.answer.ensures.answers.keeps.0 ∙ (c.in_ok-next_value.ensures.looks.found.value c.in-Value.is).1);
           }) c.answer.ensures.answers.moved;
       fault = IfOk-weaker c.answer.result _ _
-          (λ o. fault_later c.args.self.now c.next_value.new.self c.answer.new.self _ _ _ _ (ap (λ (n : Counts). n.failed) c.next_value.ensures.counts.0.2) (ap (λ (n : Counts). n.failed) c.next_value.ensures.counts.1) (λ x. x) (λ x. x) o)
+          (λ o. fault_later c.args.self.now c.next_value.new.self c.answer.new.self _ _ _ _ (ap (λ (n : Counts). n.failed) c.next_value.ensures.looks.counts.0.2) (ap (λ (n : Counts). n.failed) c.next_value.ensures.looks.counts.1) (λ x. x) (λ x. x) o)
           c.answer.ensures.answers.fault;
-      keeps = ((ap (λ (i : InboxState). i.left) c.answer.ensures.answers.keeps.0 ∙ c.next_value.ensures.counts.0.0, ap (λ (i : InboxState). i.told) c.answer.ensures.answers.keeps.0 ∙ c.next_value.ensures.counts.0.1, ap (λ (i : InboxState). i.counts) c.answer.ensures.answers.keeps.0 ∙ c.next_value.ensures.counts.0.2), c.answer.ensures.answers.keeps.1 ∙ c.next_value.ensures.counts.1);
-      err = any_err _ c.answer.result (ap (λ (i : InboxState). i.values.refusal) c.answer.ensures.answers.keeps.0 ∙ (c.in_ok-next_value.ensures.found.value c.in-Value.is).1);
+      keeps = ((ap (λ (i : InboxState). i.left) c.answer.ensures.answers.keeps.0 ∙ c.next_value.ensures.looks.counts.0.0, ap (λ (i : InboxState). i.told) c.answer.ensures.answers.keeps.0 ∙ c.next_value.ensures.looks.counts.0.1, ap (λ (i : InboxState). i.counts) c.answer.ensures.answers.keeps.0 ∙ c.next_value.ensures.looks.counts.0.2), c.answer.ensures.answers.keeps.1 ∙ c.next_value.ensures.looks.counts.1);
+      err = any_err _ c.answer.result (ap (λ (i : InboxState). i.values.refusal) c.answer.ensures.answers.keeps.0 ∙ (c.in_ok-next_value.ensures.looks.found.value c.in-Value.is).1);
     }

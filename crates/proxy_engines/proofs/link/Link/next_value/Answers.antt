@@ -45,74 +45,61 @@ returns-in-Err-clause-goes g c =
     (sought_none l _ c.next_request.new.self H m none (rw (← c.self.view_is) at c.requires.whole) c.next_request.ensures.keeps.0 c.next_request.ensures.keeps.1
     (λ b rs h. with_refusal c.next_request.new.self b rs [] None c.in-Err.ensures.err.1 (rw (append-nil rs) (c.in-Err.ensures.err.0 b rs h))))
 
-pub returns-then-is_some-clause-found : goal.returns-then-is_some-clause-found
-returns-then-is_some-clause-found g c =
+pub returns-then-is_some-clause-looks : goal.returns-then-is_some-clause-looks
+returns-then-is_some-clause-looks g c =
     record {
-      idle = λ idle. absurd cc;
-      value = search rules;
-      garbled = λ garbled. absurd cc;
+      found = record {
+        idle = λ idle. absurd cc;
+        value = search rules;
+        garbled = λ garbled. absurd cc;
+      };
+      err = tt;
+      counts = ((refl, refl, refl), refl);
     }
 
-pub returns-then-is_some-clause-err : goal.returns-then-is_some-clause-err
-returns-then-is_some-clause-err g c = tt
-
-pub returns-then-is_some-clause-counts : goal.returns-then-is_some-clause-counts
-returns-then-is_some-clause-counts g c = ((refl, refl, refl), refl)
-
-pub returns-in-Ok-Some-Read-clause-found : goal.returns-in-Ok-Some-Read-clause-found
-returns-in-Ok-Some-Read-clause-found g c =
+pub returns-in-Ok-Some-Read-clause-looks : goal.returns-in-Ok-Some-Read-clause-looks
+returns-in-Ok-Some-Read-clause-looks g c =
     record {
-      idle = λ idle. absurd cc;
-      value = let whole = rw (c.in-Ok-Some-Read.field-0-is, c.in-Ok-Some-Read.field-0-0-is) at c.in-Ok-Some-Read.ensures.next.whole in
-          λ _. ((λ none. let e = sym c.replace.ensures.after ∙ none in absurd cc), whole (λ broken. absurd cc));
-      garbled = λ garbled. absurd cc;
+      found = record {
+        idle = λ idle. absurd cc;
+        value = let whole = rw (c.in-Ok-Some-Read.field-0-is, c.in-Ok-Some-Read.field-0-0-is) at c.in-Ok-Some-Read.ensures.next.whole in
+            λ _. ((λ none. let e = sym c.replace.ensures.after ∙ none in absurd cc), whole (λ broken. absurd cc));
+        garbled = λ garbled. absurd cc;
+      };
+      err = tt;
+      counts = ((c.next_request.ensures.keeps.0.0 ∙ ap (λ (k : LinkState). k.inbox.left) c.self.view_is, c.next_request.ensures.keeps.0.1 ∙ ap (λ (k : LinkState). k.inbox.told) c.self.view_is, c.next_request.ensures.keeps.0.2 ∙ ap (λ (k : LinkState). k.inbox.counts) c.self.view_is), ap (λ (k : LinkState). k.counts) c.self.view_is);
     }
 
-pub returns-in-Ok-Some-Read-clause-err : goal.returns-in-Ok-Some-Read-clause-err
-returns-in-Ok-Some-Read-clause-err g c = tt
-
-pub returns-in-Ok-Some-Read-clause-counts : goal.returns-in-Ok-Some-Read-clause-counts
-returns-in-Ok-Some-Read-clause-counts g c =
-    ((c.next_request.ensures.keeps.0.0 ∙ ap (λ (k : LinkState). k.inbox.left) c.self.view_is, c.next_request.ensures.keeps.0.1 ∙ ap (λ (k : LinkState). k.inbox.told) c.self.view_is, c.next_request.ensures.keeps.0.2 ∙ ap (λ (k : LinkState). k.inbox.counts) c.self.view_is), ap (λ (k : LinkState). k.counts) c.self.view_is)
-
-pub returns-in-Ok-Some-Broken-clause-found : goal.returns-in-Ok-Some-Broken-clause-found
-returns-in-Ok-Some-Broken-clause-found g c =
+pub returns-in-Ok-Some-Broken-clause-looks : goal.returns-in-Ok-Some-Broken-clause-looks
+returns-in-Ok-Some-Broken-clause-looks g c =
     record {
-      idle = λ idle. absurd cc;
-      value = λ value. absurd cc;
-      garbled = let told = rw (c.in-Ok-Some-Broken.field-0-is, c.in-Ok-Some-Broken.field-0-0-is) at c.in-Ok-Some-Broken.ensures.next.told in
-          λ _. told refl;
+      found = record {
+        idle = λ idle. absurd cc;
+        value = λ value. absurd cc;
+        garbled = let told = rw (c.in-Ok-Some-Broken.field-0-is, c.in-Ok-Some-Broken.field-0-0-is) at c.in-Ok-Some-Broken.ensures.next.told in
+            λ _. told refl;
+      };
+      err = tt;
+      counts = ((c.next_request.ensures.keeps.0.0 ∙ ap (λ (k : LinkState). k.inbox.left) c.self.view_is, c.next_request.ensures.keeps.0.1 ∙ ap (λ (k : LinkState). k.inbox.told) c.self.view_is, c.next_request.ensures.keeps.0.2 ∙ ap (λ (k : LinkState). k.inbox.counts) c.self.view_is), ap (λ (k : LinkState). k.counts) c.self.view_is);
     }
 
-pub returns-in-Ok-Some-Broken-clause-err : goal.returns-in-Ok-Some-Broken-clause-err
-returns-in-Ok-Some-Broken-clause-err g c = tt
-
-pub returns-in-Ok-Some-Broken-clause-counts : goal.returns-in-Ok-Some-Broken-clause-counts
-returns-in-Ok-Some-Broken-clause-counts g c =
-    ((c.next_request.ensures.keeps.0.0 ∙ ap (λ (k : LinkState). k.inbox.left) c.self.view_is, c.next_request.ensures.keeps.0.1 ∙ ap (λ (k : LinkState). k.inbox.told) c.self.view_is, c.next_request.ensures.keeps.0.2 ∙ ap (λ (k : LinkState). k.inbox.counts) c.self.view_is), ap (λ (k : LinkState). k.counts) c.self.view_is)
-
-pub returns-in-Ok-None-clause-found : goal.returns-in-Ok-None-clause-found
-returns-in-Ok-None-clause-found g c =
+pub returns-in-Ok-None-clause-looks : goal.returns-in-Ok-None-clause-looks
+returns-in-Ok-None-clause-looks g c =
     record {
-      idle = let none = none_is c.self.inside.next (sym c.is_some.ensures ∙ c.if-is_some.false) in
-          λ _. (none, rw c.in-Ok-None.field-0-is at c.in-Ok-None.ensures.next.all);
-      value = λ value. absurd cc;
-      garbled = λ garbled. absurd cc;
+      found = record {
+        idle = let none = none_is c.self.inside.next (sym c.is_some.ensures ∙ c.if-is_some.false) in
+            λ _. (none, rw c.in-Ok-None.field-0-is at c.in-Ok-None.ensures.next.all);
+        value = λ value. absurd cc;
+        garbled = λ garbled. absurd cc;
+      };
+      err = tt;
+      counts = ((c.next_request.ensures.keeps.0.0 ∙ ap (λ (k : LinkState). k.inbox.left) c.self.view_is, c.next_request.ensures.keeps.0.1 ∙ ap (λ (k : LinkState). k.inbox.told) c.self.view_is, c.next_request.ensures.keeps.0.2 ∙ ap (λ (k : LinkState). k.inbox.counts) c.self.view_is), ap (λ (k : LinkState). k.counts) c.self.view_is);
     }
 
-pub returns-in-Ok-None-clause-err : goal.returns-in-Ok-None-clause-err
-returns-in-Ok-None-clause-err g c = tt
-
-pub returns-in-Ok-None-clause-counts : goal.returns-in-Ok-None-clause-counts
-returns-in-Ok-None-clause-counts g c =
-    ((c.next_request.ensures.keeps.0.0 ∙ ap (λ (k : LinkState). k.inbox.left) c.self.view_is, c.next_request.ensures.keeps.0.1 ∙ ap (λ (k : LinkState). k.inbox.told) c.self.view_is, c.next_request.ensures.keeps.0.2 ∙ ap (λ (k : LinkState). k.inbox.counts) c.self.view_is), ap (λ (k : LinkState). k.counts) c.self.view_is)
-
-pub returns-in-Err-clause-found : goal.returns-in-Err-clause-found
-returns-in-Err-clause-found g c = tt
-
-pub returns-in-Err-clause-err : goal.returns-in-Err-clause-err
-returns-in-Err-clause-err g c = (refl, c.in-Err.ensures.err.1)
-
-pub returns-in-Err-clause-counts : goal.returns-in-Err-clause-counts
-returns-in-Err-clause-counts g c =
-    ((c.next_request.ensures.keeps.0.0 ∙ ap (λ (k : LinkState). k.inbox.left) c.self.view_is, c.next_request.ensures.keeps.0.1 ∙ ap (λ (k : LinkState). k.inbox.told) c.self.view_is, c.next_request.ensures.keeps.0.2 ∙ ap (λ (k : LinkState). k.inbox.counts) c.self.view_is), ap (λ (k : LinkState). k.counts) c.self.view_is)
+pub returns-in-Err-clause-looks : goal.returns-in-Err-clause-looks
+returns-in-Err-clause-looks g c =
+    record {
+      found = tt;
+      err = (refl, c.in-Err.ensures.err.1);
+      counts = ((c.next_request.ensures.keeps.0.0 ∙ ap (λ (k : LinkState). k.inbox.left) c.self.view_is, c.next_request.ensures.keeps.0.1 ∙ ap (λ (k : LinkState). k.inbox.told) c.self.view_is, c.next_request.ensures.keeps.0.2 ∙ ap (λ (k : LinkState). k.inbox.counts) c.self.view_is), ap (λ (k : LinkState). k.counts) c.self.view_is);
+    }
