@@ -31,6 +31,12 @@ def sources(but=PLAIN):
     return [(crate, text) for crate in crates(but) for _, text in files_of(crate, "src", ".rt")]
 
 
+def named_by():
+    """What each line of crates.txt names, by its crate."""
+    lines = (line.split(":") for line in text_of(os.path.join(TOP, "crates.txt")).split("\n") if ":" in line and line[0] != "#")
+    return {head.split()[0]: names.split() for head, names in lines}
+
+
 def limits():
     """The value of each limit, by its name."""
     return {name: int(value) for _, source in files_of("limits", "src", ".rt")

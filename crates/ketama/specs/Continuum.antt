@@ -1,3 +1,4 @@
+-- What contracts see of a ring.
 use Rattle.std.specs.Prelude.{◌≡◌, ℕ, ◌<◌, ◌≤◌, List, All, AllPairs}
 use Rattle.limits.specs.declared.hosts.TheConstants.{MAX_HOSTS}
 

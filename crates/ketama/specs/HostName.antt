@@ -1,3 +1,4 @@
+-- Which bytes are a host's name.
 use Rattle.std.specs.Prelude.{ℕ, ◌≤◌, List, length, All}
 
 -- a host's name: 1 to 255 bytes, each a visible ASCII character, 0x21 to 0x7E

@@ -1,3 +1,4 @@
+-- The points of an MD5 digest.
 use Rattle.std.specs.Prelude.{ℕ, ◌+◌, ◌*◌, List, [], ◌∷◌, slice_index}
 use Rattle.std.specs.Int.{w32, from_le_bytes}
 

@@ -1,3 +1,4 @@
+-- The numbers of errors.
 use Rattle.std.specs.Prelude.{ℕ}
 use Rattle.ketama.specs.declared.error.RingError.{RingError}
 use Rattle.ketama.specs.declared.error.RingError.TheVariants.{NoMemory, SameName, TooManyHosts, BadWeights, BadName, BadPoint}

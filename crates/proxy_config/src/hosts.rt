@@ -54,6 +54,7 @@ fn hosts_in(alloc: Global, entries: &[Value]) -> Result<Vec<Host>, ConfigError>
     Ok(hosts)
 }
 
+// A host from one member of `hosts`. It answers `Memory` only for a member that is a host.
 fn host(alloc: Global, entry: &Value) -> Result<Host, ConfigError>
     ensures ok { IfOk result (λ h. (view entry.now ≡ host_data h) × IsHost h) }
     ensures fault { IfErr result (λ e. ¬ (e ≡ ConfigError.Memory) → IsFault e (codes "hosts")) }

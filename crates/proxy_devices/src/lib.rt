@@ -1,4 +1,4 @@
-//! Readers and writers that count their failures and pauses.
+//! Readers and writers that count failures and pauses, with a log of their bytes for contracts.
 //!
 //! A [`Tally`] has the counts; [`ReadTally`] and [`WriteTally`] return what each call did. [`Tallied`] counts for any
 //! socket. A [`Faulty`] passes a number of bytes of another device and then fails, for tests. It stands on no other

@@ -13,7 +13,7 @@ use Rattle.proxy_engines.specs.Ends.{RestState, HoldsBehind, end_with}
 use Rattle.proxy_engines.specs.Client.{Client, Carries, Goes, NoneFinishes, asked_requests, waiting_requests}
 use Rattle.proxy_engines.specs.declared.client.Stage.{Stage}
 
--- these bytes are a rest: behind whatever reader, an end with it was given them and has given the request that waits alone
+-- with any reader, an inbox made of it has been fed these bytes and has returned only the waiting request
 pub record IsRest (rest : RestState) (bytes : List ℕ) : Type 0 where
   pub most_is : rest.values.most ≡ MAX_CLIENT_MEMBERS
   pub holds : (left : Option (List ℕ)) (told : List ℕ) (counts : Counts) → HoldsBehind (end_with left told counts rest) bytes (waiting_requests rest.next)

@@ -396,7 +396,8 @@ impl<R: ReadTally, W: WriteTally> ClientEngine<R, W> {
         self.hand(rt, turns)
     }
 
-    // One step of a connection that isn't closed and has no fault.
+    // One step of a connection that isn't closed and has no fault. Below it `take_in` offers or reads, `fetch` gets the
+    // next request, and `arrive` makes the turn.
     fn go_on<Rt: Wait, T: CoreTurns>(
         &mut self,
         rt: &Rt,

@@ -148,6 +148,7 @@ impl<R: ReadTally, W: WriteTally> Link<R, W> {
         if self.next.is_some() {
             return Ok(Found::Value);
         }
+        // A host's values are read as requests are.
         match self.inbox.next_request() {
             Ok(Some(Request::Read(value))) => {
                 drop(self.next.replace(value));

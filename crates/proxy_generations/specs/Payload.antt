@@ -51,8 +51,8 @@ pub record HasGrown (old new : PayloadState) : Type 0 where
   pub came : new.came - new.handed ≤ old.came - old.handed + FAR_BYTES
   pub steps : old.steps ≤ new.steps
 
--- However it grows by so much, and FAR_STEPS steps more be owed, it has room for a command and for replies of which FAR_BYTES
--- bytes are unfinished.
+-- with up to FAR_BYTES more payload and FAR_STEPS more steps owed it still has room for a command and for replies, up to
+-- FAR_BYTES bytes of them unfinished
 abbrev pub IsFarFromFull : PayloadState → ℕ → Type 0
 IsFarFromFull p owed = (new : PayloadState) (owes unfinished : ℕ) → HasGrown p new → owes ≤ capped (owed + FAR_STEPS)
     → unfinished ≤ FAR_BYTES → HasRoomForCommand new owes unfinished × HasRoomForReply new unfinished

@@ -1,7 +1,7 @@
 //! Decides how `redproxy serve` goes on when a journal is nearly full.
 //!
 //! That is: the task of each generation, how full a journal is, and which commands and replies it still has room for.
-//! No threads, sockets or clocks; it stands on no other crate. Begin with `lifecycle.rt`; `budget.rt` counts steps,
+//! No threads, sockets or clocks. It stands on `limits`. Begin with `lifecycle.rt`; `budget.rt` counts steps,
 //! `payload.rt` bytes.
 #![tactic(auto)]
 

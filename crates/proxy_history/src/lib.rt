@@ -6,8 +6,8 @@
 //! each event's answer or refusal.
 //!
 //! The rules are this project's own profile of Envoy's documentation pages "Redis" and "Outlier detection". A host's
-//! replies come in the order of its requests, as RESP2 says. It stands on `splitter`, `ketama`, `ejector` and the
-//! crates of queue and pipe. Begin with `event.rt`, then `specs/Legal.antt`.
+//! replies come in the order of its requests, as RESP2 says. It stands on `splitter`, `ketama`, `ejector` and
+//! `journal_core`. Begin with `event.rt`, then `specs/Legal.antt`.
 #![tactic(auto)]
 
 mod answer;

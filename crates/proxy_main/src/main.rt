@@ -1,5 +1,6 @@
-//! `redproxy`: a proxy that clients use as one Redis server. Begin with `run`; `serve` is in
-//! `proxy_serve`, `local` in `proxy_local`.
+//! `redproxy`: a proxy that clients use as one Redis server. It stands on `proxy_serve`, `proxy_local`,
+//! `proxy_config`, `proxy_command_line` and `proxy_exit_status`. Begin with `run`; `serve` is in `proxy_serve`, `local`
+//! in `proxy_local`.
 #![tactic(auto)]
 
 ghost use Rattle.std.specs.Prelude.{IfOk};

@@ -1,3 +1,4 @@
+-- The hosts of a worker, one host more at a time.
 use Rattle.std.proofs.Common.{◌≡◌, ◌==◌, ◌∙◌, ◌+◌, ◌%◌, ◌++◌, ℕ, [], ◌∷◌, if◌then◌else◌, filter, ap, append-nil, sym, inl, inr, arith}
 use Rattle.std.specs.List.{range_with_len}
 use Rattle.std.proofs.lemmas.Bool.{eq-eqb}

@@ -1,3 +1,4 @@
+-- Why a read answers no byte, and that what was heard is told.
 use Rattle.std.proofs.Common.{◌≡◌, ◌⊎◌, inl, inr, ◌∙◌, ◌++◌, ◌<◌, ℕ, List, Option, Result, Ok, Err, IfOk, IfErr, ap, sym, length, take}
 use Rattle.std.specs.Io.KnownBytes.{ReadConsumes}
 use Rattle.std.specs.declared.io.Error.{Error}

@@ -1,3 +1,4 @@
+-- How what was accepted goes out, write after write.
 use Rattle.std.proofs.Common.{◌≡◌, ◌∙◌, ◌++◌, ◌+◌, ℕ, List, [], Option, Some, None, Result, Ok, Err, OnOk, Bool, ◌&&◌, ◌==◌, not, true, false, take, drop, take-append-drop, ap, append_assoc, append-nil, sym, arith, length, refl}
 use Rattle.std.proofs.Math.Bool.{and-false}
 use Rattle.std.proofs.Math.Seq.{take-length}

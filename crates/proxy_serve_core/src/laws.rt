@@ -15,7 +15,7 @@ pub fn accepted_goes_out()
     ensures { AcceptedGoesOut }
 {}
 
-/// What a reading end told its caller is what its reader told it, for any reader.
+/// The bytes passed on to the caller are the bytes that the reader gave, for any reader.
 pub fn told_is_heard()
     ensures { ToldIsHeard }
 {}

@@ -1,7 +1,7 @@
 //! The parts of `redproxy serve` that need no socket. They are a writer with a buffer, the reading end of a socket, the
 //! assignment of clients and hosts to workers, what the log says of ejected hosts, and refusals of memory in a row. They
-//! are also the choice of sockets and of the end, and the reading of signals. Its log of bytes is `proxy_devices`'.
-//! Begin with `write_buffer.rt`.
+//! are also the choice of sockets and of the end, and the reading of signals. It stands on `limits`
+//! and `proxy_devices`, which has its log of bytes. Begin with `write_buffer.rt`.
 #![tactic(auto)]
 
 mod assignment;

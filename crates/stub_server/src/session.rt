@@ -70,7 +70,8 @@ impl Session {
         Ok(taken)
     }
 
-    // Serves waiting requests, and moves bytes of replies. Returns their number, 0 only at the end.
+    // Serves waiting requests, and moves bytes of replies. Returns their number, 0 only at the end or for an empty
+    // buffer. It answers `WouldBlock` where nothing is left before the end.
     pub(crate) fn read(&mut self, buffer: &mut [u8]) -> Result<usize, ErrorKind>
         ensures given { IfOk result (λ n. n ≤ length buffer.new) }
         ensures kinds { IfErr result (λ kind. kind ≡ ErrorKind.WouldBlock) }

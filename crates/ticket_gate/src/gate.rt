@@ -30,6 +30,7 @@ pub type SeatView<S> = View<
     <S as Recorded>::Setting,
 >;
 
+/// A seat at the gate's table; a spare one has no number, a pass has one.
 pub(crate) type Place<S> = Seat<Option<S>, SeatView<S>>;
 
 /// A gate's opening: its state, which takes no bytes here, and its first ticket.

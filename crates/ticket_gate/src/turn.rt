@@ -13,7 +13,8 @@ use crate::steps::ServeNext;
 use std::sync::Wait;
 
 impl<S: Recorded> Gate<S> {
-    // Makes the turn, and serves the next ticket.
+    // Takes the state out, makes the turn, puts the state back, and only then serves the next ticket: another
+    // order would let a second thread in to an empty slot.
     #[inline(always)]
     fn work(
         &self,

@@ -2,7 +2,7 @@
 //!
 //! Parts wait in order, are sent in order, and a host answers them in order (RESP2 pipelining). So the k-th reply of an
 //! epoch belongs to the k-th part sent in it, whatever was forgotten in between. A fault of the host ends its epoch;
-//! replies of an older epoch are refused. It stands on `bytes`. Begin with `pipe.rt`.
+//! replies of an older epoch are refused. It stands on `bytes` and `limits`. Begin with `pipe.rt`.
 #![tactic(auto)]
 
 mod laws;

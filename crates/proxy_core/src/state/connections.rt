@@ -243,6 +243,8 @@ impl Connections {
     }
 }
 
+// The functions below work on one slot, so that a proof has that alone and not the list.
+
 // Finishes the connection, if it is open.
 fn finish_one(connection: &mut Option<Connection>)
     ensures { connection.new ≡ option_map finished_connection connection.old }
