@@ -3,11 +3,11 @@
 //! A [`ClientEngine`] turns its input into a connection's events at a core, and writes the replies that the core hands
 //! out. A [`HostEngine`] writes the core's parts to a host, and turns the link's input into replies. Both are lent
 //! turns (`CoreTurns`): a pass at a gate, or a core of their own. Readers and writers only have to count their failures
-//! and pauses ([`Tally`]); [`Tallied`] does this for any socket. [`run_all`] runs many [`Work`]s in threads; a
-//! [`ClientWork`] steps one client's engine to its end.
+//! and pauses ([`Tally`]), and for contracts to keep a log of their bytes; [`Tallied`] does this for any socket.
+//! [`run_all`] runs many [`Work`]s in threads; a [`ClientWork`] steps one client's engine to its end.
 //!
-//! Contracts state the facts of an engine from step to step, over its own caller's steps, and what follows at the end.
-//! It stands on `proxy_core` and `proxy_devices`. Begin with `client.rt`, then `host.rt`.
+//! Contracts state the facts of an engine from step to step, over its own caller's steps and its devices' logs, and what
+//! follows at the end. It stands on `proxy_core` and `proxy_devices`. Begin with `client.rt`, then `host.rt`.
 #![tactic(auto)]
 
 mod ask;
