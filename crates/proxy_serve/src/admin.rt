@@ -20,15 +20,19 @@ use std::io::ErrorKind;
 use std::net::Net;
 use std::time::Duration;
 
+// The token of the operator's listener; a visitor's is its key in the slab.
 const LISTENER: Token = Token(usize::MAX);
 
 // At most this many reads and writes of one visitor are made in a round.
 const MAX_MOVES: u32 = 16;
 
+// The most bytes of one read.
 const READ_SIZE: usize = 1_024;
 
-const EVENTS: usize = 64;
+// The most events taken from the poll at once.
+const MAX_EVENTS: usize = 64;
 
+// The thread looks again after this many milliseconds at the latest.
 const PAUSE_MS: u64 = 50;
 
 /// The operator's listener, and what its pages say of the program.
@@ -44,6 +48,7 @@ pub struct Admin {
     pub kit: &'static str,
 }
 
+// The limits of a visitor's requests.
 fn limits() -> Limits {
     let mut limits = Limits::default();
     limits.limits.max_head_len = MAX_HEAD;
@@ -53,10 +58,12 @@ fn limits() -> Limits {
     limits
 }
 
+// Whether the socket has to be tried again later: it isn't ready, or a signal came.
 fn is_pause(error: &io::Error) -> bool {
     error.kind() == ErrorKind::WouldBlock || error.kind() == ErrorKind::Interrupted
 }
 
+// Carries out a visitor's order, if there is one.
 fn obey<R: ServeRuntime>(rt: &R, server: &Server, order: Option<Order>) {
     match order {
         None => {}
@@ -70,11 +77,13 @@ fn obey<R: ServeRuntime>(rt: &R, server: &Server, order: Option<Order>) {
 enum Moved {
     // Nothing was read or written.
     Nothing,
+    // Some bytes were read or written.
     Something,
     // The visit is over.
     Gone,
 }
 
+// A visitor's connection and its socket.
 #[derive(Drop)]
 struct Visitor {
     connection: Connection,
@@ -85,7 +94,7 @@ struct Visitor {
 
 impl Visitor {
     // Reads, answers and writes until the socket has to wait.
-    fn attend(&mut self, answers: &mut Answers<'_>) -> Moved {
+    fn answer_requests(&mut self, answers: &mut Answers<'_>) -> Moved {
         let mut moved = Moved::Nothing;
         for _ in 0..MAX_MOVES {
             self.connection.advance(answers);
@@ -106,9 +115,9 @@ impl Visitor {
         moved
     }
 
-    // Like `attend`; also returns the order among the requests.
+    // Like `answer_requests`; also returns the order among the requests.
     fn answer(&mut self, mut answers: Answers<'_>) -> (Moved, Option<Order>) {
-        let moved = self.attend(&mut answers);
+        let moved = self.answer_requests(&mut answers);
         (moved, answers.order())
     }
 
@@ -156,6 +165,7 @@ impl AdminListener {
         }
     }
 
+    // Makes a poll, and registers the listener with it.
     fn new<R: Net>(rt: &R, alloc: Global, mut admin: Admin) -> Result<AdminListener, Stop> {
         let poll = match Poll::new(rt) {
             Ok(poll) => poll,
@@ -170,6 +180,7 @@ impl AdminListener {
         }
     }
 
+    // The listener without visitors.
     fn into_visits(self) -> Visits {
         let AdminListener { alloc, admin, poll } = self;
         Visits {
@@ -197,8 +208,9 @@ struct Visits {
 }
 
 impl Visits {
+    // Accepts and answers visitors until the server ends or the poll fails.
     fn serve<R: ServeRuntime>(&mut self, rt: &R, server: &Server, config: &Config) {
-        let Ok(mut events) = Events::with_capacity(self.alloc, EVENTS) else {
+        let Ok(mut events) = Events::with_capacity(self.alloc, MAX_EVENTS) else {
             return;
         };
         for _ in rt.forever() {
@@ -206,8 +218,8 @@ impl Visits {
                 return;
             }
             let moment = now(rt);
-            self.welcome(moment);
-            self.attend(rt, server, config, moment);
+            self.accept_visitors(moment);
+            self.serve_visitors(rt, server, config, moment);
         }
         unreachable!()
     }
@@ -225,7 +237,8 @@ impl Visits {
         false
     }
 
-    fn welcome(&mut self, moment: u64) {
+    // Accepts the visitors that wait. Where too many are there, the one idle longest has to go.
+    fn accept_visitors(&mut self, moment: u64) {
         for _ in 0..MAX_VISITORS {
             let Ok((stream, _)) = self.admin.listener.accept() else {
                 return;
@@ -251,6 +264,7 @@ impl Visits {
         oldest
     }
 
+    // Drops the visitor that has been idle longest.
     fn let_oldest_go(&mut self) {
         if let Some(key) = self.oldest() {
             drop(self.visitors.try_remove(key));
@@ -267,6 +281,7 @@ impl Visits {
             .is_ok()
     }
 
+    // Takes in a visitor. Its socket is dropped where the poll refuses it or there is no memory.
     fn open(&mut self, mut stream: TcpStream, moment: u64) -> Result<(), AllocError> {
         self.visitors.reserve(1)?;
         if self.register(&mut stream) {
@@ -281,7 +296,13 @@ impl Visits {
     }
 
     // Steps every visitor: they are few.
-    fn attend<R: ServeRuntime>(&mut self, rt: &R, server: &Server, config: &Config, moment: u64) {
+    fn serve_visitors<R: ServeRuntime>(
+        &mut self,
+        rt: &R,
+        server: &Server,
+        config: &Config,
+        moment: u64,
+    ) {
         if self.visitors.is_empty() {
             return;
         }
@@ -292,13 +313,13 @@ impl Visits {
             hosts: config.hosts.as_slice(),
         };
         for key in 0..self.visitors.capacity() {
-            let order = self.attend_one(key, &about, &snapshot, moment);
+            let order = self.serve_visitor(key, &about, &snapshot, moment);
             obey(rt, server, order);
         }
     }
 
     // Steps one visitor, and returns its order.
-    fn attend_one(
+    fn serve_visitor(
         &mut self,
         key: usize,
         about: &About<'_>,

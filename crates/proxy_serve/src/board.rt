@@ -6,11 +6,14 @@ use std::sync::atomic::{AtomicU8, AtomicU64, Ordering};
 // Stands for no generation.
 const NONE: u64 = u64::MAX;
 
-const DRAINS: u8 = 0;
+// The older generation answers what it has accepted.
+const DRAINING: u8 = 0;
 
-const GIVES_UP: u8 = 1;
+// The older generation gives up the parts that still wait for hosts.
+const GIVING_UP: u8 = 1;
 
-const STOPS: u8 = 2;
+// The older generation closes its last sockets.
+const STOPPED: u8 = 2;
 
 /// The newest open generation, the one before it while that has connections, and the older one's task.
 #[derive(Drop)]
@@ -26,7 +29,7 @@ impl Board {
         Board {
             newest: AtomicU64::new(NONE),
             older: AtomicU64::new(NONE),
-            phase: AtomicU8::new(DRAINS),
+            phase: AtomicU8::new(DRAINING),
         }
     }
 
@@ -34,9 +37,9 @@ impl Board {
     pub(crate) fn show<H: Drop>(&self, generations: &Generations<H>) {
         let older = generations.older().unwrap_or(NONE);
         let phase = match generations.phase(older) {
-            Phase::GivingUp => GIVES_UP,
-            Phase::Stopped => STOPS,
-            Phase::Serving | Phase::Draining => DRAINS,
+            Phase::GivingUp => GIVING_UP,
+            Phase::Stopped => STOPPED,
+            Phase::Serving | Phase::Draining => DRAINING,
         };
         self.phase.store(phase, Ordering::SeqCst);
         self.older.store(older, Ordering::SeqCst);
@@ -57,8 +60,8 @@ impl Board {
             return Phase::Stopped;
         }
         match self.phase.load(Ordering::SeqCst) {
-            GIVES_UP => Phase::GivingUp,
-            STOPS => Phase::Stopped,
+            GIVING_UP => Phase::GivingUp,
+            STOPPED => Phase::Stopped,
             _ => Phase::Draining,
         }
     }

@@ -20,13 +20,15 @@ use std::sync::Wait;
 // The most steps of one connection in a round, so that one pipeline doesn't starve the others.
 const MAX_CLIENT_STEPS: u32 = 256;
 
+// The engine of a client's connection, on the two ends of its socket.
 type Engine = ClientEngine<Tallied<SocketReader>, Tallied<SocketWriter>>;
 
-/// A connection's stage.
+/// The stage of a client's socket.
 #[derive(Clone, Copy, Drop)]
-enum Stage {
+enum SocketStage {
+    /// Its engine is stepped.
     Served,
-    /// The connection is closed; its last bytes are still to be written.
+    /// Its connection in the core is closed: the socket goes over, or its last bytes are written.
     Leaving,
     /// The sending half is closed; input is discarded until this moment.
     Lingering { until: u64 },
@@ -78,8 +80,8 @@ impl CarriedSocket {
     /// no further connection.
     pub(crate) fn shut_down(&mut self, buffer: &mut Vec<u8>) {
         self.socket.write_out(buffer);
-        self.socket.shut();
-        let _ = self.socket.throw_away();
+        self.socket.shut_write();
+        let _ = self.socket.discard_input();
     }
 
     // Registers the socket with the poll, and shares it with an engine's two ends.
@@ -125,10 +127,11 @@ struct SharedRest {
     begun: u64,
 }
 
+/// A client's socket and the engine of its connection.
 pub(crate) struct Client {
     engine: Engine,
     socket: Rc<RefCell<Socket>>,
-    stage: Stage,
+    stage: SocketStage,
     // The number of commands accepted and not yet answered, and since when they wait.
     unanswered: u64,
     waits: Unanswered,
@@ -221,7 +224,7 @@ impl Client {
         Client {
             engine,
             socket,
-            stage: Stage::Served,
+            stage: SocketStage::Served,
             unanswered: 0,
             waits: Unanswered::new(alloc),
             replies: 0,
@@ -355,14 +358,14 @@ impl Client {
     pub(crate) fn shut_down(&mut self, buffer: &mut Vec<u8>) {
         if let Ok(mut socket) = self.socket.try_borrow_mut() {
             socket.write_out(buffer);
-            socket.shut();
-            let _ = socket.throw_away();
+            socket.shut_write();
+            let _ = socket.discard_input();
         }
     }
 
     /// Whether its connection isn't counted as closed yet.
     pub(crate) fn is_uncounted(&self) -> bool {
-        !matches!(self.stage, Stage::Lingering { .. })
+        !matches!(self.stage, SocketStage::Lingering { .. })
     }
 
     /// Whether it waits for replies.
@@ -375,7 +378,7 @@ impl Client {
         if self.has_more {
             return true;
         }
-        if let Stage::Lingering { until } = self.stage {
+        if let SocketStage::Lingering { until } = self.stage {
             return now >= until || self.may_read();
         }
         self.has_event() || (self.unanswered > 0 && self.replies != generation.replies())
@@ -409,7 +412,7 @@ impl Client {
     ) -> Result<Stepped, StepError> {
         self.has_more = false;
         match self.stage {
-            Stage::Served => {
+            SocketStage::Served => {
                 self.replies = generation.replies();
                 self.lend_buffer(buffer);
                 let stepped = self.step_engine(rt, turns, generation, round.reserve);
@@ -421,18 +424,18 @@ impl Client {
                 self.has_more = self.has_more || stepped.is_err();
                 stepped?;
             }
-            Stage::Leaving => self.write_out(buffer),
-            Stage::Lingering { .. } => {}
+            SocketStage::Leaving => self.write_out(buffer),
+            SocketStage::Lingering { .. } => {}
         }
-        if matches!(self.stage, Stage::Leaving) && self.may_carry_over(generation) {
+        if matches!(self.stage, SocketStage::Leaving) && self.may_carry_over(generation) {
             return Ok(Stepped::CarriedOver);
         }
         Ok(self.finish_closing(rt, generation, round.now))
     }
 
     // The journal has no room for a further command: no client's commands are taken in from here on.
-    fn close_up(&mut self, generation: &GenerationState<'_>) {
-        generation.close_up();
+    fn stop_accepting(&mut self, generation: &GenerationState<'_>) {
+        generation.stop_accepting();
         self.drain();
     }
 
@@ -441,6 +444,7 @@ impl Client {
         self.engine.may_go_on() && generation.server().runs() && !self.is_broken()
     }
 
+    // Whether a write to the socket failed.
     fn is_broken(&self) -> bool {
         match self.socket.try_borrow() {
             Ok(socket) => socket.is_broken(),
@@ -448,12 +452,14 @@ impl Client {
         }
     }
 
+    // Lends the socket the worker's buffer for its output.
     fn lend_buffer(&mut self, buffer: &mut Vec<u8>) {
         if let Ok(mut socket) = self.socket.try_borrow_mut() {
             socket.lend_buffer(buffer);
         }
     }
 
+    // Writes buffered bytes as far as the socket takes them.
     fn write_out(&mut self, buffer: &mut Vec<u8>) {
         if let Ok(mut socket) = self.socket.try_borrow_mut() {
             socket.write_out(buffer);
@@ -479,7 +485,7 @@ impl Client {
             if !self.is_drained && room_for != Some(turns.counts().accepted) {
                 room_for = Some(turns.counts().accepted);
                 if !self.may_take_in(rt, turns, generation, reserve) {
-                    self.close_up(generation);
+                    self.stop_accepting(generation);
                 }
             }
             let stepped = self.engine.step(rt, turns);
@@ -504,17 +510,18 @@ impl Client {
             }
             Err(error) => {
                 self.handle_error(StepError::from(error), generation)?;
-                Ok(matches!(self.stage, Stage::Leaving))
+                Ok(matches!(self.stage, SocketStage::Leaving))
             }
         }
     }
 
+    // Handles what a step achieved. True: nothing more can be done for now.
     fn heed_progress(&mut self, progress: Progress) -> bool {
         match progress {
             Progress::Moved => false,
             Progress::Idle | Progress::NeedsLink => true,
             Progress::Cut | Progress::Ended => {
-                self.stage = Stage::Leaving;
+                self.stage = SocketStage::Leaving;
                 true
             }
         }
@@ -528,7 +535,7 @@ impl Client {
         generation: &GenerationState<'_>,
         reserve: u64,
     ) -> bool {
-        if self.unfinished.max(turns.untold_bytes()) >= LARGE || turns.average() >= LARGE_STEP {
+        if self.unfinished.max(turns.unreported_bytes()) >= LARGE || turns.average() >= LARGE_STEP {
             generation.settle(rt, turns, reserve);
         }
         generation.lend(rt, turns, reserve) && turns.has_room_for_command(self.unfinished)
@@ -541,8 +548,8 @@ impl Client {
         generation: &GenerationState<'_>,
     ) -> Result<(), StepError> {
         match error {
-            StepError::Full if !self.is_drained => self.close_up(generation),
-            StepError::Full | StepError::Alone => self.stage = Stage::Leaving,
+            StepError::Full if !self.is_drained => self.stop_accepting(generation),
+            StepError::Full | StepError::Alone => self.stage = SocketStage::Leaving,
             StepError::Memory => return Err(self.refuse()),
             StepError::Ends(_) => return Err(error),
         }
@@ -600,26 +607,26 @@ impl Client {
         let Ok(mut socket) = self.socket.try_borrow_mut() else {
             return Stepped::Idle;
         };
-        if matches!(self.stage, Stage::Leaving) {
+        if matches!(self.stage, SocketStage::Leaving) {
             if socket.has_buffered() && !socket.is_broken() {
                 return Stepped::Idle;
             }
-            socket.shut();
+            socket.shut_write();
             generation.server().count_closed(rt);
             generation.note_unfinished(0, self.unfinished);
             self.unfinished = 0;
-            self.stage = Stage::Lingering {
+            self.stage = SocketStage::Lingering {
                 until: now.saturating_add(LINGER_MS),
             };
         }
-        let Stage::Lingering { until } = self.stage else {
+        let SocketStage::Lingering { until } = self.stage else {
             return if self.has_more {
                 Stepped::Ready
             } else {
                 Stepped::Idle
             };
         };
-        if now >= until || socket.is_broken() || socket.throw_away() {
+        if now >= until || socket.is_broken() || socket.discard_input() {
             Stepped::Closed
         } else {
             Stepped::Idle

@@ -28,6 +28,7 @@ pub(crate) struct TurnCounts {
 }
 
 impl TurnCounts {
+    /// Nothing has happened.
     pub(crate) const NONE: TurnCounts = TurnCounts {
         accepted: 0,
         handed: 0,
@@ -37,6 +38,7 @@ impl TurnCounts {
         has_replies: false,
     };
 
+    // Counts a step of this kind.
     #[inline(always)]
     fn note(&mut self, kind: StepKind) {
         match kind {
@@ -61,15 +63,16 @@ impl TurnCounts {
 /// Payload bytes of some steps: bytes kept in all, of hosts' replies, and handed out to clients; and the number of
 /// steps that the average is taken over.
 #[derive(Clone, Copy, Drop)]
-struct Bytes {
+struct PayloadCounts {
     kept: u64,
     came: u64,
     handed: u64,
     steps: u64,
 }
 
-impl Bytes {
-    const NONE: Bytes = Bytes {
+impl PayloadCounts {
+    // No step was made.
+    const NONE: PayloadCounts = PayloadCounts {
         kept: 0,
         came: 0,
         handed: 0,
@@ -83,7 +86,7 @@ impl Bytes {
     }
 
     // Adds them to the payload.
-    fn tell(self, payload: &mut Payload) {
+    fn add_to(self, payload: &mut Payload) {
         payload.note(self.kept, self.came, self.handed, self.steps);
     }
 }
@@ -106,7 +109,7 @@ struct Account {
     // Since the last settlement: the steps, their cost and their bytes.
     steps: u64,
     cost: u64,
-    bytes: Bytes,
+    bytes: PayloadCounts,
     // As of the last report: all workers' payload, the owed steps that have payload, the average bytes a step, and
     // whether the journal was far from full.
     payload: Payload,
@@ -116,13 +119,14 @@ struct Account {
 }
 
 impl Account {
+    // An account of no turns, without steps lent.
     fn new() -> Account {
         Account {
             counts: TurnCounts::NONE,
             loan: Loan::new(),
             steps: 0,
             cost: 0,
-            bytes: Bytes::NONE,
+            bytes: PayloadCounts::NONE,
             payload: Payload::new(0),
             owed: 0,
             average: 0,
@@ -179,9 +183,9 @@ impl Account {
     }
 
     // Reports its payload, and reads what all workers have reported.
-    fn tell(&mut self, ledger: &mut Ledger) {
-        let bytes = mem::replace(&mut self.bytes, Bytes::NONE);
-        bytes.tell(&mut ledger.payload);
+    fn report_payload(&mut self, ledger: &mut Ledger) {
+        let bytes = mem::replace(&mut self.bytes, PayloadCounts::NONE);
+        bytes.add_to(&mut ledger.payload);
         self.payload = ledger.payload;
         self.average = self.payload.average();
         self.is_far = self.payload.is_far_from_full(self.owed());
@@ -196,7 +200,7 @@ impl Account {
         // (what a connection owes for its end has no payload)
         let ends = open.saturating_mul(StepKind::Opened.cost());
         self.owed = ledger.owed().saturating_sub(ends);
-        self.tell(ledger);
+        self.report_payload(ledger);
     }
 
     // Whether room needn't be computed: the journal was far from full, and little has come since.
@@ -211,7 +215,7 @@ impl Account {
     // The payload known now.
     fn known(&self) -> Payload {
         let mut known = self.payload;
-        self.bytes.tell(&mut known);
+        self.bytes.add_to(&mut known);
         known
     }
 
@@ -231,6 +235,7 @@ pub(crate) struct CountedTurns<T: CoreTurns> {
 }
 
 impl<T: CoreTurns> CountedTurns<T> {
+    /// These turns, of which nothing is counted yet.
     pub(crate) fn new(turns: T) -> CountedTurns<T> {
         CountedTurns {
             turns,
@@ -276,8 +281,8 @@ impl<T: CoreTurns> CountedTurns<T> {
     }
 
     /// Reports its payload, and reads what all workers have reported.
-    pub(crate) fn tell_payload(&mut self, ledger: &mut Ledger) {
-        self.account.tell(ledger);
+    pub(crate) fn report_payload(&mut self, ledger: &mut Ledger) {
+        self.account.report_payload(ledger);
     }
 
     /// The average payload bytes a step, from all workers' reports.
@@ -286,7 +291,7 @@ impl<T: CoreTurns> CountedTurns<T> {
     }
 
     /// The payload bytes kept since the last report.
-    pub(crate) fn untold_bytes(&self) -> u64 {
+    pub(crate) fn unreported_bytes(&self) -> u64 {
         self.account.bytes.kept
     }
 

@@ -52,8 +52,11 @@ pub(crate) struct ThreadContext<'a> {
 /// The task of one thread of a generation.
 #[derive(Drop)]
 enum Task<'a> {
+    /// A worker's.
     Work(WorkerSetup<'a>),
+    /// The sweeping thread's.
     Sweep(SweepThread<'a>),
+    /// It was begun.
     Done,
 }
 
@@ -72,6 +75,7 @@ impl<'a, Rt: Wait + Net + Clock + Eprint> Work<Rt> for Task<'a> {
     }
 }
 
+// The settings of the core that the configuration gives.
 fn settings(config: &Config) -> Settings {
     Settings {
         tags: config.tags,
@@ -108,6 +112,7 @@ fn core(alloc: Global, config: &Config, from: Option<Handover>) -> Result<Counte
     }
 }
 
+// Takes a seat at the gate; ends with `Spent` where it has no ticket left.
 fn seat<'a, R: Wait>(
     rt: &R,
     gate: &'a Gate<Counted>,
@@ -134,19 +139,20 @@ fn tasks<'a, R: Wait>(
 {
     let mut tasks = Vec::new(context.alloc);
     let mut spare = spare;
-    let mut place = 0usize;
+    let mut index = 0usize;
     for poll in polls {
         let (one, rest) = gate.split(spare);
         spare = rest;
         let seat = seat(rt, gate, one)?;
-        tasks.push(Task::Work(WorkerSetup::new(context, place, poll, seat)))?;
-        place = place.saturating_add(1);
+        tasks.push(Task::Work(WorkerSetup::new(context, index, poll, seat)))?;
+        index = index.saturating_add(1);
     }
     let seat = seat(rt, gate, spare)?;
     tasks.push(Task::Sweep(SweepThread::new(context, seat, wakers)))?;
     Ok(tasks)
 }
 
+// A waker of the worker that waits at this poll.
 fn waker_of(poll: &Poll) -> Result<Waker, Stop> {
     match Waker::new(poll.registry(), WAKER) {
         Ok(waker) => Ok(waker),
@@ -177,14 +183,15 @@ impl Polls {
     }
 }
 
+// A poll with two wakers for each worker. The first workers, one for each host, have hosts.
 fn make_polls<R: Net>(rt: &R, alloc: Global, workers: usize, hosts: usize) -> Result<Polls, Stop> {
     let mut all = Polls {
         polls: Vec::new(alloc),
         workers: Vec::new(alloc),
         wakers: Vec::new(alloc),
     };
-    for place in 0..workers {
-        all.add(rt, place < hosts)?;
+    for index in 0..workers {
+        all.add(rt, index < hosts)?;
     }
     Ok(all)
 }

@@ -22,11 +22,13 @@ pub(crate) const LARGE_STEP: u64 = 8_192;
 // At most this many steps of a journal are lent to all workers together; each worker is lent at least a command's.
 const MAX_LENT: u64 = 65_536;
 
-// The start of a generation: its threads gather, they have begun, or some were missing.
-const GATHERS: u8 = 0;
+// The start of a generation isn't decided yet: its threads start.
+const STARTING: u8 = 0;
 
+// All its threads came in time.
 const BEGUN: u8 = 1;
 
+// It never begins: threads were missing, or had no memory.
 const GIVEN_UP: u8 = 2;
 
 /// How a worker is woken, and what it waits for.
@@ -52,14 +54,14 @@ pub(crate) struct GenerationState<'a> {
     workers: Vec<WorkerStatus>,
     // The number of its threads that have come.
     come: AtomicU64,
-    // GATHERS, BEGUN or GIVEN_UP.
+    // STARTING, BEGUN or GIVEN_UP.
     start: AtomicU8,
     // The number of open connections.
     open: AtomicU64,
     // The journal's spent and lent steps.
     ledger: Mutex<Ledger>,
     // Whether no further commands are accepted, so that accepted ones can be answered before the journal is full.
-    is_closing: AtomicBool,
+    is_full: AtomicBool,
     // The number of parts queued for hosts.
     parts: AtomicU64,
     // Rises when replies come for clients.
@@ -79,7 +81,7 @@ impl Drop for GenerationState<'_> {
             start: _,
             open: _,
             ledger: _,
-            is_closing: _,
+            is_full: _,
             parts: _,
             replies: _,
             unfinished: _,
@@ -88,6 +90,7 @@ impl Drop for GenerationState<'_> {
 }
 
 impl WorkerStatus {
+    /// A worker that is awake and hasn't looked at any parts.
     pub(crate) fn new(waker: Waker, has_hosts: bool) -> WorkerStatus {
         WorkerStatus {
             waker,
@@ -144,10 +147,10 @@ impl<'a> GenerationState<'a> {
             number,
             workers,
             come: AtomicU64::new(0),
-            start: AtomicU8::new(GATHERS),
+            start: AtomicU8::new(STARTING),
             open: AtomicU64::new(0),
             ledger: Mutex::new(Ledger::new(average)),
-            is_closing: AtomicBool::new(false),
+            is_full: AtomicBool::new(false),
             parts: AtomicU64::new(0),
             replies: AtomicU64::new(0),
             unfinished: AtomicU64::new(0),
@@ -175,7 +178,7 @@ impl<'a> GenerationState<'a> {
             self.decide(BEGUN);
         }
         for _ in 0..MAX_START_MS {
-            if self.start.load(Ordering::SeqCst) != GATHERS {
+            if self.start.load(Ordering::SeqCst) != STARTING {
                 break;
             }
             thread::sleep(rt, Duration::from_millis(1));
@@ -193,7 +196,7 @@ impl<'a> GenerationState<'a> {
     fn decide(&self, start: u8) {
         let _ = self
             .start
-            .compare_exchange(GATHERS, start, Ordering::SeqCst, Ordering::SeqCst);
+            .compare_exchange(STARTING, start, Ordering::SeqCst, Ordering::SeqCst);
     }
 
     /// Whether all its threads came in time.
@@ -202,14 +205,14 @@ impl<'a> GenerationState<'a> {
     }
 
     /// The state of a worker.
-    pub(crate) fn worker(&self, place: usize) -> Option<&WorkerStatus> {
-        self.workers.get(place)
+    pub(crate) fn worker(&self, index: usize) -> Option<&WorkerStatus> {
+        self.workers.get(index)
     }
 
     /// The generation's phase. Sockets wait in the queues while it takes in nothing and no newer generation is open.
     pub(crate) fn phase(&self) -> Phase {
         let phase = self.server.phase(self.number);
-        if phase == Phase::Serving && self.is_closing() {
+        if phase == Phase::Serving && self.is_full() {
             Phase::Draining
         } else {
             phase
@@ -274,7 +277,7 @@ impl<'a> GenerationState<'a> {
     ) -> bool {
         let mut ledger = self.ledger.lock(rt);
         let ledger = &mut *ledger;
-        turns.tell_payload(ledger);
+        turns.report_payload(ledger);
         ledger.takes_reply(came, before)
     }
 
@@ -289,13 +292,13 @@ impl<'a> GenerationState<'a> {
     }
 
     /// Whether no further commands are accepted.
-    pub(crate) fn is_closing(&self) -> bool {
-        self.is_closing.load(Ordering::SeqCst)
+    pub(crate) fn is_full(&self) -> bool {
+        self.is_full.load(Ordering::SeqCst)
     }
 
     /// Accepts no further commands.
-    pub(crate) fn close_up(&self) {
-        self.is_closing.store(true, Ordering::SeqCst);
+    pub(crate) fn stop_accepting(&self) {
+        self.is_full.store(true, Ordering::SeqCst);
     }
 
     /// Counts a connection that was opened.
@@ -359,30 +362,30 @@ impl<'a> GenerationState<'a> {
     }
 
     /// Wakes the other workers that are behind with their hosts' parts.
-    pub(crate) fn wake_behind(&self, place: usize) {
+    pub(crate) fn wake_behind(&self, index: usize) {
         let parts = self.parts();
         for (other, worker) in self.workers.iter().enumerate() {
-            if other != place && worker.is_behind(parts) {
+            if other != index && worker.is_behind(parts) {
                 worker.wake();
             }
         }
     }
 
     /// Wakes the other workers that hold clients back.
-    pub(crate) fn wake_held(&self, place: usize) {
+    pub(crate) fn wake_held(&self, index: usize) {
         for (other, worker) in self.workers.iter().enumerate() {
-            if other != place && worker.is_held_back.load(Ordering::SeqCst) {
+            if other != index && worker.is_held_back.load(Ordering::SeqCst) {
                 worker.wake();
             }
         }
     }
 
     /// Wakes the other workers that new parts or replies may concern.
-    pub(crate) fn wake_for(&self, place: usize, has_parts: bool, has_replies: bool) {
+    pub(crate) fn wake_for(&self, index: usize, has_parts: bool, has_replies: bool) {
         for (other, worker) in self.workers.iter().enumerate() {
             let concerns = (has_parts && worker.has_hosts)
                 || (has_replies && worker.awaits.load(Ordering::SeqCst));
-            if other != place && concerns {
+            if other != index && concerns {
                 worker.wake();
             }
         }

@@ -26,27 +26,42 @@ const MAX_HOST_STEPS: u32 = 4_096;
 // A host is looked at after this many milliseconds at the latest, so that a late reply is noticed.
 const LOOK_MS: u64 = 10;
 
+// The engine of a host, on the two ends of its link's socket.
 type Engine = HostEngine<Tallied<SocketReader>, Tallied<SocketWriter>>;
 
 /// The socket to a host.
 #[derive(Drop)]
 enum LinkState {
+    /// There is none.
     Down,
-    /// Connecting since this moment; `is_told`: the poll has reported an event.
+    /// Connecting since this moment; `has_event`: the poll has reported an event.
     Connecting {
         stream: TcpStream,
         since: u64,
-        is_told: bool,
+        has_event: bool,
     },
+    /// The engine has its two ends.
     Up(Rc<RefCell<Socket>>),
 }
 
 /// The state of a connection attempt.
 #[derive(Clone, Copy, Drop)]
 enum ConnectOutcome {
+    /// It goes on.
     Pending,
+    /// It failed, or took too long.
     Refused,
+    /// The socket is connected.
     Established,
+}
+
+/// The result of a host's round.
+#[derive(Clone, Copy, Drop)]
+pub(crate) enum HostStepped {
+    /// Nothing is to be logged.
+    Done,
+    /// The host couldn't be reached, and this is to be logged.
+    Unreachable,
 }
 
 /// A worker's round over its hosts.
@@ -58,16 +73,21 @@ pub(crate) struct HostRound {
     pub(crate) gives_up: bool,
 }
 
+/// A host's engine, its link and its address.
 pub(crate) struct HostConnection {
     alloc: Global,
     engine: Engine,
     address: SocketAddr,
+    // The token of its links with the poll.
     token: Token,
+    // The most milliseconds that connecting may take.
     reply_ms: u64,
     link: LinkState,
     // The generation's count of parts when this host was last stepped.
     parts: u64,
+    // When it was last stepped, in milliseconds.
     looked: u64,
+    // The last round ended before all was done.
     has_more: bool,
     // Consecutive refusals of memory to its step or its link.
     refusals: Refusals,
@@ -76,7 +96,7 @@ pub(crate) struct HostConnection {
     // The bytes of a large unfinished reply that were reported.
     coming: u64,
     // When it was last logged that the host can't be reached.
-    told: Option<u64>,
+    logged_at: Option<u64>,
 }
 
 // Written out so that a drop is one call: each function that holds one is proved sooner.
@@ -95,12 +115,13 @@ impl Drop for HostConnection {
             refusals: _,
             begun: _,
             coming: _,
-            told: _,
+            logged_at: _,
         } = self;
     }
 }
 
 impl HostConnection {
+    /// A host without a link.
     pub(crate) fn new(
         alloc: Global,
         host: usize,
@@ -121,7 +142,7 @@ impl HostConnection {
             refusals: Refusals::new(),
             begun: 0,
             coming: 0,
-            told: None,
+            logged_at: None,
         }
     }
 
@@ -142,7 +163,7 @@ impl HostConnection {
     pub(crate) fn on_readiness(&mut self, event: &Readiness) {
         match &mut self.link {
             LinkState::Down => {}
-            LinkState::Connecting { is_told, .. } => *is_told = true,
+            LinkState::Connecting { has_event, .. } => *has_event = true,
             LinkState::Up(socket) => {
                 if let Ok(mut socket) = socket.try_borrow_mut() {
                     socket.on_readiness(event);
@@ -159,10 +180,11 @@ impl HostConnection {
             || self.has_event()
     }
 
+    // Whether the poll reported something of the link that isn't handled yet.
     fn has_event(&self) -> bool {
         match &self.link {
             LinkState::Down => false,
-            LinkState::Connecting { is_told, .. } => *is_told,
+            LinkState::Connecting { has_event, .. } => *has_event,
             LinkState::Up(socket) => match socket.try_borrow() {
                 Ok(socket) => socket.may_read() || socket.may_write(),
                 Err(_) => false,
@@ -170,8 +192,7 @@ impl HostConnection {
         }
     }
 
-    /// Steps the engine until it has to wait, writes what it buffered, and connects where a link is needed. True: the
-    /// host couldn't be reached, and this is to be logged.
+    /// Steps the engine until it has to wait, writes what it buffered, and connects where a link is needed.
     pub(crate) fn run_once<R: Wait + Net, T: CoreTurns>(
         &mut self,
         rt: &R,
@@ -180,7 +201,7 @@ impl HostConnection {
         registry: &Registry,
         buffer: &mut Vec<u8>,
         round: HostRound,
-    ) -> Result<bool, StepError> {
+    ) -> Result<HostStepped, StepError> {
         self.has_more = false;
         self.looked = round.now;
         self.parts = generation.parts();
@@ -192,7 +213,8 @@ impl HostConnection {
         }
         self.has_more = self.has_more || stepped.is_err();
         match stepped {
-            Ok(is_refused) => Ok(is_refused && self.is_to_be_told(round.now)),
+            Ok(true) if self.is_log_due(round.now) => Ok(HostStepped::Unreachable),
+            Ok(_) => Ok(HostStepped::Done),
             Err(StepError::Memory) if self.refusals.refused() => Err(StepError::Ends(
                 Ending::Memory,
             )),
@@ -201,17 +223,18 @@ impl HostConnection {
     }
 
     // Whether it is time to log again that the host can't be reached.
-    fn is_to_be_told(&mut self, now: u64) -> bool {
-        let is_due = match self.told {
+    fn is_log_due(&mut self, now: u64) -> bool {
+        let is_due = match self.logged_at {
             None => true,
-            Some(told) => now.saturating_sub(told) >= TELL_MS,
+            Some(logged_at) => now.saturating_sub(logged_at) >= TELL_MS,
         };
         if is_due {
-            self.told = Some(now);
+            self.logged_at = Some(now);
         }
         is_due
     }
 
+    // Lends the link's socket the worker's buffer for its output.
     fn lend_buffer(&mut self, buffer: &mut Vec<u8>) {
         if let LinkState::Up(socket) = &self.link {
             if let Ok(mut socket) = socket.try_borrow_mut() {
@@ -220,6 +243,7 @@ impl HostConnection {
         }
     }
 
+    // Writes buffered bytes as far as the link's socket takes them.
     fn write_out(&mut self, buffer: &mut Vec<u8>) {
         if let LinkState::Up(socket) = &self.link {
             if let Ok(mut socket) = socket.try_borrow_mut() {
@@ -228,6 +252,7 @@ impl HostConnection {
         }
     }
 
+    // Steps until nothing more can be done, or `MAX_HOST_STEPS` are made. True: a connection attempt was refused.
     fn step_engine<R: Wait + Net, T: CoreTurns>(
         &mut self,
         rt: &R,
@@ -345,7 +370,7 @@ impl HostConnection {
     {
         let taken = self.taken();
         let came = taken.unwrap_or(0).saturating_sub(self.begun);
-        let is_small = came.max(self.coming).max(turns.untold_bytes()) < LARGE;
+        let is_small = came.max(self.coming).max(turns.unreported_bytes()) < LARGE;
         let has_room = if is_small {
             turns.has_room_for_reply(came)
         } else {
@@ -429,12 +454,12 @@ impl HostConnection {
         if let LinkState::Connecting {
             stream,
             since,
-            is_told,
+            has_event,
         } = &mut self.link
         {
             let overdue = now.saturating_sub(*since) >= self.reply_ms;
-            let found = look(stream, *is_told, overdue);
-            *is_told = false;
+            let found = look(stream, *has_event, overdue);
+            *has_event = false;
             return found;
         }
         match TcpStream::connect(rt, self.address) {
@@ -443,6 +468,7 @@ impl HostConnection {
         }
     }
 
+    // Registers a connecting socket with the poll, and keeps it as the link.
     fn begin_connecting(
         &mut self,
         mut stream: TcpStream,
@@ -462,11 +488,12 @@ impl HostConnection {
         self.set_link(LinkState::Connecting {
             stream,
             since: now,
-            is_told: false,
+            has_event: false,
         });
         ConnectOutcome::Pending
     }
 
+    // Records with the engine that the host can't be reached: it answers the waiting parts.
     fn refuse<R: Wait, T: CoreTurns>(
         &mut self,
         rt: &R,
@@ -499,6 +526,7 @@ impl HostConnection {
         }
     }
 
+    // Makes this connected socket the link, and gives its two ends to the engine.
     fn attach_socket(&mut self, stream: TcpStream) -> Result<(), StepError>
         requires link { self.old.engine.link ≡ None }
         requires fault { self.old.engine.fault ≡ None }
@@ -526,8 +554,8 @@ impl HostConnection {
 }
 
 // The state of a connection attempt.
-fn look(stream: &TcpStream, is_told: bool, is_overdue: bool) -> ConnectOutcome {
-    if is_told {
+fn look(stream: &TcpStream, has_event: bool, is_overdue: bool) -> ConnectOutcome {
+    if has_event {
         match stream.take_error() {
             Ok(None) => {}
             Ok(Some(_)) | Err(_) => return ConnectOutcome::Refused,

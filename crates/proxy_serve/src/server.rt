@@ -140,7 +140,7 @@ impl Server {
     }
 
     /// Counts a socket that is dropped. The last one ends a draining server.
-    pub(crate) fn let_go<R: Wait>(&self, rt: &R) {
+    pub(crate) fn count_dropped<R: Wait>(&self, rt: &R) {
         let mut sockets = self.sockets.lock(rt);
         sockets.let_go();
         self.end_if_done(sockets);
@@ -154,9 +154,9 @@ impl Server {
     }
 
     /// Counts a closed connection and its dropped socket.
-    pub(crate) fn close<R: Wait>(&self, rt: &R) {
+    pub(crate) fn count_closed_and_dropped<R: Wait>(&self, rt: &R) {
         self.count_closed(rt);
-        self.let_go(rt);
+        self.count_dropped(rt);
     }
 
     /// Accepts no further socket, and ends all inputs behind what has come. The last socket then ends the server. A
@@ -193,19 +193,19 @@ impl Server {
     }
 
     /// Queues a socket for a worker and wakes it. Without memory the socket is closed.
-    pub(crate) fn push<R: Wait>(&self, rt: &R, place: usize, stream: TcpStream) {
-        let Some(queue) = self.queues.get(place) else {
-            return self.let_go(rt);
+    pub(crate) fn push<R: Wait>(&self, rt: &R, index: usize, stream: TcpStream) {
+        let Some(queue) = self.queues.get(index) else {
+            return self.count_dropped(rt);
         };
         if queue.sockets.lock(rt).push_back(stream).is_err() {
-            self.let_go(rt);
+            self.count_dropped(rt);
         }
         self.wake(rt, queue);
     }
 
     /// Whether a socket waits in a worker's queue.
-    pub(crate) fn has_waiting<R: Wait>(&self, rt: &R, place: usize) -> bool {
-        match self.queues.get(place) {
+    pub(crate) fn has_waiting<R: Wait>(&self, rt: &R, index: usize) -> bool {
+        match self.queues.get(index) {
             Some(queue) => {
                 !queue.carried.lock(rt).is_empty() || !queue.sockets.lock(rt).is_empty()
             }
@@ -214,44 +214,44 @@ impl Server {
     }
 
     /// Takes the socket that waits longest in a worker's queue.
-    pub(crate) fn pop<R: Wait>(&self, rt: &R, place: usize) -> Option<TcpStream> {
-        self.queues.get(place)?.sockets.lock(rt).pop_front()
+    pub(crate) fn pop<R: Wait>(&self, rt: &R, index: usize) -> Option<TcpStream> {
+        self.queues.get(index)?.sockets.lock(rt).pop_front()
     }
 
     /// Reserves memory in the queue for one more carried-over socket. False: there is none.
     ///
     /// The room stays: for each queue one worker alone puts such sockets in, and one takes them out.
-    pub(crate) fn has_room_to_carry<R: Wait>(&self, rt: &R, place: usize) -> bool {
-        match self.queues.get(place) {
+    pub(crate) fn has_room_to_carry<R: Wait>(&self, rt: &R, index: usize) -> bool {
+        match self.queues.get(index) {
             Some(queue) => queue.carried.lock(rt).reserve(1).is_ok(),
             None => false,
         }
     }
 
     /// Queues a carried-over socket, and wakes the worker that takes it. Without memory the socket is closed and counted.
-    pub(crate) fn carry<R: Wait>(&self, rt: &R, place: usize, carried: CarriedSocket) {
-        let Some(queue) = self.queues.get(place) else {
-            return self.close(rt);
+    pub(crate) fn carry<R: Wait>(&self, rt: &R, index: usize, carried: CarriedSocket) {
+        let Some(queue) = self.queues.get(index) else {
+            return self.count_closed_and_dropped(rt);
         };
         if queue.carried.lock(rt).push_back(carried).is_err() {
-            self.close(rt);
+            self.count_closed_and_dropped(rt);
         }
         self.wake(rt, queue);
     }
 
     /// Puts a carried-over socket that can't be opened yet back at the front. Without memory it is closed and counted.
-    pub(crate) fn carry_back<R: Wait>(&self, rt: &R, place: usize, carried: CarriedSocket) {
-        let Some(queue) = self.queues.get(place) else {
-            return self.close(rt);
+    pub(crate) fn carry_back<R: Wait>(&self, rt: &R, index: usize, carried: CarriedSocket) {
+        let Some(queue) = self.queues.get(index) else {
+            return self.count_closed_and_dropped(rt);
         };
         if queue.carried.lock(rt).push_front(carried).is_err() {
-            self.close(rt);
+            self.count_closed_and_dropped(rt);
         }
     }
 
     /// Takes the carried-over socket that waits longest in a worker's queue.
-    pub(crate) fn take_carried<R: Wait>(&self, rt: &R, place: usize) -> Option<CarriedSocket> {
-        self.queues.get(place)?.carried.lock(rt).pop_front()
+    pub(crate) fn take_carried<R: Wait>(&self, rt: &R, index: usize) -> Option<CarriedSocket> {
+        self.queues.get(index)?.carried.lock(rt).pop_front()
     }
 
     /// Whether the server goes on.

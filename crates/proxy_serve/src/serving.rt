@@ -26,8 +26,10 @@ use std::thread::{JoinHandle, Threads};
 use std::time::Duration;
 use std::{io, thread};
 
+// The token of the listener.
 const LISTENER: Token = Token(0);
 
+// The token of the accepting thread's waker.
 const WAKER: Token = Token(1);
 
 // The most sockets accepted at once.
@@ -90,7 +92,7 @@ impl<'a> Acceptor<'a> {
     }
 
     // Logs the start. What SIGTERM does depends on how the program was started.
-    fn tell_start<R: Eprint>(&mut self, rt: &R, config: &Config) {
+    fn log_start<R: Eprint>(&mut self, rt: &R, config: &Config) {
         let tag = self.server.log().tag(Level::Info);
         let (address, hosts, workers) = (self.address, config.hosts.len(), config.workers);
         let ends = if self.signals.is_term_orderly() {
@@ -103,6 +105,7 @@ impl<'a> Acceptor<'a> {
         );
     }
 
+    // Waits for the poll's events, at most `PAUSE_MS` milliseconds.
     fn wait(&mut self, events: &mut Events) -> Result<(), Stop> {
         match self
             .poll
@@ -162,6 +165,7 @@ impl<'a> Acceptor<'a> {
     }
 }
 
+// Whether accepting failed for want of room alone: it is tried again later.
 fn has_no_room(error: &io::Error) -> bool {
     match error.raw_os_error() {
         Some(number) => NO_ROOM.contains(&number),
@@ -274,6 +278,7 @@ pub fn serve<R: ServeRuntime, W: Write>(
     served
 }
 
+// Serves by settings that outlive all threads; `serve` drops them.
 fn serve_with<R: ServeRuntime, W: Write>(
     rt: &R,
     alloc: Global,
@@ -295,7 +300,7 @@ fn serve_with<R: ServeRuntime, W: Write>(
     let server = Server::new(alloc, config, waker, connections, log)?;
     let admin = AdminListener::open(rt, alloc, admin)?;
     let mut acceptor = Acceptor::new(poll, listener, config.listen, &server, status);
-    acceptor.tell_start(rt, config);
+    acceptor.log_start(rt, config);
     let context = ServerContext {
         server: &server,
         config,
@@ -383,6 +388,7 @@ fn serve_on<R: ServeRuntime>(
     Ok(())
 }
 
+// Waits until the thread of a generation has ended, if there is one.
 fn join<R: Threads>(rt: &R, generation: Option<JoinHandle<()>>) {
     if let Some(handle) = generation {
         handle.join(rt);
@@ -400,6 +406,7 @@ struct GenerationThreads {
 }
 
 impl GenerationThreads {
+    // No generation has a thread yet.
     fn new() -> GenerationThreads {
         GenerationThreads {
             newest: None,
@@ -420,11 +427,13 @@ impl GenerationThreads {
         self.older = self.newest.take();
     }
 
+    // Adds the newest generation's thread.
     fn add(&mut self, number: u64, handle: JoinHandle<()>) {
         self.number = number;
         self.newest = Some(handle);
     }
 
+    // Waits until all generations' threads have ended.
     fn join_all<R: Threads>(&mut self, rt: &R) {
         join(rt, self.oldest.take());
         join(rt, self.older.take());
@@ -440,6 +449,7 @@ fn finish<R: Wait, W: Write>(rt: &R, server: &Server, output: &mut W) -> Result<
     }
 }
 
+// Writes the last line: the counts of the whole run.
 fn write_counts<W: Write>(counts: &Counts, output: &mut W) -> Result<(), Stop> {
     let (accepted, handed) = (counts.accepted, counts.handed);
     let (sent, answered) = (counts.sent, counts.answered);

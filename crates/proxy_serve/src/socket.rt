@@ -21,7 +21,7 @@ pub(crate) struct Socket {
     // The last write took less than it was given.
     is_short: bool,
     // The poll has reported room since then.
-    has_room: bool,
+    is_writable_again: bool,
 }
 
 // Written out so that a drop is one call: each function that holds one is proved sooner.
@@ -31,11 +31,12 @@ impl Drop for Socket {
             output: _,
             input: _,
             is_short: _,
-            has_room: _,
+            is_writable_again: _,
         } = self;
     }
 }
 
+// The error of a read or write that has to be tried again later.
 fn paused() -> io::Error {
     io::Error::from(ErrorKind::WouldBlock)
 }
@@ -47,7 +48,7 @@ impl Socket {
             output: WriteBuffer::new(alloc, stream),
             input: ReadEnd::new(),
             is_short: false,
-            has_room: false,
+            is_writable_again: false,
         }
     }
 
@@ -61,7 +62,7 @@ impl Socket {
         )?;
         self.input.set_readable();
         self.output.set_writable();
-        self.has_room = self.is_short;
+        self.is_writable_again = self.is_short;
         Ok(())
     }
 
@@ -81,7 +82,7 @@ impl Socket {
         }
         if event.is_writable() || event.is_write_closed() || event.is_error() {
             self.output.set_writable();
-            self.has_room = self.is_short;
+            self.is_writable_again = self.is_short;
         }
     }
 
@@ -108,7 +109,7 @@ impl Socket {
 
     /// Whether the socket may take buffered bytes, or the rest of a text that it took in part.
     pub(crate) fn may_write(&self) -> bool {
-        self.has_room || self.output.may_write()
+        self.is_writable_again || self.output.may_write()
     }
 
     /// Whether bytes are buffered.
@@ -128,10 +129,11 @@ impl Socket {
 
     /// Writes buffered bytes, and returns the buffer once all are taken.
     pub(crate) fn write_out(&mut self, buffer: &mut Vec<u8>) {
-        self.has_room = false;
+        self.is_writable_again = false;
         self.output.write_out(buffer);
     }
 
+    // Buffers bytes or writes them, and records whether fewer were taken than given.
     fn write(&mut self, bytes: &[u8]) -> io::Result<usize>
         ensures { WritesAtMost result bytes.now }
     {
@@ -143,6 +145,7 @@ impl Socket {
         written
     }
 
+    // Reads from the socket if it may have bytes; fails once a write has failed.
     fn read(&mut self, buffer: &mut [u8]) -> io::Result<usize>
         ensures { ReadsAtMost result buffer.new }
     {
@@ -154,13 +157,13 @@ impl Socket {
     }
 
     /// Reads and discards what has come. True: the input has ended or failed.
-    pub(crate) fn throw_away(&mut self) -> bool {
+    pub(crate) fn discard_input(&mut self) -> bool {
         let mut stream: &TcpStream = self.output.writer();
         self.input.throw_away(&mut stream)
     }
 
     /// Closes the sending half.
-    pub(crate) fn shut(&self) {
+    pub(crate) fn shut_write(&self) {
         let _ = self.output.writer().shutdown(Shutdown::Write);
     }
 }

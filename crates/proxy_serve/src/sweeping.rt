@@ -95,6 +95,7 @@ impl<'a> SweepThread<'a> {
         self.sweep_on(rt)
     }
 
+    // Opens the generation: new sockets come to it, and its workers are woken for them.
     fn open<R: Wait + Clock>(&mut self, rt: &R) {
         let alloc = *self.wakers.allocator();
         let wakers = mem::replace(&mut self.wakers, Vec::new(alloc));
@@ -103,6 +104,7 @@ impl<'a> SweepThread<'a> {
             .open(rt, self.generation.number(), now(rt), wakers);
     }
 
+    // Sweeps when due, and looks at the core, until the generation is drained or the server ends.
     fn sweep_on<R: Wait + Clock + Eprint>(&mut self, rt: &R) -> Result<(), Stop> {
         let (server, number) = (self.generation.server(), self.generation.number());
         for _ in rt.forever() {
@@ -182,7 +184,7 @@ impl<'a> SweepThread<'a> {
         let (server, number) = (self.generation.server(), self.generation.number());
         let steps = handover.steps().max(self.generation.spent(rt));
         let bytes = handover.bytes();
-        let is_full = self.marks.are_reached(steps, bytes) || self.generation.is_closing();
+        let is_full = self.marks.are_reached(steps, bytes) || self.generation.is_full();
         if !is_full && !self.marks.are_near(steps, bytes) {
             return Ok(());
         }
@@ -211,6 +213,7 @@ impl<'a> SweepThread<'a> {
     }
 }
 
+// Logs that a host is ejected or has returned.
 fn log_ejection<R: Eprint>(rt: &R, log: Log, address: SocketAddr, is_out: bool) {
     if is_out {
         let tag = log.tag(Level::Warning);

@@ -4,7 +4,7 @@ use crate::client::{CarriedSocket, Client, Round, StepError, Stepped};
 use crate::counted_turns::CountedTurns;
 use crate::generation::ThreadContext;
 use crate::generation_state::GenerationState;
-use crate::host_connection::{HostConnection, HostRound};
+use crate::host_connection::{HostConnection, HostRound, HostStepped};
 use crate::log::Level;
 use crate::stop::Stop;
 use limits::MAX_SOCKETS;
@@ -34,13 +34,13 @@ pub(crate) const WAKER: Token = Token(usize::MAX);
 const PAUSE_MS: u64 = 10;
 
 // The most rounds before the last sockets of a generation are closed.
-const LAST_ROUNDS: u32 = 16;
+const MAX_LAST_ROUNDS: u32 = 16;
 
 // The milliseconds until the next try after one without memory.
 const NO_MEMORY_MS: u64 = 1;
 
 // The most events taken from the poll, and sockets from the queue, at once.
-const EVENTS: usize = 1_024;
+const MAX_EVENTS: usize = 1_024;
 
 /// The clock's milliseconds.
 pub(crate) fn now<R: Clock>(rt: &R) -> u64 {
@@ -53,7 +53,7 @@ pub(crate) fn now<R: Clock>(rt: &R) -> u64 {
 /// What a worker starts with.
 pub(crate) struct WorkerSetup<'a> {
     context: ThreadContext<'a>,
-    place: usize,
+    index: usize,
     poll: Poll,
     seat: CountedSeat<'a>,
 }
@@ -63,7 +63,7 @@ impl Drop for WorkerSetup<'_> {
     fn drop(self) {
         let WorkerSetup {
             context: _,
-            place: _,
+            index: _,
             poll: _,
             seat: _,
         } = self;
@@ -71,15 +71,16 @@ impl Drop for WorkerSetup<'_> {
 }
 
 impl<'a> WorkerSetup<'a> {
+    /// A worker of this index, which waits at this poll and makes turns by this seat.
     pub(crate) fn new(
         context: ThreadContext<'a>,
-        place: usize,
+        index: usize,
         poll: Poll,
         seat: CountedSeat<'a>,
     ) -> WorkerSetup<'a> {
         WorkerSetup {
             context,
-            place,
+            index,
             poll,
             seat,
         }
@@ -89,29 +90,30 @@ impl<'a> WorkerSetup<'a> {
     /// Without memory to begin the generation is given up.
     pub(crate) fn run<R: Wait + Net + Clock + Eprint>(self, rt: &R) {
         let generation = self.context.generation;
-        let events = Events::with_capacity(self.context.alloc, EVENTS);
+        let events = Events::with_capacity(self.context.alloc, MAX_EVENTS);
         match (events, self.worker()) {
             (Ok(events), Ok(worker)) => worker.run(rt, events),
             _ => generation.give_up(),
         }
     }
 
+    // The worker with its hosts and no clients; ends with `Memory` where there is none for the hosts.
     fn worker(self) -> Result<Worker<'a>, Ending> {
         let WorkerSetup {
             context,
-            place,
+            index,
             poll,
             seat,
         } = self;
         let (alloc, generation) = (context.alloc, context.generation);
         Ok(Worker {
             alloc,
-            place,
+            index,
             poll,
             generation,
             turns: CountedTurns::new(seat),
             clients: Slab::new(alloc),
-            hosts: hosts_of(alloc, place, generation.server().workers(), context.config)?,
+            hosts: hosts_of(alloc, index, generation.server().workers(), context.config)?,
             buffer: Vec::new(alloc),
             opening: Refusals::new(),
             lacks_memory: false,
@@ -124,14 +126,15 @@ impl<'a> WorkerSetup<'a> {
             gives_up: false,
             awaiting: 0,
             durations: Histogram::new(),
-            told: 0,
+            reported_at: 0,
         })
     }
 }
 
+// The hosts of the worker with this index, each without a link.
 fn hosts_of(
     alloc: Global,
-    place: usize,
+    index: usize,
     workers: usize,
     config: &Config,
 ) -> Result<Vec<HostConnection>, Ending> {
@@ -139,7 +142,7 @@ fn hosts_of(
     if workers == 0 {
         return Ok(hosts);
     }
-    for host in hosts_of_worker(alloc, place, workers, config.hosts.len())? {
+    for host in hosts_of_worker(alloc, index, workers, config.hosts.len())? {
         if let Some(entry) = config.hosts.get(host) {
             let token = Token(HOSTS.saturating_add(hosts.len()));
             let reply_ms = u64::from(config.reply_ms);
@@ -151,7 +154,7 @@ fn hosts_of(
 
 /// The result for the first socket in a worker's queue.
 #[derive(Clone, Copy, Drop)]
-enum Accepted {
+enum OpenResult {
     /// It has a connection.
     Opened,
     /// It was closed.
@@ -160,10 +163,17 @@ enum Accepted {
     None,
 }
 
+/// A generation's counts of parts for hosts and of replies for clients, at one moment.
+#[derive(Clone, Copy, Drop)]
+struct GenerationCounts {
+    parts: u64,
+    replies: u64,
+}
+
 /// A running worker.
 struct Worker<'a> {
     alloc: Global,
-    place: usize,
+    index: usize,
     poll: Poll,
     generation: &'a GenerationState<'a>,
     turns: CountedTurns<CountedSeat<'a>>,
@@ -191,7 +201,7 @@ struct Worker<'a> {
     awaiting: usize,
     // The durations of commands since the last report, and when that was.
     durations: Histogram,
-    told: u64,
+    reported_at: u64,
 }
 
 // Written out so that a drop is one call: each function that holds one is proved sooner.
@@ -199,7 +209,7 @@ impl Drop for Worker<'_> {
     fn drop(self) {
         let Worker {
             alloc: _,
-            place: _,
+            index: _,
             poll: _,
             generation: _,
             turns: _,
@@ -217,12 +227,13 @@ impl Drop for Worker<'_> {
             gives_up: _,
             awaiting: _,
             durations: _,
-            told: _,
+            reported_at: _,
         } = self;
     }
 }
 
 impl<'a> Worker<'a> {
+    // Serves once all threads of the generation have come, then closes what is left, or ends the server.
     fn run<R: Wait + Net + Clock + Eprint>(mut self, rt: &R, events: Events) {
         if !self.generation.wait_for_all(rt) {
             return;
@@ -233,6 +244,7 @@ impl<'a> Worker<'a> {
         }
     }
 
+    // Makes rounds, one for each wait at the poll, until the generation is stopped.
     fn serve<R: Wait + Net + Clock + Eprint>(
         &mut self,
         rt: &R,
@@ -247,7 +259,7 @@ impl<'a> Worker<'a> {
             self.wait(&mut events, pause)?;
             self.on_readiness(&events);
             self.end_inputs();
-            let before = (self.generation.parts(), self.generation.replies());
+            let before = self.generation_counts();
             let moves = self.run_once(rt)?;
             pause = self.pause(moves, before);
             self.settle(rt);
@@ -272,7 +284,7 @@ impl<'a> Worker<'a> {
     // Waits at most this many milliseconds for the poll's events.
     fn wait(&mut self, events: &mut Events, pause: u64) -> Result<(), Stop> {
         let polled = self.poll.poll(events, Some(Duration::from_millis(pause)));
-        if let Some(worker) = self.generation.worker(self.place) {
+        if let Some(worker) = self.generation.worker(self.index) {
             worker.mark_awake();
         }
         match polled {
@@ -285,12 +297,20 @@ impl<'a> Worker<'a> {
     fn finish<R: Wait + Net + Clock + Eprint>(&mut self, rt: &R) -> Result<(), Stop> {
         self.drain();
         self.gives_up = true;
-        for _ in 0..LAST_ROUNDS {
+        for _ in 0..MAX_LAST_ROUNDS {
             if !self.generation.server().runs() || !self.run_once(rt)? {
                 break;
             }
         }
         Ok(())
+    }
+
+    // The generation's counts now.
+    fn generation_counts(&self) -> GenerationCounts {
+        GenerationCounts {
+            parts: self.generation.parts(),
+            replies: self.generation.replies(),
+        }
     }
 
     // Reports the worker's turns. It keeps a lent step for a fault of each of its links, because a fault must be recorded.
@@ -299,6 +319,7 @@ impl<'a> Worker<'a> {
         self.generation.settle(rt, &mut self.turns, reserve);
     }
 
+    // The lent steps that it keeps: one for a fault of each of its links.
     fn reserve(&self) -> u64 {
         self.hosts.len() as u64
     }
@@ -340,7 +361,7 @@ impl<'a> Worker<'a> {
                     server.count_closed(rt);
                 }
                 client.shut_down(&mut self.buffer);
-                server.let_go(rt);
+                server.count_dropped(rt);
                 self.generation.count_gone();
             }
         }
@@ -351,7 +372,7 @@ impl<'a> Worker<'a> {
                 "{tag}redproxy: generation {number} is cut short, {cut} connections are closed"
             );
         }
-        self.tell_durations(rt);
+        self.report_durations(rt);
         self.close_carried(rt);
     }
 
@@ -362,36 +383,37 @@ impl<'a> Worker<'a> {
             if server.runs() {
                 return;
             }
-            let Some(mut carried) = server.take_carried(rt, self.place) else {
+            let Some(mut carried) = server.take_carried(rt, self.index) else {
                 return;
             };
             carried.shut_down(&mut self.buffer);
             drop(carried);
-            server.close(rt);
+            server.count_closed_and_dropped(rt);
         }
     }
 
     // The longest wait of the poll, in milliseconds.
-    fn pause(&self, moves: bool, before: (u64, u64)) -> u64 {
+    fn pause(&self, moves: bool, before: GenerationCounts) -> u64 {
         if self.lacks_memory {
             return NO_MEMORY_MS;
         }
         if moves && !self.is_held_back {
             return 0;
         }
-        if let Some(worker) = self.generation.worker(self.place) {
+        if let Some(worker) = self.generation.worker(self.index) {
             worker.mark_asleep(self.awaiting > 0, self.is_held_back);
         }
         if self.has_news(before) { 0 } else { PAUSE_MS }
     }
 
     // Whether parts or replies came since the round began, or clients needn't be held back any more.
-    fn has_news(&self, before: (u64, u64)) -> bool {
-        (!self.hosts.is_empty() && before.0 != self.generation.parts())
-            || (self.awaiting > 0 && before.1 != self.generation.replies())
+    fn has_news(&self, before: GenerationCounts) -> bool {
+        (!self.hosts.is_empty() && before.parts != self.generation.parts())
+            || (self.awaiting > 0 && before.replies != self.generation.replies())
             || (self.is_held_back && !self.generation.must_hold_back())
     }
 
+    // Gives each event of the poll to its host or client.
     fn on_readiness(&mut self, events: &Events) {
         for event in events {
             let token = event.token();
@@ -417,11 +439,11 @@ impl<'a> Worker<'a> {
             self.accepted_at = now;
             self.accept_new(rt)?;
         }
-        let before = (self.generation.parts(), self.generation.replies());
+        let before = self.generation_counts();
         let moves = self.step_all(rt, now)?;
-        if now.saturating_sub(self.told) >= PAUSE_MS {
-            self.told = now;
-            self.tell_durations(rt);
+        if now.saturating_sub(self.reported_at) >= PAUSE_MS {
+            self.reported_at = now;
+            self.report_durations(rt);
         }
         self.wake_others(before);
         Ok(moves)
@@ -436,16 +458,16 @@ impl<'a> Worker<'a> {
     }
 
     // Wakes the workers that parts and replies since these counts may concern.
-    fn wake_others(&self, before: (u64, u64)) {
-        let has_parts = before.0 != self.generation.parts();
-        let has_replies = before.1 != self.generation.replies();
+    fn wake_others(&self, before: GenerationCounts) {
+        let has_parts = before.parts != self.generation.parts();
+        let has_replies = before.replies != self.generation.replies();
         if has_parts || has_replies {
-            self.generation.wake_for(self.place, has_parts, has_replies);
+            self.generation.wake_for(self.index, has_parts, has_replies);
         }
     }
 
     // Reports the durations of commands.
-    fn tell_durations<R: Wait>(&mut self, rt: &R) {
+    fn report_durations<R: Wait>(&mut self, rt: &R) {
         let durations = mem::replace(&mut self.durations, Histogram::new());
         if durations.total > 0 {
             self.generation.server().add_durations(rt, &durations);
@@ -467,7 +489,7 @@ impl<'a> Worker<'a> {
     fn handle_error(&mut self, error: StepError) -> Result<(), Stop> {
         match error {
             StepError::Full => {
-                self.generation.close_up();
+                self.generation.stop_accepting();
                 Ok(())
             }
             StepError::Ends(ending) => Err(Stop::from(ending)),
@@ -495,7 +517,7 @@ impl<'a> Worker<'a> {
         let reserve = self.reserve().saturating_add(StepKind::Opened.cost());
         let has_room = self.generation.lend(rt, &mut self.turns, reserve);
         if !has_room {
-            self.generation.close_up();
+            self.generation.stop_accepting();
         }
         has_room
     }
@@ -504,17 +526,17 @@ impl<'a> Worker<'a> {
     // none comes to a generation that has drained.
     fn accept_new<R: Wait>(&mut self, rt: &R) -> Result<(), Stop> {
         self.may_have_sockets = false;
-        for _ in 0..EVENTS {
+        for _ in 0..MAX_EVENTS {
             self.generation.count_opened();
             let accepted = if self.may_open(rt) {
                 self.accept_one(rt)?
             } else {
-                Accepted::None
+                OpenResult::None
             };
             match accepted {
-                Accepted::Opened => {}
-                Accepted::Closed => self.generation.count_gone(),
-                Accepted::None => {
+                OpenResult::Opened => {}
+                OpenResult::Closed => self.generation.count_gone(),
+                OpenResult::None => {
                     self.generation.count_gone();
                     return Ok(());
                 }
@@ -524,42 +546,47 @@ impl<'a> Worker<'a> {
         Ok(())
     }
 
-    fn accept_one<R: Wait>(&mut self, rt: &R) -> Result<Accepted, Stop> {
+    // Opens the first socket in the worker's queue, a carried-over one first.
+    fn accept_one<R: Wait>(&mut self, rt: &R) -> Result<OpenResult, Stop> {
         let server = self.generation.server();
-        if !server.has_waiting(rt, self.place) {
-            return Ok(Accepted::None);
+        if !server.has_waiting(rt, self.index) {
+            return Ok(OpenResult::None);
         }
         if self.clients.reserve(1).is_err() {
             self.count_refusal()?;
-            return Ok(Accepted::None);
+            return Ok(OpenResult::None);
         }
-        if let Some(carried) = server.take_carried(rt, self.place) {
+        if let Some(carried) = server.take_carried(rt, self.index) {
             return self.open_carried(rt, carried);
         }
-        match server.pop(rt, self.place) {
+        match server.pop(rt, self.index) {
             Some(stream) => self.open(rt, stream),
-            None => Ok(Accepted::None),
+            None => Ok(OpenResult::None),
         }
     }
 
-    // Gives the client a place: it has a connection from here on.
-    fn insert<R: Wait>(&mut self, rt: &R, mut client: Client) -> Accepted {
+    // Gives the client a slot: it has a connection from here on.
+    fn insert<R: Wait>(&mut self, rt: &R, mut client: Client) -> OpenResult {
         self.opening.succeeded();
         if self.ends_inputs {
             client.end_input();
         }
         match self.clients.insert(client) {
-            Ok(_) => Accepted::Opened,
+            Ok(_) => OpenResult::Opened,
             Err(_) => {
-                self.generation.server().close(rt);
-                Accepted::Closed
+                self.generation.server().count_closed_and_dropped(rt);
+                OpenResult::Closed
             }
         }
     }
 
     // Opens a carried-over socket. It waits in the queue again where there is no memory or no step left. Where its
     // connection can't be opened otherwise, its buffered bytes are written and it is closed.
-    fn open_carried<R: Wait>(&mut self, rt: &R, carried: CarriedSocket) -> Result<Accepted, Stop> {
+    fn open_carried<R: Wait>(
+        &mut self,
+        rt: &R,
+        carried: CarriedSocket,
+    ) -> Result<OpenResult, Stop> {
         let token = Token(self.clients.vacant_key());
         let opened = Client::open_carried(
             rt,
@@ -578,26 +605,27 @@ impl<'a> Worker<'a> {
         }
     }
 
+    // Handles the error of a carried-over socket: it is closed if it fails alone, else it waits in the queue again.
     fn refuse_carried<R: Wait>(
         &mut self,
         rt: &R,
         error: StepError,
         carried: Option<CarriedSocket>,
-    ) -> Result<Accepted, Stop> {
+    ) -> Result<OpenResult, Stop> {
         let server = self.generation.server();
         self.handle_open_error(error)?;
         let Some(mut carried) = carried else {
-            server.close(rt);
-            return Ok(Accepted::Closed);
+            server.count_closed_and_dropped(rt);
+            return Ok(OpenResult::Closed);
         };
         if error.is_alone() {
             carried.shut_down(&mut self.buffer);
             drop(carried);
-            server.close(rt);
-            return Ok(Accepted::Closed);
+            server.count_closed_and_dropped(rt);
+            return Ok(OpenResult::Closed);
         }
-        server.carry_back(rt, self.place, carried);
-        Ok(Accepted::None)
+        server.carry_back(rt, self.index, carried);
+        Ok(OpenResult::None)
     }
 
     // Registers the next client's socket with the poll.
@@ -611,27 +639,28 @@ impl<'a> Worker<'a> {
     }
 
     // Opens a new socket. One whose connection can't be opened is dropped.
-    fn open<R: Wait>(&mut self, rt: &R, mut stream: TcpStream) -> Result<Accepted, Stop> {
+    fn open<R: Wait>(&mut self, rt: &R, mut stream: TcpStream) -> Result<OpenResult, Stop> {
         let _ = stream.set_nodelay(true);
         if !self.register(&mut stream) {
-            self.generation.server().let_go(rt);
-            return Ok(Accepted::Closed);
+            self.generation.server().count_dropped(rt);
+            return Ok(OpenResult::Closed);
         }
         match Client::open(rt, self.alloc, &mut self.turns, stream) {
             Ok(client) => Ok(self.insert(rt, client)),
             Err(error) => {
-                self.generation.server().let_go(rt);
+                self.generation.server().count_dropped(rt);
                 self.handle_open_error(StepError::from(error))?;
-                Ok(Accepted::Closed)
+                Ok(OpenResult::Closed)
             }
         }
     }
 
+    // Steps each host that can make progress, and logs those that can't be reached. True: more can be done at once.
     fn step_hosts<R: Wait + Net + Eprint>(&mut self, rt: &R, now: u64) -> Result<bool, Stop> {
         let parts = self.generation.parts();
         let mut moves = false;
-        for place in 0..self.hosts.len() {
-            let Some(host) = self.hosts.get_mut(place) else {
+        for index in 0..self.hosts.len() {
+            let Some(host) = self.hosts.get_mut(index) else {
                 break;
             };
             if !host.may_go(self.generation, now) {
@@ -650,8 +679,8 @@ impl<'a> Worker<'a> {
             );
             moves = moves || host.may_go(self.generation, now);
             match stepped {
-                Ok(false) => {}
-                Ok(true) => {
+                Ok(HostStepped::Done) => {}
+                Ok(HostStepped::Unreachable) => {
                     let address = host.address();
                     let tag = self.generation.server().log().tag(Level::Warning);
                     let _ = eprintln!(rt; "{tag}redproxy: host {address} can't be reached");
@@ -668,14 +697,14 @@ impl<'a> Worker<'a> {
         if self.hosts.iter().any(|host| host.is_connecting(now)) {
             return;
         }
-        if let Some(worker) = self.generation.worker(self.place) {
+        if let Some(worker) = self.generation.worker(self.index) {
             let seen = if self.hosts.is_empty() {
                 u64::MAX
             } else {
                 parts
             };
             if worker.mark_seen(seen) {
-                self.generation.wake_held(self.place);
+                self.generation.wake_held(self.index);
             }
         }
     }
@@ -691,7 +720,7 @@ impl<'a> Worker<'a> {
                 moves = self.step_hosts(rt, now)? || moves;
                 if self.generation.must_hold_back() {
                     // (other workers must look at theirs first)
-                    self.generation.wake_behind(self.place);
+                    self.generation.wake_behind(self.index);
                     self.next = key;
                     self.is_held_back = true;
                     return Ok(true);
@@ -702,10 +731,10 @@ impl<'a> Worker<'a> {
         Ok(moves)
     }
 
-    // Gives the socket to the worker of this place in the newest generation. Without memory it stays for now.
+    // Gives the socket to the worker of this index in the newest generation. Without memory it stays for now.
     fn carry_over<R: Wait>(&mut self, rt: &R, key: usize) -> Result<bool, Stop> {
         let server = self.generation.server();
-        if !server.has_room_to_carry(rt, self.place) {
+        if !server.has_room_to_carry(rt, self.index) {
             if let Some(client) = self.clients.get_mut(key) {
                 let error = client.refuse();
                 self.handle_error(error)?;
@@ -714,14 +743,15 @@ impl<'a> Worker<'a> {
         }
         if let Some(client) = self.clients.try_remove(key) {
             match client.carry(self.poll.registry(), self.generation) {
-                Some(carried) => server.carry(rt, self.place, carried),
-                None => server.close(rt),
+                Some(carried) => server.carry(rt, self.index, carried),
+                None => server.count_closed_and_dropped(rt),
             }
         }
         self.generation.count_gone();
         Ok(false)
     }
 
+    // Steps a client if it can make progress. True: more can be done at once.
     fn step_client<R: Wait>(&mut self, rt: &R, key: usize, now: u64) -> Result<bool, Stop> {
         let Some(client) = self.clients.get_mut(key) else {
             return Ok(false);
@@ -767,7 +797,7 @@ impl<'a> Worker<'a> {
             Ok(Stepped::Closed) => {
                 let _ = self.clients.try_remove(key);
                 self.generation.count_gone();
-                self.generation.server().let_go(rt);
+                self.generation.server().count_dropped(rt);
                 Ok(false)
             }
             Ok(Stepped::CarriedOver) => self.carry_over(rt, key),
