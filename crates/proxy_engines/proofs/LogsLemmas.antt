@@ -1,12 +1,12 @@
 -- What an engine carries over the logs of its devices.
-use Rattle.std.proofs.Common.{◌≡◌, ◌∙◌, ℕ, List, [], ◌∷◌, ◌++◌, Option, Some, None, ap, append_assoc, append-nil, sym, subst}
+use Rattle.std.proofs.Common.{◌≡◌, ◌∙◌, ℕ, true, List, [], ◌∷◌, ◌++◌, Option, Some, None, ap, append_assoc, append-nil, sym, subst}
 use Rattle.proxy_history.specs.History.{History}
 use Rattle.proxy_history.specs.Own.{host_steps}
 use Rattle.proxy_engines.specs.Client.{Carries}
 use Rattle.proxy_engines.specs.Socket.{CarriesOn}
 use Rattle.proxy_engines.specs.Host.{HostOutboxState, LinkState, CarriesHost, ReadsOn, WritesOn}
 use Rattle.proxy_engines.specs.Logs.{Logs, Since, client_logs, link_logs, CarriesHostLogs, ClientsCarryLogs, HostsCarryLogs, SocketsCarryLogs}
-use Rattle.proxy_engines.proofs.ClientMoves.{carries_beside, log-append}
+use Rattle.proxy_engines.proofs.ClientMoves.{carries_beside, drained_carries, log-append}
 use Rattle.proxy_engines.proofs.ClientLemmas.{accepted_first}
 use Rattle.proxy_engines.proofs.LeaveOthersLemmas.{others_leave_hosts}
 use Rattle.proxy_engines.proofs.SocketLemmas.{socket_begins, socket_moves, socket_stays, socket_goes_over, socket_asks_in_order, socket_answers_in_order}
@@ -36,6 +36,7 @@ pub clients_carry_logs : ClientsCarryLogs
 clients_carry_logs = record {
   begins = λ e H k. begins (client_logs e) (Carries e H) k;
   moves = λ old new H H' moved begun g s. moves_on begun (client_logs old) (client_logs new) (Carries old H) (Carries new H') g.gave g.got g.writes.taken g.reads.told (λ t b k. g.carries t b k) s;
+  drains = λ e H begun s. so_then begun (client_logs e) (Carries e H) (Carries (record e { is_drained = true }) H) (λ t b k. drained_carries e H t b k) s;
   stays = λ e H later begun others s. so_then begun (client_logs e) (Carries e H) (Carries e (later ++ H)) (λ t b k. carries_beside e H later others t b k) s;
   serves = λ e H begun s. record {
     told = s.told;
@@ -51,6 +52,17 @@ pub sockets_carry_logs : SocketsCarryLogs
 sockets_carry_logs = record {
   begins = λ e H begun s. so_then begun (client_logs e) (Carries e H) (CarriesOn [] e H) (λ t b k. socket_begins e H t b k) s;
   moves = λ ps old new H H' moved begun g s. moves_on begun (client_logs old) (client_logs new) (CarriesOn ps old H) (CarriesOn ps new H') g.gave g.got g.writes.taken g.reads.told (λ t b k. socket_moves ps old new H H' moved t b g k) s;
+  drains = λ ps e H begun s. so_then begun (client_logs e) (CarriesOn ps e H) (CarriesOn ps (record e { is_drained = true }) H) (λ t b k. record {
+    took = k.took;
+    came = k.came;
+    left = k.left;
+    gave = k.gave;
+    got = k.got;
+    before = k.before;
+    carries = drained_carries e H k.gave (k.left ++ k.got) k.carries;
+    taken_is = k.taken_is;
+    bytes_are = k.bytes_are;
+  }) s;
   stays = λ ps e H later begun others s. so_then begun (client_logs e) (CarriesOn ps e H) (CarriesOn ps e (later ++ H)) (λ t b k. socket_stays ps e H later t b others k) s;
   goes_over = λ ps old new H H' r begun over s.
       subst (λ (z : Logs). Since begun z (CarriesOn (record { conn = old.conn; steps = H } ∷ ps) new H')) (sym over.logs)

@@ -1,5 +1,5 @@
 -- What an engine carries over the logs of its devices, sockets included.
-use Rattle.std.specs.Prelude.{◌≡◌, ℕ, Bool, List, [], ◌∷◌, ◌++◌, Option, Some, None}
+use Rattle.std.specs.Prelude.{◌≡◌, ℕ, Bool, true, List, [], ◌∷◌, ◌++◌, Option, Some, None}
 use Rattle.splitter.specs.Request.{Request}
 use Rattle.splitter.specs.Requests.{AreRequests}
 use Rattle.proxy_history.specs.History.{History}
@@ -57,11 +57,13 @@ pub record IsServed (engine : Client) (steps : History) (begun : Logs) : Type 0 
   pub taken_is : engine.outbox.taken ++ engine.outbox.pending ≡ begun.taken ++ transcript engine.conn steps
   pub asked_are : (rs : List Request) → AreRequests told rs → (more : List Request) × (rs ≡ asked_requests engine.conn steps ++ more)
 
--- A client's engine carries its logs where it was opened, over its moves and over steps of others; and one that does is served.
+-- A client's engine carries its logs where it was opened, over its moves, where it is drained and over steps of others; and one
+-- that does is served.
 pub record ClientsCarryLogs : Type 0 where
   pub begins : (e : Client) (H : History) → Carries e H [] [] → CarriesLogs e H (client_logs e)
   pub moves : (old new : Client) (H H' : History) (moved : Bool) (begun : Logs) → Goes old new H H' moved
       → CarriesLogs old H begun → CarriesLogs new H' begun
+  pub drains : (e : Client) (H : History) (begun : Logs) → CarriesLogs e H begun → CarriesLogs (record e { is_drained = true }) H begun
   pub stays : (e : Client) (H later : History) (begun : Logs) → connection_steps e.conn later ≡ []
       → CarriesLogs e H begun → CarriesLogs e (later ++ H) begun
   pub serves : (e : Client) (H : History) (begun : Logs) → CarriesLogs e H begun → IsServed e H begun
@@ -88,6 +90,8 @@ pub record SocketsCarryLogs : Type 0 where
   pub begins : (e : Client) (H : History) (begun : Logs) → CarriesLogs e H begun → CarriesSocketLogs [] e H begun
   pub moves : (ps : List Past) (old new : Client) (H H' : History) (moved : Bool) (begun : Logs) → Goes old new H H' moved
       → CarriesSocketLogs ps old H begun → CarriesSocketLogs ps new H' begun
+  pub drains : (ps : List Past) (e : Client) (H : History) (begun : Logs) → CarriesSocketLogs ps e H begun
+      → CarriesSocketLogs ps (record e { is_drained = true }) H begun
   pub stays : (ps : List Past) (e : Client) (H later : History) (begun : Logs) → connection_steps e.conn later ≡ []
       → CarriesSocketLogs ps e H begun → CarriesSocketLogs ps e (later ++ H) begun
   pub goes_over : (ps : List Past) (old new : Client) (H H' : History) (r : RestState) (begun : Logs) → HandsOver old new H H' r

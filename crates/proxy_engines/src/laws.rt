@@ -53,8 +53,8 @@ pub fn sockets_go_on()
 {}
 
 /// At any device, sockets included, a client's engine carries all that its writer took and its reader told since it was
-/// opened: over its moves, and over other callers' steps. So the writer's log, with pending bytes, grew by what was handed
-/// out. The accepted requests are the first ones that the bytes told since then give.
+/// opened: over its moves, a drain, and other callers' steps. So the writer's log, with pending bytes, grew by what was
+/// handed out. The accepted requests are the first ones that the bytes told since then give.
 pub fn clients_carry_logs()
     ensures { ClientsCarryLogs }
 {}
