@@ -10,19 +10,19 @@ use Rattle.proxy_pages.proofs.CallerLemmas.{histogram_send, look_send}
 use Rattle.proxy_generations.specs.contracts.lifecycle.Due as Due
 use Rattle.proxy_generations.specs.contracts.lifecycle.Generations as Generations
 use Rattle.proxy_serve.specs.contracts.admin.AdminListener as AdminListener
-use Rattle.proxy_serve.specs.contracts.admin.AdminWork as AdminWork
 use Rattle.proxy_serve.specs.contracts.board.Board as Board
 use Rattle.proxy_serve.specs.contracts.client.CarriedSocket as CarriedSocket
 use Rattle.proxy_serve.specs.contracts.server.AcceptQueue as AcceptQueue
 use Rattle.proxy_serve.specs.contracts.server.Server as Server
 use Rattle.proxy_serve.specs.contracts.server.Inherited as Inherited
-use Rattle.proxy_serve.specs.contracts.generation.GenerationOptions as GenerationOptions
+use Rattle.proxy_serve.specs.contracts.generation.ServerContext as ServerContext
 use Rattle.proxy_serve.specs.contracts.generation_state.WorkerStatus as WorkerStatus
 use Rattle.proxy_serve.specs.contracts.generation_state.GenerationState as GenerationState
 use Rattle.proxy_serve.specs.contracts.ledger.Ledger as Ledger
 use Rattle.proxy_serve.specs.contracts.stats.Living as Living
 use Rattle.proxy_serve.specs.contracts.stats.Stats as Stats
 use Rattle.proxy_serve.specs.contracts.stop.Stop as Stop
+use Rattle.proxy_serve_core.specs.contracts.ejection_log.EjectionLog as EjectionLog
 use Rattle.proxy_serve_core.specs.contracts.sockets.Sockets as Sockets
 
 pub handover_send : IsSend Handover.the_row
@@ -31,7 +31,7 @@ handover_send = search (crosses, sendable) depth 40 fits 20000
 inherited_send : IsSend Inherited.the_row
 inherited_send = search (handover_send, crosses, sendable) depth 30 fits 20000
 
-due_send : IsSend (Due.the_row Inherited.the_row)
+pub due_send : IsSend (Due.the_row Inherited.the_row)
 due_send = search (inherited_send, crosses, sendable) depth 30 fits 20000
 
 generations_send : IsSend (Generations.the_row Inherited.the_row)
@@ -55,6 +55,9 @@ stats_send = search (counts_send, living_send, histogram_send, crosses, sendable
 sockets_send : IsSend Sockets.the_row
 sockets_send = search (crosses, sendable) depth 30 fits 20000
 
+ejections_send : IsSend EjectionLog.the_row
+ejections_send = search (crosses, sendable) depth 30 fits 20000
+
 carried_send : IsSend CarriedSocket.the_row
 carried_send = search (rest_send, crosses, sendable) depth 40 fits 20000
 
@@ -62,7 +65,7 @@ queue_sync : IsSync AcceptQueue.the_row
 queue_sync = search (carried_send, crosses, sendable) depth 40 fits 20000
 
 pub server_sync : IsSync Server.the_row
-server_sync = search (generations_send, board_sync, stats_send, sockets_send, queue_sync, stop_send, crosses, sendable) depth 40 fits 20000
+server_sync = search (generations_send, board_sync, stats_send, ejections_send, sockets_send, queue_sync, stop_send, crosses, sendable) depth 40 fits 20000
 
 worker_sync : IsSync WorkerStatus.the_row
 worker_sync = search (crosses, sendable) depth 40 fits 20000
@@ -76,8 +79,5 @@ admin_send = search (crosses, sendable) depth 60 fits 20000
 pub config_sync : IsSync Config.the_row
 config_sync = search (crosses, sendable) depth 40 fits 20000
 
-pub admin_work_send : (κ : NamedLft) → IsSend (AdminWork.the_row κ)
-admin_work_send κ = search (admin_send, server_sync, config_sync, crosses, sendable) depth 40 fits 20000
-
-pub options_send : (κ : NamedLft) → IsSend (GenerationOptions.the_row κ)
-options_send κ = search (server_sync, config_sync, due_send, crosses, sendable) depth 40 fits 20000
+pub context_send : (κ : NamedLft) → IsSend (ServerContext.the_row κ)
+context_send κ = search (server_sync, config_sync, crosses, sendable) depth 40 fits 20000
