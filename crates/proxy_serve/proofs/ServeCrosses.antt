@@ -13,7 +13,6 @@ use Rattle.proxy_generations.specs.contracts.lifecycle.Generations as Generation
 use Rattle.proxy_serve.specs.contracts.admin.AdminListener as AdminListener
 use Rattle.proxy_serve.specs.contracts.board.Board as Board
 use Rattle.proxy_serve.specs.contracts.client.CarriedSocket as CarriedSocket
-use Rattle.proxy_serve.specs.contracts.socket.Socket as Socket
 use Rattle.proxy_serve.specs.contracts.server.AcceptQueue as AcceptQueue
 use Rattle.proxy_serve.specs.contracts.server.Server as Server
 use Rattle.proxy_serve.specs.contracts.server.Inherited as Inherited
@@ -25,7 +24,6 @@ use Rattle.proxy_serve.specs.contracts.stats.Living as Living
 use Rattle.proxy_serve.specs.contracts.stats.Stats as Stats
 use Rattle.proxy_serve.specs.contracts.stop.Stop as Stop
 use Rattle.proxy_serve_core.specs.contracts.ejection_log.EjectionLog as EjectionLog
-use Rattle.proxy_serve_core.specs.contracts.read_end.ReadEnd as ReadEnd
 use Rattle.proxy_serve_core.specs.contracts.sockets.Sockets as Sockets
 
 pub handover_send : IsSend Handover.the_row
@@ -65,14 +63,8 @@ ejections_send = search (crosses, sendable) depth 30 fits 20000
 log_send : IsSend Log.the_row
 log_send = owning_send Log.the_type tt (λ d. tt) (λ k x w. tt)
 
-read_end_send : IsSend ReadEnd.the_row
-read_end_send = search (log_send, crosses, sendable) depth 40 fits 20000
-
-socket_send : IsSend Socket.the_row
-socket_send = search (log_send, read_end_send, crosses, sendable) depth 40 fits 20000
-
 carried_send : IsSend CarriedSocket.the_row
-carried_send = search (socket_send, rest_send, crosses, sendable) depth 40 fits 20000
+carried_send = search (log_send, rest_send, crosses, sendable) depth 40 fits 20000
 
 queue_sync : IsSync AcceptQueue.the_row
 queue_sync = search (carried_send, crosses, sendable) depth 40 fits 20000

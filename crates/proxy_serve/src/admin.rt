@@ -1,7 +1,7 @@
 //! The operator's address: HTTP pages about the running server, and orders to end it. It has a thread of its own, which
 //! makes no turn and doesn't look at a core.
 
-use crate::generation::ServeRuntime;
+use crate::generation::{ServeRuntime, ServerContext};
 use crate::log::Level;
 use crate::server::Server;
 use crate::stop::Stop;
@@ -192,9 +192,9 @@ impl AdminListener {
     }
 
     /// Answers visitors until the server ends.
-    pub(crate) fn run<R: ServeRuntime>(self, rt: &R, server: &Server, config: &Config) {
+    pub(crate) fn run<R: ServeRuntime>(self, rt: &R, context: ServerContext<'_>) {
         let mut visits = self.into_visits();
-        visits.serve(rt, server, config);
+        visits.serve(rt, context.server, context.config);
     }
 }
 

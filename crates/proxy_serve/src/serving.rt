@@ -345,7 +345,7 @@ fn serve_on<R: ServeRuntime>(
 ) -> Result<(), Stop>
     requires { AreRingParts context.config.now.hosts.items context.config.now.weights.items }
 {
-    let (server, config) = (context.server, context.config);
+    let server = context.server;
     let mut events = Events::with_capacity(alloc, 4)?;
     thread::scope(
         thread::scope_env(),
@@ -356,7 +356,7 @@ fn serve_on<R: ServeRuntime>(
         {
             let mut threads = GenerationThreads::new();
             if let Some(admin) = admin {
-                if scope.spawn(move || admin.run(rt, server, config)).is_err() {
+                if scope.spawn(move || admin.run(rt, context)).is_err() {
                     server.end(rt, Stop::from(Ending::Memory));
                 }
             }

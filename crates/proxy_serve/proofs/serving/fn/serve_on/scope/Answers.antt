@@ -1,10 +1,10 @@
 use denote.Param.Send.{sendable}
 use Rattle.std.proofs.Crossing.{crosses}
-use Rattle.proxy_serve.proofs.ServeCrosses.{admin_send, config_sync, context_send, due_send, server_sync}
+use Rattle.proxy_serve.proofs.ServeCrosses.{admin_send, context_send, due_send}
 use Rattle.proxy_serve.proofs.serving.fn.serve_on.scope.Goals as goal
 
 pub spawn-begun-requires-send-F : goal.spawn-begun-requires-send-F
 spawn-begun-requires-send-F g c κs within = search (context_send, due_send, crosses, sendable) depth 60 fits 20000
 
 pub spawn-requires-send-F : goal.spawn-requires-send-F
-spawn-requires-send-F g c κs within = search (admin_send, server_sync, config_sync, crosses, sendable) depth 60 fits 20000
+spawn-requires-send-F g c κs within = search (admin_send, context_send, crosses, sendable) depth 60 fits 20000
