@@ -10,7 +10,8 @@ use std::sync::{Mutex, Wait};
 use std::thread;
 use std::thread::Threads;
 use std::time::{Duration, Instant};
-use ticket_gate::{AdditionRefusal, Gate, Recorded, Seated, Spare, Turns};
+use test_total::AdditionRefusal;
+use ticket_gate::{Gate, Recorded, Seated, Spare, Turns};
 
 /// The numbers of threads.
 const THREADS: [usize; 4] = [1, 2, 4, 8];
