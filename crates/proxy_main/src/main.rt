@@ -11,7 +11,7 @@ use proxy_command_line::{Asked, KIT, Refused, VERSION};
 use proxy_config::{Config, ConfigError, check_line};
 use proxy_exit_status::Ending;
 use proxy_local::local_run;
-use proxy_serve::{Admin, Level, Log, Marks, Options, ServeRuntime, Stop, serve};
+use proxy_serve::{Admin, Level, Log, Marks, Options, Stop, serve};
 use std::fs::{File, Files};
 use std::hash::RandomState;
 use std::net::{Net, SocketAddr};
@@ -19,6 +19,7 @@ use std::process::ExitCode;
 use std::random::RandomSource;
 use std::rt::Runtime;
 use std::sync::Wait;
+use std::thread::Threads;
 use std::{env, fs, io};
 
 // The status of a bad command line.
@@ -59,12 +60,16 @@ fn checked<R: Runtime + AllocGlobal>(rt: &R, config: &str) -> Result<String, Con
 }
 
 // Serves clients on the settings' address. Returns the status.
-fn run_serve<R: Runtime + AllocGlobal + ServeRuntime + RandomSource + Files<File = File>>(
-    rt: &R,
-    config: &str,
-    connections: u64,
-    metrics: Option<SocketAddr>,
-) -> u8 {
+fn run_serve<
+    R: Runtime
+        + AllocGlobal
+        + Threads
+        + Wait
+        + Net<Listener = std::net::TcpListener, Stream = std::net::TcpStream>
+        + RandomSource
+        + Files<File = File>
+        + Sync,
+>(rt: &R, config: &str, connections: u64, metrics: Option<SocketAddr>) -> u8 {
     let log = log(rt);
     let config = match settings_of(rt, config) {
         Ok(config) => config,
@@ -82,7 +87,16 @@ fn run_serve<R: Runtime + AllocGlobal + ServeRuntime + RandomSource + Files<File
 }
 
 // Serves clients by these settings until the server ends.
-fn serve_by<R: Runtime + AllocGlobal + ServeRuntime + RandomSource + Files<File = File>>(
+fn serve_by<
+    R: Runtime
+        + AllocGlobal
+        + Threads
+        + Wait
+        + Net<Listener = std::net::TcpListener, Stream = std::net::TcpStream>
+        + RandomSource
+        + Files<File = File>
+        + Sync,
+>(
     rt: &R,
     config: Config,
     log: Log,
@@ -166,7 +180,16 @@ fn stopped<R: Eprint>(rt: &R, log: Log, stop: Stop) -> u8 {
     stop.ending.status()
 }
 
-fn run<R: Runtime + AllocGlobal + ServeRuntime + RandomSource + Files<File = File>>(rt: &R) -> u8 {
+fn run<
+    R: Runtime
+        + AllocGlobal
+        + Threads
+        + Wait
+        + Net<Listener = std::net::TcpListener, Stream = std::net::TcpStream>
+        + RandomSource
+        + Files<File = File>
+        + Sync,
+>(rt: &R) -> u8 {
     let words = match env::args(rt) {
         Ok(words) => words,
         Err(error) if error.kind() == io::ErrorKind::OutOfMemory => {

@@ -1,10 +1,11 @@
 //! Clients before two stubs, each behind a socket.
 use crate::rig::{anywhere, say, serve};
 use mio::net::TcpListener;
-use proxy_serve::{Marks, ServeRuntime};
+use proxy_serve::Marks;
 use std::alloc::Global;
 use std::io::{Read, Write};
 use std::net::{Net, SocketAddr, TcpStream};
+use std::rt::Clock;
 use std::sync::Wait;
 use std::test::Fail;
 use std::thread::{Threads, join};
@@ -48,7 +49,15 @@ fn host_both<R: AllocGlobal + Threads + Wait + Sync>(
 }
 
 // Serves two connections before these hosts. True: it ended well. A connection at the end releases a host that wasn't asked.
-fn serve_before<R: AllocGlobal + ServeRuntime>(
+fn serve_before<
+    R: AllocGlobal
+        + Threads
+        + Wait
+        + Net<Listener = net::TcpListener, Stream = TcpStream>
+        + Clock
+        + Eprint
+        + Sync,
+>(
     rt: &R,
     listener: TcpListener,
     [one, other]: [SocketAddr; 2],
@@ -90,7 +99,15 @@ fn set_and_get<R: Net<Listener = net::TcpListener, Stream = TcpStream> + AllocGl
 
 // Serves two such clients at the same time before two hosts. Returns whether both hosts were asked, the server ended
 // well and each client got its replies; and the last line.
-fn play<R: AllocGlobal + ServeRuntime>(rt: &R) -> Result<([bool; 4], Vec<u8>), Fail> {
+fn play<
+    R: AllocGlobal
+        + Threads
+        + Wait
+        + Net<Listener = net::TcpListener, Stream = TcpStream>
+        + Clock
+        + Eprint
+        + Sync,
+>(rt: &R) -> Result<([bool; 4], Vec<u8>), Fail> {
     let one = net::TcpListener::bind(rt, anywhere())?;
     let other = net::TcpListener::bind(rt, anywhere())?;
     let hosts = [one.local_addr()?, other.local_addr()?];

@@ -1,9 +1,12 @@
 //! A server with all its ends in one process.
 use mio::net::TcpListener;
 use proxy_config::Config;
-use proxy_serve::{Marks, ServeRuntime, serve_run};
+use proxy_serve::{Marks, serve_run};
 use std::io::{Read, Write};
 use std::net::{Ipv4Addr, Net, Shutdown, SocketAddr, TcpStream};
+use std::rt::Clock;
+use std::sync::Wait;
+use std::thread::Threads;
 use std::{io, net};
 
 pub(crate) const PING: &[u8] = b"*1\r\n$4\r\nPING\r\n";
@@ -16,7 +19,15 @@ pub(crate) fn anywhere() -> SocketAddr {
 }
 
 /// Serves this many connections by these settings. True: it ended well.
-pub(crate) fn serve<R: AllocGlobal + ServeRuntime>(
+pub(crate) fn serve<
+    R: AllocGlobal
+        + Threads
+        + Wait
+        + Net<Listener = net::TcpListener, Stream = TcpStream>
+        + Clock
+        + Eprint
+        + Sync,
+>(
     rt: &R,
     listener: TcpListener,
     settings: &[u8],

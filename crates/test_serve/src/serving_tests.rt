@@ -1,12 +1,14 @@
 //! Generations of few steps, and of a full journal, with all ends in one process.
 use crate::rig::{PING, PONG, anywhere, say, serve};
 use mio::net::TcpListener;
-use proxy_serve::{Marks, ServeRuntime};
+use proxy_serve::Marks;
 use std::alloc::Global;
 use std::io::{Read, Write};
 use std::net::{Net, SocketAddr, TcpStream};
+use std::rt::Clock;
+use std::sync::Wait;
 use std::test::Fail;
-use std::thread::join;
+use std::thread::{Threads, join};
 use std::{io, net};
 
 const SETTINGS: &[u8] = b"{\"hosts\":[\"127.0.0.1:1\"],\"workers\":2}";
@@ -60,7 +62,15 @@ fn ask_each<R: Net<Listener = net::TcpListener, Stream = TcpStream> + AllocGloba
 
 // Serves such clients with these marks: those of each list one after another, the two lists side by side. Returns the
 // number of answers of each, those of the second list last, and the last line.
-fn run<R: AllocGlobal + ServeRuntime>(
+fn run<
+    R: AllocGlobal
+        + Threads
+        + Wait
+        + Net<Listener = net::TcpListener, Stream = TcpStream>
+        + Clock
+        + Eprint
+        + Sync,
+>(
     rt: &R,
     marks: Marks,
     exchange: (&[u8], usize),
@@ -172,10 +182,15 @@ fn three_clients_get_twenty_each(rt: HostRuntime) -> Result<(), Fail> {
 }
 
 // Serves one connection, whose client sends this and closes its sending half. Returns the client's replies and the last line.
-fn close_half<R: AllocGlobal + ServeRuntime>(
-    rt: &R,
-    asked: &[u8],
-) -> Result<(Vec<u8>, Vec<u8>), Fail> {
+fn close_half<
+    R: AllocGlobal
+        + Threads
+        + Wait
+        + Net<Listener = net::TcpListener, Stream = TcpStream>
+        + Clock
+        + Eprint
+        + Sync,
+>(rt: &R, asked: &[u8]) -> Result<(Vec<u8>, Vec<u8>), Fail> {
     let listener = TcpListener::bind(rt, anywhere())?;
     let address = listener.local_addr()?;
     let mut line = Vec::new(rt.alloc());
