@@ -78,7 +78,11 @@ fn open_client<Rt: Wait, T: CoreTurns, R: Read + Drop, W: Write + Drop>(
     ensures turns { KeepsTurns T.pass T.setting T.seen turns.old turns.new }
     ensures opened { IfOk result (λ e. OpensClient (T.pass turns.old)
         (own_history T.pass T.seen turns.old) (own_history T.pass T.seen turns.new)
-        (record { remaining = R.remaining reader; told = []; counts = record { failed = 0; paused = 0 } })
+        (record {
+          remaining = R.remaining reader;
+          told = [];
+          counts = record { failed = 0; paused = 0 };
+        })
         (record {
           contents = append_known (W.contents writer) [];
           taken = [];
