@@ -5,7 +5,7 @@ use Rattle.std.specs.IoError.{error_kind}
 use Rattle.std.specs.declared.io.Error.{Error}
 use Rattle.std.specs.declared.io.ErrorKind.{ErrorKind}
 use Rattle.std.specs.declared.io.ErrorKind.TheVariants.{Interrupted, WouldBlock}
-use Rattle.proxy_devices.specs.declared.tally.Told.{Told}
+use Rattle.proxy_devices.specs.declared.tally.IoOutcome.{IoOutcome}
 
 -- one more, and the greatest number stays
 abbrev pub HasRisen : ℕ → ℕ → Type 0
@@ -27,8 +27,8 @@ pub record WasIdle (old new : Counts) : Type 0 where
   pub paused : HasRisen old.paused new.paused
 
 -- whether it told of bytes
-abbrev pub is_moved : Told → Bool
-is_moved (Told.Moved n) = true
+abbrev pub is_moved : IoOutcome → Bool
+is_moved (IoOutcome.Moved n) = true
 is_moved told = false
 
 -- what clauses see of a reader: the bytes that it has left, as far as it tells; all that it told, the oldest first; its counts
@@ -55,11 +55,11 @@ pub record TellsNone (old new : ReadState) : Type 0 where
   pub told : new.told ≡ old.told
 
 -- what a read told: bytes came, or none did, at the end of the input, for a pause or for a fault
-abbrev pub IsRead : ReadState → ReadState → List ℕ → Told → Type 0
-IsRead old new buffer (Told.Moved n) = TellsBytes old new buffer n
-IsRead old new buffer Told.End = TellsNone old new × IsAtEnd new.remaining × (new.counts ≡ old.counts)
-IsRead old new buffer Told.Idle = TellsNone old new × WasIdle old.counts new.counts
-IsRead old new buffer Told.Failed = TellsNone old new × HasFailed old.counts new.counts
+abbrev pub IsRead : ReadState → ReadState → List ℕ → IoOutcome → Type 0
+IsRead old new buffer (IoOutcome.Moved n) = TellsBytes old new buffer n
+IsRead old new buffer IoOutcome.End = TellsNone old new × IsAtEnd new.remaining × (new.counts ≡ old.counts)
+IsRead old new buffer IoOutcome.Idle = TellsNone old new × WasIdle old.counts new.counts
+IsRead old new buffer IoOutcome.Failed = TellsNone old new × HasFailed old.counts new.counts
 
 -- what clauses see of a writer: its bytes, as far as it tells; all that it took, the oldest first; its counts
 pub record WriteState : Type 0 where
@@ -85,11 +85,11 @@ pub record TakesNone (old new : WriteState) : Type 0 where
   pub taken : new.taken ≡ old.taken
 
 -- what a write told: bytes were taken, or none were, for a pause or for a fault
-abbrev pub IsWritten : WriteState → WriteState → List ℕ → Told → Type 0
-IsWritten old new bytes (Told.Moved n) = TakesBytes old new bytes n
-IsWritten old new bytes Told.End = TakesNone old new × HasFailed old.counts new.counts
-IsWritten old new bytes Told.Idle = TakesNone old new × WasIdle old.counts new.counts
-IsWritten old new bytes Told.Failed = TakesNone old new × HasFailed old.counts new.counts
+abbrev pub IsWritten : WriteState → WriteState → List ℕ → IoOutcome → Type 0
+IsWritten old new bytes (IoOutcome.Moved n) = TakesBytes old new bytes n
+IsWritten old new bytes IoOutcome.End = TakesNone old new × HasFailed old.counts new.counts
+IsWritten old new bytes IoOutcome.Idle = TakesNone old new × WasIdle old.counts new.counts
+IsWritten old new bytes IoOutcome.Failed = TakesNone old new × HasFailed old.counts new.counts
 
 -- an error that says no more than that there is nothing for now
 abbrev pub IsPause : ErrorKind → Type 0

@@ -3,11 +3,11 @@ ghost use Rattle.std.specs.Prelude.{◌≡◌, ◌≢◌, [], ◌<◌, ◌≤◌
 ghost use Rattle.std.specs.Io.{ReadsAtMost, WritesAtMost};
 ghost use Rattle.std.specs.Io.KnownBytes.{Keeps, ReadConsumes, WriteAppends};
 ghost use Rattle.std.specs.IoError.{error_kind};
-ghost use Rattle.proxy_devices.specs.declared.tally.Told.{Told};
+ghost use Rattle.proxy_devices.specs.declared.tally.IoOutcome.{IoOutcome};
 ghost use Rattle.proxy_devices.specs.Device.{IsRead, IsWritten, reader_state, writer_state};
 ghost use Rattle.proxy_devices.specs.Faulty.{moved_count, with_failures};
 
-use crate::tally::{ReadTally, Tally, Told, WriteTally};
+use crate::tally::{ReadTally, Tally, IoOutcome, WriteTally};
 use std::io;
 use std::io::{ErrorKind, Read, Write};
 
@@ -74,11 +74,11 @@ impl<S> Faulty<S> {
     }
 
     // Records the other's result.
-    fn pass(&mut self, told: Told)
+    fn pass(&mut self, told: IoOutcome)
         requires { moved_count told ≤ self.old.left }
         ensures { self.new ≡ record self.old { left = self.old.left - moved_count told } }
     {
-        if let Told::Moved(n) = told {
+        if let IoOutcome::Moved(n) = told {
             self.left -= n as u64;
         }
     }
@@ -99,7 +99,7 @@ impl<S: Tally> Tally for Faulty<S> {
 impl<S: ReadTally> Faulty<S> {
     /// Reads once from the other one, at most the bytes left, into a buffer that isn't empty. Where none are left it
     /// fails, and the other one isn't called.
-    pub fn read_passed(&mut self, buffer: &mut [u8]) -> Told
+    pub fn read_passed(&mut self, buffer: &mut [u8]) -> IoOutcome
         requires room { 0 < length buffer.old }
         ensures passes { 0 < self.old.left → IsRead
             (reader_state S.remaining S.told S.counts self.old.inner)
@@ -107,12 +107,12 @@ impl<S: ReadTally> Faulty<S> {
             (take (min (length buffer.new) self.old.left) buffer.new) result }
         ensures spent { self.old.left ≡ self.new.left + moved_count result }
         ensures kept { 0 < self.old.left → self.new.failures ≡ self.old.failures }
-        ensures fails { self.old.left ≡ 0 → (result ≡ Told.Failed) × (self.new
+        ensures fails { self.old.left ≡ 0 → (result ≡ IoOutcome.Failed) × (self.new
             ≡ record self.old { failures = min (self.old.failures + 1) (2 ^ 64 - 1) }) }
     {
         if self.left == 0 {
             self.fail();
-            return Told::Failed;
+            return IoOutcome::Failed;
         }
         let most = self.most(buffer.len());
         let told = self.inner.read_told(&mut buffer[..most]);
@@ -124,7 +124,7 @@ impl<S: ReadTally> Faulty<S> {
 impl<S: WriteTally> Faulty<S> {
     /// Writes once to the other one, at most the bytes left, of at least one byte. Where none are left it fails, and
     /// the other one isn't called.
-    pub fn write_passed(&mut self, bytes: &[u8]) -> Told
+    pub fn write_passed(&mut self, bytes: &[u8]) -> IoOutcome
         requires some { bytes.now ≢ [] }
         ensures passes { 0 < self.old.left → IsWritten
             (writer_state S.contents S.taken S.counts self.old.inner)
@@ -132,12 +132,12 @@ impl<S: WriteTally> Faulty<S> {
             (take self.old.left bytes.now) result }
         ensures spent { self.old.left ≡ self.new.left + moved_count result }
         ensures kept { 0 < self.old.left → self.new.failures ≡ self.old.failures }
-        ensures fails { self.old.left ≡ 0 → (result ≡ Told.Failed) × (self.new
+        ensures fails { self.old.left ≡ 0 → (result ≡ IoOutcome.Failed) × (self.new
             ≡ record self.old { failures = min (self.old.failures + 1) (2 ^ 64 - 1) }) }
     {
         if self.left == 0 {
             self.fail();
-            return Told::Failed;
+            return IoOutcome::Failed;
         }
         let most = self.most(bytes.len());
         let told = self.inner.write_told(&bytes[..most]);
@@ -205,7 +205,7 @@ impl<S: Write> Write for Faulty<S> {
 impl<S: ReadTally> ReadTally for Faulty<S> {
     ghost told = { λ f. S.told f.inner };
 
-    fn read_told(&mut self, buffer: &mut [u8]) -> Told {
+    fn read_told(&mut self, buffer: &mut [u8]) -> IoOutcome {
         self.read_passed(buffer)
     }
 }
@@ -213,7 +213,7 @@ impl<S: ReadTally> ReadTally for Faulty<S> {
 impl<S: WriteTally> WriteTally for Faulty<S> {
     ghost taken = { λ f. S.taken f.inner };
 
-    fn write_told(&mut self, bytes: &[u8]) -> Told {
+    fn write_told(&mut self, bytes: &[u8]) -> IoOutcome {
         self.write_passed(bytes)
     }
 

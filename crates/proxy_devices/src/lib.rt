@@ -11,4 +11,4 @@ mod tally;
 
 pub use faulty::Faulty;
 pub use log::Log;
-pub use tally::{ReadTally, Tallied, Tally, Told, WriteTally};
+pub use tally::{ReadTally, Tallied, Tally, IoOutcome, WriteTally};

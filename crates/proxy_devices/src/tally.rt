@@ -25,7 +25,7 @@ pub trait Tally {
 
 /// The result of one call of a device.
 #[derive(Clone, Copy, Debug, PartialEq, Eq, Drop)]
-pub enum Told {
+pub enum IoOutcome {
     /// At least one byte was read or taken: this many.
     Moved(usize),
     /// A read found the end of the input, or a write took nothing.
@@ -42,7 +42,7 @@ pub trait ReadTally: Read + Tally {
     ghost told: { Self → List ℕ };
 
     /// Reads once into a buffer that isn't empty.
-    fn read_told(&mut self, buffer: &mut [u8]) -> Told
+    fn read_told(&mut self, buffer: &mut [u8]) -> IoOutcome
         requires room { 0 < length buffer.old }
         ensures told { IsRead (reader_state Self.remaining told Self.counts self.old)
             (reader_state Self.remaining told Self.counts self.new) buffer.new result };
@@ -54,7 +54,7 @@ pub trait WriteTally: Write + Tally {
     ghost taken: { Self → List ℕ };
 
     /// Writes once, at least one byte.
-    fn write_told(&mut self, bytes: &[u8]) -> Told
+    fn write_told(&mut self, bytes: &[u8]) -> IoOutcome
         requires some { bytes.now ≢ [] }
         ensures told { IsWritten (writer_state Self.contents taken Self.counts self.old)
             (writer_state Self.contents taken Self.counts self.new) bytes.now result };
@@ -114,23 +114,23 @@ impl<S> Tallied<S> {
     }
 
     // Counts an error by its kind.
-    fn tell(&mut self, kind: ErrorKind) -> Told
+    fn tell(&mut self, kind: ErrorKind) -> IoOutcome
         ensures inner { self.new.inner ≡ self.old.inner }
         ensures logs { HasSameLogs self.old self.new }
-        ensures told { ((result ≡ Told.Idle)
+        ensures told { ((result ≡ IoOutcome.Idle)
             × WasIdle (counts_of self.old) (counts_of self.new))
-            ⊎ ((result ≡ Told.Failed) × HasFailed (counts_of self.old) (counts_of self.new)) }
-        ensures idle { (result ≡ Told.Idle) ↔ IsPause kind }
+            ⊎ ((result ≡ IoOutcome.Failed) × HasFailed (counts_of self.old) (counts_of self.new)) }
+        ensures idle { (result ≡ IoOutcome.Idle) ↔ IsPause kind }
         ensures counts { CountsError kind (counts_of self.old) (counts_of self.new) }
     {
         match kind {
             ErrorKind::WouldBlock | ErrorKind::Interrupted => {
                 self.pauses = self.pauses.saturating_add(1);
-                Told::Idle
+                IoOutcome::Idle
             }
             _ => {
                 self.failed();
-                Told::Failed
+                IoOutcome::Failed
             }
         }
     }
@@ -211,12 +211,12 @@ impl<S: Write> Write for Tallied<S> {
 impl<S: Read> ReadTally for Tallied<S> {
     ghost told = { λ t. t.told.bytes };
 
-    fn read_told(&mut self, buffer: &mut [u8]) -> Told {
+    fn read_told(&mut self, buffer: &mut [u8]) -> IoOutcome {
         match self.inner.read(buffer) {
-            Ok(0) => Told::End,
+            Ok(0) => IoOutcome::End,
             Ok(n) => {
                 self.told = self.told.and(buffer, n);
-                Told::Moved(n)
+                IoOutcome::Moved(n)
             }
             Err(error) => self.tell(error.kind()),
         }
@@ -226,15 +226,15 @@ impl<S: Read> ReadTally for Tallied<S> {
 impl<S: Write> WriteTally for Tallied<S> {
     ghost taken = { λ t. t.taken.bytes };
 
-    fn write_told(&mut self, bytes: &[u8]) -> Told {
+    fn write_told(&mut self, bytes: &[u8]) -> IoOutcome {
         match self.inner.write(bytes) {
             Ok(0) => {
                 self.failed();
-                Told::End
+                IoOutcome::End
             }
             Ok(n) => {
                 self.taken = self.taken.and(bytes, n);
-                Told::Moved(n)
+                IoOutcome::Moved(n)
             }
             Err(error) => self.tell(error.kind()),
         }

@@ -12,7 +12,7 @@ use Rattle.proxy_history.specs.declared.event.Event.{Event}
 use Rattle.proxy_history.specs.declared.refusal.Refusal.{Refusal}
 use Rattle.proxy_engines.specs.Faults.{IsOfNoDevice}
 use Rattle.proxy_engines.specs.OneTurn.{IsDue, IsNumbered, denied_number, is_error, told_as}
-use Rattle.proxy_engines.specs.declared.ask.Denied.{Denied}
+use Rattle.proxy_engines.specs.declared.one_turn.Denied.{Denied}
 use Rattle.proxy_engines.specs.declared.client.Progress.{Progress}
 use Rattle.proxy_engines.specs.declared.error.EngineError.{EngineError}
 

@@ -11,7 +11,7 @@ use Rattle.splitter.specs.Request.{Request, read, broken, request_of}
 use Rattle.splitter.specs.declared.request.Request.{Request as Request'}
 use Rattle.splitter.specs.Requests.{end_of}
 use Rattle.proxy_devices.specs.Device.{Counts, HasFailed, WasIdle, is_moved}
-use Rattle.proxy_devices.specs.declared.tally.Told.{Told}
+use Rattle.proxy_devices.specs.declared.tally.IoOutcome.{IoOutcome}
 use Rattle.proxy_engines.specs.Moves.{has_moved}
 
 -- a writer's contents, where they are known, its log, which is all that it took, its counts, and what is to be written next
@@ -32,16 +32,16 @@ pub record Sends (old new : OutboxState) (gave : List ℕ) : Type 0 where
   pub pending : old.pending ≡ gave ++ new.pending
 
 -- what one write has counted, by what it told: a fault where it took nothing or failed, and a pause where it was idle
-pub record CountsWritten (old new : Counts) (told : Told) : Type 0 where
-  pub moved : (n : ℕ) → told ≡ Told.Moved n → new ≡ old
-  pub failed : (told ≡ Told.End) ⊎ (told ≡ Told.Failed) → HasFailed old new
-  pub idle : told ≡ Told.Idle → WasIdle old new
+pub record CountsWritten (old new : Counts) (told : IoOutcome) : Type 0 where
+  pub moved : (n : ℕ) → told ≡ IoOutcome.Moved n → new ≡ old
+  pub failed : (told ≡ IoOutcome.End) ⊎ (told ≡ IoOutcome.Failed) → HasFailed old new
+  pub idle : told ≡ IoOutcome.Idle → WasIdle old new
 
 -- One write, by what it told: the writer took bytes from the front of what was to be written, or none. Where it took bytes fewer
 -- are left.
-pub record WritesOnce (old new : OutboxState) (told : Told) : Type 0 where
+pub record WritesOnce (old new : OutboxState) (told : IoOutcome) : Type 0 where
   pub bytes : (gave : List ℕ) × Sends old new gave × (is_moved told ≡ has_moved [] gave [])
-  pub fewer : (n : ℕ) → told ≡ Told.Moved n → length new.pending < length old.pending
+  pub fewer : (n : ℕ) → told ≡ IoOutcome.Moved n → length new.pending < length old.pending
   pub counts : CountsWritten old.counts new.counts told
 
 -- what a reader has left, where it is known, its log, which is all that it told, its counts, the bytes that came last, and the
@@ -64,14 +64,14 @@ KeepsReader old new = (new.left ≡ old.left) × (new.told ≡ old.told) × (new
 
 -- One read, by what it told: bytes came, the input ended, none came for now, or the reader failed. What came is not looked at
 -- yet.
-pub record ReadsOnce (old new : InboxState) (told : Told) : Type 0 where
+pub record ReadsOnce (old new : InboxState) (told : IoOutcome) : Type 0 where
   pub bytes : Reads old new new.fresh
   pub values : new.values ≡ old.values
   pub is_told : is_moved told ≡ has_moved new.fresh [] []
-  pub moved : (n : ℕ) → told ≡ Told.Moved n → (new.fresh ≢ []) × (new.counts ≡ old.counts)
-  pub end : told ≡ Told.End → (new.fresh ≡ []) × IsAtEnd new.left × (new.counts ≡ old.counts)
-  pub idle : told ≡ Told.Idle → (new.fresh ≡ []) × WasIdle old.counts new.counts
-  pub failed : told ≡ Told.Failed → (new.fresh ≡ []) × HasFailed old.counts new.counts
+  pub moved : (n : ℕ) → told ≡ IoOutcome.Moved n → (new.fresh ≢ []) × (new.counts ≡ old.counts)
+  pub end : told ≡ IoOutcome.End → (new.fresh ≡ []) × IsAtEnd new.left × (new.counts ≡ old.counts)
+  pub idle : told ≡ IoOutcome.Idle → (new.fresh ≡ []) × WasIdle old.counts new.counts
+  pub failed : told ≡ IoOutcome.Failed → (new.fresh ≡ []) × HasFailed old.counts new.counts
 
 -- a refusal of the reader of values is a request too
 abbrev pub refusal_requests : Option RespError → List Request

@@ -90,7 +90,7 @@ module _ {Turns Setting : Type 0} (pass_of : Turns → ℕ) (setting_of : Turns 
 
   -- Some turns were made, or none, from `before` to `after`: a fault of this kind is recorded, and the link given up; or that
   -- turn was refused, with its number, and the fault left to the next step.
-  pub record MarksFault {Answered : Type 0} (old new : HostState) (kind : Kind) (moment : ℕ)
+  pub record RecordsFault {Answered : Type 0} (old new : HostState) (kind : Kind) (moment : ℕ)
       (result : Result Answered EngineError) : Type 0 where
     pub turns : KeepsTurns pass_of setting_of seen_of before after
     pub records : OnOk result (Records (call_of old new moment) kind)

@@ -9,7 +9,7 @@ use Rattle.proxy_history.specs.declared.answer.Answer.{Answer}
 use Rattle.proxy_history.specs.declared.event.Event.{Event}
 use Rattle.proxy_history.specs.declared.refusal.Refusal.{Refusal}
 use Rattle.proxy_history.specs.Refusal.{number_of}
-use Rattle.proxy_engines.specs.declared.ask.Denied.{Denied}
+use Rattle.proxy_engines.specs.declared.one_turn.Denied.{Denied}
 use Rattle.proxy_engines.specs.declared.error.EngineError.{EngineError}
 
 -- The caller made one step more, with an answer of the event's kind.

@@ -11,12 +11,12 @@ ghost use Rattle.proxy_engines.specs.OneTurn.{IsNumbered};
 ghost use Rattle.journal_core.specs.Journal.{step_by};
 ghost use Rattle.proxy_engines.specs.Moves.{AsTold, told_by_step, told_by_turn};
 
-use crate::ask::{arrive, open, tell};
+use crate::one_turn::{arrive, open, tell};
 use crate::error::EngineError;
 use crate::inbox::{Inbox, Rest};
 use crate::outbox::Outbox;
 use proxy_core::{Answer, CoreTurns, Event, Request};
-use proxy_devices::{ReadTally, Told, WriteTally};
+use proxy_devices::{ReadTally, IoOutcome, WriteTally};
 use resp_core::Limits;
 use std::alloc::Global;
 use std::marker::Model;
@@ -283,9 +283,9 @@ impl<R: ReadTally, W: WriteTally> ClientEngine<R, W> {
         ensures writes { WritesClient self.old self.new result }
     {
         match self.outbox.write_once() {
-            Told::Moved(_) => Ok(Progress::Moved),
-            Told::Idle => Ok(Progress::Idle),
-            Told::End | Told::Failed => self.cut(rt, turns, Err(EngineError::WriteFailed)),
+            IoOutcome::Moved(_) => Ok(Progress::Moved),
+            IoOutcome::Idle => Ok(Progress::Idle),
+            IoOutcome::End | IoOutcome::Failed => self.cut(rt, turns, Err(EngineError::WriteFailed)),
         }
     }
 
@@ -321,10 +321,10 @@ impl<R: ReadTally, W: WriteTally> ClientEngine<R, W> {
         ensures reads { ReadsClient self.old self.new result }
     {
         match self.inbox.read_once() {
-            Told::Moved(_) => Ok(Progress::Moved),
-            Told::Idle => Ok(Progress::Idle),
-            Told::End => self.stop_reading(rt, turns),
-            Told::Failed => self.cut(rt, turns, Err(EngineError::ReadFailed)),
+            IoOutcome::Moved(_) => Ok(Progress::Moved),
+            IoOutcome::Idle => Ok(Progress::Idle),
+            IoOutcome::End => self.stop_reading(rt, turns),
+            IoOutcome::Failed => self.cut(rt, turns, Err(EngineError::ReadFailed)),
         }
     }
 

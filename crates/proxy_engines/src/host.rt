@@ -10,7 +10,7 @@ ghost use Rattle.proxy_engines.specs.Moves.{AsTold, told_by_turn};
 ghost use Rattle.proxy_engines.specs.Faults.{HasNoFaultOn, IsLate, IsNumberedOn, IsPlain};
 ghost use Rattle.proxy_engines.specs.Ends.{HasGivenAll};
 ghost use Rattle.proxy_engines.specs.Host.{LinkState, CarriesHost};
-ghost use Rattle.proxy_engines.specs.HostTurns.{MakesStep, MarksFault, MovesEnds, MovesHost, TakesOne, TellsHost, call_of};
+ghost use Rattle.proxy_engines.specs.HostTurns.{MakesStep, RecordsFault, MovesEnds, MovesHost, TakesOne, TellsHost, call_of};
 ghost use Rattle.proxy_engines.specs.HostStep.{TellsFault, after_fault, answer_of, ends_of};
 
 use crate::client::Progress;
@@ -96,7 +96,7 @@ impl<R: ReadTally + Drop, W: WriteTally + Drop> HostEngine<R, W> {
         kind: Kind,
         moment: u64,
     ) -> Result<(), EngineError>
-        ensures marks { MarksFault T.pass T.setting T.seen T.cause turns.old turns.new
+        ensures records { RecordsFault T.pass T.setting T.seen T.cause turns.old turns.new
             self.old self.new kind moment result }
     {
         self.fault = Some(kind);
@@ -141,7 +141,7 @@ impl<R: ReadTally + Drop, W: WriteTally + Drop> HostEngine<R, W> {
         moment: u64,
     ) -> Result<(), EngineError>
         requires none { self.old.link ≡ None }
-        ensures marks { MarksFault T.pass T.setting T.seen T.cause turns.old turns.new
+        ensures records { RecordsFault T.pass T.setting T.seen T.cause turns.old turns.new
             self.old self.new Kind.Refused moment result }
     {
         self.record_fault(rt, turns, Kind::Refused, moment)
@@ -157,7 +157,7 @@ impl<R: ReadTally + Drop, W: WriteTally + Drop> HostEngine<R, W> {
         turns: &mut T,
         moment: u64,
     ) -> Result<(), EngineError>
-        ensures marks { MarksFault T.pass T.setting T.seen T.cause turns.old turns.new
+        ensures records { RecordsFault T.pass T.setting T.seen T.cause turns.old turns.new
             self.old self.new (unwrap_or self.old.fault Kind.Dropped) moment result }
     {
         let kind = self.fault.unwrap_or(Kind::Dropped);

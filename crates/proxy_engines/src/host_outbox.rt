@@ -11,11 +11,11 @@ ghost use Rattle.proxy_engines.specs.HostTurns.{FailsOutbox, MovesEnds};
 ghost use Rattle.proxy_engines.specs.Faults.{IsLate, IsNumberedOn};
 ghost use Rattle.proxy_engines.specs.Host.{LinkState, FailsHost};
 
-use crate::ask::tell;
+use crate::one_turn::tell;
 use crate::error::EngineError;
 use bytes::Bytes;
 use proxy_core::{Answer, CoreTurns, Event, Kind};
-use proxy_devices::{Told, WriteTally};
+use proxy_devices::{IoOutcome, WriteTally};
 use std::alloc::Global;
 use std::collections::VecDeque;
 use std::marker::Model;
@@ -175,7 +175,7 @@ impl HostOutbox {
     }
 
     /// Writes pending bytes once.
-    pub(crate) fn write_to<W: WriteTally>(&mut self, writer: &mut W) -> Told
+    pub(crate) fn write_to<W: WriteTally>(&mut self, writer: &mut W) -> IoOutcome
         requires some { self.old.pending ≢ [] }
         ensures bytes { (gave rest : List ℕ)
             × Appends (W.contents writer.old) (W.contents writer.new) gave
@@ -185,7 +185,7 @@ impl HostOutbox {
         ensures counts { CountsWritten (W.counts writer.old) (W.counts writer.new) result }
     {
         let told = writer.write_told(self.pending.as_slice());
-        if let Told::Moved(n) = told {
+        if let IoOutcome::Moved(n) = told {
             self.pending.advance(n);
         }
         told

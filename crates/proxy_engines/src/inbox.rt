@@ -3,7 +3,7 @@ ghost use Rattle.std.specs.Prelude.{true, ◌≡◌, ◌≢◌, ◌≤◌, ◌�
 ghost use Rattle.resp_core.specs.declared.error.RespError.{RespError};
 ghost use Rattle.splitter.specs.Request.{Request as Asked, request_of};
 
-use proxy_devices::{ReadTally, Told};
+use proxy_devices::{ReadTally, IoOutcome};
 use resp_core::{Limits, Reader, RespError};
 use splitter::Request;
 use std::alloc::{AllocError, Global};
@@ -214,7 +214,7 @@ impl<R: ReadTally> Inbox<R> {
     }
 
     /// Reads once. The previous read must have been used.
-    pub(crate) fn read_once(&mut self) -> Told
+    pub(crate) fn read_once(&mut self) -> IoOutcome
         requires { self.old.fresh ≡ [] }
         ensures few { length self.new.fresh ≤ READ_SIZE }
         ensures reads { ReadsOnce self.old self.new result }
@@ -222,8 +222,8 @@ impl<R: ReadTally> Inbox<R> {
         self.fit();
         let told = self.input.read_told(&mut self.buffer);
         self.fresh = match told {
-            Told::Moved(n) => n,
-            Told::End | Told::Idle | Told::Failed => 0,
+            IoOutcome::Moved(n) => n,
+            IoOutcome::End | IoOutcome::Idle | IoOutcome::Failed => 0,
         };
         if self.fresh > 0 {
             self.last = self.fresh.max(self.last / 2);

@@ -15,12 +15,12 @@ ghost use Rattle.proxy_engines.specs.Host.{HostOutboxState, LinkState, GoesWitho
 ghost use Rattle.proxy_engines.specs.Moves.{AsTold};
 ghost use Rattle.proxy_engines.specs.Faults.{either, is_fault, HasNoFaultOn, HasRead, IfFault, IsCauseOf, IsLate, IsOfDevice, IsUnaskedNow, IsLateOn, IsPlain, told_by_moves, told_by_outcome};
 
-use crate::ask::give;
+use crate::one_turn::give;
 use crate::error::EngineError;
 use crate::host_outbox::HostOutbox;
 use crate::inbox::Inbox;
 use proxy_core::{CoreTurns, Kind, Request};
-use proxy_devices::{ReadTally, Told, WriteTally};
+use proxy_devices::{ReadTally, IoOutcome, WriteTally};
 use resp_core::{Limits, Value};
 use std::alloc::Global;
 use std::marker::Model;
@@ -129,9 +129,9 @@ impl<R: ReadTally, W: WriteTally> Link<R, W> {
         ensures writes { WritesOnLink (record { old = self.old; new = self.new }) result }
     {
         match outbox.write_to(&mut self.writer) {
-            Told::Moved(_) => Outcome::Moved,
-            Told::Idle => Outcome::Idle,
-            Told::End | Told::Failed => Outcome::Fault {
+            IoOutcome::Moved(_) => Outcome::Moved,
+            IoOutcome::Idle => Outcome::Idle,
+            IoOutcome::End | IoOutcome::Failed => Outcome::Fault {
                 kind: Kind::Dropped,
                 error: Some(EngineError::WriteFailed),
             },
@@ -204,13 +204,13 @@ impl<R: ReadTally, W: WriteTally> Link<R, W> {
         ensures reads { ReadsOnLink (record { old = self.old; new = self.new }) result }
     {
         match self.inbox.read_once() {
-            Told::Moved(_) => Outcome::Moved,
-            Told::Idle => Outcome::Idle,
-            Told::End => Outcome::Fault {
+            IoOutcome::Moved(_) => Outcome::Moved,
+            IoOutcome::Idle => Outcome::Idle,
+            IoOutcome::End => Outcome::Fault {
                 kind: Kind::Dropped,
                 error: None,
             },
-            Told::Failed => Outcome::Fault {
+            IoOutcome::Failed => Outcome::Fault {
                 kind: Kind::Dropped,
                 error: Some(EngineError::ReadFailed),
             },

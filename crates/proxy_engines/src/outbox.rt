@@ -3,7 +3,7 @@ ghost use Rattle.std.specs.Prelude.{◌≡◌, ◌≢◌, ◌==◌, length, []};
 ghost use Rattle.std.specs.Io.KnownBytes.{Keeps};
 
 use bytes::Bytes;
-use proxy_devices::{Told, WriteTally};
+use proxy_devices::{IoOutcome, WriteTally};
 use std::io;
 use std::io::Write;
 use std::marker::Model;
@@ -60,12 +60,12 @@ impl<W: WriteTally> Outbox<W> {
     }
 
     /// Writes once. There must be pending bytes.
-    pub(crate) fn write_once(&mut self) -> Told
+    pub(crate) fn write_once(&mut self) -> IoOutcome
         requires some { self.old.pending ≢ [] }
         ensures writes { WritesOnce self.old self.new result }
     {
         let told = self.writer.write_told(self.pending.as_slice());
-        if let Told::Moved(n) = told {
+        if let IoOutcome::Moved(n) = told {
             self.pending.advance(n);
         }
         told

@@ -3,7 +3,7 @@ ghost use Rattle.std.specs.Prelude.{◌≡◌, ◌<◌, ◌+◌, ◌-◌, ◌^�
 ghost use Rattle.proxy_devices.specs.Device.{IsRead, reader_state};
 ghost use Rattle.proxy_local.specs.Announced.{announced, with_pauses};
 
-use proxy_engines::{ReadTally, Tally, Told};
+use proxy_engines::{ReadTally, Tally, IoOutcome};
 use std::io;
 use std::io::{ErrorKind, Read};
 
@@ -75,20 +75,20 @@ impl<R: ReadTally> ReadTally for Announced<R> {
     ghost told = { λ a. R.told a.inner };
 
     /// Pauses without a read, or, after a pause, reads and returns the result.
-    fn read_told(&mut self, buffer: &mut [u8]) -> Told
+    fn read_told(&mut self, buffer: &mut [u8]) -> IoOutcome
         requires room { 0 < length buffer.old }
         ensures told { IsRead
             (announced self.old.pauses (reader_state R.remaining R.told R.counts self.old.inner))
             (announced self.new.pauses (reader_state R.remaining R.told R.counts self.new.inner))
             buffer.new result }
-        ensures pauses { self.old.is_announced ≡ false → (result ≡ Told.Idle)
+        ensures pauses { self.old.is_announced ≡ false → (result ≡ IoOutcome.Idle)
             × (self.new.is_announced ≡ true) × (self.new.inner ≡ self.old.inner) }
         ensures reads { self.old.is_announced ≡ true → (self.new.is_announced ≡ false)
             × IsRead (reader_state R.remaining R.told R.counts self.old.inner)
             (reader_state R.remaining R.told R.counts self.new.inner) buffer.new result }
     {
         if self.pause() {
-            return Told::Idle;
+            return IoOutcome::Idle;
         }
         self.inner.read_told(buffer)
     }

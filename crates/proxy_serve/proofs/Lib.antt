@@ -1,1 +1,1 @@
-mod ServeCrosses
+mod ThreadSharing

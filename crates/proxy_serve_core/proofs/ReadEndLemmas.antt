@@ -1,4 +1,4 @@
--- Why a read answers no byte, and that what was heard is told.
+-- Why a read answers no byte, and that what was received is delivered.
 use Rattle.std.proofs.Common.{◌≡◌, ◌⊎◌, inl, inr, ◌∙◌, ◌++◌, ◌<◌, ℕ, List, Option, Result, Ok, Err, IfOk, IfErr, ap, sym, length, take}
 use Rattle.std.specs.Io.KnownBytes.{ReadConsumes}
 use Rattle.std.specs.declared.io.Error.{Error}
@@ -14,18 +14,18 @@ ends_by_pause old mid mid' new left left' readable ends = record {
 }
 
 -- why a read answers no byte
-pub read_ends : (old mid mid' new : ReadEndState) (rest rest' : Option (List ℕ)) (heard told : Result ℕ Error) (buffer room : List ℕ)
-    → length buffer ≡ length room → ReadConsumes rest rest' heard buffer → IfOk heard (λ n. told ≡ Ok n)
-    → IfErr heard (λ e. (told ≡ heard) ⊎ ((told ≡ Ok 0) × EndsByPause mid mid'))
-    → IfOk told (λ n. new ≡ record mid' { told = mid'.told ++ take n buffer })
-    → mid.left ≡ old.left → IfOk told (λ n. n ≡ 0 → 0 < length room → IsOver old new rest')
-read_ends old mid mid' new rest rest' (Ok n) told buffer room same bytes ok err noted left = rw ok (λ none some. inl (bytes.1 none (rw same some)))
-read_ends old mid mid' new rest rest' (Err e) told buffer room same bytes ok (inl is) noted left = rw is tt
-read_ends old mid mid' new rest rest' (Err e) told buffer room same bytes ok (inr ends) noted left =
+pub read_ends : (old mid mid' new : ReadEndState) (rest rest' : Option (List ℕ)) (received delivered : Result ℕ Error) (buffer room : List ℕ)
+    → length buffer ≡ length room → ReadConsumes rest rest' received buffer → IfOk received (λ n. delivered ≡ Ok n)
+    → IfErr received (λ e. (delivered ≡ received) ⊎ ((delivered ≡ Ok 0) × EndsByPause mid mid'))
+    → IfOk delivered (λ n. new ≡ record mid' { delivered = mid'.delivered ++ take n buffer })
+    → mid.left ≡ old.left → IfOk delivered (λ n. n ≡ 0 → 0 < length room → IsOver old new rest')
+read_ends old mid mid' new rest rest' (Ok n) delivered buffer room same bytes ok err noted left = rw ok (λ none some. inl (bytes.1 none (rw same some)))
+read_ends old mid mid' new rest rest' (Err e) delivered buffer room same bytes ok (inl is) noted left = rw is tt
+read_ends old mid mid' new rest rest' (Err e) delivered buffer room same bytes ok (inr ends) noted left =
     let is_new = rw ends.0 at noted in
     rw ends.0 (λ none some. inr (inr (ends_by_pause old mid mid' new left (ap (λ s. s.left) is_new) (ap (λ s. s.is_readable) is_new) ends.1)))
 
--- all that was heard is told
-pub told_is_heard : (old new : ReadEndState) (rest rest' : Option (List ℕ)) (bytes : List ℕ) → Passes old new rest rest' bytes
-    → old.told ≡ old.heard → new.told ≡ new.heard
-told_is_heard old new rest rest' bytes passed same = passed.told ∙ ap (λ t. t ++ bytes) same ∙ sym passed.heard
+-- all that was received is delivered
+pub delivered_is_received : (old new : ReadEndState) (rest rest' : Option (List ℕ)) (bytes : List ℕ) → Passes old new rest rest' bytes
+    → old.delivered ≡ old.received → new.delivered ≡ new.received
+delivered_is_received old new rest rest' bytes passed same = passed.delivered ∙ ap (λ t. t ++ bytes) same ∙ sym passed.received

@@ -1,6 +1,6 @@
 //! The limit of buffered bytes and two laws of bytes, as contracts of functions that do nothing.
 ghost use Rattle.std.specs.Prelude.{◌≡◌};
-ghost use Rattle.proxy_serve_core.specs.ReadEnd.{ToldIsHeard};
+ghost use Rattle.proxy_serve_core.specs.ReadEnd.{DeliveredIsReceived};
 ghost use Rattle.proxy_serve_core.specs.WriteBuffer.{AcceptedGoesOut};
 
 use limits::MAX_BUFFERED;
@@ -16,6 +16,6 @@ pub fn accepted_goes_out()
 {}
 
 /// The bytes passed on to the caller are the bytes that the reader gave, for any reader.
-pub fn told_is_heard()
-    ensures { ToldIsHeard }
+pub fn delivered_is_received()
+    ensures { DeliveredIsReceived }
 {}

@@ -15,7 +15,7 @@ mod write_buffer;
 
 pub use assignment::{RoundRobin, hosts_of_worker};
 pub use ejection_log::EjectionLog;
-pub use laws::{accepted_goes_out, buffered_is_limited, told_is_heard};
+pub use laws::{accepted_goes_out, buffered_is_limited, delivered_is_received};
 pub use read_end::ReadEnd;
 pub use refusals::Refusals;
 pub use signals::{Asked, asked_by_signals, is_term_blocked};

@@ -17,7 +17,7 @@ const MAX_THROWN: u32 = 64;
 
 /// What is known of a reader that a poll watches. The reader itself comes with each call.
 ///
-/// Contracts see all bytes that the reader told and all that were told to the caller.
+/// Contracts see all bytes that the reader delivered and all that were delivered to the caller.
 #[derive(Drop)]
 pub struct ReadEnd {
     is_readable: bool,
@@ -28,10 +28,10 @@ pub struct ReadEnd {
     // The number of bytes still to read before the input ends, if it is to end behind what has
     // come.
     left: Option<u64>,
-    // The bytes that the reader told, for proofs.
-    heard: Log,
-    // The bytes that the caller was told, for proofs.
-    told: Log,
+    // The bytes that the reader delivered, for proofs.
+    received: Log,
+    // The bytes that the caller was delivered, for proofs.
+    delivered: Log,
 }
 
 impl Model for ReadEnd {
@@ -41,14 +41,14 @@ impl Model for ReadEnd {
     ghost Value = { ReadEndState };
 
     ghost view = { λ e. record {
-      heard = e.heard.bytes;
-      told = e.told.bytes;
+      received = e.received.bytes;
+      delivered = e.delivered.bytes;
       is_readable = e.is_readable;
       is_closed = e.is_closed;
       left = e.left;
     } };
 
-    ghost invariant = { λ e. e.count ≡ min (length e.heard.bytes) (2 ^ 64 - 1) };
+    ghost invariant = { λ e. e.count ≡ min (length e.received.bytes) (2 ^ 64 - 1) };
 }
 
 fn paused() -> io::Error
@@ -60,8 +60,8 @@ fn paused() -> io::Error
 impl ReadEnd {
     /// A reader that may have bytes. Nothing was read.
     pub fn new() -> ReadEnd
-        ensures heard { result.heard ≡ [] }
-        ensures told { result.told ≡ [] }
+        ensures received { result.received ≡ [] }
+        ensures delivered { result.delivered ≡ [] }
         ensures readable { result.is_readable ≡ true }
         ensures closed { result.is_closed ≡ false }
         ensures left { result.left ≡ None }
@@ -71,8 +71,8 @@ impl ReadEnd {
             is_closed: false,
             count: 0,
             left: None,
-            heard: Log::new(),
-            told: Log::new(),
+            received: Log::new(),
+            delivered: Log::new(),
         }
     }
 
@@ -104,7 +104,7 @@ impl ReadEnd {
 
     /// The number of bytes read.
     pub fn count(&self) -> u64
-        ensures { result ≡ min (length self.now.heard) (2 ^ 64 - 1) }
+        ensures { result ≡ min (length self.now.received) (2 ^ 64 - 1) }
     {
         self.count
     }
@@ -117,7 +117,7 @@ impl ReadEnd {
     }
 
     /// Reads once, if the reader may have bytes, and returns `WouldBlock` if it may not. Once the input is to end, a pause
-    /// is its end; then, or once `MAX_LAST` bytes were told, it returns `Ok(0)` and asks the reader no more.
+    /// is its end; then, or once `MAX_LAST` bytes were delivered, it returns `Ok(0)` and asks the reader no more.
     pub fn read<R: Read>(&mut self, reader: &mut R, buffer: &mut [u8]) -> io::Result<usize>
         ensures bound { ReadsAtMost result buffer.new }
         ensures ok { IfOk result (λ n. Passes self.old self.new
@@ -142,19 +142,19 @@ impl ReadEnd {
         if self.left == Some(0) {
             return Ok(0);
         }
-        let heard = self.hear(reader, buffer);
-        let told = self.end_where_it_pauses(heard);
-        self.note_told(&told, buffer);
-        told
+        let received = self.receive(reader, buffer);
+        let delivered = self.end_where_it_pauses(received);
+        self.note_delivered(&delivered, buffer);
+        delivered
     }
 
     // Reads once, unless the reader has nothing.
-    fn hear<R: Read>(&mut self, reader: &mut R, buffer: &mut [u8]) -> io::Result<usize>
+    fn receive<R: Read>(&mut self, reader: &mut R, buffer: &mut [u8]) -> io::Result<usize>
         ensures bound { ReadsAtMost result buffer.new }
         ensures bytes { ReadConsumes (R.remaining reader.old) (R.remaining reader.new)
             result buffer.new }
-        ensures heard { LogsCall buffer.new result self.old.heard self.new.heard }
-        ensures told { self.new.told ≡ self.old.told }
+        ensures received { LogsCall buffer.new result self.old.received self.new.received }
+        ensures delivered { self.new.delivered ≡ self.old.delivered }
         ensures left { self.new.left ≡ self.old.left }
         ensures closed { self.new.is_closed ≡ self.old.is_closed }
         ensures paused { IfErr result
@@ -178,8 +178,8 @@ impl ReadEnd {
         ensures bound { ReadsAtMost result buffer.new }
         ensures bytes { ReadConsumes (R.remaining reader.old) (R.remaining reader.new)
             result buffer.new }
-        ensures heard { LogsCall buffer.new result self.old.heard self.new.heard }
-        ensures told { self.new.told ≡ self.old.told }
+        ensures received { LogsCall buffer.new result self.old.received self.new.received }
+        ensures delivered { self.new.delivered ≡ self.old.delivered }
         ensures left { self.new.left ≡ self.old.left }
         ensures closed { self.new.is_closed ≡ self.old.is_closed }
         ensures paused { IfErr result
@@ -191,7 +191,7 @@ impl ReadEnd {
         match reader.read(buffer) {
             Ok(count) => {
                 self.count = self.count.saturating_add(count as u64);
-                self.heard = self.heard.and(buffer, count);
+                self.received = self.received.and(buffer, count);
                 if count < buffer.len() && count > 0 && !self.is_closed {
                     self.is_readable = false;
                 }
@@ -207,22 +207,22 @@ impl ReadEnd {
     }
 
     // Where the input is to end behind what has come, treats a pause as its end.
-    fn end_where_it_pauses(&mut self, heard: io::Result<usize>) -> io::Result<usize>
-        requires { IfErr heard
+    fn end_where_it_pauses(&mut self, received: io::Result<usize>) -> io::Result<usize>
+        requires { IfErr received
             (λ e. error_kind e ≡ ErrorKind.WouldBlock → self.old.is_readable ≡ false) }
-        ensures ok { IfOk heard (λ n. result ≡ Ok n) }
-        ensures none { self.old.left ≡ None → result ≡ heard }
-        ensures err { IfErr heard (λ e. (result ≡ heard)
+        ensures ok { IfOk received (λ n. result ≡ Ok n) }
+        ensures none { self.old.left ≡ None → result ≡ received }
+        ensures err { IfErr received (λ e. (result ≡ received)
             ⊎ ((result ≡ Ok 0) × EndsByPause self.old self.new)) }
-        ensures logs { (self.new.heard ≡ self.old.heard) × (self.new.told ≡ self.old.told) }
+        ensures logs { (self.new.received ≡ self.old.received) × (self.new.delivered ≡ self.old.delivered) }
         ensures states { (self.new.is_readable ≡ self.old.is_readable)
             × (self.new.is_closed ≡ self.old.is_closed) }
         ensures left { CountsDown self.old.left self.new.left result }
     {
         let Some(left) = self.left else {
-            return heard;
+            return received;
         };
-        match heard {
+        match received {
             Ok(count) => {
                 self.left = Some(left.saturating_sub(count as u64));
                 Ok(count)
@@ -235,14 +235,14 @@ impl ReadEnd {
         }
     }
 
-    // Logs what the caller is told.
-    fn note_told(&mut self, told: &io::Result<usize>, buffer: &[u8])
-        ensures ok { IfOk told.now (λ n. self.new
-            ≡ record self.old { told = self.old.told ++ take n buffer.now }) }
-        ensures err { OnErr told.now (self.new ≡ self.old) }
+    // Logs what the caller is delivered.
+    fn note_delivered(&mut self, delivered: &io::Result<usize>, buffer: &[u8])
+        ensures ok { IfOk delivered.now (λ n. self.new
+            ≡ record self.old { delivered = self.old.delivered ++ take n buffer.now }) }
+        ensures err { OnErr delivered.now (self.new ≡ self.old) }
     {
-        if let Ok(count) = told {
-            self.told = self.told.and(buffer, *count);
+        if let Ok(count) = delivered {
+            self.delivered = self.delivered.and(buffer, *count);
         }
     }
 

@@ -1,4 +1,4 @@
 use Rattle.proxy_engines.proofs.host.HostEngine.refused.Goals as goal
 
 pub returns : goal.returns
-returns g c = record { marks = c.record_fault.ensures.marks }
+returns g c = record { records = c.record_fault.ensures.records }

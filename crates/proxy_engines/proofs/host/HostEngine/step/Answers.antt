@@ -49,11 +49,11 @@ module _ (A : Type 0) where
 pub returns-clause-makes : goal.returns-clause-makes
 returns-clause-makes g c =
     record {
-      turns = keeps_then _ _ _ _ _ _ c.record_fault.ensures.marks.turns c.go_on-2.ensures.moves.turns;
+      turns = keeps_then _ _ _ _ _ _ c.record_fault.ensures.records.turns c.go_on-2.ensures.moves.turns;
       steps = let was = ap (λ (h : HostState). h.fault) (sym c.self.view_is) ∙ c.in-Some.is in
-          inl (steps_after (g.T.Turns.cause (g.T.Turns.setting c.args.turns.now) Refusal.Unasked) (g.T.Turns.seen c.args.turns.now) (g.T.Turns.seen c.record_fault.new.turns) (g.T.Turns.seen c.go_on-2.new.turns) c.args.moment c.record_fault.ensures.marks.turns.begins
-          c.args.self.now c.record_fault.new.self c.go_on-2.new.self c.in-Some.kind _ _ _ c.go_on-2.result _ was c.in_ok-record_fault.ensures.marks.records (rw c.record_fault.ensures.marks.turns.setting_is at c.go_on-2.ensures.moves.works) c.after_fault.ensures);
-      number = rw c.after_fault.ensures (after_err _ c.go_on-2.result (rw c.record_fault.ensures.marks.turns.setting_is at c.go_on-2.ensures.moves.number));
+          inl (steps_after (g.T.Turns.cause (g.T.Turns.setting c.args.turns.now) Refusal.Unasked) (g.T.Turns.seen c.args.turns.now) (g.T.Turns.seen c.record_fault.new.turns) (g.T.Turns.seen c.go_on-2.new.turns) c.args.moment c.record_fault.ensures.records.turns.begins
+          c.args.self.now c.record_fault.new.self c.go_on-2.new.self c.in-Some.kind _ _ _ c.go_on-2.result _ was c.in_ok-record_fault.ensures.records.records (rw c.record_fault.ensures.records.turns.setting_is at c.go_on-2.ensures.moves.works) c.after_fault.ensures);
+      number = rw c.after_fault.ensures (after_err _ c.go_on-2.result (rw c.record_fault.ensures.records.turns.setting_is at c.go_on-2.ensures.moves.number));
     }
 
 pub returns-in_default-clause-makes : goal.returns-in_default-clause-makes
@@ -67,9 +67,9 @@ returns-in_default-clause-makes g c =
 pub returns-in_err-record_fault-clause-makes : goal.returns-in_err-record_fault-clause-makes
 returns-in_err-record_fault-clause-makes g c =
     record {
-      turns = c.record_fault.ensures.marks.turns;
+      turns = c.record_fault.ensures.records.turns;
       steps = search rules;
-      number = let (_, result_is, error_is) = err_from_is_err_and c.from_residual.result c.from_residual.ensures.1 in rw (result_is, error_is) c.in_err-record_fault.ensures.marks.number;
+      number = let (_, result_is, error_is) = err_from_is_err_and c.from_residual.result c.from_residual.ensures.1 in rw (result_is, error_is) c.in_err-record_fault.ensures.records.number;
     }
 
 pub returns-in_default-clause-tells : goal.returns-in_default-clause-tells
@@ -90,7 +90,7 @@ pub returns-clause-tells : goal.returns-clause-tells
 returns-clause-tells g c =
     record {
       recorded = rw c.after_fault.ensures (after_any _ c.go_on-2.result c.go_on-2.ensures.moves.tells.recorded);
-      unfailed = let none = c.in_ok-record_fault.ensures.marks.records.fails.link in
+      unfailed = let none = c.in_ok-record_fault.ensures.records.records.fails.link in
           rw c.after_fault.ensures (after_any _ c.go_on-2.result (any_ok _ c.go_on-2.result (no_link HasNoFaultOn c.args.self.now.link c.go_on-2.new.self.link (c.go_on-2.ensures.alone none))));
       in_time = rw c.after_fault.ensures (after_any _ c.go_on-2.result c.go_on-2.ensures.moves.tells.in_time);
       idle = rw c.after_fault.ensures (after_idle _ c.go_on-2.result);

@@ -1,7 +1,7 @@
 use Rattle.std.proofs.Common.{◌++◌}
 use Rattle.proxy_engines.proofs.OwnHistoryLemmas.{connection_steps-own_steps}
-use Rattle.proxy_engines.proofs.ask.open.Goals as goal
-use Rattle.proxy_engines.proofs.ask.open.Goals.{in-Ok-Opened, in-Err}
+use Rattle.proxy_engines.proofs.one_turn.open.Goals as goal
+use Rattle.proxy_engines.proofs.one_turn.open.Goals.{in-Ok-Opened, in-Err}
 
 pub returns-clause-new : goal.returns-clause-new
 returns-clause-new g c =

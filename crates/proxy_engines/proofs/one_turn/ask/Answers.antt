@@ -4,7 +4,7 @@ use Rattle.proxy_engines.specs.Turns.{own_steps}
 use Rattle.std.proofs.Common.{◌++◌, append_assoc, ap, [], ◌∷◌, ◌∙◌}
 use Rattle.journal_core.specs.Journal.{step_by}
 use Rattle.proxy_engines.proofs.OwnHistoryLemmas.{own_steps-push, length-own_steps}
-use Rattle.proxy_engines.proofs.ask.ask.Goals as goal
+use Rattle.proxy_engines.proofs.one_turn.ask.Goals as goal
 
 pub returns-in-Ok-clause-answered : goal.returns-in-Ok-clause-answered
 returns-in-Ok-clause-answered g c =
