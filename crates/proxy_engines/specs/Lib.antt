@@ -14,3 +14,4 @@ pub mod HostTurns
 pub mod Works
 pub mod Laws
 pub mod Logs
+pub mod Lends

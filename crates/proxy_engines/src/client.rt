@@ -1,5 +1,6 @@
 //! A client's engine.
 ghost use Rattle.std.specs.Prelude.{◌≡◌, ◌≢◌, ◌↔◌, ◌∷◌, ◌++◌, ◌⊎◌, ℕ, [], List, Option, None, Some, true, false, IfOk, IfErr, IfSome, IfNone, OnOk, OnErr};
+ghost use Rattle.std.specs.Borrow.{sem};
 ghost use Rattle.splitter.specs.Request.{Request as Asked};
 ghost use Rattle.proxy_history.specs.History.{History};
 ghost use Rattle.proxy_history.specs.declared.answer.Answer.{Answer};
@@ -11,12 +12,12 @@ ghost use Rattle.proxy_engines.specs.OneTurn.{IsNumbered};
 ghost use Rattle.journal_core.specs.Journal.{step_by};
 ghost use Rattle.proxy_engines.specs.Moves.{AsTold, told_by_step, told_by_turn};
 
-use crate::one_turn::{arrive, open, tell};
 use crate::error::EngineError;
 use crate::inbox::{Inbox, Rest};
+use crate::one_turn::{arrive, open, tell};
 use crate::outbox::Outbox;
 use proxy_core::{Answer, CoreTurns, Event, Request};
-use proxy_devices::{ReadTally, IoOutcome, WriteTally};
+use proxy_devices::{IoOutcome, ReadTally, WriteTally};
 use resp_core::Limits;
 use std::alloc::Global;
 use std::marker::Model;
@@ -108,6 +109,7 @@ impl<R: ReadTally, W: WriteTally> ClientEngine<R, W> {
     ghost use Rattle.proxy_engines.specs.ClientSteps.{EndsOnce, FetchesNext, HandsDue, HandsOne, LooksForNext, MovesClient, OffersOne, ReadsClient, StopsReading, TakesIn, TellsStep, WritesClient};
     ghost use Rattle.proxy_history.specs.declared.refusal.Refusal.{Refusal};
     ghost use Rattle.splitter.specs.declared.request.Request.{Request};
+    ghost use Rattle.proxy_engines.specs.Lends.{lends_client_reader, lends_client_writer, with_client_reader, with_client_writer};
 
     // One Handed turn. False: the next reply hasn't come.
     fn hand<Rt: Wait, T: CoreTurns>(&mut self, rt: &Rt, turns: &mut T) -> Result<bool, EngineError>
@@ -285,7 +287,11 @@ impl<R: ReadTally, W: WriteTally> ClientEngine<R, W> {
         match self.outbox.write_once() {
             IoOutcome::Moved(_) => Ok(Progress::Moved),
             IoOutcome::Idle => Ok(Progress::Idle),
-            IoOutcome::End | IoOutcome::Failed => self.cut(rt, turns, Err(EngineError::WriteFailed)),
+            IoOutcome::End | IoOutcome::Failed => self.cut(
+                rt,
+                turns,
+                Err(EngineError::WriteFailed),
+            ),
         }
     }
 
@@ -480,6 +486,44 @@ impl<R: ReadTally, W: WriteTally> ClientEngine<R, W> {
         ensures stage { self.new.stage ≡ self.old.stage }
     {
         self.outbox.flush()
+    }
+
+    /// The reader.
+    pub fn reader(&self) -> &R
+        ensures { self.now ≡ with_client_reader self.now (reader_state R.remaining R.told R.counts result.now) }
+    {
+        self.inbox.reader()
+    }
+
+    /// The reader, for calls that read nothing for the engine. Where these leave its log as it was, the engine's facts
+    /// stay true.
+    pub fn reader_mut(&mut self) -> &mut R
+        ensures* writes_back { sem 𝓛 (lends_client_reader R.row W.row (record { told = R.told })
+            (record { remaining = R.remaining }) (record { counts = R.counts })
+            (record { taken = W.taken }) (record { contents = W.contents })
+            (record { counts = W.counts }) self.entry result) }
+        ensures value { self.old ≡ with_client_reader self.old (reader_state R.remaining R.told R.counts result.now) }
+    {
+        self.inbox.reader_mut()
+    }
+
+    /// The writer.
+    pub fn writer(&self) -> &W
+        ensures { self.now ≡ with_client_writer self.now (writer_state W.contents W.taken W.counts result.now) }
+    {
+        self.outbox.writer()
+    }
+
+    /// The writer, for calls that write nothing for the engine. Where these leave its log as it was, the engine's facts
+    /// stay true.
+    pub fn writer_mut(&mut self) -> &mut W
+        ensures* writes_back { sem 𝓛 (lends_client_writer R.row W.row (record { told = R.told })
+            (record { remaining = R.remaining }) (record { counts = R.counts })
+            (record { taken = W.taken }) (record { contents = W.contents })
+            (record { counts = W.counts }) self.entry result) }
+        ensures value { self.old ≡ with_client_writer self.old (writer_state W.contents W.taken W.counts result.now) }
+    {
+        self.outbox.writer_mut()
     }
 
     /// The connection's number.

@@ -1,5 +1,6 @@
 //! A host's engine.
-ghost use Rattle.std.specs.Prelude.{◌≡◌, ◌≢◌, ◌⊎◌, ◌↔◌, ℕ, List, [], Option, Some, None, IfOk, IfErr, IfSome, OnOk, OnErr, true, false, unwrap_or};
+ghost use Rattle.std.specs.Prelude.{◌≡◌, ◌≢◌, ◌⊎◌, ◌↔◌, ℕ, List, [], Option, Some, None, IfOk, IfErr, IfSome, IsSome, OnOk, OnErr, true, false, unwrap_or};
+ghost use Rattle.std.specs.Borrow.{sem};
 ghost use Rattle.proxy_history.specs.History.{History};
 ghost use Rattle.proxy_history.specs.Own.{host_steps};
 ghost use Rattle.proxy_history.specs.declared.event.Event.{Event};
@@ -88,6 +89,67 @@ impl<R: ReadTally, W: WriteTally> HostEngine<R, W> {
 
 #[tactic(auto, using(crate::proofs::HostLemmas::works_on, crate::proofs::HostLemmas::works_left, crate::proofs::HostLemmas::works_told))]
 impl<R: ReadTally + Drop, W: WriteTally + Drop> HostEngine<R, W> {
+    ghost use Rattle.proxy_devices.specs.Device.{reader_state, writer_state};
+    ghost use Rattle.proxy_engines.specs.Lends.{lends_host_reader, lends_host_writer, with_link, with_link_reader, with_link_writer};
+
+    /// The link's reader, if there is a link.
+    pub fn reader(&self) -> Option<&R>
+        ensures there { IsSome result ↔ IsSome self.now.link }
+        ensures value { IfSome result (λ r. self.now
+            ≡ with_link self.now (λ k. with_link_reader k (reader_state R.remaining R.told R.counts r.now))) }
+    {
+        match &self.link {
+            Some(link) => Some(link.reader()),
+            None => None,
+        }
+    }
+
+    /// The link's reader, if there is a link, for calls that read nothing for the engine. Where these leave its log as
+    /// it was, the engine's facts stay true.
+    pub fn reader_mut(&mut self) -> Option<&mut R>
+        ensures* writes_back { sem 𝓛 (lends_host_reader R.row W.row (record { told = R.told })
+            (record { remaining = R.remaining }) (record { counts = R.counts })
+            (record { taken = W.taken }) (record { contents = W.contents })
+            (record { counts = W.counts }) self.entry result) }
+        ensures there { IsSome result ↔ IsSome self.old.link }
+        ensures value { IfSome result (λ r. self.old
+            ≡ with_link self.old (λ k. with_link_reader k (reader_state R.remaining R.told R.counts r.now))) }
+    {
+        match &mut self.link {
+            Some(link) => Some(link.reader_mut()),
+            None => None,
+        }
+    }
+
+    /// The link's writer, if there is a link.
+    pub fn writer(&self) -> Option<&W>
+        ensures there { IsSome result ↔ IsSome self.now.link }
+        ensures value { IfSome result (λ r. self.now
+            ≡ with_link self.now (λ k. with_link_writer k (writer_state W.contents W.taken W.counts r.now))) }
+    {
+        match &self.link {
+            Some(link) => Some(link.writer()),
+            None => None,
+        }
+    }
+
+    /// The link's writer, if there is a link, for calls that write nothing for the engine. Where these leave its log as
+    /// it was, the engine's facts stay true.
+    pub fn writer_mut(&mut self) -> Option<&mut W>
+        ensures* writes_back { sem 𝓛 (lends_host_writer R.row W.row (record { told = R.told })
+            (record { remaining = R.remaining }) (record { counts = R.counts })
+            (record { taken = W.taken }) (record { contents = W.contents })
+            (record { counts = W.counts }) self.entry result) }
+        ensures there { IsSome result ↔ IsSome self.old.link }
+        ensures value { IfSome result (λ r. self.old
+            ≡ with_link self.old (λ k. with_link_writer k (writer_state W.contents W.taken W.counts r.now))) }
+    {
+        match &mut self.link {
+            Some(link) => Some(link.writer_mut()),
+            None => None,
+        }
+    }
+
     // Records a fault and drops the link. If the turn is refused, the next step makes it first.
     fn record_fault<Rt: Wait, T: CoreTurns>(
         &mut self,

@@ -11,8 +11,8 @@ ghost use Rattle.proxy_engines.specs.HostTurns.{FailsOutbox, MovesEnds};
 ghost use Rattle.proxy_engines.specs.Faults.{IsLate, IsNumberedOn};
 ghost use Rattle.proxy_engines.specs.Host.{LinkState, FailsHost};
 
-use crate::one_turn::tell;
 use crate::error::EngineError;
+use crate::one_turn::tell;
 use bytes::Bytes;
 use proxy_core::{Answer, CoreTurns, Event, Kind};
 use proxy_devices::{IoOutcome, WriteTally};

@@ -1,9 +1,11 @@
 //! Input that isn't used yet.
 ghost use Rattle.std.specs.Prelude.{true, ◌≡◌, ◌≢◌, ◌≤◌, ◌↔◌, ◌++◌, ◌∷◌, ℕ, List, [], length, Some, None, IfOk, IfErr, IfSome, IfNone, OnErr, OnOk};
+ghost use Rattle.std.specs.Borrow.{sem};
+ghost use Rattle.proxy_devices.specs.Device.{reader_state};
 ghost use Rattle.resp_core.specs.declared.error.RespError.{RespError};
 ghost use Rattle.splitter.specs.Request.{Request as Asked, request_of};
 
-use proxy_devices::{ReadTally, IoOutcome};
+use proxy_devices::{IoOutcome, ReadTally};
 use resp_core::{Limits, Reader, RespError};
 use splitter::Request;
 use std::alloc::{AllocError, Global};
@@ -115,6 +117,7 @@ impl<R: ReadTally> Model for Inbox<R> {
 
 impl<R: ReadTally> Inbox<R> {
     ghost use Rattle.proxy_engines.specs.Ends.{GivesNext, Holds, IsCut, KeepsReader, ReadsOnce};
+    ghost use Rattle.proxy_engines.specs.Lends.{lends_reader, with_reader};
 
     /// An inbox that has read nothing. Without memory for its buffer the reader comes back.
     pub(crate) fn new(alloc: Global, input: R, limits: Limits) -> Result<Inbox<R>, R>
@@ -197,6 +200,22 @@ impl<R: ReadTally> Inbox<R> {
             values,
         };
         (input, rest)
+    }
+
+    /// The reader.
+    pub(crate) fn reader(&self) -> &R
+        ensures { self.now ≡ with_reader self.now (reader_state R.remaining R.told R.counts result.now) }
+    {
+        &self.input
+    }
+
+    /// The reader, for calls that read nothing for the engine.
+    pub(crate) fn reader_mut(&mut self) -> &mut R
+        ensures* writes_back { sem 𝓛 (lends_reader R.row (record { told = R.told })
+            (record { remaining = R.remaining }) (record { counts = R.counts }) self.entry result) }
+        ensures value { self.old ≡ with_reader self.old (reader_state R.remaining R.told R.counts result.now) }
+    {
+        &mut self.input
     }
 
     // Doubles the buffer if the last read filled it, and halves it if an eighth was enough, as memory allows. Its

@@ -10,7 +10,6 @@
 //! follows at the end. It stands on `proxy_core` and `proxy_devices`. Begin with `client.rt`, then `host.rt`.
 #![tactic(auto)]
 
-mod one_turn;
 mod client;
 mod error;
 mod host;
@@ -18,6 +17,7 @@ mod host_outbox;
 mod inbox;
 mod laws;
 mod link;
+mod one_turn;
 mod outbox;
 mod threads;
 mod work;
@@ -30,6 +30,6 @@ pub use laws::{
     accepted_are_first, clients_carry_logs, ended_is_whole, engines_leave_others, hosts_carry_logs,
     others_leave_engines, reads_are_limited, sockets_carry_logs, sockets_go_on,
 };
-pub use proxy_devices::{Faulty, ReadTally, Tallied, Tally, IoOutcome, WriteTally};
+pub use proxy_devices::{Faulty, IoOutcome, ReadTally, Tallied, Tally, WriteTally};
 pub use threads::run_all;
 pub use work::{ClientWork, Work};

@@ -6,7 +6,8 @@ ghost use Rattle.proxy_history.specs.declared.event.Event.{Event};
 ghost use Rattle.proxy_history.specs.declared.refusal.Refusal.{Refusal};
 ghost use Rattle.resp_core.specs.declared.value.Value.{Value};
 ghost use Rattle.proxy_engines.specs.Turns.{KeepsTurns, own_history};
-ghost use Rattle.proxy_devices.specs.Device.{WasIdle, HasRisen};
+ghost use Rattle.std.specs.Borrow.{sem};
+ghost use Rattle.proxy_devices.specs.Device.{WasIdle, HasRisen, reader_state, writer_state};
 ghost use Rattle.proxy_engines.specs.OneTurn.{HasHeld};
 ghost use Rattle.proxy_engines.specs.Ends.{HasGivenAll, KeepsReader};
 ghost use Rattle.proxy_engines.specs.LinkSteps.{AnswersAll, AnswersNext, AnswersValue, LooksForValue, ReadsOnLink, Receives, SendsOnLink, WorksOnLink, WritesOnLink};
@@ -15,12 +16,12 @@ ghost use Rattle.proxy_engines.specs.Host.{HostOutboxState, LinkState, GoesWitho
 ghost use Rattle.proxy_engines.specs.Moves.{AsTold};
 ghost use Rattle.proxy_engines.specs.Faults.{either, is_fault, HasNoFaultOn, HasRead, IfFault, IsCauseOf, IsLate, IsOfDevice, IsUnaskedNow, IsLateOn, IsPlain, told_by_moves, told_by_outcome};
 
-use crate::one_turn::give;
 use crate::error::EngineError;
 use crate::host_outbox::HostOutbox;
 use crate::inbox::Inbox;
+use crate::one_turn::give;
 use proxy_core::{CoreTurns, Kind, Request};
-use proxy_devices::{ReadTally, IoOutcome, WriteTally};
+use proxy_devices::{IoOutcome, ReadTally, WriteTally};
 use resp_core::{Limits, Value};
 use std::alloc::Global;
 use std::marker::Model;
@@ -99,6 +100,43 @@ impl<R: ReadTally, W: WriteTally> Model for Link<R, W> {
 #[tactic(auto, using(crate::proofs::HostMoves::goes_on, crate::proofs::HostMoves::starts_then, crate::proofs::FaultLemmas::no_fault, crate::proofs::FaultLemmas::fault_later))]
 impl<R: ReadTally, W: WriteTally> Link<R, W> {
     ghost use Rattle.proxy_engines.specs.Ends.{Holds};
+    ghost use Rattle.proxy_engines.specs.Lends.{lends_link_reader, lends_link_writer, with_link_reader, with_link_writer};
+
+    /// The reader.
+    pub(crate) fn reader(&self) -> &R
+        ensures { self.now ≡ with_link_reader self.now (reader_state R.remaining R.told R.counts result.now) }
+    {
+        self.inbox.reader()
+    }
+
+    /// The reader, for calls that read nothing for the engine.
+    pub(crate) fn reader_mut(&mut self) -> &mut R
+        ensures* writes_back { sem 𝓛 (lends_link_reader R.row W.row (record { told = R.told })
+            (record { remaining = R.remaining }) (record { counts = R.counts })
+            (record { taken = W.taken }) (record { contents = W.contents })
+            (record { counts = W.counts }) self.entry result) }
+        ensures value { self.old ≡ with_link_reader self.old (reader_state R.remaining R.told R.counts result.now) }
+    {
+        self.inbox.reader_mut()
+    }
+
+    /// The writer.
+    pub(crate) fn writer(&self) -> &W
+        ensures { self.now ≡ with_link_writer self.now (writer_state W.contents W.taken W.counts result.now) }
+    {
+        &self.writer
+    }
+
+    /// The writer, for calls that write nothing for the engine.
+    pub(crate) fn writer_mut(&mut self) -> &mut W
+        ensures* writes_back { sem 𝓛 (lends_link_writer R.row W.row (record { told = R.told })
+            (record { remaining = R.remaining }) (record { counts = R.counts })
+            (record { taken = W.taken }) (record { contents = W.contents })
+            (record { counts = W.counts }) self.entry result) }
+        ensures value { self.old ≡ with_link_writer self.old (writer_state W.contents W.taken W.counts result.now) }
+    {
+        &mut self.writer
+    }
 
     /// A link before any read or write. Without memory both ends come back.
     pub(crate) fn new(alloc: Global, reader: R, writer: W) -> Result<Link<R, W>, (R, W)>

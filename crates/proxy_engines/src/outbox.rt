@@ -1,6 +1,8 @@
 //! The output that isn't written yet.
 ghost use Rattle.std.specs.Prelude.{◌≡◌, ◌≢◌, ◌==◌, length, []};
+ghost use Rattle.std.specs.Borrow.{sem};
 ghost use Rattle.std.specs.Io.KnownBytes.{Keeps};
+ghost use Rattle.proxy_devices.specs.Device.{writer_state};
 
 use bytes::Bytes;
 use proxy_devices::{IoOutcome, WriteTally};
@@ -30,6 +32,7 @@ impl<W: WriteTally> Model for Outbox<W> {
 
 impl<W: WriteTally> Outbox<W> {
     ghost use Rattle.proxy_engines.specs.Ends.{WritesOnce};
+    ghost use Rattle.proxy_engines.specs.Lends.{lends_writer, with_writer};
 
     /// An outbox without a text.
     pub(crate) fn new(writer: W) -> Outbox<W>
@@ -79,6 +82,22 @@ impl<W: WriteTally> Outbox<W> {
         ensures pending { self.new.pending ≡ self.old.pending }
     {
         self.writer.flush_told()
+    }
+
+    /// The writer.
+    pub(crate) fn writer(&self) -> &W
+        ensures { self.now ≡ with_writer self.now (writer_state W.contents W.taken W.counts result.now) }
+    {
+        &self.writer
+    }
+
+    /// The writer, for calls that write nothing for the engine.
+    pub(crate) fn writer_mut(&mut self) -> &mut W
+        ensures* writes_back { sem 𝓛 (lends_writer W.row (record { taken = W.taken })
+            (record { contents = W.contents }) (record { counts = W.counts }) self.entry result) }
+        ensures value { self.old ≡ with_writer self.old (writer_state W.contents W.taken W.counts result.now) }
+    {
+        &mut self.writer
     }
 
     /// The writer. Pending bytes are dropped.
