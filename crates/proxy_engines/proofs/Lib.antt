@@ -16,3 +16,4 @@ pub mod ZipLemmas
 pub mod SendLemmas
 pub mod AnswerLemmas
 pub mod LogsLemmas
+pub mod KeepsLemmas

@@ -1,6 +1,7 @@
 //! Laws of engines, and the limit of one read. Each is the contract of a function that does nothing.
 ghost use Rattle.std.specs.Prelude.{◌≡◌};
 ghost use Rattle.proxy_engines.specs.Laws.{AcceptedAreFirst, ClientsLeaveOthers, EndedIsOver, EndedIsWhole, HostsLeaveOthers, OthersLeaveClients, OthersLeaveHosts};
+ghost use Rattle.proxy_engines.specs.Keeps.{ClientsKeepSockets, HostsKeepLinks};
 ghost use Rattle.proxy_engines.specs.Logs.{ClientsCarryLogs, HostsCarryLogs, SocketsCarryLogs};
 ghost use Rattle.proxy_engines.specs.Socket.{SocketAnswersInOrder, SocketAsksInOrder, SocketBegins, SocketEndsWhole, SocketGoesOver, SocketMoves, SocketStays};
 
@@ -70,4 +71,11 @@ pub fn sockets_carry_logs()
 /// then.
 pub fn hosts_carry_logs()
     ensures { HostsCarryLogs }
+{}
+
+/// What an engine carries of its socket's or its link's logs it keeps over any number of calls, and over a socket's way
+/// from one connection to the next.
+pub fn engines_keep_logs()
+    ensures clients { ClientsKeepSockets }
+    ensures hosts { HostsKeepLinks }
 {}
