@@ -1,5 +1,5 @@
 -- The writing half of a socket: what its engine gave goes out by the socket, in order.
-use Rattle.std.specs.Prelude.{◌≡◌, ◌⊎◌, ◌<◌, ◌↔◌, IsTrue, ℕ, Bool, true, false, List, [], Option, None, length}
+use Rattle.std.specs.Prelude.{◌≡◌, ◌<◌, ◌↔◌, IsTrue, ℕ, Bool, true, false, List, [], Option, None, length}
 use Rattle.proxy_devices.specs.Device.{Counts, WriteState}
 use Rattle.proxy_devices.specs.declared.tally.IoOutcome.{IoOutcome}
 use Rattle.proxy_serve_core.specs.WriteBuffer.{WriteBufferState, accepted}

@@ -1,5 +1,5 @@
 //! The reading half of a socket, which tells an engine what the socket gave.
-ghost use Rattle.std.specs.Prelude.{◌≡◌, ◌≢◌, ◌⊎◌, ◌<◌, ◌-◌, ◌^◌, true, false, [], length, take, min, IfOk, IfErr, OnErr, IsErr, Some, None, Ok};
+ghost use Rattle.std.specs.Prelude.{◌≡◌, ◌≢◌, ◌⊎◌, ◌<◌, ◌-◌, ◌^◌, true, false, ℕ, [], length, take, min, IfOk, IfErr, OnErr, IsErr, Some, None, Ok};
 ghost use Rattle.std.specs.Io.{ReadsAtMost};
 ghost use Rattle.std.specs.Io.KnownBytes.{ReadConsumes};
 ghost use Rattle.std.specs.IoError.{error_kind};
@@ -68,7 +68,8 @@ impl<S: Read> SocketReader<S> {
     /// Ends the input behind what has come, or after `MAX_LAST` bytes at the latest.
     pub fn end_input(&mut self)
         ensures first { self.old.end.left ≡ None → self.new ≡ record self.old {
-            end = record self.old.end { left = Some MAX_LAST; is_readable = true } } }
+          end = record self.old.end { left = Some MAX_LAST; is_readable = true };
+        } }
         ensures again { self.old.end.left ≢ None → self.new ≡ self.old }
     {
         self.end.end_input();
@@ -77,7 +78,9 @@ impl<S: Read> SocketReader<S> {
     /// Makes each read fail from here on, without asking the socket.
     pub fn break_off(&mut self)
         ensures { self.new ≡ record self.old {
-            end = record self.old.end { is_readable = true }; is_broken = true } }
+          end = record self.old.end { is_readable = true };
+          is_broken = true;
+        } }
     {
         self.is_broken = true;
         self.end.set_readable();
@@ -200,6 +203,9 @@ impl<S: Read> ReadTally for SocketReader<S> {
             → (result ≡ IoOutcome.End) × (self.new ≡ self.old) }
         ensures idle { self.old.is_broken ≡ false → self.old.end.is_readable ≡ false
             → self.old.end.left ≡ None → result ≡ IoOutcome.Idle }
+        ensures awake { (n : ℕ) → result ≡ IoOutcome.Moved n
+            → (n ≡ length buffer.old) ⊎ (self.old.end.is_closed ≡ true)
+            → self.new.end.is_readable ≡ self.old.end.is_readable }
         ensures left { LeavesLeft self.old.end.left self.new.end.left result }
     {
         match self.ask(buffer) {

@@ -70,8 +70,9 @@ impl<S: Write> SocketWriter<S> {
     /// The socket may take bytes again, as the poll reports.
     pub fn set_writable(&mut self)
         ensures { self.new ≡ record self.old {
-            output = record self.old.output { is_writable = true };
-            is_writable_again = self.old.is_short } }
+          output = record self.old.output { is_writable = true };
+          is_writable_again = self.old.is_short;
+        } }
     {
         self.output.set_writable();
         self.is_writable_again = self.is_short;
@@ -148,8 +149,8 @@ impl<S: Write> SocketWriter<S> {
             → (bytes.now ≡ []) ⊎ (self.new.output.is_broken ≡ true)) }
         ensures limit { length self.new.output.buffered
             ≤ max (length self.old.output.buffered) (2 * MAX_BUFFERED) }
-        ensures broken { self.old.output.is_broken ≡ true
-            → IsErr result × (self.new.output ≡ self.old.output) }
+        ensures broken { self.old.output.is_broken ≡ true → (self.new.output ≡ self.old.output)
+            × IsErr result × IfErr result (λ e. error_kind e ≡ ErrorKind.BrokenPipe) }
         ensures short { IfOk result (λ n. IsTrue self.new.is_short ↔ (n < length bytes.now)) }
         ensures refused { IfErr result
             (λ e. IsTrue self.new.is_short ↔ (error_kind e ≡ ErrorKind.WouldBlock)) }
@@ -192,8 +193,8 @@ impl<S: Write> Write for SocketWriter<S> {
             → (bytes.now ≡ []) ⊎ (self.new.output.is_broken ≡ true)) }
         ensures limit { length self.new.output.buffered
             ≤ max (length self.old.output.buffered) (2 * MAX_BUFFERED) }
-        ensures broken { self.old.output.is_broken ≡ true
-            → IsErr result × (self.new.output ≡ self.old.output) }
+        ensures broken { self.old.output.is_broken ≡ true → (self.new.output ≡ self.old.output)
+            × IsErr result × IfErr result (λ e. error_kind e ≡ ErrorKind.BrokenPipe) }
         ensures short { IfOk result (λ n. IsTrue self.new.is_short ↔ (n < length bytes.now)) }
         ensures refused { IfErr result
             (λ e. IsTrue self.new.is_short ↔ (error_kind e ≡ ErrorKind.WouldBlock)) }
@@ -240,7 +241,7 @@ impl<S: Write> WriteTally for SocketWriter<S> {
         ensures limit { length self.new.output.buffered
             ≤ max (length self.old.output.buffered) (2 * MAX_BUFFERED) }
         ensures broken { self.old.output.is_broken ≡ true
-            → self.new.output ≡ self.old.output }
+            → (result ≡ IoOutcome.Failed) × (self.new.output ≡ self.old.output) }
         ensures short { IsShortBy result bytes.now self.new.is_short }
         ensures again { self.new.is_writable_again ≡ self.old.is_writable_again }
     {
