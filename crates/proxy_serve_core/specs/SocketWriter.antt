@@ -25,8 +25,7 @@ fresh_writer held = record {
 abbrev pub engine_writer : SocketWriterState → WriteState
 engine_writer w = record { contents = None; taken = accepted w.output; counts = w.counts }
 
--- Whether less was taken than was given, by an outcome. A pause may be a refusal for now, which is short, or a write that failed
--- after too many interruptions, which isn't.
+-- whether a write took less than it was given, and may go on later, by its outcome; of a pause nothing is said
 abbrev pub IsShortBy : IoOutcome → List ℕ → Bool → Type 0
 IsShortBy (IoOutcome.Moved n) bytes is_short = IsTrue is_short ↔ (n < length bytes)
 IsShortBy IoOutcome.End bytes is_short = is_short ≡ true
