@@ -5,7 +5,7 @@ use Rattle.proxy_devices.specs.declared.tally.Tallied.{Tallied}
 
 -- the counts of a device
 abbrev pub counts_of : {S : Type 0} → Tallied S → Counts
-counts_of t = record { failed = t.failures; paused = t.pauses }
+counts_of t = t.counter
 
 -- both logs are as they were
 pub record HasSameLogs {S : Type 0} (old new : Tallied S) : Type 0 where

@@ -7,7 +7,7 @@ ghost use Rattle.proxy_devices.specs.declared.tally.IoOutcome.{IoOutcome};
 ghost use Rattle.proxy_devices.specs.Device.{IsRead, IsWritten, reader_state, writer_state};
 ghost use Rattle.proxy_devices.specs.Faulty.{moved_count, with_failures};
 
-use crate::tally::{ReadTally, Tally, IoOutcome, WriteTally};
+use crate::tally::{IoOutcome, ReadTally, Tally, WriteTally};
 use std::io;
 use std::io::{ErrorKind, Read, Write};
 

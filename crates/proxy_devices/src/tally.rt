@@ -1,13 +1,14 @@
 //! Readers and writers that count their failures and pauses, with a log of their bytes for contracts.
-ghost use Rattle.std.specs.Prelude.{◌≡◌, ◌≢◌, ◌<◌, ◌⊎◌, ◌↔◌, [], ℕ, List, length};
+ghost use Rattle.std.specs.Prelude.{◌≡◌, ◌≢◌, ◌<◌, [], ℕ, List, length};
 ghost use Rattle.std.specs.Io.{ReadsAtMost, WritesAtMost};
 ghost use Rattle.std.specs.Io.KnownBytes.{Keeps, ReadConsumes, WriteAppends};
 ghost use Rattle.proxy_devices.specs.Tallied.{HasSameLogs, counts_of};
-ghost use Rattle.proxy_devices.specs.Device.{Counts, CountsError, CountsRead, CountsWrite, HasFailed, WasIdle, IsPause, IsRead, IsWritten, LogsCall, TakesNone, reader_state, writer_state};
+ghost use Rattle.proxy_devices.specs.Device.{Counts, CountsRead, CountsWrite, IsRead, IsWritten, LogsCall, TakesNone, reader_state, writer_state};
 
+use crate::counter::Counter;
 use crate::log::Log;
 use std::io;
-use std::io::{ErrorKind, Read, Write};
+use std::io::{Read, Write};
 
 /// The counts of a reader or a writer. Each stays at the greatest `u64`; nothing is promised of it then.
 pub trait Tally {
@@ -70,8 +71,7 @@ pub trait WriteTally: Write + Tally {
 #[derive(Drop)]
 pub struct Tallied<S> {
     inner: S,
-    failures: u64,
-    pauses: u64,
+    counter: Counter,
     // The bytes that it told as a reader.
     told: Log,
     // The bytes that it took as a writer.
@@ -82,15 +82,14 @@ impl<S> Tallied<S> {
     /// With no counts and an empty log.
     pub fn new(inner: S) -> Tallied<S>
         ensures inner { result.inner ≡ inner }
-        ensures failures { result.failures ≡ 0 }
-        ensures pauses { result.pauses ≡ 0 }
+        ensures failures { result.counter.failed ≡ 0 }
+        ensures pauses { result.counter.paused ≡ 0 }
         ensures told { result.told.bytes ≡ [] }
         ensures taken { result.taken.bytes ≡ [] }
     {
         Tallied {
             inner,
-            failures: 0,
-            pauses: 0,
+            counter: Counter::new(),
             told: Log::new(),
             taken: Log::new(),
         }
@@ -103,48 +102,17 @@ impl<S> Tallied<S> {
         let Tallied { inner, .. } = self;
         inner
     }
-
-    // Counts a failure.
-    fn failed(&mut self)
-        ensures inner { self.new.inner ≡ self.old.inner }
-        ensures logs { HasSameLogs self.old self.new }
-        ensures counts { HasFailed (counts_of self.old) (counts_of self.new) }
-    {
-        self.failures = self.failures.saturating_add(1);
-    }
-
-    // Counts an error by its kind.
-    fn tell(&mut self, kind: ErrorKind) -> IoOutcome
-        ensures inner { self.new.inner ≡ self.old.inner }
-        ensures logs { HasSameLogs self.old self.new }
-        ensures told { ((result ≡ IoOutcome.Idle)
-            × WasIdle (counts_of self.old) (counts_of self.new))
-            ⊎ ((result ≡ IoOutcome.Failed) × HasFailed (counts_of self.old) (counts_of self.new)) }
-        ensures idle { (result ≡ IoOutcome.Idle) ↔ IsPause kind }
-        ensures counts { CountsError kind (counts_of self.old) (counts_of self.new) }
-    {
-        match kind {
-            ErrorKind::WouldBlock | ErrorKind::Interrupted => {
-                self.pauses = self.pauses.saturating_add(1);
-                IoOutcome::Idle
-            }
-            _ => {
-                self.failed();
-                IoOutcome::Failed
-            }
-        }
-    }
 }
 
 impl<S> Tally for Tallied<S> {
     ghost counts = { λ t. counts_of t };
 
     fn failures(&self) -> u64 {
-        self.failures
+        self.counter.failures()
     }
 
     fn pauses(&self) -> u64 {
-        self.pauses
+        self.counter.pauses()
     }
 }
 
@@ -165,7 +133,7 @@ impl<S: Read> Read for Tallied<S> {
                 Ok(n)
             }
             Err(error) => {
-                let _told = self.tell(error.kind());
+                let _told = self.counter.note_error(error.kind());
                 Err(error)
             }
         }
@@ -187,12 +155,12 @@ impl<S: Write> Write for Tallied<S> {
             Ok(n) => {
                 self.taken = self.taken.and(bytes, n);
                 if n == 0 && !bytes.is_empty() {
-                    self.failed();
+                    self.counter.note_failure();
                 }
                 Ok(n)
             }
             Err(error) => {
-                let _refused = self.tell(error.kind());
+                let _refused = self.counter.note_error(error.kind());
                 Err(error)
             }
         }
@@ -218,7 +186,7 @@ impl<S: Read> ReadTally for Tallied<S> {
                 self.told = self.told.and(buffer, n);
                 IoOutcome::Moved(n)
             }
-            Err(error) => self.tell(error.kind()),
+            Err(error) => self.counter.note_error(error.kind()),
         }
     }
 }
@@ -229,14 +197,14 @@ impl<S: Write> WriteTally for Tallied<S> {
     fn write_told(&mut self, bytes: &[u8]) -> IoOutcome {
         match self.inner.write(bytes) {
             Ok(0) => {
-                self.failed();
+                self.counter.note_failure();
                 IoOutcome::End
             }
             Ok(n) => {
                 self.taken = self.taken.and(bytes, n);
                 IoOutcome::Moved(n)
             }
-            Err(error) => self.tell(error.kind()),
+            Err(error) => self.counter.note_error(error.kind()),
         }
     }
 

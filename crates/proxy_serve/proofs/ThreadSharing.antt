@@ -1,10 +1,10 @@
 -- What the threads of a generation share may be shared, and what each has may go to it.
 use denote.Ref.{NamedLft}
-use denote.Param.Send.{IsSend, IsSync, owning_send, sendable}
+use denote.Param.Send.{IsSend, IsSync, sendable}
 use Rattle.std.proofs.Crossing.{crosses}
 use Rattle.proxy_config.specs.contracts.config.Config as Config
 use Rattle.proxy_core.specs.contracts.handover.Handover as Handover
-use Rattle.proxy_devices.specs.contracts.log.Log as Log
+use Rattle.proxy_devices.proofs.CallerLemmas.{log_send}
 use Rattle.proxy_engines.proofs.CallerLemmas.{rest_send}
 use Rattle.proxy_stats.proofs.CallerLemmas.{counts_send}
 use Rattle.proxy_pages.proofs.CallerLemmas.{histogram_send, look_send}
@@ -58,10 +58,6 @@ sockets_send = search (crosses, sendable) depth 30 fits 20000
 
 ejections_send : IsSend EjectionLog.the_row
 ejections_send = search (crosses, sendable) depth 30 fits 20000
-
--- (a log owns nothing)
-log_send : IsSend Log.the_row
-log_send = owning_send Log.the_type tt (λ d. tt) (λ k x w. tt)
 
 carried_send : IsSend CarriedSocket.the_row
 carried_send = search (log_send, rest_send, crosses, sendable) depth 40 fits 20000

@@ -3,3 +3,5 @@ pub mod ReadEnd
 pub mod Sockets
 pub mod Assignment
 pub mod EjectionLog
+pub mod SocketReader
+pub mod SocketWriter

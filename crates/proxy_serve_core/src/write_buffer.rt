@@ -323,7 +323,8 @@ impl<W: Write> WriteBuffer<W> {
             → (bytes.now ≡ []) ⊎ (self.new.is_broken ≡ true)) }
         ensures limit { length self.new.buffered
             ≤ max (length self.old.buffered) (2 * MAX_BUFFERED) }
-        ensures broken { self.old.is_broken ≡ true → IsErr result × (self.new ≡ self.old) }
+        ensures broken { self.old.is_broken ≡ true → (self.new ≡ self.old)
+            × IsErr result × IfErr result (λ e. error_kind e ≡ ErrorKind.BrokenPipe) }
     {
         self.make_room(bytes.len());
         if self.is_broken {
