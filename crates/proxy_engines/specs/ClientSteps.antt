@@ -1,7 +1,8 @@
 -- What the functions of a client's engine come to that make turns.
-use Rattle.std.specs.Prelude.{◌≡◌, ◌≢◌, ◌⊎◌, ℕ, Bool, false, true, Option, Some, List, ◌∷◌, Result, IfOk, IfErr, OnOk}
+use Rattle.std.specs.Prelude.{◌≡◌, ◌≢◌, ◌⊎◌, ℕ, Bool, false, true, Option, Some, List, [], ◌∷◌, Result, IfOk, IfErr, OnOk}
 use Rattle.splitter.specs.declared.request.Request.{Request}
 use Rattle.proxy_history.specs.History.{History, Step}
+use Rattle.proxy_history.specs.Own.{connection_steps}
 use Rattle.proxy_history.specs.declared.answer.Answer.{Answer}
 use Rattle.proxy_history.specs.declared.event.Event.{Event}
 use Rattle.proxy_history.specs.declared.refusal.Refusal.{Refusal}
@@ -114,10 +115,11 @@ pub record TellsStep (cause : Refusal → Event → List Step → Type 0) (seen_
       → HasFailed old.outbox.counts new.outbox.counts × (new.stage ≡ Stage.Closed true))
   pub idle : IfOk result (λ p. p ≡ Progress.Idle → IsIdle cause old new seen_before seen_after)
 
--- A connection was opened, by one turn of this pass, over a reader and a writer in these states: requests are taken, and the
--- engine is not drained.
+-- A connection was opened, by one turn of this pass, over a reader and a writer in these states. No step was made of it before;
+-- requests are taken, and the engine is not drained.
 pub record OpensClient (pass : ℕ) (before after : History) (reader : ReadState) (writer : WriteState) (new : Client) : Type 0 where
   pub opened : after ≡ step_by pass Event.Opened (Answer.Opened new.conn) ∷ before
+  pub fresh : connection_steps new.conn before ≡ []
   pub left_is : new.inbox.left ≡ reader.remaining
   pub told_is : new.inbox.told ≡ reader.told
   pub held_is : new.outbox.held ≡ writer.contents

@@ -1,27 +1,29 @@
 //! A client's connection, as its worker holds it.
+ghost use Rattle.std.specs.Prelude.{◌≡◌, true, IfOk, IfErr, IfSome};
+ghost use Rattle.proxy_engines.specs.Keeps.{KeepsSocket};
+ghost use Rattle.proxy_engines.specs.Turns.{own_history};
+ghost use Rattle.proxy_serve.specs.Sockets.{BeginsSocket, GoesOnFrom, LeavesSocket, MayDrain, logs_of};
 
 use crate::counted_turns::{CountedTurns, TurnCounts};
 use crate::generation_state::{GenerationState, LARGE, LARGE_STEP};
-use crate::socket::{SharedSocket, Socket, SocketReader, SocketWriter, ends, shared};
+use crate::socket::{Reader, SharedStream, Socket, Writer, note_readable, note_writable};
 use limits::{LINGER_MS, MAX_SPARED};
 use mio::event::Event as Readiness;
 use mio::net::TcpStream;
 use mio::{Registry, Token};
 use proxy_core::CoreTurns;
-use proxy_engines::{ClientEngine, EngineError, Progress, Rest, Tallied};
+use proxy_engines::{ClientEngine, EngineError, Progress, Rest};
 use proxy_exit_status::Ending;
 use proxy_histogram::{Histogram, Unanswered};
 use proxy_serve_core::Refusals;
 use std::alloc::Global;
-use std::cell::RefCell;
-use std::rc::Rc;
 use std::sync::Wait;
 
 // The most steps of one connection in a round, so that one pipeline doesn't starve the others.
 const MAX_CLIENT_STEPS: u32 = 256;
 
-// The engine of a client's connection, on the two ends of its socket.
-type Engine = ClientEngine<Tallied<SocketReader>, Tallied<SocketWriter>>;
+// The engine of a client's connection, on the two halves of its socket.
+type Engine = ClientEngine<Reader, Writer>;
 
 /// The stage of a client's socket.
 #[derive(Clone, Copy, Drop)]
@@ -58,7 +60,9 @@ pub(crate) enum Stepped {
 
 /// A socket on its way to the next generation, with its input that no command was made of and its output that isn't written.
 pub(crate) struct CarriedSocket {
-    socket: Socket,
+    stream: SharedStream,
+    reader: Reader,
+    writer: Writer,
     rest: Rest,
     // The bytes that had come when a command was last accepted.
     begun: u64,
@@ -68,7 +72,9 @@ pub(crate) struct CarriedSocket {
 impl Drop for CarriedSocket {
     fn drop(self) {
         let CarriedSocket {
-            socket: _,
+            stream: _,
+            reader: _,
+            writer: _,
             rest: _,
             begun: _,
         } = self;
@@ -79,58 +85,16 @@ impl CarriedSocket {
     /// Writes buffered bytes as far as the socket takes them, and closes the sending half: the newest generation takes
     /// no further connection.
     pub(crate) fn shut_down(&mut self, buffer: &mut Vec<u8>) {
-        self.socket.write_out(buffer);
-        self.socket.shut_write();
-        let _ = self.socket.discard_input();
+        self.writer.write_out(buffer);
+        self.stream.shut_write();
+        let _ = self.reader.throw_away();
     }
-
-    // Registers the socket with the poll, and shares it with an engine's two ends.
-    fn share(
-        mut self,
-        alloc: Global,
-        registry: &Registry,
-        token: Token,
-    ) -> Result<SharedRest, (EngineError, CarriedSocket)> {
-        if self.socket.register(registry, token).is_err() {
-            return Err((EngineError::ReadFailed, self));
-        }
-        let CarriedSocket {
-            socket,
-            rest,
-            begun,
-        } = self;
-        match Rc::new(alloc, RefCell::new(socket)) {
-            Ok(socket) => Ok(SharedRest {
-                socket,
-                rest,
-                begun,
-            }),
-            Err(failed) => {
-                let socket = failed.value.into_inner();
-                socket.deregister(registry);
-                let carried = CarriedSocket {
-                    socket,
-                    rest,
-                    begun,
-                };
-                Err((EngineError::NoMemory, carried))
-            }
-        }
-    }
-}
-
-// A carried socket with its two ends.
-#[derive(Drop)]
-struct SharedRest {
-    socket: Rc<RefCell<Socket>>,
-    rest: Rest,
-    begun: u64,
 }
 
 /// A client's socket and the engine of its connection.
 pub(crate) struct Client {
     engine: Engine,
-    socket: Rc<RefCell<Socket>>,
+    stream: SharedStream,
     stage: SocketStage,
     // The number of commands accepted and not yet answered, and since when they wait.
     unanswered: u64,
@@ -153,7 +117,7 @@ impl Drop for Client {
     fn drop(self) {
         let Client {
             engine: _,
-            socket: _,
+            stream: _,
             stage: _,
             unanswered: _,
             waits: _,
@@ -199,31 +163,14 @@ impl From<EngineError> for StepError {
     }
 }
 
-// The socket, once no engine holds its ends.
-fn detach(
-    socket: Rc<RefCell<Socket>>,
-    registry: &Registry,
-    rest: Rest,
-    begun: u64,
-) -> Option<CarriedSocket> {
-    let Ok(cell) = Rc::try_unwrap(socket) else {
-        return None;
-    };
-    let socket = cell.into_inner();
-    socket.deregister(registry);
-    Some(CarriedSocket {
-        socket,
-        rest,
-        begun,
-    })
-}
-
 impl Client {
     // A client that hasn't sent anything yet.
-    fn new(alloc: Global, engine: Engine, socket: Rc<RefCell<Socket>>) -> Client {
+    fn new(alloc: Global, engine: Engine, stream: SharedStream) -> Client
+        ensures { result.engine ≡ engine }
+    {
         Client {
             engine,
-            socket,
+            stream,
             stage: SocketStage::Served,
             unanswered: 0,
             waits: Unanswered::new(alloc),
@@ -242,25 +189,19 @@ impl Client {
         alloc: Global,
         turns: &mut CountedTurns<T>,
         stream: TcpStream,
-    ) -> Result<Client, EngineError> {
-        let Some(
-            SharedSocket {
-                socket,
-                reader,
-                writer,
-            },
-        ) = shared(alloc, stream)
-        else {
+    ) -> Result<Client, EngineError>
+        ensures { IfOk result
+            (λ c. BeginsSocket c.engine (own_history T.pass T.seen turns.new.turns)) }
+    {
+        let Ok(Socket {
+            stream,
+            reader,
+            writer,
+        }) = Socket::new(alloc, stream) else {
             return Err(EngineError::NoMemory);
         };
-        let engine = ClientEngine::open(
-            rt,
-            alloc,
-            turns,
-            Tallied::new(reader),
-            Tallied::new(writer),
-        )?;
-        Ok(Client::new(alloc, engine, socket))
+        let engine = ClientEngine::open(rt, alloc, turns, reader, writer)?;
+        Ok(Client::new(alloc, engine, stream))
     }
 
     /// Opens a connection on a socket from another generation. If the turn is refused the socket comes back.
@@ -271,31 +212,42 @@ impl Client {
         registry: &Registry,
         token: Token,
         carried: CarriedSocket,
-    ) -> Result<Client, (EngineError, Option<CarriedSocket>)> {
-        let taken = carried.socket.taken();
-        let SharedRest {
-            socket,
+    ) -> Result<Client, (EngineError, CarriedSocket)>
+        ensures ok { IfOk result (λ c. GoesOnFrom (logs_of carried.reader carried.writer)
+            carried.rest c.engine (own_history T.pass T.seen turns.new.turns)) }
+        ensures err { IfErr result (λ e. (e.1.rest ≡ carried.rest) × (logs_of e.1.reader e.1.writer
+            ≡ logs_of carried.reader carried.writer)) }
+    {
+        if carried.stream.register(registry, token).is_err() {
+            return Err((EngineError::ReadFailed, carried));
+        }
+        let CarriedSocket {
+            stream,
+            mut reader,
+            mut writer,
             rest,
             begun,
-        } = match carried.share(alloc, registry, token) {
-            Ok(shared) => shared,
-            Err((error, carried)) => return Err((error, Some(carried))),
-        };
-        let Some((reader, writer)) = ends(&socket) else {
-            return Err((EngineError::NoMemory, None));
-        };
-        let unfinished = taken.saturating_sub(begun);
-        match ClientEngine::open_with(rt, turns, Tallied::new(reader), Tallied::new(writer), rest) {
+        } = carried;
+        reader.set_readable();
+        writer.set_writable();
+        let unfinished = reader.count().saturating_sub(begun);
+        match ClientEngine::open_with(rt, turns, reader, writer, rest) {
             Ok(engine) => {
-                let mut client = Client::new(alloc, engine, socket);
+                let mut client = Client::new(alloc, engine, stream);
                 client.begun = begun;
                 client.unfinished = unfinished;
                 Ok(client)
             }
             Err((error, reader, writer, rest)) => {
-                drop(reader);
-                drop(writer);
-                Err((error, detach(socket, registry, rest, begun)))
+                stream.deregister(registry);
+                let carried = CarriedSocket {
+                    stream,
+                    reader,
+                    writer,
+                    rest,
+                    begun,
+                };
+                Err((error, carried))
             }
         }
     }
@@ -310,10 +262,12 @@ impl Client {
         self,
         registry: &Registry,
         generation: &GenerationState<'_>,
-    ) -> Option<CarriedSocket> {
+    ) -> Option<CarriedSocket>
+        ensures { IfSome result (λ s. LeavesSocket self.engine (logs_of s.reader s.writer) s.rest) }
+    {
         let Client {
             engine,
-            socket,
+            stream,
             begun,
             unfinished,
             stage: _,
@@ -326,41 +280,49 @@ impl Client {
         } = self;
         generation.note_unfinished(0, unfinished);
         let (reader, writer, rest) = engine.into_rest()?;
-        drop(reader);
-        drop(writer);
-        detach(socket, registry, rest, begun)
+        stream.deregister(registry);
+        Some(CarriedSocket {
+            stream,
+            reader,
+            writer,
+            rest,
+            begun,
+        })
     }
 
     /// Records what the poll reports.
-    pub(crate) fn on_readiness(&mut self, event: &Readiness) {
-        if let Ok(mut socket) = self.socket.try_borrow_mut() {
-            socket.on_readiness(event);
-        }
+    pub(crate) fn on_readiness(&mut self, event: &Readiness)
+        ensures { self.new.engine ≡ self.old.engine }
+    {
+        note_readable(self.engine.reader_mut(), event);
+        note_writable(self.engine.writer_mut(), event);
     }
 
     /// Takes in no further commands. Accepted ones are answered, then the connection is closed.
-    pub(crate) fn drain(&mut self) {
+    pub(crate) fn drain(&mut self)
+        ensures { self.new.engine ≡ record self.old.engine { is_drained = true } }
+    {
         self.engine.drain();
         self.is_drained = true;
         self.has_more = true;
     }
 
     /// Ends the input behind the bytes that have come. Those are answered, then the connection is closed.
-    pub(crate) fn end_input(&mut self) {
-        if let Ok(mut socket) = self.socket.try_borrow_mut() {
-            socket.end_input();
-        }
+    pub(crate) fn end_input(&mut self)
+        ensures { self.new.engine ≡ self.old.engine }
+    {
+        self.engine.reader_mut().end_input();
         self.has_more = true;
     }
 
     /// Writes what the socket takes at once, closes the sending half, and discards what has come: closing a socket with
     /// unread bytes would lose the last answers.
-    pub(crate) fn shut_down(&mut self, buffer: &mut Vec<u8>) {
-        if let Ok(mut socket) = self.socket.try_borrow_mut() {
-            socket.write_out(buffer);
-            socket.shut_write();
-            let _ = socket.discard_input();
-        }
+    pub(crate) fn shut_down(&mut self, buffer: &mut Vec<u8>)
+        ensures { self.new.engine ≡ self.old.engine }
+    {
+        self.write_out(buffer);
+        self.stream.shut_write();
+        let _ = self.engine.reader_mut().throw_away();
     }
 
     /// Whether its connection isn't counted as closed yet.
@@ -378,26 +340,13 @@ impl Client {
         if self.has_more {
             return true;
         }
+        let may_read = self.engine.reader().may_read();
         if let SocketStage::Lingering { until } = self.stage {
-            return now >= until || self.may_read();
+            return now >= until || may_read;
         }
-        self.has_event() || (self.unanswered > 0 && self.replies != generation.replies())
-    }
-
-    // Whether the socket may have bytes.
-    fn may_read(&self) -> bool {
-        match self.socket.try_borrow() {
-            Ok(socket) => socket.may_read(),
-            Err(_) => false,
-        }
-    }
-
-    // Whether the socket may have bytes, or take some.
-    fn has_event(&self) -> bool {
-        match self.socket.try_borrow() {
-            Ok(socket) => socket.may_read() || socket.may_write(),
-            Err(_) => false,
-        }
+        may_read
+            || self.engine.writer().may_write()
+            || (self.unanswered > 0 && self.replies != generation.replies())
     }
 
     /// Steps the engine until it has to wait, and writes what it buffered.
@@ -409,12 +358,16 @@ impl Client {
         buffer: &mut Vec<u8>,
         durations: &mut Histogram,
         round: Round,
-    ) -> Result<Stepped, StepError> {
+    ) -> Result<Stepped, StepError>
+        ensures { KeepsSocket self.old.engine self.new.engine
+            (own_history T.pass T.seen turns.old.turns)
+            (own_history T.pass T.seen turns.new.turns) }
+    {
         self.has_more = false;
         match self.stage {
             SocketStage::Served => {
                 self.replies = generation.replies();
-                self.lend_buffer(buffer);
+                self.engine.writer_mut().lend_buffer(buffer);
                 let stepped = self.step_engine(rt, turns, generation, round.reserve);
                 let counts = turns.take_counts();
                 self.waits.accepted(round.now, counts.accepted);
@@ -434,7 +387,9 @@ impl Client {
     }
 
     // The journal has no room for a further command: no client's commands are taken in from here on.
-    fn stop_accepting(&mut self, generation: &GenerationState<'_>) {
+    fn stop_accepting(&mut self, generation: &GenerationState<'_>)
+        ensures { self.new.engine ≡ record self.old.engine { is_drained = true } }
+    {
         generation.stop_accepting();
         self.drain();
     }
@@ -446,35 +401,31 @@ impl Client {
 
     // Whether a write to the socket failed.
     fn is_broken(&self) -> bool {
-        match self.socket.try_borrow() {
-            Ok(socket) => socket.is_broken(),
-            Err(_) => true,
+        self.engine.writer().is_broken()
+    }
+
+    // Writes buffered bytes as far as the socket takes them. Once a write has failed reads fail too.
+    fn write_out(&mut self, buffer: &mut Vec<u8>)
+        ensures { self.new.engine ≡ self.old.engine }
+    {
+        self.engine.writer_mut().write_out(buffer);
+        if self.is_broken() {
+            self.engine.reader_mut().break_off();
         }
     }
 
-    // Lends the socket the worker's buffer for its output.
-    fn lend_buffer(&mut self, buffer: &mut Vec<u8>) {
-        if let Ok(mut socket) = self.socket.try_borrow_mut() {
-            socket.lend_buffer(buffer);
-        }
-    }
-
-    // Writes buffered bytes as far as the socket takes them.
-    fn write_out(&mut self, buffer: &mut Vec<u8>) {
-        if let Ok(mut socket) = self.socket.try_borrow_mut() {
-            socket.write_out(buffer);
-        }
-    }
-
-    // Steps until nothing more can be done, or `MAX_CLIENT_STEPS` are made, or this worker's share of parts has come. A
-    // command is taken in only if the journal has room for all steps that it will owe.
+    // Steps until nothing more can be done, or `MAX_CLIENT_STEPS` are made, or this worker's share of parts has come.
     fn step_engine<R: Wait, T: CoreTurns>(
         &mut self,
         rt: &R,
         turns: &mut CountedTurns<T>,
         generation: &GenerationState<'_>,
         reserve: u64,
-    ) -> Result<(), StepError> {
+    ) -> Result<(), StepError>
+        ensures { KeepsSocket self.old.engine self.new.engine
+            (own_history T.pass T.seen turns.old.turns)
+            (own_history T.pass T.seen turns.new.turns) }
+    {
         let most_parts = generation.parts_per_worker();
         // (the number of accepted commands at which there was room for one more)
         let mut room_for = None;
@@ -482,14 +433,7 @@ impl Client {
             if turns.counts().parts >= most_parts {
                 break;
             }
-            if !self.is_drained && room_for != Some(turns.counts().accepted) {
-                room_for = Some(turns.counts().accepted);
-                if !self.may_take_in(rt, turns, generation, reserve) {
-                    self.stop_accepting(generation);
-                }
-            }
-            let stepped = self.engine.step(rt, turns);
-            if self.heed(stepped, generation)? {
+            if self.step(rt, turns, generation, reserve, &mut room_for)? {
                 return Ok(());
             }
         }
@@ -497,12 +441,38 @@ impl Client {
         Ok(())
     }
 
+    // Steps once. A command is taken in only if the journal has room for all steps that it will owe. True: nothing more
+    // can be done for now.
+    fn step<R: Wait, T: CoreTurns>(
+        &mut self,
+        rt: &R,
+        turns: &mut CountedTurns<T>,
+        generation: &GenerationState<'_>,
+        reserve: u64,
+        room_for: &mut Option<u64>,
+    ) -> Result<bool, StepError>
+        ensures { KeepsSocket self.old.engine self.new.engine
+            (own_history T.pass T.seen turns.old.turns)
+            (own_history T.pass T.seen turns.new.turns) }
+    {
+        if !self.is_drained && *room_for != Some(turns.counts().accepted) {
+            *room_for = Some(turns.counts().accepted);
+            if !self.may_take_in(rt, turns, generation, reserve) {
+                self.stop_accepting(generation);
+            }
+        }
+        let stepped = self.engine.step(rt, turns);
+        self.heed(stepped, generation)
+    }
+
     // Handles the result of an engine's step. True: nothing more can be done for now.
     fn heed(
         &mut self,
         stepped: Result<Progress, EngineError>,
         generation: &GenerationState<'_>,
-    ) -> Result<bool, StepError> {
+    ) -> Result<bool, StepError>
+        ensures { MayDrain self.old.engine self.new.engine }
+    {
         match stepped {
             Ok(progress) => {
                 self.refusals.succeeded();
@@ -516,7 +486,9 @@ impl Client {
     }
 
     // Handles what a step achieved. True: nothing more can be done for now.
-    fn heed_progress(&mut self, progress: Progress) -> bool {
+    fn heed_progress(&mut self, progress: Progress) -> bool
+        ensures { self.new.engine ≡ self.old.engine }
+    {
         match progress {
             Progress::Moved => false,
             Progress::Idle | Progress::NeedsLink => true,
@@ -534,7 +506,9 @@ impl Client {
         turns: &mut CountedTurns<T>,
         generation: &GenerationState<'_>,
         reserve: u64,
-    ) -> bool {
+    ) -> bool
+        ensures { turns.new.turns ≡ turns.old.turns }
+    {
         if self.unfinished.max(turns.unreported_bytes()) >= LARGE || turns.average() >= LARGE_STEP {
             generation.settle(rt, turns, reserve);
         }
@@ -546,7 +520,9 @@ impl Client {
         &mut self,
         error: StepError,
         generation: &GenerationState<'_>,
-    ) -> Result<(), StepError> {
+    ) -> Result<(), StepError>
+        ensures { MayDrain self.old.engine self.new.engine }
+    {
         match error {
             StepError::Full if !self.is_drained => self.stop_accepting(generation),
             StepError::Full | StepError::Alone => self.stage = SocketStage::Leaving,
@@ -557,7 +533,9 @@ impl Client {
     }
 
     /// Counts a refusal of memory. The step is made again, unless too many were refused in a row.
-    pub(crate) fn refuse(&mut self) -> StepError {
+    pub(crate) fn refuse(&mut self) -> StepError
+        ensures { self.new.engine ≡ self.old.engine }
+    {
         self.has_more = true;
         if self.refusals.refused() {
             StepError::Ends(Ending::Memory)
@@ -567,7 +545,9 @@ impl Client {
     }
 
     // Counts commands without an answer, and reports parts to the other workers.
-    fn count(&mut self, counts: TurnCounts, generation: &GenerationState<'_>) {
+    fn count(&mut self, counts: TurnCounts, generation: &GenerationState<'_>)
+        ensures { self.new.engine ≡ self.old.engine }
+    {
         self.unanswered = self
             .unanswered
             .saturating_add(counts.accepted)
@@ -579,11 +559,10 @@ impl Client {
     }
 
     // Counts the bytes of an unfinished command, and ends the connection if all connections together have too many.
-    fn count_unfinished_bytes(&mut self, generation: &GenerationState<'_>, has_accepted: bool) {
-        let Ok(mut socket) = self.socket.try_borrow_mut() else {
-            return;
-        };
-        let taken = socket.taken();
+    fn count_unfinished_bytes(&mut self, generation: &GenerationState<'_>, has_accepted: bool)
+        ensures { self.new.engine ≡ self.old.engine }
+    {
+        let taken = self.engine.reader().count();
         if has_accepted {
             self.begun = taken;
         }
@@ -592,7 +571,8 @@ impl Client {
         let grows = unfinished > self.unfinished;
         self.unfinished = unfinished;
         if grows && unfinished > MAX_SPARED && generation.is_overfull() {
-            socket.break_off();
+            self.engine.writer_mut().break_off();
+            self.engine.reader_mut().break_off();
             self.has_more = true;
         }
     }
@@ -603,15 +583,14 @@ impl Client {
         rt: &R,
         generation: &GenerationState<'_>,
         now: u64,
-    ) -> Stepped {
-        let Ok(mut socket) = self.socket.try_borrow_mut() else {
-            return Stepped::Idle;
-        };
+    ) -> Stepped
+        ensures { self.new.engine ≡ self.old.engine }
+    {
         if matches!(self.stage, SocketStage::Leaving) {
-            if socket.has_buffered() && !socket.is_broken() {
+            if self.engine.writer().has_buffered() && !self.is_broken() {
                 return Stepped::Idle;
             }
-            socket.shut_write();
+            self.stream.shut_write();
             generation.server().count_closed(rt);
             generation.note_unfinished(0, self.unfinished);
             self.unfinished = 0;
@@ -626,7 +605,7 @@ impl Client {
                 Stepped::Idle
             };
         };
-        if now >= until || socket.is_broken() || socket.discard_input() {
+        if now >= until || self.is_broken() || self.engine.reader_mut().throw_away() {
             Stepped::Closed
         } else {
             Stepped::Idle

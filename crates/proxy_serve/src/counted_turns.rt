@@ -1,4 +1,5 @@
 //! Counts what a worker's turns did.
+ghost use Rattle.std.specs.Prelude.{◌≡◌};
 
 use crate::ledger::Ledger;
 use proxy_core::{Answer, CoreTurns, Event, Refusal};
@@ -255,7 +256,9 @@ impl<T: CoreTurns> CountedTurns<T> {
     }
 
     /// Takes the counts.
-    pub(crate) fn take_counts(&mut self) -> TurnCounts {
+    pub(crate) fn take_counts(&mut self) -> TurnCounts
+        ensures { self.new.turns ≡ self.old.turns }
+    {
         mem::replace(&mut self.account.counts, TurnCounts::NONE)
     }
 
@@ -266,7 +269,9 @@ impl<T: CoreTurns> CountedTurns<T> {
     }
 
     /// Borrows steps of the journal. False: that many aren't left.
-    pub(crate) fn borrow_steps(&mut self, ledger: &mut Ledger, steps: u64) -> bool {
+    pub(crate) fn borrow_steps(&mut self, ledger: &mut Ledger, steps: u64) -> bool
+        ensures { self.new.turns ≡ self.old.turns }
+    {
         let is_lent = ledger.budget.lend(steps);
         if is_lent {
             self.account.loan.borrow(steps);
@@ -276,12 +281,16 @@ impl<T: CoreTurns> CountedTurns<T> {
 
     /// Reports its steps and payload, returns unspent steps, and reads what all workers have reported. `open` is the
     /// number of open connections.
-    pub(crate) fn settle(&mut self, ledger: &mut Ledger, open: u64) {
+    pub(crate) fn settle(&mut self, ledger: &mut Ledger, open: u64)
+        ensures { self.new.turns ≡ self.old.turns }
+    {
         self.account.settle(ledger, open);
     }
 
     /// Reports its payload, and reads what all workers have reported.
-    pub(crate) fn report_payload(&mut self, ledger: &mut Ledger) {
+    pub(crate) fn report_payload(&mut self, ledger: &mut Ledger)
+        ensures { self.new.turns ≡ self.old.turns }
+    {
         self.account.report_payload(ledger);
     }
 

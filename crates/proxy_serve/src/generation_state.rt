@@ -1,4 +1,5 @@
 //! What the threads of one generation share beside the gate.
+ghost use Rattle.std.specs.Prelude.{◌≡◌};
 
 use crate::counted_turns::CountedTurns;
 use crate::ledger::Ledger;
@@ -230,7 +231,9 @@ impl<'a> GenerationState<'a> {
         rt: &R,
         turns: &mut CountedTurns<T>,
         reserve: u64,
-    ) {
+    )
+        ensures { turns.new.turns ≡ turns.old.turns }
+    {
         let mut ledger = self.ledger.lock(rt);
         let ledger = &mut *ledger;
         turns.settle(ledger, self.open.load(Ordering::SeqCst));
@@ -243,7 +246,9 @@ impl<'a> GenerationState<'a> {
         rt: &R,
         turns: &mut CountedTurns<T>,
         steps: u64,
-    ) -> bool {
+    ) -> bool
+        ensures { turns.new.turns ≡ turns.old.turns }
+    {
         turns.borrow_steps(&mut self.ledger.lock(rt), steps)
     }
 
@@ -253,7 +258,9 @@ impl<'a> GenerationState<'a> {
         rt: &R,
         turns: &mut CountedTurns<T>,
         reserve: u64,
-    ) -> bool {
+    ) -> bool
+        ensures { turns.new.turns ≡ turns.old.turns }
+    {
         let least = reserve.saturating_add(MAX_COMMAND_STEPS);
         if turns.free_steps() >= least {
             return true;
@@ -274,7 +281,9 @@ impl<'a> GenerationState<'a> {
         turns: &mut CountedTurns<T>,
         came: u64,
         before: u64,
-    ) -> bool {
+    ) -> bool
+        ensures { turns.new.turns ≡ turns.old.turns }
+    {
         let mut ledger = self.ledger.lock(rt);
         let ledger = &mut *ledger;
         turns.report_payload(ledger);

@@ -1,23 +1,24 @@
 //! A host's connection, as its worker holds it.
 ghost use Rattle.std.specs.Prelude.{◌≡◌, None, IfOk};
+ghost use Rattle.proxy_history.specs.History.{History};
+ghost use Rattle.proxy_engines.specs.Turns.{own_history};
+ghost use Rattle.proxy_serve.specs.Sockets.{KeepsHost};
 
 use crate::client::StepError;
 use crate::counted_turns::{CountedTurns, TurnCounts};
 use crate::generation_state::{GenerationState, LARGE};
-use crate::socket::{SharedSocket, Socket, SocketReader, SocketWriter, shared};
+use crate::socket::{Reader, SharedStream, Socket, Writer, note_readable, note_writable};
 use limits::{CONNECTING_MS, TELL_MS};
 use mio::event::Event as Readiness;
 use mio::net::TcpStream;
 use mio::{Interest, Registry, Token};
 use proxy_core::CoreTurns;
-use proxy_engines::{HostEngine, Progress, Tallied};
+use proxy_engines::{HostEngine, Progress};
 use proxy_exit_status::Ending;
 use proxy_serve_core::Refusals;
 use std::alloc::Global;
-use std::cell::RefCell;
 use std::mem;
 use std::net::{Net, SocketAddr};
-use std::rc::Rc;
 use std::sync::Wait;
 
 // The most steps of one host in a round.
@@ -26,8 +27,8 @@ const MAX_HOST_STEPS: u32 = 4_096;
 // A host is looked at after this many milliseconds at the latest, so that a late reply is noticed.
 const LOOK_MS: u64 = 10;
 
-// The engine of a host, on the two ends of its link's socket.
-type Engine = HostEngine<Tallied<SocketReader>, Tallied<SocketWriter>>;
+// The engine of a host, on the two halves of its link's socket.
+type Engine = HostEngine<Reader, Writer>;
 
 /// The socket to a host.
 #[derive(Drop)]
@@ -40,8 +41,8 @@ enum LinkState {
         since: u64,
         has_event: bool,
     },
-    /// The engine has its two ends.
-    Up(Rc<RefCell<Socket>>),
+    /// The engine has its two halves.
+    Up(SharedStream),
 }
 
 /// The state of a connection attempt.
@@ -53,6 +54,17 @@ enum ConnectOutcome {
     Refused,
     /// The socket is connected.
     Established,
+}
+
+/// What one step of a host came to.
+#[derive(Clone, Copy, Drop)]
+enum HostMoved {
+    /// More can be done.
+    On,
+    /// A connection attempt was refused, and more can be done.
+    Refused,
+    /// Nothing more can be done for now.
+    Waits,
 }
 
 /// The result of a host's round.
@@ -160,15 +172,17 @@ impl HostConnection {
     }
 
     /// Records what the poll reports.
-    pub(crate) fn on_readiness(&mut self, event: &Readiness) {
-        match &mut self.link {
-            LinkState::Down => {}
-            LinkState::Connecting { has_event, .. } => *has_event = true,
-            LinkState::Up(socket) => {
-                if let Ok(mut socket) = socket.try_borrow_mut() {
-                    socket.on_readiness(event);
-                }
-            }
+    pub(crate) fn on_readiness(&mut self, event: &Readiness)
+        ensures { self.new.engine ≡ self.old.engine }
+    {
+        if let LinkState::Connecting { has_event, .. } = &mut self.link {
+            *has_event = true;
+        }
+        if let Some(reader) = self.engine.reader_mut() {
+            note_readable(reader, event);
+        }
+        if let Some(writer) = self.engine.writer_mut() {
+            note_writable(writer, event);
         }
     }
 
@@ -185,10 +199,17 @@ impl HostConnection {
         match &self.link {
             LinkState::Down => false,
             LinkState::Connecting { has_event, .. } => *has_event,
-            LinkState::Up(socket) => match socket.try_borrow() {
-                Ok(socket) => socket.may_read() || socket.may_write(),
-                Err(_) => false,
-            },
+            LinkState::Up(_) => {
+                let may_read = match self.engine.reader() {
+                    Some(reader) => reader.may_read(),
+                    None => false,
+                };
+                may_read
+                    || match self.engine.writer() {
+                        Some(writer) => writer.may_write(),
+                        None => false,
+                    }
+            }
         }
     }
 
@@ -201,7 +222,11 @@ impl HostConnection {
         registry: &Registry,
         buffer: &mut Vec<u8>,
         round: HostRound,
-    ) -> Result<HostStepped, StepError> {
+    ) -> Result<HostStepped, StepError>
+        ensures { KeepsHost self.old.engine self.new.engine
+            (own_history T.pass T.seen turns.old.turns)
+            (own_history T.pass T.seen turns.new.turns) }
+    {
         self.has_more = false;
         self.looked = round.now;
         self.parts = generation.parts();
@@ -223,7 +248,9 @@ impl HostConnection {
     }
 
     // Whether it is time to log again that the host can't be reached.
-    fn is_log_due(&mut self, now: u64) -> bool {
+    fn is_log_due(&mut self, now: u64) -> bool
+        ensures { self.new.engine ≡ self.old.engine }
+    {
         let is_due = match self.logged_at {
             None => true,
             Some(logged_at) => now.saturating_sub(logged_at) >= TELL_MS,
@@ -235,20 +262,40 @@ impl HostConnection {
     }
 
     // Lends the link's socket the worker's buffer for its output.
-    fn lend_buffer(&mut self, buffer: &mut Vec<u8>) {
-        if let LinkState::Up(socket) = &self.link {
-            if let Ok(mut socket) = socket.try_borrow_mut() {
-                socket.lend_buffer(buffer);
-            }
+    fn lend_buffer(&mut self, buffer: &mut Vec<u8>)
+        ensures { self.new.engine ≡ self.old.engine }
+    {
+        if let Some(writer) = self.engine.writer_mut() {
+            writer.lend_buffer(buffer);
         }
     }
 
-    // Writes buffered bytes as far as the link's socket takes them.
-    fn write_out(&mut self, buffer: &mut Vec<u8>) {
-        if let LinkState::Up(socket) = &self.link {
-            if let Ok(mut socket) = socket.try_borrow_mut() {
-                socket.write_out(buffer);
-            }
+    // Writes buffered bytes as far as the link's socket takes them. Once a write has failed reads fail too.
+    fn write_out(&mut self, buffer: &mut Vec<u8>)
+        ensures { self.new.engine ≡ self.old.engine }
+    {
+        if let Some(writer) = self.engine.writer_mut() {
+            writer.write_out(buffer);
+        }
+        if self.is_broken() {
+            self.break_off_reads();
+        }
+    }
+
+    // Whether a write to the link's socket failed.
+    fn is_broken(&self) -> bool {
+        match self.engine.writer() {
+            Some(writer) => writer.is_broken(),
+            None => false,
+        }
+    }
+
+    // Makes reads of the link's socket fail from here on.
+    fn break_off_reads(&mut self)
+        ensures { self.new.engine ≡ self.old.engine }
+    {
+        if let Some(reader) = self.engine.reader_mut() {
+            reader.break_off();
         }
     }
 
@@ -260,28 +307,52 @@ impl HostConnection {
         generation: &GenerationState<'_>,
         registry: &Registry,
         round: HostRound,
-    ) -> Result<bool, StepError> {
+    ) -> Result<bool, StepError>
+        ensures { KeepsHost self.old.engine self.new.engine
+            (own_history T.pass T.seen turns.old.turns)
+            (own_history T.pass T.seen turns.new.turns) }
+    {
         let mut is_refused = false;
         for _ in 0..MAX_HOST_STEPS {
-            match self.step(rt, turns, generation, round)? {
-                Progress::Moved => self.refusals.succeeded(),
-                Progress::NeedsLink if round.gives_up || turns.free_steps() == 0 => {
-                    self.give_up(rt, turns, round.now)?;
-                }
-                Progress::NeedsLink => match self.make_link(rt, turns, registry, round.now)? {
-                    ConnectOutcome::Pending => return Ok(is_refused),
-                    ConnectOutcome::Refused => is_refused = true,
-                    ConnectOutcome::Established => {}
-                },
-                Progress::Idle | Progress::Cut | Progress::Ended => {
-                    self.refusals.succeeded();
-                    self.abandon_connecting();
-                    return Ok(is_refused);
-                }
+            match self.go_on(rt, turns, generation, registry, round)? {
+                HostMoved::On => {}
+                HostMoved::Refused => is_refused = true,
+                HostMoved::Waits => return Ok(is_refused),
             }
         }
         self.has_more = true;
         Ok(is_refused)
+    }
+
+    // Steps once. Where a link is needed it is made, or the waiting parts are given up.
+    fn go_on<R: Wait + Net, T: CoreTurns>(
+        &mut self,
+        rt: &R,
+        turns: &mut CountedTurns<T>,
+        generation: &GenerationState<'_>,
+        registry: &Registry,
+        round: HostRound,
+    ) -> Result<HostMoved, StepError>
+        ensures { KeepsHost self.old.engine self.new.engine
+            (own_history T.pass T.seen turns.old.turns)
+            (own_history T.pass T.seen turns.new.turns) }
+    {
+        match self.step(rt, turns, generation, round)? {
+            Progress::Moved => {
+                self.refusals.succeeded();
+                Ok(HostMoved::On)
+            }
+            Progress::NeedsLink if round.gives_up || turns.free_steps() == 0 => {
+                self.give_up(rt, turns, round.now)?;
+                Ok(HostMoved::On)
+            }
+            Progress::NeedsLink => self.make_link(rt, turns, registry, round.now),
+            Progress::Idle | Progress::Cut | Progress::Ended => {
+                self.refusals.succeeded();
+                self.abandon_connecting();
+                Ok(HostMoved::Waits)
+            }
+        }
     }
 
     // Connects, and gives the engine the result.
@@ -291,17 +362,24 @@ impl HostConnection {
         turns: &mut CountedTurns<T>,
         registry: &Registry,
         now: u64,
-    ) -> Result<ConnectOutcome, StepError>
+    ) -> Result<HostMoved, StepError>
         requires link { self.old.engine.link ≡ None }
         requires fault { self.old.engine.fault ≡ None }
+        ensures { KeepsHost self.old.engine self.new.engine
+            (own_history T.pass T.seen turns.old.turns)
+            (own_history T.pass T.seen turns.new.turns) }
     {
-        let outcome = self.connect(rt, registry, now);
-        match outcome {
-            ConnectOutcome::Pending => {}
-            ConnectOutcome::Refused => self.refuse(rt, turns, now)?,
-            ConnectOutcome::Established => self.attach()?,
+        match self.connect(rt, registry, now) {
+            ConnectOutcome::Pending => Ok(HostMoved::Waits),
+            ConnectOutcome::Refused => {
+                self.refuse(rt, turns, now)?;
+                Ok(HostMoved::Refused)
+            }
+            ConnectOutcome::Established => {
+                self.attach()?;
+                Ok(HostMoved::On)
+            }
         }
-        Ok(outcome)
     }
 
     // Steps the engine once, and records what that says of the socket. A link that has to go is given up first.
@@ -312,8 +390,11 @@ impl HostConnection {
         generation: &GenerationState<'_>,
         round: HostRound,
     ) -> Result<Progress, StepError>
-        ensures { IfOk result (λ p. p ≡ Progress.NeedsLink
+        ensures needs_link { IfOk result (λ p. p ≡ Progress.NeedsLink
             → (self.new.engine.link ≡ None) × (self.new.engine.fault ≡ None)) }
+        ensures keeps { KeepsHost self.old.engine self.new.engine
+            (own_history T.pass T.seen turns.old.turns)
+            (own_history T.pass T.seen turns.new.turns) }
     {
         if self.is_to_be_given_up(rt, turns, generation, round.gives_up) {
             self.give_up(rt, turns, round.now)?;
@@ -350,7 +431,11 @@ impl HostConnection {
         turns: &mut CountedTurns<T>,
         error: StepError,
         now: u64,
-    ) -> Result<(), StepError> {
+    ) -> Result<(), StepError>
+        ensures { KeepsHost self.old.engine self.new.engine
+            (own_history T.pass T.seen turns.old.turns)
+            (own_history T.pass T.seen turns.new.turns) }
+    {
         match error {
             StepError::Alone => Ok(()),
             StepError::Full => self.give_up(rt, turns, now),
@@ -366,7 +451,8 @@ impl HostConnection {
         generation: &GenerationState<'_>,
         gives_up: bool,
     ) -> bool
-        ensures { self.new.engine ≡ self.old.engine }
+        ensures engine { self.new.engine ≡ self.old.engine }
+        ensures turns { turns.new.turns ≡ turns.old.turns }
     {
         let taken = self.taken();
         let came = taken.unwrap_or(0).saturating_sub(self.begun);
@@ -384,12 +470,9 @@ impl HostConnection {
 
     // The bytes that came on the link.
     fn taken(&self) -> Option<u64> {
-        match &self.link {
-            LinkState::Up(socket) => match socket.try_borrow() {
-                Ok(socket) => Some(socket.taken()),
-                Err(_) => None,
-            },
-            LinkState::Down | LinkState::Connecting { .. } => None,
+        match self.engine.reader() {
+            Some(reader) => Some(reader.count()),
+            None => None,
         }
     }
 
@@ -408,7 +491,11 @@ impl HostConnection {
         rt: &R,
         turns: &mut CountedTurns<T>,
         now: u64,
-    ) -> Result<(), StepError> {
+    ) -> Result<(), StepError>
+        ensures { KeepsHost self.old.engine self.new.engine
+            (own_history T.pass T.seen turns.old.turns)
+            (own_history T.pass T.seen turns.new.turns) }
+    {
         let given_up = self.engine.give_up(rt, turns, now);
         self.set_link(LinkState::Down);
         match given_up {
@@ -420,14 +507,12 @@ impl HostConnection {
         }
     }
 
-    // Drops the socket once the engine has released the link.
+    // Drops the stream once the engine has released the link.
     fn drop_if_released(&mut self)
         ensures { self.new.engine ≡ self.old.engine }
     {
-        if let LinkState::Up(socket) = &self.link {
-            if Rc::strong_count(socket) < 3 {
-                self.set_link(LinkState::Down);
-            }
+        if matches!(self.link, LinkState::Up(_)) && self.engine.reader().is_none() {
+            self.set_link(LinkState::Down);
         }
     }
 
@@ -501,6 +586,9 @@ impl HostConnection {
         now: u64,
     ) -> Result<(), StepError>
         requires { self.old.engine.link ≡ None }
+        ensures { KeepsHost self.old.engine self.new.engine
+            (own_history T.pass T.seen turns.old.turns)
+            (own_history T.pass T.seen turns.new.turns) }
     {
         self.set_link(LinkState::Down);
         match self.engine.refused(rt, turns, now) {
@@ -516,6 +604,7 @@ impl HostConnection {
     fn attach(&mut self) -> Result<(), StepError>
         requires link { self.old.engine.link ≡ None }
         requires fault { self.old.engine.fault ≡ None }
+        ensures { (H : History) → KeepsHost self.old.engine self.new.engine H H }
     {
         match mem::replace(&mut self.link, LinkState::Down) {
             LinkState::Connecting { stream, .. } => self.attach_socket(stream),
@@ -526,28 +615,23 @@ impl HostConnection {
         }
     }
 
-    // Makes this connected socket the link, and gives its two ends to the engine.
+    // Makes this connected socket the link, and gives its two halves to the engine.
     fn attach_socket(&mut self, stream: TcpStream) -> Result<(), StepError>
         requires link { self.old.engine.link ≡ None }
         requires fault { self.old.engine.fault ≡ None }
+        ensures { (H : History) → KeepsHost self.old.engine self.new.engine H H }
     {
-        let Some(
-            SharedSocket {
-                socket,
-                reader,
-                writer,
-            },
-        ) = shared(self.alloc, stream)
-        else {
+        let Ok(Socket {
+            stream,
+            reader,
+            writer,
+        }) = Socket::new(self.alloc, stream) else {
             return Err(StepError::Memory);
         };
-        let attached = self
-            .engine
-            .attach(Tallied::new(reader), Tallied::new(writer));
-        if attached.is_err() {
+        if self.engine.attach(reader, writer).is_err() {
             return Err(StepError::Memory);
         }
-        self.set_link(LinkState::Up(socket));
+        self.set_link(LinkState::Up(stream));
         self.begun = 0;
         Ok(())
     }

@@ -1,4 +1,8 @@
 //! The socket of a client or a host: its two halves for an engine, and the stream that they share.
+ghost use Rattle.std.specs.Prelude.{◌≡◌, IfOk};
+ghost use Rattle.proxy_engines.specs.Keeps.{no_logs};
+ghost use Rattle.proxy_serve.specs.Sockets.{logs_of};
+ghost use Rattle.proxy_serve_core.specs.WriteBuffer.{accepted};
 
 use mio::event::Event;
 use mio::net::TcpStream;
@@ -92,7 +96,9 @@ pub(crate) struct Socket {
 
 impl Socket {
     /// The socket of this stream, from which nothing was read or written.
-    pub(crate) fn new(alloc: Global, stream: TcpStream) -> Result<Socket, AllocError> {
+    pub(crate) fn new(alloc: Global, stream: TcpStream) -> Result<Socket, AllocError>
+        ensures { IfOk result (λ s. logs_of s.reader s.writer ≡ no_logs) }
+    {
         let stream = SharedStream::new(alloc, stream)?;
         let reader = SocketReader::new(stream.share()?);
         let writer = SocketWriter::new(alloc, stream.share()?);
@@ -105,7 +111,10 @@ impl Socket {
 }
 
 /// What an event of the poll says of a reading half.
-pub(crate) fn note_readable(reader: &mut Reader, event: &Event) {
+pub(crate) fn note_readable(reader: &mut Reader, event: &Event)
+    ensures logs { reader.new.end.delivered ≡ reader.old.end.delivered }
+    ensures counts { reader.new.counts ≡ reader.old.counts }
+{
     if event.is_readable() || event.is_read_closed() || event.is_error() {
         reader.set_readable();
     }
@@ -115,7 +124,10 @@ pub(crate) fn note_readable(reader: &mut Reader, event: &Event) {
 }
 
 /// What an event of the poll says of a writing half.
-pub(crate) fn note_writable(writer: &mut Writer, event: &Event) {
+pub(crate) fn note_writable(writer: &mut Writer, event: &Event)
+    ensures logs { accepted writer.new.output ≡ accepted writer.old.output }
+    ensures counts { writer.new.counts ≡ writer.old.counts }
+{
     if event.is_writable() || event.is_write_closed() || event.is_error() {
         writer.set_writable();
     }

@@ -610,14 +610,10 @@ impl<'a> Worker<'a> {
         &mut self,
         rt: &R,
         error: StepError,
-        carried: Option<CarriedSocket>,
+        mut carried: CarriedSocket,
     ) -> Result<OpenResult, Stop> {
         let server = self.generation.server();
         self.handle_open_error(error)?;
-        let Some(mut carried) = carried else {
-            server.count_closed_and_dropped(rt);
-            return Ok(OpenResult::Closed);
-        };
         if error.is_alone() {
             carried.shut_down(&mut self.buffer);
             drop(carried);

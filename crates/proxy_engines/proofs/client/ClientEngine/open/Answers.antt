@@ -54,6 +54,7 @@ pub returns-in-Ok-open-clause-opened : goal.returns-in-Ok-open-clause-opened
 returns-in-Ok-open-clause-opened g c =
     record {
       opened = c.in-Ok-open.ensures.answered;
+      fresh = c.in-Ok-open.ensures.new;
       left_is = search rules;
       told_is = search rules;
       held_is = search rules;

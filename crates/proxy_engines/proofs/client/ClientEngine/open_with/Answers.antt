@@ -24,6 +24,7 @@ pub returns-in-Ok-clause-opened : goal.returns-in-Ok-clause-opened
 returns-in-Ok-clause-opened g c =
     record {
       opened = c.in-Ok.ensures.answered;
+      fresh = c.in-Ok.ensures.new;
       left_is = search rules;
       told_is = search rules;
       held_is = search rules;
