@@ -1,1 +1,2 @@
 mod ThreadSharing
+pub mod SocketLemmas

@@ -4,7 +4,7 @@ use Rattle.proxy_history.specs.History.{History}
 use Rattle.proxy_engines.specs.Client.{Client}
 use Rattle.proxy_engines.specs.Socket.{Past}
 use Rattle.proxy_engines.specs.Ends.{RestState}
-use Rattle.proxy_engines.specs.HostStep.{HostState, ends_of}
+use Rattle.proxy_engines.specs.Host.{HostEnds}
 use Rattle.proxy_engines.specs.Keeps.{IsBetween, KeepsLink, no_logs}
 use Rattle.proxy_engines.specs.Logs.{Logs, CarriesSocketLogs}
 use Rattle.proxy_serve_core.specs.SocketReader.{SocketReaderState}
@@ -34,5 +34,5 @@ LeavesSocket engine logs rest = (pasts : List Past) (steps : History) (begun : L
     → IsBetween (record { conn = engine.conn; steps = steps } ∷ pasts) rest begun logs
 
 -- A host's connection keeps each of its links, from the link's first byte on.
-abbrev pub KeepsHost : HostState → HostState → History → History → Type 0
-KeepsHost old new before after = KeepsLink no_logs (ends_of old) (ends_of new) before after
+abbrev pub KeepsHost : HostEnds → HostEnds → History → History → Type 0
+KeepsHost old new before after = KeepsLink no_logs old new before after

@@ -89,6 +89,50 @@ impl CarriedSocket {
         self.stream.shut_write();
         let _ = self.reader.throw_away();
     }
+
+    // Opens a connection on this socket, which is registered with the poll. If the turn is refused it comes back.
+    fn into_client<R: Wait, T: CoreTurns>(
+        self,
+        rt: &R,
+        alloc: Global,
+        turns: &mut CountedTurns<T>,
+        registry: &Registry,
+    ) -> Result<Client, (EngineError, CarriedSocket)>
+        ensures ok { IfOk result (λ c. GoesOnFrom (logs_of self.reader self.writer) self.rest
+            c.engine (own_history T.pass T.seen turns.new.turns)) }
+        ensures err { IfErr result (λ e. (e.1.rest ≡ self.rest)
+            × (logs_of e.1.reader e.1.writer ≡ logs_of self.reader self.writer)) }
+    {
+        let CarriedSocket {
+            stream,
+            mut reader,
+            mut writer,
+            rest,
+            begun,
+        } = self;
+        reader.set_readable();
+        writer.set_writable();
+        let unfinished = reader.count().saturating_sub(begun);
+        match ClientEngine::open_with(rt, turns, reader, writer, rest) {
+            Ok(engine) => {
+                let mut client = Client::new(alloc, engine, stream);
+                client.begun = begun;
+                client.unfinished = unfinished;
+                Ok(client)
+            }
+            Err((error, reader, writer, rest)) => {
+                stream.deregister(registry);
+                let carried = CarriedSocket {
+                    stream,
+                    reader,
+                    writer,
+                    rest,
+                    begun,
+                };
+                Err((error, carried))
+            }
+        }
+    }
 }
 
 /// A client's socket and the engine of its connection.
@@ -193,11 +237,14 @@ impl Client {
         ensures { IfOk result
             (λ c. BeginsSocket c.engine (own_history T.pass T.seen turns.new.turns)) }
     {
-        let Ok(Socket {
-            stream,
-            reader,
-            writer,
-        }) = Socket::new(alloc, stream) else {
+        let Ok(
+            Socket {
+                stream,
+                reader,
+                writer,
+            },
+        ) = Socket::new(alloc, stream)
+        else {
             return Err(EngineError::NoMemory);
         };
         let engine = ClientEngine::open(rt, alloc, turns, reader, writer)?;
@@ -221,35 +268,7 @@ impl Client {
         if carried.stream.register(registry, token).is_err() {
             return Err((EngineError::ReadFailed, carried));
         }
-        let CarriedSocket {
-            stream,
-            mut reader,
-            mut writer,
-            rest,
-            begun,
-        } = carried;
-        reader.set_readable();
-        writer.set_writable();
-        let unfinished = reader.count().saturating_sub(begun);
-        match ClientEngine::open_with(rt, turns, reader, writer, rest) {
-            Ok(engine) => {
-                let mut client = Client::new(alloc, engine, stream);
-                client.begun = begun;
-                client.unfinished = unfinished;
-                Ok(client)
-            }
-            Err((error, reader, writer, rest)) => {
-                stream.deregister(registry);
-                let carried = CarriedSocket {
-                    stream,
-                    reader,
-                    writer,
-                    rest,
-                    begun,
-                };
-                Err((error, carried))
-            }
-        }
+        carried.into_client(rt, alloc, turns, registry)
     }
 
     /// Counts the bytes of its unfinished command.
@@ -365,18 +384,7 @@ impl Client {
     {
         self.has_more = false;
         match self.stage {
-            SocketStage::Served => {
-                self.replies = generation.replies();
-                self.engine.writer_mut().lend_buffer(buffer);
-                let stepped = self.step_engine(rt, turns, generation, round.reserve);
-                let counts = turns.take_counts();
-                self.waits.accepted(round.now, counts.accepted);
-                self.waits.answered(round.now, counts.handed, durations);
-                self.count(counts, generation);
-                self.write_out(buffer);
-                self.has_more = self.has_more || stepped.is_err();
-                stepped?;
-            }
+            SocketStage::Served => self.serve(rt, turns, generation, buffer, durations, round)?,
             SocketStage::Leaving => self.write_out(buffer),
             SocketStage::Lingering { .. } => {}
         }
@@ -384,6 +392,32 @@ impl Client {
             return Ok(Stepped::CarriedOver);
         }
         Ok(self.finish_closing(rt, generation, round.now))
+    }
+
+    // Steps the engine until it has to wait, and writes what it buffered.
+    fn serve<R: Wait, T: CoreTurns>(
+        &mut self,
+        rt: &R,
+        turns: &mut CountedTurns<T>,
+        generation: &GenerationState<'_>,
+        buffer: &mut Vec<u8>,
+        durations: &mut Histogram,
+        round: Round,
+    ) -> Result<(), StepError>
+        ensures { KeepsSocket self.old.engine self.new.engine
+            (own_history T.pass T.seen turns.old.turns)
+            (own_history T.pass T.seen turns.new.turns) }
+    {
+        self.replies = generation.replies();
+        self.engine.writer_mut().lend_buffer(buffer);
+        let stepped = self.step_engine(rt, turns, generation, round.reserve);
+        let counts = turns.take_counts();
+        self.waits.accepted(round.now, counts.accepted);
+        self.waits.answered(round.now, counts.handed, durations);
+        self.count(counts, generation);
+        self.write_out(buffer);
+        self.has_more = self.has_more || stepped.is_err();
+        stepped
     }
 
     // The journal has no room for a further command: no client's commands are taken in from here on.
@@ -455,14 +489,30 @@ impl Client {
             (own_history T.pass T.seen turns.old.turns)
             (own_history T.pass T.seen turns.new.turns) }
     {
-        if !self.is_drained && *room_for != Some(turns.counts().accepted) {
-            *room_for = Some(turns.counts().accepted);
-            if !self.may_take_in(rt, turns, generation, reserve) {
-                self.stop_accepting(generation);
-            }
-        }
+        self.find_room(rt, turns, generation, reserve, room_for);
         let stepped = self.engine.step(rt, turns);
         self.heed(stepped, generation)
+    }
+
+    // Drains unless the journal has room for a further command with all steps that it will owe.
+    fn find_room<R: Wait, T: CoreTurns>(
+        &mut self,
+        rt: &R,
+        turns: &mut CountedTurns<T>,
+        generation: &GenerationState<'_>,
+        reserve: u64,
+        room_for: &mut Option<u64>,
+    )
+        ensures drains { MayDrain self.old.engine self.new.engine }
+        ensures turns { turns.new.turns ≡ turns.old.turns }
+    {
+        if self.is_drained || *room_for == Some(turns.counts().accepted) {
+            return;
+        }
+        *room_for = Some(turns.counts().accepted);
+        if !self.may_take_in(rt, turns, generation, reserve) {
+            self.stop_accepting(generation);
+        }
     }
 
     // Handles the result of an engine's step. True: nothing more can be done for now.

@@ -1,6 +1,7 @@
 //! A host's connection, as its worker holds it.
 ghost use Rattle.std.specs.Prelude.{◌≡◌, None, IfOk};
 ghost use Rattle.proxy_history.specs.History.{History};
+ghost use Rattle.proxy_engines.specs.HostStep.{ends_of};
 ghost use Rattle.proxy_engines.specs.Turns.{own_history};
 ghost use Rattle.proxy_serve.specs.Sockets.{KeepsHost};
 
@@ -223,7 +224,7 @@ impl HostConnection {
         buffer: &mut Vec<u8>,
         round: HostRound,
     ) -> Result<HostStepped, StepError>
-        ensures { KeepsHost self.old.engine self.new.engine
+        ensures { KeepsHost (ends_of self.old.engine) (ends_of self.new.engine)
             (own_history T.pass T.seen turns.old.turns)
             (own_history T.pass T.seen turns.new.turns) }
     {
@@ -308,7 +309,7 @@ impl HostConnection {
         registry: &Registry,
         round: HostRound,
     ) -> Result<bool, StepError>
-        ensures { KeepsHost self.old.engine self.new.engine
+        ensures { KeepsHost (ends_of self.old.engine) (ends_of self.new.engine)
             (own_history T.pass T.seen turns.old.turns)
             (own_history T.pass T.seen turns.new.turns) }
     {
@@ -333,7 +334,7 @@ impl HostConnection {
         registry: &Registry,
         round: HostRound,
     ) -> Result<HostMoved, StepError>
-        ensures { KeepsHost self.old.engine self.new.engine
+        ensures { KeepsHost (ends_of self.old.engine) (ends_of self.new.engine)
             (own_history T.pass T.seen turns.old.turns)
             (own_history T.pass T.seen turns.new.turns) }
     {
@@ -365,7 +366,7 @@ impl HostConnection {
     ) -> Result<HostMoved, StepError>
         requires link { self.old.engine.link ≡ None }
         requires fault { self.old.engine.fault ≡ None }
-        ensures { KeepsHost self.old.engine self.new.engine
+        ensures { KeepsHost (ends_of self.old.engine) (ends_of self.new.engine)
             (own_history T.pass T.seen turns.old.turns)
             (own_history T.pass T.seen turns.new.turns) }
     {
@@ -392,13 +393,11 @@ impl HostConnection {
     ) -> Result<Progress, StepError>
         ensures needs_link { IfOk result (λ p. p ≡ Progress.NeedsLink
             → (self.new.engine.link ≡ None) × (self.new.engine.fault ≡ None)) }
-        ensures keeps { KeepsHost self.old.engine self.new.engine
+        ensures keeps { KeepsHost (ends_of self.old.engine) (ends_of self.new.engine)
             (own_history T.pass T.seen turns.old.turns)
             (own_history T.pass T.seen turns.new.turns) }
     {
-        if self.is_to_be_given_up(rt, turns, generation, round.gives_up) {
-            self.give_up(rt, turns, round.now)?;
-        }
+        self.give_up_if_due(rt, turns, generation, round)?;
         let before = *turns.counts();
         let stepped = self.engine.step(rt, turns, round.now);
         self.note_step(&before, turns.counts());
@@ -408,6 +407,25 @@ impl HostConnection {
                 self.handle_error(rt, turns, StepError::from(error), round.now)?;
                 Ok(Progress::Moved)
             }
+        }
+    }
+
+    // Gives up a link that has to go.
+    fn give_up_if_due<R: Wait, T: CoreTurns>(
+        &mut self,
+        rt: &R,
+        turns: &mut CountedTurns<T>,
+        generation: &GenerationState<'_>,
+        round: HostRound,
+    ) -> Result<(), StepError>
+        ensures { KeepsHost (ends_of self.old.engine) (ends_of self.new.engine)
+            (own_history T.pass T.seen turns.old.turns)
+            (own_history T.pass T.seen turns.new.turns) }
+    {
+        if self.is_to_be_given_up(rt, turns, generation, round.gives_up) {
+            self.give_up(rt, turns, round.now)
+        } else {
+            Ok(())
         }
     }
 
@@ -432,7 +450,7 @@ impl HostConnection {
         error: StepError,
         now: u64,
     ) -> Result<(), StepError>
-        ensures { KeepsHost self.old.engine self.new.engine
+        ensures { KeepsHost (ends_of self.old.engine) (ends_of self.new.engine)
             (own_history T.pass T.seen turns.old.turns)
             (own_history T.pass T.seen turns.new.turns) }
     {
@@ -492,7 +510,7 @@ impl HostConnection {
         turns: &mut CountedTurns<T>,
         now: u64,
     ) -> Result<(), StepError>
-        ensures { KeepsHost self.old.engine self.new.engine
+        ensures { KeepsHost (ends_of self.old.engine) (ends_of self.new.engine)
             (own_history T.pass T.seen turns.old.turns)
             (own_history T.pass T.seen turns.new.turns) }
     {
@@ -586,7 +604,7 @@ impl HostConnection {
         now: u64,
     ) -> Result<(), StepError>
         requires { self.old.engine.link ≡ None }
-        ensures { KeepsHost self.old.engine self.new.engine
+        ensures { KeepsHost (ends_of self.old.engine) (ends_of self.new.engine)
             (own_history T.pass T.seen turns.old.turns)
             (own_history T.pass T.seen turns.new.turns) }
     {
@@ -604,7 +622,7 @@ impl HostConnection {
     fn attach(&mut self) -> Result<(), StepError>
         requires link { self.old.engine.link ≡ None }
         requires fault { self.old.engine.fault ≡ None }
-        ensures { (H : History) → KeepsHost self.old.engine self.new.engine H H }
+        ensures { (H : History) → KeepsHost (ends_of self.old.engine) (ends_of self.new.engine) H H }
     {
         match mem::replace(&mut self.link, LinkState::Down) {
             LinkState::Connecting { stream, .. } => self.attach_socket(stream),
@@ -619,21 +637,26 @@ impl HostConnection {
     fn attach_socket(&mut self, stream: TcpStream) -> Result<(), StepError>
         requires link { self.old.engine.link ≡ None }
         requires fault { self.old.engine.fault ≡ None }
-        ensures { (H : History) → KeepsHost self.old.engine self.new.engine H H }
+        ensures { (H : History) → KeepsHost (ends_of self.old.engine) (ends_of self.new.engine) H H }
     {
-        let Ok(Socket {
-            stream,
-            reader,
-            writer,
-        }) = Socket::new(self.alloc, stream) else {
+        let Ok(
+            Socket {
+                stream,
+                reader,
+                writer,
+            },
+        ) = Socket::new(self.alloc, stream)
+        else {
             return Err(StepError::Memory);
         };
-        if self.engine.attach(reader, writer).is_err() {
-            return Err(StepError::Memory);
+        match self.engine.attach(reader, writer) {
+            Ok(()) => {
+                self.set_link(LinkState::Up(stream));
+                self.begun = 0;
+                Ok(())
+            }
+            Err(_) => Err(StepError::Memory),
         }
-        self.set_link(LinkState::Up(stream));
-        self.begun = 0;
-        Ok(())
     }
 }
 
