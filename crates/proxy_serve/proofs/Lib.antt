@@ -1,2 +1,3 @@
 mod ThreadSharing
 pub mod SocketLemmas
+pub mod WorkerLemmas

@@ -1,8 +1,14 @@
 -- What a worker's clients and hosts keep of their sockets' logs.
-use Rattle.std.proofs.Common.{◌≡◌, ◌⊎◌, ℕ, Bool, List, [], Option, Some, None, inl, inr, refl}
+use Rattle.std.proofs.Common.{◌≡◌, ◌≢◌, ◌⊎◌, ◌∙◌, ℕ, Bool, List, [], ◌∷◌, Option, Some, None, eq-eqb, inl, inr, refl}
 use Rattle.std.specs.Prelude.{Result}
 use Rattle.proxy_history.specs.History.{History}
+use Rattle.proxy_history.specs.Own.{connection_steps}
+use Rattle.proxy_history.specs.declared.answer.Answer.{Answer}
+use Rattle.proxy_history.specs.declared.event.Event.{Event}
 use Rattle.proxy_history.specs.declared.event.Kind.{Kind}
+use Rattle.journal_core.specs.Journal.{step_by}
+use Rattle.proxy_devices.specs.Device.{ReadState, WriteState}
+use Rattle.proxy_engines.specs.ClientSteps.{OpensClient}
 use Rattle.proxy_engines.specs.Client.{Client, Carries, Goes}
 use Rattle.proxy_engines.specs.Ends.{RestState}
 use Rattle.proxy_engines.specs.Socket.{IsLeft, IsRest}
@@ -13,7 +19,7 @@ use Rattle.proxy_engines.specs.Keeps.{KeepsSocket, no_logs}
 use Rattle.proxy_engines.specs.HostStep.{HostCall, HostState, Records, RestsHost, StepsHost, ends_of}
 use Rattle.proxy_engines.specs.Moves.{AsTold}
 use Rattle.proxy_engines.proofs.CallerLemmas as engines
-use Rattle.proxy_serve.specs.Sockets.{GoesOnFrom, KeepsHost, LeavesSocket, MayDrain}
+use Rattle.proxy_serve.specs.Sockets.{IsCarried, IsServed, KeepsHost, MayDrain, OpensSocket}
 
 -- CLIENTS
 
@@ -56,15 +62,45 @@ KeepsHost-attached old new k none outbox some told taken carries H =
 
 -- OPENINGS
 
--- an engine that was opened over a socket's logs, between two connections, goes on from there
-pub goes_on_from : (e : Client) (H : History) (rest : RestState) (told taken : List ℕ) → ((bytes : List ℕ) → IsRest rest bytes → Carries e H [] bytes)
-    → e.inbox.told ≡ told → e.outbox.taken ≡ taken → GoesOnFrom (record { told = told; taken = taken }) rest e H
-goes_on_from e H rest told taken carries is_told is_taken =
-    λ pasts begun s. engines.clients_keep_sockets.opens pasts e H rest begun carries (rw (is_told, is_taken) s)
+own_opening : (c pass : ℕ) → connection_steps c (step_by pass Event.Opened (Answer.Opened c) ∷ []) ≡ step_by pass Event.Opened (Answer.Opened c) ∷ []
+own_opening c pass = rw (eq-eqb c c refl) refl
 
--- a socket that an engine left is between two connections
-pub leaves_socket : (e : Client) (rest : RestState) (told taken : List ℕ)
+opened_some : (c pass : ℕ) → connection_steps c (step_by pass Event.Opened (Answer.Opened c) ∷ []) ≢ []
+opened_some c pass none = let is = own_opening c pass in absurd cc
+
+module _ (pass : ℕ) (before after : History) (reader : ReadState) (writer : WriteState) (e : Client) (o : OpensClient pass before after reader writer e) where
+  -- an engine was opened over a new socket
+  pub opens_socket : Carries e after [] [] → reader.told ≡ [] → writer.taken ≡ [] → OpensSocket e before after
+  opens_socket carries told taken = record {
+    later = step_by pass Event.Opened (Answer.Opened e.conn) ∷ [];
+    adds = o.opened;
+    alone = own_opening e.conn pass;
+    some = opened_some e.conn pass;
+    fresh = o.fresh;
+    pasts = [];
+    carries = engines.sockets_carry_logs.begins e after no_logs
+        (record { taken = []; told = []; taken_is = o.taken_is ∙ taken; told_is = o.told_is ∙ told; so = carries });
+  }
+
+  -- an engine was opened over a socket that was between two connections
+  pub reopens_socket : (rest : RestState) (told taken : List ℕ) → ((bytes : List ℕ) → IsRest rest bytes → Carries e after [] bytes)
+      → reader.told ≡ told → writer.taken ≡ taken → IsCarried rest (record { told = told; taken = taken }) → OpensSocket e before after
+  reopens_socket rest told taken carries is_told is_taken (pasts, between) = record {
+    later = step_by pass Event.Opened (Answer.Opened e.conn) ∷ [];
+    adds = o.opened;
+    alone = own_opening e.conn pass;
+    some = opened_some e.conn pass;
+    fresh = o.fresh;
+    pasts = pasts;
+    carries = engines.clients_keep_sockets.opens pasts e after rest no_logs carries
+        (rw (o.told_is ∙ is_told, o.taken_is ∙ is_taken) between);
+  }
+
+-- a socket that a served engine left is between two connections
+pub leaves_socket : (e : Client) (rest : RestState) (told taken : List ℕ) → IsServed e
     → ((H : History) (gave got : List ℕ) → Carries e H gave got → IsLeft e.conn H gave got rest)
-    → told ≡ e.inbox.told → taken ≡ e.outbox.taken → LeavesSocket e (record { told = told; taken = taken }) rest
-leaves_socket e rest told taken left is_told is_taken =
-    λ pasts H begun k. rw (is_told, is_taken) (engines.clients_keep_sockets.leaves pasts e H rest begun (left H) k)
+    → told ≡ e.inbox.told → taken ≡ e.outbox.taken → IsCarried rest (record { told = told; taken = taken })
+leaves_socket e rest told taken served left is_told is_taken = (
+  record { conn = e.conn; steps = served.steps } ∷ served.pasts,
+  rw (is_told, is_taken) (engines.clients_keep_sockets.leaves served.pasts e served.steps rest no_logs (left served.steps) served.carries),
+)

@@ -1,6 +1,7 @@
 -- What a worker's clients and hosts keep of their sockets' logs.
-use Rattle.std.specs.Prelude.{◌≡◌, ◌⊎◌, ◌∷◌, [], true, List}
+use Rattle.std.specs.Prelude.{◌≡◌, ◌≢◌, ◌⊎◌, ◌++◌, [], true, List}
 use Rattle.proxy_history.specs.History.{History}
+use Rattle.proxy_history.specs.Own.{connection_steps}
 use Rattle.proxy_engines.specs.Client.{Client}
 use Rattle.proxy_engines.specs.Socket.{Past}
 use Rattle.proxy_engines.specs.Ends.{RestState}
@@ -19,19 +20,26 @@ logs_of reader writer = record { told = reader.end.delivered; taken = accepted w
 abbrev pub MayDrain : Client → Client → Type 0
 MayDrain old new = (new ≡ old) ⊎ (new ≡ record old { is_drained = true })
 
--- A socket's engine was opened over these steps: it carries all that its socket's logs hold.
-abbrev pub BeginsSocket : Client → History → Type 0
-BeginsSocket engine steps = CarriesSocketLogs [] engine steps no_logs
+-- An engine was opened for a connection of which no step was made before. The steps made are its own, at least one, and it carries
+-- all that its socket's logs hold, from the socket's first byte on.
+pub record OpensSocket (engine : Client) (before after : History) : Type 0 where
+  pub later : History
+  pub adds : after ≡ later ++ before
+  pub alone : connection_steps engine.conn later ≡ later
+  pub some : connection_steps engine.conn later ≢ []
+  pub fresh : connection_steps engine.conn before ≡ []
+  pub pasts : List Past
+  pub carries : CarriesSocketLogs pasts engine after no_logs
 
--- An engine was opened over a socket that was between two connections, and goes on from there.
-abbrev pub GoesOnFrom : Logs → RestState → Client → History → Type 0
-GoesOnFrom logs rest engine steps = (pasts : List Past) (begun : Logs) → IsBetween pasts rest begun logs
-    → CarriesSocketLogs pasts engine steps begun
+-- An engine carries all that its socket's logs hold, over some steps.
+pub record IsServed (engine : Client) : Type 0 where
+  pub pasts : List Past
+  pub steps : History
+  pub carries : CarriesSocketLogs pasts engine steps no_logs
 
--- A socket was left by an engine, and is between two connections.
-abbrev pub LeavesSocket : Client → Logs → RestState → Type 0
-LeavesSocket engine logs rest = (pasts : List Past) (steps : History) (begun : Logs) → CarriesSocketLogs pasts engine steps begun
-    → IsBetween (record { conn = engine.conn; steps = steps } ∷ pasts) rest begun logs
+-- A socket with this rest and these logs is between two connections: all of those before it were answered.
+abbrev pub IsCarried : RestState → Logs → Type 0
+IsCarried rest logs = (pasts : List Past) × IsBetween pasts rest no_logs logs
 
 -- A host's connection keeps each of its links, from the link's first byte on.
 abbrev pub KeepsHost : HostEnds → HostEnds → History → History → Type 0

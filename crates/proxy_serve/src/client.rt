@@ -1,8 +1,8 @@
 //! A client's connection, as its worker holds it.
-ghost use Rattle.std.specs.Prelude.{◌≡◌, true, IfOk, IfErr, IfSome};
+ghost use Rattle.std.specs.Prelude.{◌≡◌, true, IfOk, OnErr};
 ghost use Rattle.proxy_engines.specs.Keeps.{KeepsSocket};
 ghost use Rattle.proxy_engines.specs.Turns.{own_history};
-ghost use Rattle.proxy_serve.specs.Sockets.{BeginsSocket, GoesOnFrom, LeavesSocket, MayDrain, logs_of};
+ghost use Rattle.proxy_serve.specs.Sockets.{IsServed, MayDrain, OpensSocket};
 
 use crate::counted_turns::{CountedTurns, TurnCounts};
 use crate::generation_state::{GenerationState, LARGE, LARGE_STEP};
@@ -17,6 +17,7 @@ use proxy_exit_status::Ending;
 use proxy_histogram::{Histogram, Unanswered};
 use proxy_serve_core::Refusals;
 use std::alloc::Global;
+use std::marker::Model;
 use std::sync::Wait;
 
 // The most steps of one connection in a round, so that one pipeline doesn't starve the others.
@@ -81,6 +82,17 @@ impl Drop for CarriedSocket {
     }
 }
 
+impl Model for CarriedSocket {
+    ghost use Rattle.proxy_engines.specs.Logs.{Logs};
+    ghost use Rattle.proxy_serve.specs.Sockets.{IsCarried, logs_of};
+
+    ghost Value = { Logs };
+
+    ghost view = { λ c. logs_of c.reader c.writer };
+
+    ghost invariant = { λ c. IsCarried c.rest (logs_of c.reader c.writer) };
+}
+
 impl CarriedSocket {
     /// Writes buffered bytes as far as the socket takes them, and closes the sending half: the newest generation takes
     /// no further connection.
@@ -98,10 +110,11 @@ impl CarriedSocket {
         turns: &mut CountedTurns<T>,
         registry: &Registry,
     ) -> Result<Client, (EngineError, CarriedSocket)>
-        ensures ok { IfOk result (λ c. GoesOnFrom (logs_of self.reader self.writer) self.rest
-            c.engine (own_history T.pass T.seen turns.new.turns)) }
-        ensures err { IfErr result (λ e. (e.1.rest ≡ self.rest)
-            × (logs_of e.1.reader e.1.writer ≡ logs_of self.reader self.writer)) }
+        ensures ok { IfOk result (λ c. OpensSocket c.engine
+            (own_history T.pass T.seen turns.old.turns)
+            (own_history T.pass T.seen turns.new.turns)) }
+        ensures err { OnErr result (own_history T.pass T.seen turns.new.turns
+            ≡ own_history T.pass T.seen turns.old.turns) }
     {
         let CarriedSocket {
             stream,
@@ -234,8 +247,11 @@ impl Client {
         turns: &mut CountedTurns<T>,
         stream: TcpStream,
     ) -> Result<Client, EngineError>
-        ensures { IfOk result
-            (λ c. BeginsSocket c.engine (own_history T.pass T.seen turns.new.turns)) }
+        ensures ok { IfOk result (λ c. OpensSocket c.engine
+            (own_history T.pass T.seen turns.old.turns)
+            (own_history T.pass T.seen turns.new.turns)) }
+        ensures err { OnErr result (own_history T.pass T.seen turns.new.turns
+            ≡ own_history T.pass T.seen turns.old.turns) }
     {
         let Ok(
             Socket {
@@ -260,10 +276,11 @@ impl Client {
         token: Token,
         carried: CarriedSocket,
     ) -> Result<Client, (EngineError, CarriedSocket)>
-        ensures ok { IfOk result (λ c. GoesOnFrom (logs_of carried.reader carried.writer)
-            carried.rest c.engine (own_history T.pass T.seen turns.new.turns)) }
-        ensures err { IfErr result (λ e. (e.1.rest ≡ carried.rest) × (logs_of e.1.reader e.1.writer
-            ≡ logs_of carried.reader carried.writer)) }
+        ensures ok { IfOk result (λ c. OpensSocket c.engine
+            (own_history T.pass T.seen turns.old.turns)
+            (own_history T.pass T.seen turns.new.turns)) }
+        ensures err { OnErr result (own_history T.pass T.seen turns.new.turns
+            ≡ own_history T.pass T.seen turns.old.turns) }
     {
         if carried.stream.register(registry, token).is_err() {
             return Err((EngineError::ReadFailed, carried));
@@ -282,7 +299,7 @@ impl Client {
         registry: &Registry,
         generation: &GenerationState<'_>,
     ) -> Option<CarriedSocket>
-        ensures { IfSome result (λ s. LeavesSocket self.engine (logs_of s.reader s.writer) s.rest) }
+        requires { IsServed self.engine }
     {
         let Client {
             engine,

@@ -1,4 +1,6 @@
 //! A worker: a thread that has a poll and steps its clients and hosts.
+ghost use Rattle.std.specs.Prelude.{◌≡◌};
+ghost use Rattle.proxy_serve.specs.Workers.{IsNewcomer, IsServing, steps_of};
 
 use crate::client::{CarriedSocket, Client, Round, StepError, Stepped};
 use crate::counted_turns::CountedTurns;
@@ -8,6 +10,7 @@ use crate::host_connection::{HostConnection, HostRound, HostStepped};
 use crate::log::Level;
 use crate::stop::Stop;
 use limits::MAX_SOCKETS;
+use mio::event::Event;
 use mio::net::TcpStream;
 use mio::{Events, Interest, Poll, Token};
 use proxy_config::Config;
@@ -19,7 +22,7 @@ use proxy_stats::CountedSeat;
 use slab::Slab;
 use std::alloc::{AllocError, Global};
 use std::mem;
-use std::net::Net;
+use std::net::{Net, SocketAddr};
 use std::rt::Clock;
 use std::sync::Wait;
 use std::time::Duration;
@@ -249,7 +252,12 @@ impl<'a> Worker<'a> {
         &mut self,
         rt: &R,
         mut events: Events,
-    ) -> Result<(), Stop> {
+    ) -> Result<(), Stop>
+        requires { IsServing self.old.clients self.old.hosts.items
+            (steps_of self.old.turns.turns) }
+        ensures { IsServing self.new.clients self.new.hosts.items
+            (steps_of self.new.turns.turns) }
+    {
         let mut pause = 0;
         self.settle(rt);
         for _ in rt.forever() {
@@ -268,7 +276,12 @@ impl<'a> Worker<'a> {
     }
 
     // Drains and gives up with the generation. False: its last sockets are to be closed.
-    fn follow_phase(&mut self) -> bool {
+    fn follow_phase(&mut self) -> bool
+        requires { IsServing self.old.clients self.old.hosts.items
+            (steps_of self.old.turns.turns) }
+        ensures { IsServing self.new.clients self.new.hosts.items
+            (steps_of self.new.turns.turns) }
+    {
         match self.generation.phase() {
             Phase::Serving => {}
             Phase::Draining => self.drain(),
@@ -282,7 +295,12 @@ impl<'a> Worker<'a> {
     }
 
     // Waits at most this many milliseconds for the poll's events.
-    fn wait(&mut self, events: &mut Events, pause: u64) -> Result<(), Stop> {
+    fn wait(&mut self, events: &mut Events, pause: u64) -> Result<(), Stop>
+        requires { IsServing self.old.clients self.old.hosts.items
+            (steps_of self.old.turns.turns) }
+        ensures { IsServing self.new.clients self.new.hosts.items
+            (steps_of self.new.turns.turns) }
+    {
         let polled = self.poll.poll(events, Some(Duration::from_millis(pause)));
         if let Some(worker) = self.generation.worker(self.index) {
             worker.mark_awake();
@@ -294,7 +312,12 @@ impl<'a> Worker<'a> {
     }
 
     // Answers what it still can, and hands sockets over, before it closes the others.
-    fn finish<R: Wait + Net + Clock + Eprint>(&mut self, rt: &R) -> Result<(), Stop> {
+    fn finish<R: Wait + Net + Clock + Eprint>(&mut self, rt: &R) -> Result<(), Stop>
+        requires { IsServing self.old.clients self.old.hosts.items
+            (steps_of self.old.turns.turns) }
+        ensures { IsServing self.new.clients self.new.hosts.items
+            (steps_of self.new.turns.turns) }
+    {
         self.drain();
         self.gives_up = true;
         for _ in 0..MAX_LAST_ROUNDS {
@@ -314,7 +337,12 @@ impl<'a> Worker<'a> {
     }
 
     // Reports the worker's turns. It keeps a lent step for a fault of each of its links, because a fault must be recorded.
-    fn settle<R: Wait>(&mut self, rt: &R) {
+    fn settle<R: Wait>(&mut self, rt: &R)
+        requires { IsServing self.old.clients self.old.hosts.items
+            (steps_of self.old.turns.turns) }
+        ensures { IsServing self.new.clients self.new.hosts.items
+            (steps_of self.new.turns.turns) }
+    {
         let reserve = self.reserve();
         self.generation.settle(rt, &mut self.turns, reserve);
     }
@@ -325,29 +353,61 @@ impl<'a> Worker<'a> {
     }
 
     // Ends all clients' inputs once the server drains.
-    fn end_inputs(&mut self) {
+    fn end_inputs(&mut self)
+        requires { IsServing self.old.clients self.old.hosts.items
+            (steps_of self.old.turns.turns) }
+        ensures { IsServing self.new.clients self.new.hosts.items
+            (steps_of self.new.turns.turns) }
+    {
         if self.ends_inputs || !self.generation.server().is_draining() {
             return;
         }
         self.ends_inputs = true;
         for key in 0..self.clients.capacity() {
-            if let Some(client) = self.clients.get_mut(key) {
-                client.end_input();
-            }
+            self.end_input(key);
         }
     }
 
+    // Ends the input of the client with this key, if there is one.
+    fn end_input(&mut self, key: usize)
+        requires { IsServing self.old.clients self.old.hosts.items
+            (steps_of self.old.turns.turns) }
+        ensures { IsServing self.new.clients self.new.hosts.items
+            (steps_of self.new.turns.turns) }
+    {
+        let Some(client) = self.clients.get_mut(key) else {
+            return;
+        };
+        client.end_input();
+    }
+
     // Takes in nothing more from any client.
-    fn drain(&mut self) {
+    fn drain(&mut self)
+        requires { IsServing self.old.clients self.old.hosts.items
+            (steps_of self.old.turns.turns) }
+        ensures { IsServing self.new.clients self.new.hosts.items
+            (steps_of self.new.turns.turns) }
+    {
         if self.is_draining || self.clients.is_empty() {
             return;
         }
         self.is_draining = true;
         for key in 0..self.clients.capacity() {
-            if let Some(client) = self.clients.get_mut(key) {
-                client.drain();
-            }
+            self.drain_client(key);
         }
+    }
+
+    // Takes in nothing more from the client with this key, if there is one.
+    fn drain_client(&mut self, key: usize)
+        requires { IsServing self.old.clients self.old.hosts.items
+            (steps_of self.old.turns.turns) }
+        ensures { IsServing self.new.clients self.new.hosts.items
+            (steps_of self.new.turns.turns) }
+    {
+        let Some(client) = self.clients.get_mut(key) else {
+            return;
+        };
+        client.drain();
     }
 
     // Writes the buffered bytes of connections that are cut short, and counts these as closed.
@@ -414,25 +474,67 @@ impl<'a> Worker<'a> {
     }
 
     // Gives each event of the poll to its host or client.
-    fn on_readiness(&mut self, events: &Events) {
+    fn on_readiness(&mut self, events: &Events)
+        requires { IsServing self.old.clients self.old.hosts.items
+            (steps_of self.old.turns.turns) }
+        ensures { IsServing self.new.clients self.new.hosts.items
+            (steps_of self.new.turns.turns) }
+    {
         for event in events {
-            let token = event.token();
-            if token == WAKER {
-                self.may_have_sockets = true;
-                continue;
-            }
-            if token.0 >= HOSTS {
-                if let Some(host) = self.hosts.get_mut(token.0 - HOSTS) {
-                    host.on_readiness(event);
-                }
-            } else if let Some(client) = self.clients.get_mut(token.0) {
-                client.on_readiness(event);
-            }
+            self.on_event(event);
         }
     }
 
+    // Gives an event of the poll to its host or client.
+    fn on_event(&mut self, event: &Event)
+        requires { IsServing self.old.clients self.old.hosts.items
+            (steps_of self.old.turns.turns) }
+        ensures { IsServing self.new.clients self.new.hosts.items
+            (steps_of self.new.turns.turns) }
+    {
+        let token = event.token();
+        if token == WAKER {
+            self.may_have_sockets = true;
+        } else if token.0 >= HOSTS {
+            self.on_host_event(token.0 - HOSTS, event);
+        } else {
+            self.on_client_event(token.0, event);
+        }
+    }
+
+    // Gives an event of the poll to a host.
+    fn on_host_event(&mut self, index: usize, event: &Event)
+        requires { IsServing self.old.clients self.old.hosts.items
+            (steps_of self.old.turns.turns) }
+        ensures { IsServing self.new.clients self.new.hosts.items
+            (steps_of self.new.turns.turns) }
+    {
+        let Some(host) = self.hosts.get_mut(index) else {
+            return;
+        };
+        host.on_readiness(event);
+    }
+
+    // Gives an event of the poll to a client.
+    fn on_client_event(&mut self, key: usize, event: &Event)
+        requires { IsServing self.old.clients self.old.hosts.items
+            (steps_of self.old.turns.turns) }
+        ensures { IsServing self.new.clients self.new.hosts.items
+            (steps_of self.new.turns.turns) }
+    {
+        let Some(client) = self.clients.get_mut(key) else {
+            return;
+        };
+        client.on_readiness(event);
+    }
+
     // One round: new sockets, replies, clients, and the parts that these queued. True: more can be done at once.
-    fn run_once<R: Wait + Net + Clock + Eprint>(&mut self, rt: &R) -> Result<bool, Stop> {
+    fn run_once<R: Wait + Net + Clock + Eprint>(&mut self, rt: &R) -> Result<bool, Stop>
+        requires { IsServing self.old.clients self.old.hosts.items
+            (steps_of self.old.turns.turns) }
+        ensures { IsServing self.new.clients self.new.hosts.items
+            (steps_of self.new.turns.turns) }
+    {
         let now = now(rt);
         self.lacks_memory = false;
         if self.may_have_sockets || now.saturating_sub(self.accepted_at) >= PAUSE_MS {
@@ -450,7 +552,12 @@ impl<'a> Worker<'a> {
     }
 
     // Steps hosts, then clients, then hosts for the parts that these queued.
-    fn step_all<R: Wait + Net + Eprint>(&mut self, rt: &R, now: u64) -> Result<bool, Stop> {
+    fn step_all<R: Wait + Net + Eprint>(&mut self, rt: &R, now: u64) -> Result<bool, Stop>
+        requires { IsServing self.old.clients self.old.hosts.items
+            (steps_of self.old.turns.turns) }
+        ensures { IsServing self.new.clients self.new.hosts.items
+            (steps_of self.new.turns.turns) }
+    {
         let hosts = self.step_hosts(rt, now)?;
         let clients = self.step_clients(rt, now)?;
         let after = self.step_hosts(rt, now)?;
@@ -467,7 +574,12 @@ impl<'a> Worker<'a> {
     }
 
     // Reports the durations of commands.
-    fn report_durations<R: Wait>(&mut self, rt: &R) {
+    fn report_durations<R: Wait>(&mut self, rt: &R)
+        requires { IsServing self.old.clients self.old.hosts.items
+            (steps_of self.old.turns.turns) }
+        ensures { IsServing self.new.clients self.new.hosts.items
+            (steps_of self.new.turns.turns) }
+    {
         let durations = mem::replace(&mut self.durations, Histogram::new());
         if durations.total > 0 {
             self.generation.server().add_durations(rt, &durations);
@@ -475,7 +587,12 @@ impl<'a> Worker<'a> {
     }
 
     // Counts a refusal of memory to the first socket in the queue.
-    fn count_refusal(&mut self) -> Result<(), Stop> {
+    fn count_refusal(&mut self) -> Result<(), Stop>
+        requires { IsServing self.old.clients self.old.hosts.items
+            (steps_of self.old.turns.turns) }
+        ensures { IsServing self.new.clients self.new.hosts.items
+            (steps_of self.new.turns.turns) }
+    {
         self.lacks_memory = true;
         self.may_have_sockets = true;
         if self.opening.refused() {
@@ -486,7 +603,12 @@ impl<'a> Worker<'a> {
     }
 
     // Handles an error. Without memory the step is made again, until too many were refused in a row.
-    fn handle_error(&mut self, error: StepError) -> Result<(), Stop> {
+    fn handle_error(&mut self, error: StepError) -> Result<(), Stop>
+        requires { IsServing self.old.clients self.old.hosts.items
+            (steps_of self.old.turns.turns) }
+        ensures { IsServing self.new.clients self.new.hosts.items
+            (steps_of self.new.turns.turns) }
+    {
         match error {
             StepError::Full => {
                 self.generation.stop_accepting();
@@ -502,7 +624,12 @@ impl<'a> Worker<'a> {
     }
 
     // Handles the error of a connection that is being opened.
-    fn handle_open_error(&mut self, error: StepError) -> Result<(), Stop> {
+    fn handle_open_error(&mut self, error: StepError) -> Result<(), Stop>
+        requires { IsServing self.old.clients self.old.hosts.items
+            (steps_of self.old.turns.turns) }
+        ensures { IsServing self.new.clients self.new.hosts.items
+            (steps_of self.new.turns.turns) }
+    {
         match error {
             StepError::Memory => self.count_refusal(),
             StepError::Full | StepError::Ends(_) | StepError::Alone => self.handle_error(error),
@@ -510,7 +637,12 @@ impl<'a> Worker<'a> {
     }
 
     // Whether one more connection may be opened: the generation serves, and its journal has room for it and a command.
-    fn may_open<R: Wait>(&mut self, rt: &R) -> bool {
+    fn may_open<R: Wait>(&mut self, rt: &R) -> bool
+        requires { IsServing self.old.clients self.old.hosts.items
+            (steps_of self.old.turns.turns) }
+        ensures { IsServing self.new.clients self.new.hosts.items
+            (steps_of self.new.turns.turns) }
+    {
         if self.generation.phase() != Phase::Serving {
             return false;
         }
@@ -524,7 +656,12 @@ impl<'a> Worker<'a> {
 
     // Opens the sockets in the worker's queue, carried-over ones first. Each is counted before the phase is read: so
     // none comes to a generation that has drained.
-    fn accept_new<R: Wait>(&mut self, rt: &R) -> Result<(), Stop> {
+    fn accept_new<R: Wait>(&mut self, rt: &R) -> Result<(), Stop>
+        requires { IsServing self.old.clients self.old.hosts.items
+            (steps_of self.old.turns.turns) }
+        ensures { IsServing self.new.clients self.new.hosts.items
+            (steps_of self.new.turns.turns) }
+    {
         self.may_have_sockets = false;
         for _ in 0..MAX_EVENTS {
             self.generation.count_opened();
@@ -547,12 +684,17 @@ impl<'a> Worker<'a> {
     }
 
     // Opens the first socket in the worker's queue, a carried-over one first.
-    fn accept_one<R: Wait>(&mut self, rt: &R) -> Result<OpenResult, Stop> {
+    fn accept_one<R: Wait>(&mut self, rt: &R) -> Result<OpenResult, Stop>
+        requires { IsServing self.old.clients self.old.hosts.items
+            (steps_of self.old.turns.turns) }
+        ensures { IsServing self.new.clients self.new.hosts.items
+            (steps_of self.new.turns.turns) }
+    {
         let server = self.generation.server();
         if !server.has_waiting(rt, self.index) {
             return Ok(OpenResult::None);
         }
-        if self.clients.reserve(1).is_err() {
+        if !self.reserve_slot() {
             self.count_refusal()?;
             return Ok(OpenResult::None);
         }
@@ -565,28 +707,51 @@ impl<'a> Worker<'a> {
         }
     }
 
+    // Makes room for one more client. False: there is no memory.
+    fn reserve_slot(&mut self) -> bool
+        requires { IsServing self.old.clients self.old.hosts.items
+            (steps_of self.old.turns.turns) }
+        ensures { IsServing self.new.clients self.new.hosts.items
+            (steps_of self.new.turns.turns) }
+    {
+        self.clients.reserve(1).is_ok()
+    }
+
     // Gives the client a slot: it has a connection from here on.
-    fn insert<R: Wait>(&mut self, rt: &R, mut client: Client) -> OpenResult {
+    fn insert<R: Wait>(&mut self, rt: &R, mut client: Client) -> OpenResult
+        requires serving { IsServing self.old.clients self.old.hosts.items
+            (steps_of self.old.turns.turns) }
+        requires new { IsNewcomer client.engine self.old.clients
+            (steps_of self.old.turns.turns) }
+        ensures { IsServing self.new.clients self.new.hosts.items
+            (steps_of self.new.turns.turns) }
+    {
         self.opening.succeeded();
+        self.begin_input(&mut client);
+        let Ok(_) = self.clients.insert(client) else {
+            self.generation.server().count_closed_and_dropped(rt);
+            return OpenResult::Closed;
+        };
+        OpenResult::Opened
+    }
+
+    // Ends the input of a new client where the server drains.
+    fn begin_input(&self, client: &mut Client)
+        ensures { client.new.engine ≡ client.old.engine }
+    {
         if self.ends_inputs {
             client.end_input();
-        }
-        match self.clients.insert(client) {
-            Ok(_) => OpenResult::Opened,
-            Err(_) => {
-                self.generation.server().count_closed_and_dropped(rt);
-                OpenResult::Closed
-            }
         }
     }
 
     // Opens a carried-over socket. It waits in the queue again where there is no memory or no step left. Where its
     // connection can't be opened otherwise, its buffered bytes are written and it is closed.
-    fn open_carried<R: Wait>(
-        &mut self,
-        rt: &R,
-        carried: CarriedSocket,
-    ) -> Result<OpenResult, Stop> {
+    fn open_carried<R: Wait>(&mut self, rt: &R, carried: CarriedSocket) -> Result<OpenResult, Stop>
+        requires { IsServing self.old.clients self.old.hosts.items
+            (steps_of self.old.turns.turns) }
+        ensures { IsServing self.new.clients self.new.hosts.items
+            (steps_of self.new.turns.turns) }
+    {
         let token = Token(self.clients.vacant_key());
         let opened = Client::open_carried(
             rt,
@@ -611,7 +776,12 @@ impl<'a> Worker<'a> {
         rt: &R,
         error: StepError,
         mut carried: CarriedSocket,
-    ) -> Result<OpenResult, Stop> {
+    ) -> Result<OpenResult, Stop>
+        requires { IsServing self.old.clients self.old.hosts.items
+            (steps_of self.old.turns.turns) }
+        ensures { IsServing self.new.clients self.new.hosts.items
+            (steps_of self.new.turns.turns) }
+    {
         let server = self.generation.server();
         self.handle_open_error(error)?;
         if error.is_alone() {
@@ -635,7 +805,12 @@ impl<'a> Worker<'a> {
     }
 
     // Opens a new socket. One whose connection can't be opened is dropped.
-    fn open<R: Wait>(&mut self, rt: &R, mut stream: TcpStream) -> Result<OpenResult, Stop> {
+    fn open<R: Wait>(&mut self, rt: &R, mut stream: TcpStream) -> Result<OpenResult, Stop>
+        requires { IsServing self.old.clients self.old.hosts.items
+            (steps_of self.old.turns.turns) }
+        ensures { IsServing self.new.clients self.new.hosts.items
+            (steps_of self.new.turns.turns) }
+    {
         let _ = stream.set_nodelay(true);
         if !self.register(&mut stream) {
             self.generation.server().count_dropped(rt);
@@ -652,40 +827,78 @@ impl<'a> Worker<'a> {
     }
 
     // Steps each host that can make progress, and logs those that can't be reached. True: more can be done at once.
-    fn step_hosts<R: Wait + Net + Eprint>(&mut self, rt: &R, now: u64) -> Result<bool, Stop> {
+    fn step_hosts<R: Wait + Net + Eprint>(&mut self, rt: &R, now: u64) -> Result<bool, Stop>
+        requires { IsServing self.old.clients self.old.hosts.items
+            (steps_of self.old.turns.turns) }
+        ensures { IsServing self.new.clients self.new.hosts.items
+            (steps_of self.new.turns.turns) }
+    {
         let parts = self.generation.parts();
         let mut moves = false;
         for index in 0..self.hosts.len() {
-            let Some(host) = self.hosts.get_mut(index) else {
-                break;
-            };
-            if !host.may_go(self.generation, now) {
-                continue;
-            }
-            let stepped = host.run_once(
-                rt,
-                &mut self.turns,
-                self.generation,
-                self.poll.registry(),
-                &mut self.buffer,
-                HostRound {
-                    now,
-                    gives_up: self.gives_up,
-                },
-            );
-            moves = moves || host.may_go(self.generation, now);
-            match stepped {
-                Ok(HostStepped::Done) => {}
-                Ok(HostStepped::Unreachable) => {
-                    let address = host.address();
-                    let tag = self.generation.server().log().tag(Level::Warning);
-                    let _ = eprintln!(rt; "{tag}redproxy: host {address} can't be reached");
-                }
-                Err(error) => self.handle_error(error)?,
-            }
+            moves = self.step_host(rt, index, now)? || moves;
         }
         self.mark_parts_seen(parts, now);
         Ok(moves)
+    }
+
+    // Steps a host if it can make progress. True: more can be done at once.
+    fn step_host<R: Wait + Net + Eprint>(
+        &mut self,
+        rt: &R,
+        index: usize,
+        now: u64,
+    ) -> Result<bool, Stop>
+        requires { IsServing self.old.clients self.old.hosts.items
+            (steps_of self.old.turns.turns) }
+        ensures { IsServing self.new.clients self.new.hosts.items
+            (steps_of self.new.turns.turns) }
+    {
+        let Some(host) = self.hosts.get_mut(index) else {
+            return Ok(false);
+        };
+        if !host.may_go(self.generation, now) {
+            return Ok(false);
+        }
+        let round = HostRound {
+            now,
+            gives_up: self.gives_up,
+        };
+        let stepped = host.run_once(
+            rt,
+            &mut self.turns,
+            self.generation,
+            self.poll.registry(),
+            &mut self.buffer,
+            round,
+        );
+        let moves = host.may_go(self.generation, now);
+        let address = host.address();
+        self.heed_host(rt, address, stepped)?;
+        Ok(moves)
+    }
+
+    // Handles the result of a host's round, and logs a host that can't be reached.
+    fn heed_host<R: Eprint>(
+        &mut self,
+        rt: &R,
+        address: SocketAddr,
+        stepped: Result<HostStepped, StepError>,
+    ) -> Result<(), Stop>
+        requires { IsServing self.old.clients self.old.hosts.items
+            (steps_of self.old.turns.turns) }
+        ensures { IsServing self.new.clients self.new.hosts.items
+            (steps_of self.new.turns.turns) }
+    {
+        match stepped {
+            Ok(HostStepped::Done) => Ok(()),
+            Ok(HostStepped::Unreachable) => {
+                let tag = self.generation.server().log().tag(Level::Warning);
+                let _ = eprintln!(rt; "{tag}redproxy: host {address} can't be reached");
+                Ok(())
+            }
+            Err(error) => self.handle_error(error),
+        }
     }
 
     // Marks parts as seen, unless a host is connecting: parts for that must hold clients back.
@@ -706,7 +919,12 @@ impl<'a> Worker<'a> {
     }
 
     // Steps each client, beginning where the last round stopped. In between, hosts take parts where these hold clients back.
-    fn step_clients<R: Wait + Net + Eprint>(&mut self, rt: &R, now: u64) -> Result<bool, Stop> {
+    fn step_clients<R: Wait + Net + Eprint>(&mut self, rt: &R, now: u64) -> Result<bool, Stop>
+        requires { IsServing self.old.clients self.old.hosts.items
+            (steps_of self.old.turns.turns) }
+        ensures { IsServing self.new.clients self.new.hosts.items
+            (steps_of self.new.turns.turns) }
+    {
         let mut moves = false;
         self.is_held_back = false;
         let count = self.clients.capacity();
@@ -728,7 +946,12 @@ impl<'a> Worker<'a> {
     }
 
     // Gives the socket to the worker of this index in the newest generation. Without memory it stays for now.
-    fn carry_over<R: Wait>(&mut self, rt: &R, key: usize) -> Result<bool, Stop> {
+    fn carry_over<R: Wait>(&mut self, rt: &R, key: usize) -> Result<bool, Stop>
+        requires { IsServing self.old.clients self.old.hosts.items
+            (steps_of self.old.turns.turns) }
+        ensures { IsServing self.new.clients self.new.hosts.items
+            (steps_of self.new.turns.turns) }
+    {
         let server = self.generation.server();
         if !server.has_room_to_carry(rt, self.index) {
             if let Some(client) = self.clients.get_mut(key) {
@@ -748,7 +971,12 @@ impl<'a> Worker<'a> {
     }
 
     // Steps a client if it can make progress. True: more can be done at once.
-    fn step_client<R: Wait>(&mut self, rt: &R, key: usize, now: u64) -> Result<bool, Stop> {
+    fn step_client<R: Wait>(&mut self, rt: &R, key: usize, now: u64) -> Result<bool, Stop>
+        requires { IsServing self.old.clients self.old.hosts.items
+            (steps_of self.old.turns.turns) }
+        ensures { IsServing self.new.clients self.new.hosts.items
+            (steps_of self.new.turns.turns) }
+    {
         let Some(client) = self.clients.get_mut(key) else {
             return Ok(false);
         };
@@ -771,7 +999,12 @@ impl<'a> Worker<'a> {
     }
 
     // Updates the number of waiting clients by one client, before and after its round.
-    fn count_awaiting(&mut self, did_await: bool, awaits: bool) {
+    fn count_awaiting(&mut self, did_await: bool, awaits: bool)
+        requires { IsServing self.old.clients self.old.hosts.items
+            (steps_of self.old.turns.turns) }
+        ensures { IsServing self.new.clients self.new.hosts.items
+            (steps_of self.new.turns.turns) }
+    {
         if did_await && !awaits {
             self.awaiting = self.awaiting.saturating_sub(1);
         }
@@ -786,7 +1019,12 @@ impl<'a> Worker<'a> {
         rt: &R,
         key: usize,
         stepped: Result<Stepped, StepError>,
-    ) -> Result<bool, Stop> {
+    ) -> Result<bool, Stop>
+        requires { IsServing self.old.clients self.old.hosts.items
+            (steps_of self.old.turns.turns) }
+        ensures { IsServing self.new.clients self.new.hosts.items
+            (steps_of self.new.turns.turns) }
+    {
         match stepped {
             Ok(Stepped::Idle) => Ok(false),
             Ok(Stepped::Ready) => Ok(true),
