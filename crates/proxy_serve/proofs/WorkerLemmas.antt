@@ -1,7 +1,8 @@
 -- A worker's clients and hosts stay served.
-use Rattle.std.proofs.Common.{◌≡◌, ◌≢◌, ◌⊎◌, ◌∙◌, ◌<◌, ℕ, List, [], ◌∷◌, ◌++◌, Option, Some, None, ap, arith, get_or, inl, inr, length, refl, set, suc, sym, true, zero}
+use Rattle.std.proofs.Common.{◌≡◌, ◌≢◌, ◌⊎◌, ◌∙◌, ◌<◌, ℕ, List, [], ◌∷◌, ◌++◌, ◌+◌, Option, Some, None, ap, arith, get_or, inl, inr, length, refl, set, suc, sym, true, zero}
 use Rattle.std.proofs.lemmas.Bool.{cases_eq}
-use Rattle.std.proofs.lemmas.List.{get_or-set_same, get_or-set_other, length-set}
+use Rattle.std.proofs.lemmas.List.{get_or-set_same, get_or-set_other, get_or_append_left, length-append, length-set}
+use Rattle.std.proofs.Math.Seq.{get_or-append_seam}
 use Rattle.std.proofs.lemmas.List.Elements.{filter-append}
 use Rattle.slab.specs.Slab.{Slab, Updates, get, with_value}
 use Rattle.slab.proofs.SlabLemmas.{Updates-with_value}
@@ -14,7 +15,7 @@ use Rattle.proxy_engines.specs.Socket.{Past}
 use Rattle.proxy_engines.proofs.CallerLemmas as engines
 use Rattle.proxy_engines.specs.Client.{Client as Engine}
 use Rattle.proxy_serve.specs.Sockets.{IsServed, KeepsHost, OpensSocket}
-use Rattle.proxy_serve.specs.Workers.{CarriesLink, IsAt, IsNewcomer, IsServing, ServesClients, ServesHosts, number_of}
+use Rattle.proxy_serve.specs.Workers.{CarriesLink, IsAt, IsNewcomer, IsServing, RiseTo, ServesClients, ServesHosts, number_of}
 use Rattle.proxy_serve.specs.declared.client.Client.{Client}
 use Rattle.proxy_serve.specs.declared.host_connection.HostConnection.{HostConnection}
 
@@ -280,3 +281,96 @@ serves_capacity old new hosts H capacity is s = rw is (record {
   clients_are = record { carries = s.clients_are.carries; opened = s.clients_are.opened; apart = s.clients_are.apart };
   hosts_are = s.hosts_are;
 })
+
+-- BEGINNINGS
+
+-- a worker with these hosts, no clients and no steps serves
+pub serves_none : (clients : Slab Client) (hosts : List HostConnection) (H : History) → clients.slots ≡ [] → H ≡ [] → ServesHosts hosts []
+    → IsServing clients hosts H
+serves_none clients hosts H no_slots no_steps s =
+    let nobody : (key : ℕ) (client : Client) → IsAt clients key client → ⊥ = λ key client there. none_at key client (rw no_slots at there) in
+    rw no_steps (record {
+      clients_are = record {
+        carries = λ key client there. absurd (nobody key client there);
+        opened = λ key client there. absurd (nobody key client there);
+        apart = λ i j x y x_at y_at same. absurd (nobody i x x_at);
+      };
+      hosts_are = s;
+    })
+  where
+    none_at : (key : ℕ) (client : Client) → get_or [] key None ≡ Some client → ⊥
+    none_at zero client there = absurd cc
+    none_at (suc key) client there = absurd cc
+
+-- hosts that rise to a number rise to the next one too
+pub rises_past : (hosts : List HostConnection) (next : ℕ) → RiseTo hosts next → RiseTo hosts (next + 1)
+rises_past hosts next r = record {
+  serves = r.serves;
+  below = λ k d within. let under = r.below k d within in omega (arith, under);
+}
+
+-- no host rises to any number
+pub rises_none : (next : ℕ) → RiseTo [] next
+rises_none next = record {
+  serves = record {
+    carries = λ k d within. absurd (omega (arith, within));
+    apart = λ i j x y i_within j_within same. absurd (omega (arith, i_within));
+  };
+  below = λ k d within. absurd (omega (arith, within));
+}
+
+module _ (hosts : List HostConnection) (host : HostConnection) (next : ℕ) (r : RiseTo hosts next) (number : number_of host ≡ next) (carries : CarriesLink [] host) where
+  before_last : (k : ℕ) → k < length (hosts ++ host ∷ []) → k ≢ length hosts → k < length hosts
+  before_last k within differs = let all : k < length hosts + 1 = rw (length-append hosts (host ∷ [])) at within in omega (arith, all, differs)
+
+  is_last : (k : ℕ) (d : HostConnection) → k ≡ length hosts → get_or (hosts ++ host ∷ []) k d ≡ host
+  is_last k d same = rw same (get_or-append_seam hosts host [] d)
+
+  is_before : (k : ℕ) (d : HostConnection) → k < length hosts → get_or (hosts ++ host ∷ []) k d ≡ get_or hosts k d
+  is_before k d within = get_or_append_left hosts (host ∷ []) d k within
+
+  -- the next host stands behind the others
+  pub rises_by : RiseTo (hosts ++ host ∷ []) (next + 1)
+  rises_by = record {
+    serves = record {
+      carries = λ k d within. elim (cases_eq k (length hosts)) [
+        | inl same ↦ rw (is_last k d same) carries
+        | inr differs ↦ rw (is_before k d (before_last k within differs)) (r.serves.carries k d (before_last k within differs))
+      ];
+      apart = λ i j x y i_within j_within same. elim (cases_eq i (length hosts)) [
+        | inl i_last ↦ elim (cases_eq j (length hosts)) [
+          | inl j_last ↦ i_last ∙ sym j_last
+          | inr j_before ↦
+              let under = r.below j y (before_last j j_within j_before) in
+              let is_next : number_of (get_or hosts j y) ≡ next =
+              ap number_of (sym (is_before j y (before_last j j_within j_before))) ∙ sym same ∙ ap number_of (is_last i x i_last) ∙ number in
+              absurd (omega (arith, under, is_next))
+        ]
+        | inr i_before ↦ elim (cases_eq j (length hosts)) [
+          | inl j_last ↦
+              let under = r.below i x (before_last i i_within i_before) in
+              let is_next : number_of (get_or hosts i x) ≡ next =
+              ap number_of (sym (is_before i x (before_last i i_within i_before))) ∙ same ∙ ap number_of (is_last j y j_last) ∙ number in
+              absurd (omega (arith, under, is_next))
+          | inr j_before ↦
+              r.serves.apart i j x y (before_last i i_within i_before) (before_last j j_within j_before)
+              (ap number_of (sym (is_before i x (before_last i i_within i_before))) ∙ same ∙ ap number_of (is_before j y (before_last j j_within j_before)))
+        ]
+      ];
+    };
+    below = λ k d within. elim (cases_eq k (length hosts)) [
+      | inl same ↦ let is_next : number_of (get_or (hosts ++ host ∷ []) k d) ≡ next = ap number_of (is_last k d same) ∙ number in omega (arith, is_next)
+      | inr differs ↦
+          let under = r.below k d (before_last k within differs) in
+          let is_same : number_of (get_or (hosts ++ host ∷ []) k d) ≡ number_of (get_or hosts k d) = ap number_of (is_before k d (before_last k within differs)) in
+          omega (arith, under, is_same)
+    ];
+  }
+
+-- the same of equal lists
+pub rises_empty : (hosts : List HostConnection) (next : ℕ) → hosts ≡ [] → RiseTo hosts next
+rises_empty hosts next none = rw none (rises_none next)
+
+pub rises_to : (hosts new : List HostConnection) (host : HostConnection) (next : ℕ) → new ≡ hosts ++ host ∷ [] → RiseTo hosts next → number_of host ≡ next
+    → CarriesLink [] host → RiseTo new (next + 1)
+rises_to hosts new host next is r number carries = rw is (rises_by hosts host next r number carries)

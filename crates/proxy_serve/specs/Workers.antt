@@ -40,6 +40,11 @@ pub record ServesHosts (hosts : List HostConnection) (steps : History) : Type 0 
   pub apart : (i j : ℕ) (one two : HostConnection) → i < length hosts → j < length hosts
       → number_of (slice_index_or hosts i one) ≡ number_of (slice_index_or hosts j two) → i ≡ j
 
+-- some hosts over no steps, each with a number below this one
+pub record RiseTo (hosts : List HostConnection) (next : ℕ) : Type 0 where
+  pub serves : ServesHosts hosts []
+  pub below : All (λ host. number_of host < next) hosts
+
 -- A worker's clients and hosts are served, over the steps that it made.
 pub record IsServing (clients : Slab Client) (hosts : List HostConnection) (steps : History) : Type 0 where
   pub clients_are : ServesClients clients steps

@@ -237,7 +237,9 @@ pub(crate) struct CountedTurns<T: CoreTurns> {
 
 impl<T: CoreTurns> CountedTurns<T> {
     /// These turns, of which nothing is counted yet.
-    pub(crate) fn new(turns: T) -> CountedTurns<T> {
+    pub(crate) fn new(turns: T) -> CountedTurns<T>
+        ensures { result.turns ≡ turns }
+    {
         CountedTurns {
             turns,
             account: Account::new(),

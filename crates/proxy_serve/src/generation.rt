@@ -1,6 +1,7 @@
 //! A generation: a journal, its gate, and the threads that make turns at it.
 ghost use Rattle.std.specs.Prelude.{◌≡◌, [], IfOk, ⊤};
 ghost use Rattle.ticket_gate.specs.Gate.{IsSpareOf};
+ghost use Rattle.proxy_serve.specs.Workers.{steps_of};
 ghost use Rattle.proxy_config.specs.RingParts.{AreRingParts};
 
 use crate::generation_state::{GenerationState, WorkerStatus};
@@ -119,6 +120,7 @@ fn seat<'a, R: Wait>(
     spare: Spare<Counted>,
 ) -> Result<CountedSeat<'a>, Ending>
     requires { IsSpareOf gate.now spare }
+    ensures { IfOk result (λ seat. steps_of seat ≡ []) }
 {
     match gate.enrol(rt, spare) {
         Ok(pass) => Ok(CountedSeat::new(gate, pass)),

@@ -1,9 +1,10 @@
 //! A host's connection, as its worker holds it.
-ghost use Rattle.std.specs.Prelude.{◌≡◌, None, IfOk};
+ghost use Rattle.std.specs.Prelude.{◌≡◌, [], None, IfOk};
 ghost use Rattle.proxy_history.specs.History.{History};
 ghost use Rattle.proxy_engines.specs.HostStep.{ends_of};
 ghost use Rattle.proxy_engines.specs.Turns.{own_history};
 ghost use Rattle.proxy_serve.specs.Sockets.{KeepsHost};
+ghost use Rattle.proxy_serve.specs.Workers.{CarriesLink};
 
 use crate::client::StepError;
 use crate::counted_turns::{CountedTurns, TurnCounts};
@@ -141,7 +142,10 @@ impl HostConnection {
         address: SocketAddr,
         token: Token,
         reply_ms: u64,
-    ) -> HostConnection {
+    ) -> HostConnection
+        ensures host { result.engine.outbox.host ≡ host }
+        ensures carries { CarriesLink [] result }
+    {
         HostConnection {
             alloc,
             engine: HostEngine::new(alloc, host, reply_ms),

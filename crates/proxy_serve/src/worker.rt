@@ -1,6 +1,6 @@
 //! A worker: a thread that has a poll and steps its clients and hosts.
-ghost use Rattle.std.specs.Prelude.{◌≡◌};
-ghost use Rattle.proxy_serve.specs.Workers.{IsNewcomer, IsServing, steps_of};
+ghost use Rattle.std.specs.Prelude.{◌≡◌, ◌+◌, [], IfOk, OnOk};
+ghost use Rattle.proxy_serve.specs.Workers.{IsNewcomer, IsServing, RiseTo, ServesHosts, steps_of};
 
 use crate::client::{CarriedSocket, Client, Round, StepError, Stepped};
 use crate::counted_turns::CountedTurns;
@@ -8,6 +8,7 @@ use crate::generation::ThreadContext;
 use crate::generation_state::GenerationState;
 use crate::host_connection::{HostConnection, HostRound, HostStepped};
 use crate::log::Level;
+use crate::server::Server;
 use crate::stop::Stop;
 use limits::MAX_SOCKETS;
 use mio::event::Event;
@@ -21,6 +22,7 @@ use proxy_serve_core::{Refusals, hosts_of_worker};
 use proxy_stats::CountedSeat;
 use slab::Slab;
 use std::alloc::{AllocError, Global};
+use std::marker::Model;
 use std::mem;
 use std::net::{Net, SocketAddr};
 use std::rt::Clock;
@@ -73,6 +75,17 @@ impl Drop for WorkerSetup<'_> {
     }
 }
 
+impl<'a> Model for WorkerSetup<'a> {
+    ghost use Rattle.std.specs.Prelude.{◌≡◌, ℕ, []};
+    ghost use Rattle.proxy_serve.specs.Workers.{steps_of};
+
+    ghost Value = { ℕ };
+
+    ghost view = { λ s. s.index };
+
+    ghost invariant = { λ s. steps_of s.seat ≡ [] };
+}
+
 impl<'a> WorkerSetup<'a> {
     /// A worker of this index, which waits at this poll and makes turns by this seat.
     pub(crate) fn new(
@@ -80,7 +93,9 @@ impl<'a> WorkerSetup<'a> {
         index: usize,
         poll: Poll,
         seat: CountedSeat<'a>,
-    ) -> WorkerSetup<'a> {
+    ) -> WorkerSetup<'a>
+        requires { steps_of seat ≡ [] }
+    {
         WorkerSetup {
             context,
             index,
@@ -93,15 +108,20 @@ impl<'a> WorkerSetup<'a> {
     /// Without memory to begin the generation is given up.
     pub(crate) fn run<R: Wait + Net + Clock + Eprint>(self, rt: &R) {
         let generation = self.context.generation;
-        let events = Events::with_capacity(self.context.alloc, MAX_EVENTS);
-        match (events, self.worker()) {
-            (Ok(events), Ok(worker)) => worker.run(rt, events),
-            _ => generation.give_up(),
+        let Ok(events) = Events::with_capacity(self.context.alloc, MAX_EVENTS) else {
+            generation.give_up();
+            return;
+        };
+        match self.worker() {
+            Ok(worker) => worker.run(rt, events),
+            Err(_) => generation.give_up(),
         }
     }
 
     // The worker with its hosts and no clients; ends with `Memory` where there is none for the hosts.
-    fn worker(self) -> Result<Worker<'a>, Ending> {
+    fn worker(self) -> Result<Worker<'a>, Ending>
+        ensures { IfOk result (λ w. IsServing w.clients w.hosts.items (steps_of w.turns.turns)) }
+    {
         let WorkerSetup {
             context,
             index,
@@ -134,25 +154,55 @@ impl<'a> WorkerSetup<'a> {
     }
 }
 
+// Reports the durations of commands.
+fn report_durations<R: Wait>(rt: &R, server: &Server, durations: &mut Histogram) {
+    let reported = mem::replace(durations, Histogram::new());
+    if reported.total > 0 {
+        server.add_durations(rt, &reported);
+    }
+}
+
 // The hosts of the worker with this index, each without a link.
 fn hosts_of(
     alloc: Global,
     index: usize,
     workers: usize,
     config: &Config,
-) -> Result<Vec<HostConnection>, Ending> {
+) -> Result<Vec<HostConnection>, Ending>
+    ensures { IfOk result (λ hosts. ServesHosts hosts.items []) }
+{
     let mut hosts = Vec::new(alloc);
     if workers == 0 {
         return Ok(hosts);
     }
-    for host in hosts_of_worker(alloc, index, workers, config.hosts.len())? {
-        if let Some(entry) = config.hosts.get(host) {
-            let token = Token(HOSTS.saturating_add(hosts.len()));
-            let reply_ms = u64::from(config.reply_ms);
-            hosts.push(HostConnection::new(alloc, host, entry.address, token, reply_ms))?;
-        }
+    let own = hosts_of_worker(alloc, index, workers, config.hosts.len())?;
+    for host in 0..config.hosts.len() {
+        push_host(&mut hosts, alloc, host, &own, config)?;
     }
     Ok(hosts)
+}
+
+// Adds the host of this number, without a link, if it is the worker's own.
+fn push_host(
+    hosts: &mut Vec<HostConnection>,
+    alloc: Global,
+    host: usize,
+    own: &[usize],
+    config: &Config,
+) -> Result<(), Ending>
+    requires { RiseTo hosts.old.items host }
+    ensures { OnOk result (RiseTo hosts.new.items (host + 1)) }
+{
+    if !own.contains(&host) {
+        return Ok(());
+    }
+    let Some(entry) = config.hosts.get(host) else {
+        return Ok(());
+    };
+    let token = Token(HOSTS.saturating_add(hosts.len()));
+    let reply_ms = u64::from(config.reply_ms);
+    hosts.push(HostConnection::new(alloc, host, entry.address, token, reply_ms))?;
+    Ok(())
 }
 
 /// The result for the first socket in a worker's queue.
@@ -237,7 +287,9 @@ impl Drop for Worker<'_> {
 
 impl<'a> Worker<'a> {
     // Serves once all threads of the generation have come, then closes what is left, or ends the server.
-    fn run<R: Wait + Net + Clock + Eprint>(mut self, rt: &R, events: Events) {
+    fn run<R: Wait + Net + Clock + Eprint>(mut self, rt: &R, events: Events)
+        requires { IsServing self.clients self.hosts.items (steps_of self.turns.turns) }
+    {
         if !self.generation.wait_for_all(rt) {
             return;
         }
@@ -432,7 +484,7 @@ impl<'a> Worker<'a> {
                 "{tag}redproxy: generation {number} is cut short, {cut} connections are closed"
             );
         }
-        self.report_durations(rt);
+        report_durations(rt, server, &mut self.durations);
         self.close_carried(rt);
     }
 
@@ -545,7 +597,7 @@ impl<'a> Worker<'a> {
         let moves = self.step_all(rt, now)?;
         if now.saturating_sub(self.reported_at) >= PAUSE_MS {
             self.reported_at = now;
-            self.report_durations(rt);
+            report_durations(rt, self.generation.server(), &mut self.durations);
         }
         self.wake_others(before);
         Ok(moves)
@@ -570,19 +622,6 @@ impl<'a> Worker<'a> {
         let has_replies = before.replies != self.generation.replies();
         if has_parts || has_replies {
             self.generation.wake_for(self.index, has_parts, has_replies);
-        }
-    }
-
-    // Reports the durations of commands.
-    fn report_durations<R: Wait>(&mut self, rt: &R)
-        requires { IsServing self.old.clients self.old.hosts.items
-            (steps_of self.old.turns.turns) }
-        ensures { IsServing self.new.clients self.new.hosts.items
-            (steps_of self.new.turns.turns) }
-    {
-        let durations = mem::replace(&mut self.durations, Histogram::new());
-        if durations.total > 0 {
-            self.generation.server().add_durations(rt, &durations);
         }
     }
 

@@ -33,6 +33,10 @@ pub record PassesOn (old new : SocketReaderState) (bytes : List ℕ) : Type 0 wh
 abbrev pub StaysWhole : ReadEndState → ReadEndState → Type 0
 StaysWhole old new = old.delivered ≡ old.received → new.delivered ≡ new.received
 
+-- all that was received was delivered, or each read fails from here on
+abbrev pub IsWholeOrBroken : ReadEndState → Bool → Type 0
+IsWholeOrBroken end is_broken = (end.delivered ≡ end.received) ⊎ (is_broken ≡ true)
+
 -- how many bytes are left by an outcome: as many fewer as were delivered, and none where a pause ended the input
 abbrev pub LeavesLeft : Option ℕ → Option ℕ → IoOutcome → Type 0
 LeavesLeft None left told = left ≡ None

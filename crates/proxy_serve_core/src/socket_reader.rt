@@ -18,7 +18,7 @@ use std::marker::Model;
 /// The reading half of a socket, for an engine.
 ///
 /// It asks the socket only when there may be bytes, and counts reads that failed or paused. What it has told its engine
-/// is what the socket gave, but for what was thrown away.
+/// is what the socket gave, all of it; once input was thrown away each read fails.
 #[derive(Drop)]
 pub struct SocketReader<S: Read> {
     stream: S,
@@ -29,11 +29,13 @@ pub struct SocketReader<S: Read> {
 }
 
 impl<S: Read> Model for SocketReader<S> {
-    ghost use Rattle.proxy_serve_core.specs.SocketReader.{SocketReaderState};
+    ghost use Rattle.proxy_serve_core.specs.SocketReader.{IsWholeOrBroken, SocketReaderState};
 
     ghost Value = { SocketReaderState };
 
     ghost view = { λ r. record { end = r.end; is_broken = r.is_broken; counts = r.counter } };
+
+    ghost invariant = { λ r. IsWholeOrBroken r.end r.is_broken };
 }
 
 impl<S: Read> SocketReader<S> {
@@ -100,15 +102,16 @@ impl<S: Read> SocketReader<S> {
         self.end.may_read()
     }
 
-    /// Reads and discards what has come. True: the input has ended or failed.
+    /// Reads and discards what has come; each later read fails. True: the input has ended or failed.
     pub fn throw_away(&mut self) -> bool
         ensures bytes { Discards self.old.end self.new.end None None }
         ensures paused { result ≡ false → self.new.end.is_readable ≡ false }
         ensures left { self.new.end.left ≡ self.old.end.left }
         ensures closed { self.new.end.is_closed ≡ self.old.end.is_closed }
-        ensures broken { self.new.is_broken ≡ self.old.is_broken }
+        ensures broken { self.new.is_broken ≡ true }
         ensures counts { self.new.counts ≡ self.old.counts }
     {
+        self.is_broken = true;
         self.end.throw_away(&mut self.stream)
     }
 
