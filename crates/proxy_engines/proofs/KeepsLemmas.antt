@@ -1,20 +1,20 @@
 -- What an engine keeps of its socket's logs, over any number of calls.
-use Rattle.std.proofs.Common.{◌≡◌, ◌∙◌, ◌⊎◌, ◌≢◌, ℕ, Bool, List, [], ◌∷◌, ◌++◌, Option, Some, None, ap, append_assoc, append-nil, eq-eqb, inl, inr, refl, sym, true}
-use Rattle.std.specs.Prelude.{Result, Ok, Err, OnOk, OnErr}
+use Rattle.std.proofs.Common.{◌≡◌, ◌∙◌, ◌⊎◌, ℕ, Bool, List, [], ◌∷◌, ◌++◌, Option, Some, None, ap, append_assoc, append-nil, eq-eqb, inl, inr, refl, sym, true}
+use Rattle.std.specs.Prelude.{Result}
 use Rattle.std.proofs.lemmas.List.Elements.{filter-append}
 use Rattle.proxy_history.specs.History.{History, Step}
-use Rattle.proxy_history.specs.Own.{connection_steps, host_steps, is_connection_step, is_of_host}
+use Rattle.proxy_history.specs.Own.{host_steps, is_connection_step, is_of_host}
 use Rattle.proxy_history.specs.declared.event.Event.{Event}
 use Rattle.proxy_history.specs.declared.answer.Answer.{Answer}
 use Rattle.proxy_history.specs.declared.event.Kind.{Kind}
 use Rattle.journal_core.specs.Journal.{step_by}
 use Rattle.proxy_engines.specs.Client.{Client, Carries, Goes}
-use Rattle.proxy_engines.specs.Socket.{Past, CarriesOn, IsLeft, IsRest, WentOn}
+use Rattle.proxy_engines.specs.Socket.{Past, IsLeft, IsRest}
 use Rattle.proxy_engines.specs.Ends.{RestState}
-use Rattle.proxy_engines.specs.Host.{HostEnds, HostMove, HostOutboxState, LinkState, CarriesHost, FailsHost, GoesOn}
-use Rattle.proxy_engines.specs.HostStep.{HostCall, HostState, Records, RestsHost, StepsHost, WorksHost, behind, ends_of, move_of, up_to}
+use Rattle.proxy_engines.specs.Host.{HostEnds, HostMove, HostOutboxState, LinkState, CarriesHost, GoesOn}
+use Rattle.proxy_engines.specs.HostStep.{HostCall, Records, RestsHost, StepsHost, WorksHost, behind, ends_of, move_of, up_to}
 use Rattle.proxy_engines.specs.Moves.{AsTold}
-use Rattle.proxy_engines.specs.Logs.{Logs, Since, client_logs, link_logs, CarriesHostLogs, CarriesSocketLogs}
+use Rattle.proxy_engines.specs.Logs.{Logs, client_logs, link_logs, CarriesSocketLogs}
 use Rattle.proxy_engines.specs.Keeps.{KeepsLink, KeepsSocket, IsBetween, ClientsKeepSockets, HostsKeepLinks}
 use Rattle.proxy_engines.specs.declared.client.Progress.{Progress}
 use Rattle.proxy_engines.specs.declared.error.EngineError.{EngineError}

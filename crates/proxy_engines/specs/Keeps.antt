@@ -1,5 +1,5 @@
 -- What an engine keeps of its socket's logs, over any number of calls.
-use Rattle.std.specs.Prelude.{◌≡◌, ◌⊎◌, ℕ, Bool, true, List, [], ◌∷◌, ◌++◌, Option, Some, None, Result}
+use Rattle.std.specs.Prelude.{◌≡◌, ℕ, Bool, true, List, [], ◌∷◌, ◌++◌, Option, Some, None}
 use Rattle.proxy_history.specs.History.{History}
 use Rattle.proxy_history.specs.Own.{connection_steps, host_steps}
 use Rattle.proxy_history.specs.declared.event.Kind.{Kind}
@@ -7,11 +7,9 @@ use Rattle.proxy_engines.specs.Client.{Client, Carries, Goes}
 use Rattle.proxy_engines.specs.Socket.{Past, IsLeft, IsRest, WentOn}
 use Rattle.proxy_engines.specs.Ends.{RestState}
 use Rattle.proxy_engines.specs.Host.{HostEnds, HostOutboxState, LinkState, CarriesHost}
-use Rattle.proxy_engines.specs.HostStep.{HostCall, Records, RestsHost, StepsHost, ends_of}
+use Rattle.proxy_engines.specs.HostStep.{HostCall, Records, ends_of}
 use Rattle.proxy_engines.specs.Moves.{AsTold}
 use Rattle.proxy_engines.specs.Logs.{Logs, Since, client_logs, link_logs, CarriesHostLogs, CarriesSocketLogs}
-use Rattle.proxy_engines.specs.declared.client.Progress.{Progress}
-use Rattle.proxy_engines.specs.declared.error.EngineError.{EngineError}
 
 -- the logs of a socket from which nothing was read, and to which nothing was written
 abbrev pub no_logs : Logs

@@ -1,5 +1,5 @@
 -- What an engine ends as, where a `&mut` to a device of its is returned.
-use Rattle.std.specs.Prelude.{ℕ, List, Option, Some, None}
+use Rattle.std.specs.Prelude.{Option, Some, None}
 use Rattle.std.specs.Borrow.{Lends, LendsIf, Fml, RattleType, MutBor}
 use Rattle.std.specs.declared.io.traits.Read.{Ghosts as ReadGhosts}
 use Rattle.std.specs.declared.io.traits.Write.{Ghosts as WriteGhosts}
@@ -17,31 +17,31 @@ use Rattle.proxy_engines.specs.contracts.client.ClientEngine.{the_row as client_
 use Rattle.proxy_engines.specs.contracts.link.Link.{the_row as link_row}
 use Rattle.proxy_engines.specs.contracts.host.HostEngine.{the_row as host_row}
 
--- the reader of an end is this one
+-- an end with this reader
 abbrev pub with_reader : InboxState → ReadState → InboxState
 with_reader inbox reader = record inbox { left = reader.remaining; told = reader.told; counts = reader.counts }
 
--- the writer of an end is this one
+-- an end with this writer
 abbrev pub with_writer : OutboxState → WriteState → OutboxState
 with_writer outbox writer = record outbox { held = writer.contents; taken = writer.taken; counts = writer.counts }
 
--- the reader of a client's engine is this one
+-- a client's engine with this reader
 abbrev pub with_client_reader : Client → ReadState → Client
 with_client_reader engine reader = record engine { inbox = with_reader engine.inbox reader }
 
--- the writer of a client's engine is this one
+-- a client's engine with this writer
 abbrev pub with_client_writer : Client → WriteState → Client
 with_client_writer engine writer = record engine { outbox = with_writer engine.outbox writer }
 
--- the reader of a link is this one
+-- a link with this reader
 abbrev pub with_link_reader : LinkState → ReadState → LinkState
 with_link_reader link reader = record link { inbox = with_reader link.inbox reader }
 
--- the writer of a link is this one
+-- a link with this writer
 abbrev pub with_link_writer : LinkState → WriteState → LinkState
 with_link_writer link writer = record link { held = writer.contents; taken = writer.taken; counts = writer.counts }
 
--- the link of a host's engine, if there is one, is this one
+-- a host's engine with its link changed so, if it has one
 abbrev pub with_link : HostState → (LinkState → LinkState) → HostState
 with_link engine change = record engine { link = changed engine.link }
   where
@@ -68,7 +68,7 @@ module _ (R W : RattleType) (told : ReadTallyGhosts R.Denot) (read : ReadGhosts 
   lends_client_reader s r = Lends (client_row R W told read counts taken write counts') R s r
       (λ w. with_client_reader s.now (reader_state read.remaining told.told counts.counts w))
 
-  -- once the borrow r ends, the client's writer is the last one behind r
+  -- the same of its writer
   abbrev pub lends_client_writer : MutBor Client → MutBor W.Denot → Fml
   lends_client_writer s r = Lends (client_row R W told read counts taken write counts') W s r
       (λ w. with_client_writer s.now (writer_state write.contents taken.taken counts'.counts w))
@@ -88,6 +88,7 @@ module _ (R W : RattleType) (told : ReadTallyGhosts R.Denot) (read : ReadGhosts 
   lends_host_reader s r = LendsIf (host_row R W told read counts taken write counts') R s r
       (λ w. with_link s.now (λ k. with_link_reader k (reader_state read.remaining told.told counts.counts w))) s.now
 
+  -- the same of its writer
   abbrev pub lends_host_writer : MutBor HostState → Option (MutBor W.Denot) → Fml
   lends_host_writer s r = LendsIf (host_row R W told read counts taken write counts') W s r
       (λ w. with_link s.now (λ k. with_link_writer k (writer_state write.contents taken.taken counts'.counts w))) s.now

@@ -1,5 +1,5 @@
 -- A worker's clients and hosts stay served.
-use Rattle.std.proofs.Common.{◌≡◌, ◌≢◌, ◌⊎◌, ◌∙◌, ◌<◌, ℕ, List, [], ◌∷◌, ◌++◌, ◌+◌, Option, Some, None, ap, arith, get_or, inl, inr, length, refl, set, suc, sym, true, zero}
+use Rattle.std.proofs.Common.{◌≡◌, ◌≢◌, ◌∙◌, ◌<◌, ℕ, List, [], ◌∷◌, ◌++◌, ◌+◌, Some, None, ap, arith, get_or, inl, inr, length, refl, set, suc, sym, true, zero}
 use Rattle.std.proofs.lemmas.Bool.{cases_eq}
 use Rattle.std.proofs.lemmas.List.{get_or-set_same, get_or-set_other, get_or_append_left, length-append, length-set}
 use Rattle.std.proofs.Math.Seq.{get_or-append_seam}
@@ -9,9 +9,7 @@ use Rattle.slab.proofs.SlabLemmas.{Updates-with_value}
 use Rattle.proxy_history.specs.History.{History, Step}
 use Rattle.proxy_history.specs.Own.{connection_steps, host_steps, is_connection_step}
 use Rattle.proxy_engines.specs.Keeps.{KeepsSocket, no_logs}
-use Rattle.proxy_engines.specs.Logs.{CarriesSocketLogs}
 use Rattle.proxy_engines.specs.HostStep.{ends_of}
-use Rattle.proxy_engines.specs.Socket.{Past}
 use Rattle.proxy_engines.proofs.CallerLemmas as engines
 use Rattle.proxy_engines.specs.Client.{Client as Engine}
 use Rattle.proxy_serve.specs.Sockets.{IsServed, KeepsHost, OpensSocket}

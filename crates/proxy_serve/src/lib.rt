@@ -5,8 +5,10 @@
 //! nearly full, the next generation opens with the state of outlier detection. New sockets go there, and old ones
 //! follow once their accepted commands are answered.
 //!
-//! It stands on the engines and the core, of which the answers are proved; here bytes, readiness and time are brought
-//! to them. Begin with `serve` in `serving.rt`, then `Worker::run_once` in `worker.rt`.
+//! It stands on the engines and the core, of which the answers are proved, and on `proxy_history` and `journal_core`,
+//! whose steps its contracts name. Here bytes, readiness and time are brought to engines. Over each pass of a worker
+//! every client and host keeps what its engine carries of its socket's logs. Begin with `serve` in `serving.rt`, then
+//! `Worker::run_once` in `worker.rt`.
 #![tactic(auto)]
 
 mod admin;

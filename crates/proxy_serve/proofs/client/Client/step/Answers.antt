@@ -1,4 +1,3 @@
-use Rattle.proxy_engines.specs.Turns.{own_history}
 use Rattle.proxy_serve.proofs.SocketLemmas.{KeepsSocket-step}
 use Rattle.proxy_serve.proofs.client.Client.step.Goals as goal
 
