@@ -70,19 +70,23 @@ leaves pasts e H rest begun left s =
       told = s.told;
       taken_is = s.taken_is;
       told_is = s.told_is;
-      so = record { left = is_left.rest; rest_is = is_left.stands; went_on = record {
-        took = s.so.took;
-        came = s.so.came;
-        left = s.so.left;
-        gave = s.so.gave;
-        got = s.so.got;
-        held = rest;
-        before = s.so.before;
-        is_left = is_left;
-        taken_is = s.so.taken_is;
-        bytes_are = s.so.bytes_are;
-        rest_is = refl;
-      } };
+      so = record {
+        left = is_left.rest;
+        rest_is = is_left.stands;
+        went_on = record {
+          took = s.so.took;
+          came = s.so.came;
+          left = s.so.left;
+          gave = s.so.gave;
+          got = s.so.got;
+          held = rest;
+          before = s.so.before;
+          is_left = is_left;
+          taken_is = s.so.taken_is;
+          bytes_are = s.so.bytes_are;
+          rest_is = refl;
+        };
+      };
     }
 
 -- an engine that is opened between two connections goes on from there

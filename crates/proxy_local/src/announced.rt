@@ -3,7 +3,7 @@ ghost use Rattle.std.specs.Prelude.{◌≡◌, ◌<◌, ◌+◌, ◌-◌, ◌^�
 ghost use Rattle.proxy_devices.specs.Device.{IsRead, reader_state};
 ghost use Rattle.proxy_local.specs.Announced.{announced, with_pauses};
 
-use proxy_engines::{ReadTally, Tally, IoOutcome};
+use proxy_engines::{IoOutcome, ReadTally, Tally};
 use std::io;
 use std::io::{ErrorKind, Read};
 
