@@ -490,7 +490,8 @@ impl<R: ReadTally, W: WriteTally> ClientEngine<R, W> {
 
     /// The reader.
     pub fn reader(&self) -> &R
-        ensures { self.now ≡ with_client_reader self.now (reader_state R.remaining R.told R.counts result.now) }
+        ensures { self.now ≡ with_client_reader self.now
+            (reader_state R.remaining R.told R.counts result.now) }
     {
         self.inbox.reader()
     }
@@ -502,14 +503,16 @@ impl<R: ReadTally, W: WriteTally> ClientEngine<R, W> {
             (record { remaining = R.remaining }) (record { counts = R.counts })
             (record { taken = W.taken }) (record { contents = W.contents })
             (record { counts = W.counts }) self.entry result) }
-        ensures value { self.old ≡ with_client_reader self.old (reader_state R.remaining R.told R.counts result.now) }
+        ensures value { self.old ≡ with_client_reader self.old
+            (reader_state R.remaining R.told R.counts result.now) }
     {
         self.inbox.reader_mut()
     }
 
     /// The writer.
     pub fn writer(&self) -> &W
-        ensures { self.now ≡ with_client_writer self.now (writer_state W.contents W.taken W.counts result.now) }
+        ensures { self.now ≡ with_client_writer self.now
+            (writer_state W.contents W.taken W.counts result.now) }
     {
         self.outbox.writer()
     }
@@ -521,7 +524,8 @@ impl<R: ReadTally, W: WriteTally> ClientEngine<R, W> {
             (record { remaining = R.remaining }) (record { counts = R.counts })
             (record { taken = W.taken }) (record { contents = W.contents })
             (record { counts = W.counts }) self.entry result) }
-        ensures value { self.old ≡ with_client_writer self.old (writer_state W.contents W.taken W.counts result.now) }
+        ensures value { self.old ≡ with_client_writer self.old
+            (writer_state W.contents W.taken W.counts result.now) }
     {
         self.outbox.writer_mut()
     }

@@ -96,7 +96,8 @@ impl<R: ReadTally + Drop, W: WriteTally + Drop> HostEngine<R, W> {
     pub fn reader(&self) -> Option<&R>
         ensures there { IsSome result ↔ IsSome self.now.link }
         ensures value { IfSome result (λ r. self.now
-            ≡ with_link self.now (λ k. with_link_reader k (reader_state R.remaining R.told R.counts r.now))) }
+            ≡ with_link self.now (λ k. with_link_reader k
+            (reader_state R.remaining R.told R.counts r.now))) }
     {
         match &self.link {
             Some(link) => Some(link.reader()),
@@ -113,7 +114,8 @@ impl<R: ReadTally + Drop, W: WriteTally + Drop> HostEngine<R, W> {
             (record { counts = W.counts }) self.entry result) }
         ensures there { IsSome result ↔ IsSome self.old.link }
         ensures value { IfSome result (λ r. self.old
-            ≡ with_link self.old (λ k. with_link_reader k (reader_state R.remaining R.told R.counts r.now))) }
+            ≡ with_link self.old (λ k. with_link_reader k
+            (reader_state R.remaining R.told R.counts r.now))) }
     {
         match &mut self.link {
             Some(link) => Some(link.reader_mut()),
@@ -125,7 +127,8 @@ impl<R: ReadTally + Drop, W: WriteTally + Drop> HostEngine<R, W> {
     pub fn writer(&self) -> Option<&W>
         ensures there { IsSome result ↔ IsSome self.now.link }
         ensures value { IfSome result (λ r. self.now
-            ≡ with_link self.now (λ k. with_link_writer k (writer_state W.contents W.taken W.counts r.now))) }
+            ≡ with_link self.now (λ k. with_link_writer k
+            (writer_state W.contents W.taken W.counts r.now))) }
     {
         match &self.link {
             Some(link) => Some(link.writer()),
@@ -142,7 +145,8 @@ impl<R: ReadTally + Drop, W: WriteTally + Drop> HostEngine<R, W> {
             (record { counts = W.counts }) self.entry result) }
         ensures there { IsSome result ↔ IsSome self.old.link }
         ensures value { IfSome result (λ r. self.old
-            ≡ with_link self.old (λ k. with_link_writer k (writer_state W.contents W.taken W.counts r.now))) }
+            ≡ with_link self.old (λ k. with_link_writer k
+            (writer_state W.contents W.taken W.counts r.now))) }
     {
         match &mut self.link {
             Some(link) => Some(link.writer_mut()),

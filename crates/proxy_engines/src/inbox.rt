@@ -204,7 +204,8 @@ impl<R: ReadTally> Inbox<R> {
 
     /// The reader.
     pub(crate) fn reader(&self) -> &R
-        ensures { self.now ≡ with_reader self.now (reader_state R.remaining R.told R.counts result.now) }
+        ensures { self.now ≡ with_reader self.now
+            (reader_state R.remaining R.told R.counts result.now) }
     {
         &self.input
     }
@@ -213,7 +214,8 @@ impl<R: ReadTally> Inbox<R> {
     pub(crate) fn reader_mut(&mut self) -> &mut R
         ensures* writes_back { sem 𝓛 (lends_reader R.row (record { told = R.told })
             (record { remaining = R.remaining }) (record { counts = R.counts }) self.entry result) }
-        ensures value { self.old ≡ with_reader self.old (reader_state R.remaining R.told R.counts result.now) }
+        ensures value { self.old ≡ with_reader self.old
+            (reader_state R.remaining R.told R.counts result.now) }
     {
         &mut self.input
     }

@@ -104,7 +104,8 @@ impl<R: ReadTally, W: WriteTally> Link<R, W> {
 
     /// The reader.
     pub(crate) fn reader(&self) -> &R
-        ensures { self.now ≡ with_link_reader self.now (reader_state R.remaining R.told R.counts result.now) }
+        ensures { self.now ≡ with_link_reader self.now
+            (reader_state R.remaining R.told R.counts result.now) }
     {
         self.inbox.reader()
     }
@@ -115,14 +116,16 @@ impl<R: ReadTally, W: WriteTally> Link<R, W> {
             (record { remaining = R.remaining }) (record { counts = R.counts })
             (record { taken = W.taken }) (record { contents = W.contents })
             (record { counts = W.counts }) self.entry result) }
-        ensures value { self.old ≡ with_link_reader self.old (reader_state R.remaining R.told R.counts result.now) }
+        ensures value { self.old ≡ with_link_reader self.old
+            (reader_state R.remaining R.told R.counts result.now) }
     {
         self.inbox.reader_mut()
     }
 
     /// The writer.
     pub(crate) fn writer(&self) -> &W
-        ensures { self.now ≡ with_link_writer self.now (writer_state W.contents W.taken W.counts result.now) }
+        ensures { self.now ≡ with_link_writer self.now
+            (writer_state W.contents W.taken W.counts result.now) }
     {
         &self.writer
     }
@@ -133,7 +136,8 @@ impl<R: ReadTally, W: WriteTally> Link<R, W> {
             (record { remaining = R.remaining }) (record { counts = R.counts })
             (record { taken = W.taken }) (record { contents = W.contents })
             (record { counts = W.counts }) self.entry result) }
-        ensures value { self.old ≡ with_link_writer self.old (writer_state W.contents W.taken W.counts result.now) }
+        ensures value { self.old ≡ with_link_writer self.old
+            (writer_state W.contents W.taken W.counts result.now) }
     {
         &mut self.writer
     }

@@ -86,7 +86,8 @@ impl<W: WriteTally> Outbox<W> {
 
     /// The writer.
     pub(crate) fn writer(&self) -> &W
-        ensures { self.now ≡ with_writer self.now (writer_state W.contents W.taken W.counts result.now) }
+        ensures { self.now ≡ with_writer self.now
+            (writer_state W.contents W.taken W.counts result.now) }
     {
         &self.writer
     }
@@ -95,7 +96,8 @@ impl<W: WriteTally> Outbox<W> {
     pub(crate) fn writer_mut(&mut self) -> &mut W
         ensures* writes_back { sem 𝓛 (lends_writer W.row (record { taken = W.taken })
             (record { contents = W.contents }) (record { counts = W.counts }) self.entry result) }
-        ensures value { self.old ≡ with_writer self.old (writer_state W.contents W.taken W.counts result.now) }
+        ensures value { self.old ≡ with_writer self.old
+            (writer_state W.contents W.taken W.counts result.now) }
     {
         &mut self.writer
     }

@@ -626,7 +626,8 @@ impl HostConnection {
     fn attach(&mut self) -> Result<(), StepError>
         requires link { self.old.engine.link ≡ None }
         requires fault { self.old.engine.fault ≡ None }
-        ensures { (H : History) → KeepsHost (ends_of self.old.engine) (ends_of self.new.engine) H H }
+        ensures { (H : History)
+            → KeepsHost (ends_of self.old.engine) (ends_of self.new.engine) H H }
     {
         match mem::replace(&mut self.link, LinkState::Down) {
             LinkState::Connecting { stream, .. } => self.attach_socket(stream),
@@ -641,7 +642,8 @@ impl HostConnection {
     fn attach_socket(&mut self, stream: TcpStream) -> Result<(), StepError>
         requires link { self.old.engine.link ≡ None }
         requires fault { self.old.engine.fault ≡ None }
-        ensures { (H : History) → KeepsHost (ends_of self.old.engine) (ends_of self.new.engine) H H }
+        ensures { (H : History)
+            → KeepsHost (ends_of self.old.engine) (ends_of self.new.engine) H H }
     {
         let Ok(
             Socket {

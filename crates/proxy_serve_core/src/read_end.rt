@@ -214,7 +214,8 @@ impl ReadEnd {
         ensures none { self.old.left ≡ None → result ≡ received }
         ensures err { IfErr received (λ e. (result ≡ received)
             ⊎ ((result ≡ Ok 0) × EndsByPause self.old self.new)) }
-        ensures logs { (self.new.received ≡ self.old.received) × (self.new.delivered ≡ self.old.delivered) }
+        ensures logs { (self.new.received ≡ self.old.received)
+            × (self.new.delivered ≡ self.old.delivered) }
         ensures states { (self.new.is_readable ≡ self.old.is_readable)
             × (self.new.is_closed ≡ self.old.is_closed) }
         ensures left { CountsDown self.old.left self.new.left result }
