@@ -1,5 +1,6 @@
-// Stands before the C library's allocation: the call whose number REFUSED_CALL has finds no memory, and each call for
-// REFUSED_SIZE bytes or more; all others do. For each that finds none the file that REFUSED_FILE names grows by a byte.
+// Stands before the C library's allocation: the call whose number REFUSED_CALL has finds no memory, each call whose number is
+// a multiple of REFUSED_EVERY, and each for REFUSED_SIZE bytes or more; all others do. For each that finds none the file that
+// REFUSED_FILE names grows by a byte.
 #include <errno.h>
 #include <fcntl.h>
 #include <stdatomic.h>
@@ -15,12 +16,17 @@ extern void *__libc_memalign(size_t alignment, size_t size);
 
 static atomic_long calls;
 static long refused_call = -1;
+static long refused_every = 0;
 static size_t refused_size = SIZE_MAX;
 
 __attribute__((constructor)) static void begin(void) {
     const char *number = getenv("REFUSED_CALL");
     if (number) {
         refused_call = atol(number);
+    }
+    const char *every = getenv("REFUSED_EVERY");
+    if (every) {
+        refused_every = atol(every);
     }
     const char *size = getenv("REFUSED_SIZE");
     if (size) {
@@ -39,7 +45,11 @@ static void tell(void) {
 }
 
 static int is_refused(size_t size) {
-    int is_called = refused_call >= 0 && atomic_fetch_add(&calls, 1) + 1 == refused_call;
+    int is_called = 0;
+    if (refused_call >= 0 || refused_every > 0) {
+        long number = atomic_fetch_add(&calls, 1) + 1;
+        is_called = number == refused_call || (refused_every > 0 && number % refused_every == 0);
+    }
     if (!is_called && size < refused_size) {
         return 0;
     }

@@ -1,4 +1,4 @@
-//! A history that only grows: one step after another, the oldest first.
+//! A list of steps that only grows, the oldest first.
 //!
 //! A journal limits its steps and their bytes of payload. Room for a step is made before anything else is done, since
 //! only that can be refused. Once there is room, adding the step takes no memory and can't fail. It stands on `limits`.

@@ -18,7 +18,7 @@ const VERSION_AND_KIT: &str = "0.3.0 (rattle-kit-13f logic dac8208d650f15bf)";
 
 /// The request of the command line.
 #[derive(Drop)]
-pub enum Asked {
+pub enum Action {
     /// Serve one client on standard input and output.
     Local,
     /// Check a settings file.
@@ -39,22 +39,22 @@ pub enum Asked {
 
 /// Why the words make no request.
 #[derive(Drop)]
-pub enum Refused {
+pub enum CommandLineError {
     /// There was no memory to read them.
     Memory,
     /// The value of `--metrics` is no address with a port.
     NoAddress,
     /// The parser's text is to be printed.
-    Told(Told),
+    Parser(ParserText),
 }
 
 /// The parser's text: an error of the words, or the help.
 #[derive(Drop)]
-pub struct Told {
+pub struct ParserText {
     error: Error,
 }
 
-impl Told {
+impl ParserText {
     /// Prints the text: help on standard output, errors on standard error. Returns an error of that stream.
     pub fn print<R: Print + Eprint>(&self, rt: &R) -> io::Result<()> {
         self.error.print(rt)
@@ -66,18 +66,18 @@ impl Told {
     }
 }
 
-impl From<AllocError> for Refused {
-    fn from(_error: AllocError) -> Refused {
-        Refused::Memory
+impl From<AllocError> for CommandLineError {
+    fn from(_error: AllocError) -> CommandLineError {
+        CommandLineError::Memory
     }
 }
 
-impl From<Error> for Refused {
-    fn from(error: Error) -> Refused {
+impl From<Error> for CommandLineError {
+    fn from(error: Error) -> CommandLineError {
         if error.kind() == ErrorKind::OutOfMemory {
-            Refused::Memory
+            CommandLineError::Memory
         } else {
-            Refused::Told(Told { error })
+            CommandLineError::Parser(ParserText { error })
         }
     }
 }
@@ -111,13 +111,13 @@ fn metrics<'a>(alloc: Global) -> Arg<'a> {
         .action(ArgAction::Set)
 }
 
-fn address(word: Option<&str>) -> Result<Option<SocketAddr>, Refused> {
+fn address(word: Option<&str>) -> Result<Option<SocketAddr>, CommandLineError> {
     let Some(word) = word else {
         return Ok(None);
     };
     match word.parse::<SocketAddr>() {
         Ok(address) => Ok(Some(address)),
-        Err(_) => Err(Refused::NoAddress),
+        Err(_) => Err(CommandLineError::NoAddress),
     }
 }
 
@@ -152,23 +152,23 @@ fn command<'a>(alloc: Global) -> Result<Command<'a>, AllocError> {
 }
 
 /// Reads the words of the command line, the first of which is the program's name.
-pub fn read(alloc: Global, words: &[String]) -> Result<Asked, Refused> {
+pub fn read(alloc: Global, words: &[String]) -> Result<Action, CommandLineError> {
     let matches = command(alloc)?.try_get_matches_from(words)?;
     match matches.subcommand() {
         Some(("check", matches)) => {
             let config = String::from_str(alloc, matches.get_str("config").unwrap_or(""))?;
-            Ok(Asked::Check { config })
+            Ok(Action::Check { config })
         }
         Some(("serve", matches)) => {
             let config = String::from_str(alloc, matches.get_str("config").unwrap_or(""))?;
             let connections = matches.get_one::<u32>("connections").unwrap_or(0);
             let metrics = address(matches.get_str("metrics"))?;
-            Ok(Asked::Serve {
+            Ok(Action::Serve {
                 config,
                 connections: u64::from(connections),
                 metrics,
             })
         }
-        _ => Ok(Asked::Local),
+        _ => Ok(Action::Local),
     }
 }

@@ -12,7 +12,7 @@ use Rattle.bytes.proofs.shared.Bytes.TheSendSync as bytes
 use Rattle.bytes.proofs.unique.BytesMut.TheSendSync as mutable
 use Rattle.resp_core.specs.contracts.value.Value as Value
 use Rattle.resp_core.specs.contracts.value.Values as Values
-use Rattle.resp_core.specs.contracts.room.Room as Room
+use Rattle.resp_core.specs.contracts.text_block.TextBlock as TextBlock
 use Rattle.resp_core.specs.contracts.texts.Texts as Texts
 use Rattle.resp_core.proofs.value.Values.TheLaws.TheKnot as knot
 use Rattle.ketama.specs.contracts.ring.Ring as Ring
@@ -81,11 +81,11 @@ connection_send = search (queue_send, crosses, sendable) depth 20
 journal_send : IsSend (Journal.the_row Event.the_row Answer.the_row)
 journal_send = search (event_send, answer_send, crosses, sendable) depth 20
 
-room_send : IsSend Room.the_row
-room_send = search (mutable.the_send, crosses, sendable) depth 20
+text_block_send : IsSend TextBlock.the_row
+text_block_send = search (mutable.the_send, crosses, sendable) depth 20
 
 texts_send : IsSend Texts.the_row
-texts_send = search (room_send, crosses, sendable) depth 20
+texts_send = search (text_block_send, crosses, sendable) depth 20
 
 machine_send : IsSend (Machine.the_field).row
 machine_send = search (ring_send, ejector_send, journal_send, connection_send, pipe_send, texts_send, crosses, sendable) depth 20

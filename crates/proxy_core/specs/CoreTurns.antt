@@ -4,10 +4,10 @@ use Rattle.splitter.specs.declared.request.Request.{Request}
 use Rattle.proxy_history.specs.Setting.{max_steps}
 use Rattle.proxy_history.specs.History.{Step, is_open, is_finishing}
 use Rattle.proxy_history.specs.Legal.{IsLegal}
-use Rattle.proxy_history.specs.Own.{is_connection_step}
+use Rattle.proxy_history.specs.OwnSteps.{is_connection_step}
 use Rattle.proxy_history.specs.StepLaws.{IsAnswerTo, IsOfPresentEpoch}
 use Rattle.proxy_history.specs.RefusalLaws.{Means}
-use Rattle.proxy_history.specs.Seen.{history_of_seen}
+use Rattle.proxy_history.specs.SeenSteps.{history_of_seen}
 use Rattle.proxy_history.specs.declared.event.Event.{Event}
 use Rattle.proxy_history.specs.declared.event.Event.TheVariants.{Opened, Arrived}
 use Rattle.proxy_history.specs.declared.answer.Answer.TheVariants as answer

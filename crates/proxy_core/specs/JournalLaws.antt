@@ -8,7 +8,7 @@ use Rattle.proxy_history.specs.Past.{past}
 use Rattle.proxy_history.specs.Legal.{IsLegal}
 use Rattle.proxy_history.specs.StepLaws.{IsAnswerTo, IsOfPresentEpoch}
 use Rattle.proxy_history.specs.RefusalLaws.{Means}
-use Rattle.proxy_history.specs.Seen.{history_of_seen, seen_of_history}
+use Rattle.proxy_history.specs.SeenSteps.{history_of_seen, seen_of_history}
 use Rattle.proxy_history.specs.declared.event.Event.{Event}
 use Rattle.proxy_history.specs.declared.event.Event.TheVariants.{Opened, Arrived}
 use Rattle.proxy_history.specs.declared.answer.Answer.TheVariants as answer

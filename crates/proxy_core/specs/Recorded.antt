@@ -9,7 +9,7 @@ use Rattle.proxy_history.specs.Past.{past}
 use Rattle.proxy_history.specs.Payload.{payload}
 use Rattle.proxy_history.specs.Legal.{IsLegal, IsCause}
 use Rattle.proxy_history.specs.Proxy.{Proxy, setting_from}
-use Rattle.proxy_history.specs.Seen.{history_of_seen}
+use Rattle.proxy_history.specs.SeenSteps.{history_of_seen}
 use Rattle.proxy_history.specs.declared.event.Event.{Event}
 use Rattle.proxy_history.specs.declared.refusal.Refusal.{Refusal}
 use Rattle.proxy_history.proofs.CallerLemmas as history

@@ -1,6 +1,6 @@
 -- What a crate above cites: a log may go to another thread.
 use denote.Param.Send.{IsSend, owning_send}
-use Rattle.proxy_devices.specs.contracts.log.Log.{the_row, the_type}
+use Rattle.proxy_devices.specs.contracts.byte_log.ByteLog.{the_row, the_type}
 
 -- (a log owns nothing)
 pub log_send : IsSend the_row

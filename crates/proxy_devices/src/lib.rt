@@ -5,12 +5,12 @@
 //! stands on no other crate. Begin with `tally.rt`.
 #![tactic(auto)]
 
+mod byte_log;
 mod counter;
 mod faulty;
-mod log;
 mod tally;
 
+pub use byte_log::ByteLog;
 pub use counter::Counter;
 pub use faulty::Faulty;
-pub use log::Log;
 pub use tally::{IoOutcome, ReadTally, Tallied, Tally, WriteTally};

@@ -5,8 +5,8 @@ ghost use Rattle.std.specs.Io.KnownBytes.{Keeps, ReadConsumes, WriteAppends};
 ghost use Rattle.proxy_devices.specs.Tallied.{HasSameLogs, counts_of};
 ghost use Rattle.proxy_devices.specs.Device.{Counts, CountsRead, CountsWrite, IsRead, IsWritten, LogsCall, TakesNone, reader_state, writer_state};
 
+use crate::byte_log::ByteLog;
 use crate::counter::Counter;
-use crate::log::Log;
 use std::io;
 use std::io::{Read, Write};
 
@@ -73,9 +73,9 @@ pub struct Tallied<S> {
     inner: S,
     counter: Counter,
     // The bytes that it told as a reader.
-    told: Log,
+    told: ByteLog,
     // The bytes that it took as a writer.
-    taken: Log,
+    taken: ByteLog,
 }
 
 impl<S> Tallied<S> {
@@ -90,8 +90,8 @@ impl<S> Tallied<S> {
         Tallied {
             inner,
             counter: Counter::new(),
-            told: Log::new(),
-            taken: Log::new(),
+            told: ByteLog::new(),
+            taken: ByteLog::new(),
         }
     }
 

@@ -13,8 +13,8 @@ use Rattle.splitter.specs.declared.request.Request.{Request as Request'}
 use Rattle.proxy_history.specs.Setting.{max_steps}
 use Rattle.proxy_history.specs.History.{History, Step, accepted_count, handed_count, requests, is_arrival, is_closed, is_finishing, is_handing}
 use Rattle.proxy_history.specs.Output.{transcript}
-use Rattle.proxy_history.specs.Own.{connection_steps, is_connection_step}
-use Rattle.proxy_history.specs.OwnLaws.{SameOfConnection}
+use Rattle.proxy_history.specs.OwnSteps.{connection_steps, is_connection_step}
+use Rattle.proxy_history.specs.OwnStepsLaws.{SameOfConnection}
 use Rattle.proxy_history.specs.declared.event.Event.{Event}
 use Rattle.proxy_history.specs.declared.answer.Answer.{Answer}
 use Rattle.proxy_history.proofs.CallerLemmas as history

@@ -18,7 +18,7 @@ use Rattle.proxy_history.specs.Setting.{max_steps}
 use Rattle.proxy_history.specs.History.{History, Step, times, is_fault, epoch}
 use Rattle.proxy_history.specs.Replies.{replies_from}
 use Rattle.proxy_history.specs.Output.{upstream, sent_text}
-use Rattle.proxy_history.specs.Own.{is_of_host, host_steps}
+use Rattle.proxy_history.specs.OwnSteps.{is_of_host, host_steps}
 use Rattle.proxy_history.specs.declared.event.Event.{Event}
 use Rattle.proxy_history.specs.declared.event.Kind.{Kind}
 use Rattle.proxy_history.specs.declared.answer.Answer.{Answer}

@@ -1,9 +1,9 @@
 -- What an engine keeps of its socket's logs, over any number of calls.
-use Rattle.std.proofs.Common.{◌≡◌, ◌∙◌, ◌⊎◌, ℕ, Bool, List, [], ◌∷◌, ◌++◌, Option, Some, None, ap, append_assoc, append-nil, eq-eqb, inl, inr, refl, sym, true}
+use Rattle.std.proofs.Common.{◌≡◌, ◌≢◌, ◌∙◌, ◌⊎◌, ℕ, Bool, List, [], ◌∷◌, ◌++◌, Option, Some, None, ap, append_assoc, append-nil, eq-eqb, inl, inr, refl, sym, true}
 use Rattle.std.specs.Prelude.{Result}
 use Rattle.std.proofs.lemmas.List.Elements.{filter-append}
 use Rattle.proxy_history.specs.History.{History, Step}
-use Rattle.proxy_history.specs.Own.{host_steps, is_connection_step, is_of_host}
+use Rattle.proxy_history.specs.OwnSteps.{host_steps, is_connection_step, is_of_host}
 use Rattle.proxy_history.specs.declared.event.Event.{Event}
 use Rattle.proxy_history.specs.declared.answer.Answer.{Answer}
 use Rattle.proxy_history.specs.declared.event.Kind.{Kind}
@@ -187,6 +187,16 @@ module _ (begun : Logs) (unasked : HostOutboxState → LinkState → Type 0) whe
       → KeepsLink begun (ends_of call.old) (ends_of call.new) call.before call.after
   KeepsLink-steps call result (inl s) = stepped call result s
   KeepsLink-steps call result (inr (_, same, steps, _)) = same_steps begun (ends_of call.old) (ends_of call.new) call.before call.after (ap ends_of same) steps
+
+  -- what was sent without a fault to be recorded, or nothing, keeps a link
+  pub KeepsLink-sends : (call : HostCall) (result : Result Progress EngineError) (fault : Option Kind) → call.old.fault ≡ fault
+      → (call.old.fault ≡ None → WorksHost unasked call result)
+      → (call.old.fault ≢ None → (call.new ≡ call.old) × (call.after ≡ call.before))
+      → KeepsLink begun (ends_of call.old) (ends_of call.new) call.before call.after
+  KeepsLink-sends call result None is sent rests = works call result (sent is)
+  KeepsLink-sends call result (Some kind) is sent rests =
+      let (same, steps) = rests (λ none. let some = sym is ∙ none in absurd cc) in
+      same_steps begun (ends_of call.old) (ends_of call.new) call.before call.after (ap ends_of same) steps
 
 -- a link is kept from the logs on over which it was attached
 attaches : (outbox : HostOutboxState) (link : LinkState) (H : History) (begun : Logs)

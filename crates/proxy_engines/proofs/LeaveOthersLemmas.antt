@@ -3,7 +3,7 @@ use Rattle.std.proofs.Common.{◌≡◌, ◌≢◌, ◌∙◌, ◌==◌, ◌≤�
 use Rattle.std.proofs.lemmas.Bool.{ne_eqb}
 use Rattle.resp_core.specs.Tree.{Tree}
 use Rattle.proxy_history.specs.History.{Step}
-use Rattle.proxy_history.specs.Own.{is_connection_step, is_of_host}
+use Rattle.proxy_history.specs.OwnSteps.{is_connection_step, is_of_host}
 use Rattle.proxy_history.specs.declared.event.Event.{Event}
 use Rattle.proxy_history.specs.declared.answer.Answer.{Answer}
 use Rattle.proxy_history.proofs.CallerLemmas as history

@@ -1,7 +1,7 @@
 -- What an engine carries over the logs of its devices.
 use Rattle.std.proofs.Common.{◌≡◌, ◌∙◌, ℕ, true, List, [], ◌∷◌, ◌++◌, Option, Some, None, ap, append_assoc, append-nil, sym, subst}
 use Rattle.proxy_history.specs.History.{History}
-use Rattle.proxy_history.specs.Own.{host_steps}
+use Rattle.proxy_history.specs.OwnSteps.{host_steps}
 use Rattle.proxy_engines.specs.Client.{Carries}
 use Rattle.proxy_engines.specs.Socket.{CarriesOn}
 use Rattle.proxy_engines.specs.Host.{HostOutboxState, LinkState, CarriesHost, ReadsOn, WritesOn}

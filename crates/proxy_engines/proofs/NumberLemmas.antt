@@ -5,7 +5,7 @@ use Rattle.proxy_core.specs.CoreTurns.{RefusalsMean}
 use Rattle.proxy_core.specs.Recorded.{Origin, setting_by}
 use Rattle.proxy_history.specs.Setting.{Setting}
 use Rattle.proxy_history.specs.History.{History, Step}
-use Rattle.proxy_history.specs.Seen.{history_of_seen}
+use Rattle.proxy_history.specs.SeenSteps.{history_of_seen}
 use Rattle.proxy_history.specs.RefusalLaws.{Means}
 use Rattle.proxy_history.specs.Refusal.{number_of}
 use Rattle.proxy_history.specs.declared.event.Event.{Event}

@@ -3,8 +3,8 @@ use Rattle.std.proofs.Common.{◌≡◌, ◌∙◌, ◌≤◌, ◌==◌, ℕ, Bo
 use Rattle.ticket_gate.specs.Journal.{steps_of}
 use Rattle.proxy_history.specs.History.{Step}
 use Rattle.proxy_history.specs.Setting.{max_steps}
-use Rattle.proxy_history.specs.Seen.{history_of_seen}
-use Rattle.proxy_history.specs.Own.{is_connection_step, connection_steps}
+use Rattle.proxy_history.specs.SeenSteps.{history_of_seen}
+use Rattle.proxy_history.specs.OwnSteps.{is_connection_step, connection_steps}
 use Rattle.proxy_core.specs.CoreTurns.{seen_of_connection}
 use Rattle.proxy_history.specs.declared.event.Event.{Event}
 use Rattle.proxy_history.specs.declared.answer.Answer.{Answer}

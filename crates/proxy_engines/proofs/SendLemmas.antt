@@ -11,8 +11,8 @@ use Rattle.bytes.proofs.unique.BytesMut.TheSendSync as mutable
 use Rattle.resp_core.specs.contracts.value.Value as Value
 use Rattle.resp_core.specs.contracts.value.Values as Values
 use Rattle.resp_core.specs.contracts.begun.Begun as Begun
-use Rattle.resp_core.specs.contracts.room.Room as Room
-use Rattle.resp_core.specs.contracts.progress.Progress as Progress
+use Rattle.resp_core.specs.contracts.text_block.TextBlock as TextBlock
+use Rattle.resp_core.specs.contracts.partial_value.PartialValue as PartialValue
 use Rattle.resp_core.specs.contracts.reader.Reader as Reader
 use Rattle.resp_core.proofs.value.Values.TheLaws.TheKnot as knot
 use Rattle.splitter.specs.contracts.request.Request as Request
@@ -39,14 +39,14 @@ value_send = as_row_send Value.the_field value_field_send
 begun_send : IsSend Begun.the_row
 begun_send = search (values_send, crosses, sendable) depth 20
 
-room_send : IsSend Room.the_row
-room_send = search (mutable.the_send, crosses, sendable) depth 20
+text_block_send : IsSend TextBlock.the_row
+text_block_send = search (mutable.the_send, crosses, sendable) depth 20
 
-progress_send : IsSend (Progress.the_field).row
-progress_send = search (value_send, begun_send, room_send, mutable.the_send, crosses, sendable) depth 60 fits 20000
+partial_value_send : IsSend (PartialValue.the_field).row
+partial_value_send = search (value_send, begun_send, text_block_send, mutable.the_send, crosses, sendable) depth 60 fits 20000
 
 pub reader_send : IsSend Reader.the_row
-reader_send = search (progress_send, crosses, sendable) depth 40 fits 20000
+reader_send = search (partial_value_send, crosses, sendable) depth 40 fits 20000
 
 pub rest_send : IsSend Rest.the_row
 rest_send = search (reader_send, request_send, crosses, sendable) depth 40 fits 20000

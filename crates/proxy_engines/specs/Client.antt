@@ -11,7 +11,7 @@ use Rattle.proxy_history.specs.History.{History, Step, accepted_count, handed_co
 use Rattle.proxy_history.specs.declared.event.Event.{Event}
 use Rattle.proxy_history.specs.declared.refusal.Refusal.{Refusal}
 use Rattle.proxy_history.specs.Output.{transcript}
-use Rattle.proxy_history.specs.Own.{connection_steps}
+use Rattle.proxy_history.specs.OwnSteps.{connection_steps}
 use Rattle.proxy_engines.specs.Moves.{has_moved, IsEndOf, last_text, text_handed}
 use Rattle.proxy_devices.specs.Device.{WasIdle}
 use Rattle.proxy_engines.specs.Ends.{OutboxState, InboxState, HoldsBehind, HasGivenAll, AreRequests, KeepsReader, Reads, Writes}
@@ -127,6 +127,10 @@ HasSameCounts old new = (new.inbox.counts ≡ old.inbox.counts) × (new.outbox.c
 pub record HasNext (engine : Client) (is_there : Bool) : Type 0 where
   pub some : is_there ≡ true → engine.next ≢ None
   pub none : is_there ≡ false → (engine.next ≡ None) × HasGivenAll engine.inbox
+
+-- nothing more is accepted: the engine is drained, or it has stopped reading
+abbrev pub TakesNothing : Client → Type 0
+TakesNothing engine = (engine.stage ≢ Stage.Open) ⊎ (engine.is_drained ≡ true)
 
 -- No byte is to be read any more, and no refused byte waits to be told: the engine is drained, or the input has ended with all given.
 pub record IsReadOut (engine : Client) : Type 0 where

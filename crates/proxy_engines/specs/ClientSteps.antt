@@ -1,8 +1,8 @@
 -- What the functions of a client's engine come to that make turns.
-use Rattle.std.specs.Prelude.{◌≡◌, ◌≢◌, ◌⊎◌, ℕ, Bool, false, true, Option, Some, List, [], ◌∷◌, Result, IfOk, IfErr, OnOk}
+use Rattle.std.specs.Prelude.{◌≡◌, ◌≢◌, ◌⊎◌, ℕ, Bool, false, true, Option, None, Some, List, [], ◌∷◌, Result, IfOk, IfErr, OnOk}
 use Rattle.splitter.specs.declared.request.Request.{Request}
 use Rattle.proxy_history.specs.History.{History, Step}
-use Rattle.proxy_history.specs.Own.{connection_steps}
+use Rattle.proxy_history.specs.OwnSteps.{connection_steps}
 use Rattle.proxy_history.specs.declared.answer.Answer.{Answer}
 use Rattle.proxy_history.specs.declared.event.Event.{Event}
 use Rattle.proxy_history.specs.declared.refusal.Refusal.{Refusal}
@@ -11,7 +11,8 @@ use Rattle.proxy_devices.specs.Device.{HasFailed, ReadState, WasIdle, WriteState
 use Rattle.proxy_engines.specs.Turns.{KeepsTurns, own_history}
 use Rattle.proxy_engines.specs.OneTurn.{IsNumbered}
 use Rattle.proxy_engines.specs.Moves.{AsTold}
-use Rattle.proxy_engines.specs.Client.{AwaitsBytes, AwaitsReplies, Client, Goes, HandsNothing, HasNext, HasNoFault, HasSameCounts, IsHeldBack, IsIdle, IsLive}
+use Rattle.proxy_engines.specs.Ends.{HasGivenAll, KeepsReader}
+use Rattle.proxy_engines.specs.Client.{AwaitsBytes, AwaitsReplies, Client, Goes, HandsNothing, HasNext, HasNoFault, HasSameCounts, IsHeldBack, IsIdle, IsLive, TakesNothing}
 use Rattle.proxy_engines.specs.declared.client.Progress.{Progress}
 use Rattle.proxy_engines.specs.declared.client.Stage.{Stage}
 use Rattle.proxy_engines.specs.declared.error.EngineError.{EngineError}
@@ -51,6 +52,7 @@ pub record HandsDue (cause : Refusal → Event → List Step → Type 0) (seen_b
 pub record OffersOne (cause : Refusal → Event → List Step → Type 0) (seen : List Step) (old new : Client)
     (result : Result Progress EngineError) : Type 0 where
   pub live : IsLive new.stage
+  pub ends : (new.inbox ≡ old.inbox) × (new.outbox ≡ old.outbox)
   pub ok : IfOk result (λ p. (p ≡ Progress.Moved) ⊎ ((p ≡ Progress.Idle) × StaysHeld cause seen old new))
   pub err : IfErr result (λ e. (new ≡ old) × ((n : ℕ) × (e ≡ EngineError.TurnRefused n)))
 
@@ -58,12 +60,14 @@ pub record OffersOne (cause : Refusal → Event → List Step → Type 0) (seen 
 -- they were.
 pub record FetchesNext (old new : Client) (result : Result Bool EngineError) : Type 0 where
   pub keeps : (new.is_drained ≡ false) × (new.stage ≡ Stage.Open) × HasSameCounts old new
+  pub ends : KeepsReader old.inbox new.inbox × (new.outbox ≡ old.outbox)
   pub next : IfOk result (HasNext new)
   pub err : IfErr result (λ e. e ≡ EngineError.NoMemory)
 
 -- Whether a request waits is told, or there was no memory. Requests are still taken, and the devices are as they were.
 pub record LooksForNext (old new : Client) (result : Result Bool EngineError) : Type 0 where
   pub keeps : (new.stage ≡ Stage.Open) × HasSameCounts old new
+  pub ends : KeepsReader old.inbox new.inbox × (new.outbox ≡ old.outbox)
   pub last : new.is_drained ≡ true → new.next ≡ Some Request.Broken
   pub next : IfOk result (HasNext new)
   pub err : IfErr result (λ e. e ≡ EngineError.NoMemory)
@@ -96,6 +100,16 @@ pub record TakesIn (cause : Refusal → Event → List Step → Type 0) (seen_be
       ⊎ ((e ≡ EngineError.ReadFailed) × HasFailed old.inbox.counts new.inbox.counts × (new.stage ≡ Stage.Closed true))
       ⊎ ((n : ℕ) × (e ≡ EngineError.TurnRefused n)))
   pub idle : IfOk result (λ p. p ≡ Progress.Idle → IsHeldBack cause new seen_before seen_after ⊎ AwaitsBytes old new)
+
+-- A request was accepted, or it is told why none was: the engine takes in nothing more, the request is held back, or none has come
+-- whole. Or there was no memory, or the turn was refused. Nothing was read, handed out or written.
+pub record AcceptsOne (cause : Refusal → Event → List Step → Type 0) (seen_before seen_after : List Step) (old new : Client)
+    (result : Result Progress EngineError) : Type 0 where
+  pub ends : KeepsReader old.inbox new.inbox × (new.outbox ≡ old.outbox)
+  pub ok : IfOk result (λ p. (p ≡ Progress.Moved) ⊎ (p ≡ Progress.Idle))
+  pub err : IfErr result (λ e. (e ≡ EngineError.NoMemory) ⊎ ((n : ℕ) × (e ≡ EngineError.TurnRefused n)))
+  pub idle : IfOk result (λ p. p ≡ Progress.Idle → TakesNothing new
+      ⊎ (IsHeldBack cause new seen_before seen_after ⊎ ((new.next ≡ None) × HasGivenAll new.inbox)))
 
 -- The connection was closed at its end, or it awaits replies, or the turn was refused.
 pub record EndsOnce (new : Client) (result : Result Progress EngineError) : Type 0 where

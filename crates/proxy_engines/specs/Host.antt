@@ -9,7 +9,7 @@ use Rattle.splitter.specs.Request.{Request, read}
 use Rattle.proxy_history.specs.History.{History, Step, times, is_fault, epoch}
 use Rattle.proxy_history.specs.Replies.{replies_from}
 use Rattle.proxy_history.specs.Output.{upstream}
-use Rattle.proxy_history.specs.Own.{host_steps}
+use Rattle.proxy_history.specs.OwnSteps.{host_steps}
 use Rattle.proxy_history.specs.declared.event.Event.{Event}
 use Rattle.proxy_history.specs.declared.event.Kind.{Kind}
 use Rattle.proxy_history.specs.declared.answer.Answer.{Answer}

@@ -1,9 +1,10 @@
 -- What the functions of a host's engine come to that make turns.
-use Rattle.std.specs.Prelude.{◌≡◌, ◌≢◌, ◌⊎◌, ◌↔◌, ℕ, Bool, false, Option, List, [], Result, IfOk, IfErr, IfSome, OnOk, OnErr, None, Some}
+use Rattle.std.specs.Prelude.{◌≡◌, ◌≢◌, ◌⊎◌, ◌↔◌, ℕ, Bool, false, Option, List, [], Result, Ok, IfOk, IfErr, IfSome, OnOk, OnErr, None, Some}
 use Rattle.proxy_history.specs.History.{Step}
 use Rattle.proxy_history.specs.declared.event.Event.{Event}
 use Rattle.proxy_history.specs.declared.event.Kind.{Kind}
 use Rattle.proxy_history.specs.declared.refusal.Refusal.{Refusal}
+use Rattle.proxy_devices.specs.Device.{HasRisen}
 use Rattle.proxy_engines.specs.Turns.{KeepsTurns, own_history}
 use Rattle.proxy_engines.specs.OneTurn.{HasHeld}
 use Rattle.proxy_engines.specs.Moves.{AsTold}
@@ -98,6 +99,23 @@ module _ {Turns Setting : Type 0} (pass_of : Turns → ℕ) (setting_of : Turns 
         × (own_history pass_of seen_of after ≡ own_history pass_of seen_of before))
     pub err : IfErr result (λ e. (n : ℕ) × (e ≡ EngineError.TurnRefused n))
     pub number : IfErr result (IsNumberedOn (cause (setting_of before)) (seen_of after) new.outbox)
+
+  -- Where no fault was to be recorded: the engine wrote on its link or took a part, if there is one, as the answer tells, and read
+  -- nothing. It is idle where the writer paused, or where nothing was pending and no part waited.
+  pub record SendsHost (old new : HostState) (moment : ℕ) (result : Result Progress EngineError) : Type 0 where
+    pub turns : KeepsTurns pass_of setting_of seen_of before after
+    pub works : WorksHost (IsUnasked (cause (setting_of before) Refusal.Unasked) (seen_of before) (seen_of after) moment)
+        (call_of old new moment) result
+    pub unread : OnOk result (IfSome old.link (λ j. IfSome new.link (λ k. (k.inbox ≡ j.inbox) × (k.next ≡ j.next))))
+    pub idle : IfOk result (λ p. p ≡ Progress.Idle → IfSome old.link (λ j. IfSome new.link (λ k.
+        HasRisen j.counts.paused k.counts.paused
+        ⊎ ((old.outbox.pending ≡ []) × cause (setting_of before) Refusal.NothingWaiting (Event.Taken old.outbox.host) (seen_of after)))))
+    pub number : IfErr result (IsNumberedOn (cause (setting_of before)) (seen_of after) new.outbox)
+
+  -- nothing was done, since a fault is to be recorded first
+  abbrev pub RestsSending : HostState → HostState → Result Progress EngineError → Type 0
+  RestsSending old new result = (new ≡ old) × (result ≡ Ok Progress.Idle)
+      × (own_history pass_of seen_of after ≡ own_history pass_of seen_of before)
 
 -- One part was taken, or none: there is no link, and no fault was recorded. Where none was, the outbox is as it was; and if nothing
 -- was pending no part waited.

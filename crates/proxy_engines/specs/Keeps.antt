@@ -1,7 +1,7 @@
 -- What an engine keeps of its socket's logs, over any number of calls.
 use Rattle.std.specs.Prelude.{◌≡◌, ℕ, Bool, true, List, [], ◌∷◌, ◌++◌, Option, Some, None}
 use Rattle.proxy_history.specs.History.{History}
-use Rattle.proxy_history.specs.Own.{connection_steps, host_steps}
+use Rattle.proxy_history.specs.OwnSteps.{connection_steps, host_steps}
 use Rattle.proxy_history.specs.declared.event.Kind.{Kind}
 use Rattle.proxy_engines.specs.Client.{Client, Carries, Goes}
 use Rattle.proxy_engines.specs.Socket.{Past, IsLeft, IsRest, WentOn}

@@ -4,7 +4,7 @@ use Rattle.splitter.specs.Request.{Request}
 use Rattle.splitter.specs.Requests.{AreRequests, up_to_last}
 use Rattle.proxy_history.specs.History.{History, accepted_count, handed_count}
 use Rattle.proxy_history.specs.Output.{transcript}
-use Rattle.proxy_history.specs.Own.{connection_steps, host_steps}
+use Rattle.proxy_history.specs.OwnSteps.{connection_steps, host_steps}
 use Rattle.std.specs.Io.KnownBytes.{IsAtEnd}
 use Rattle.proxy_engines.specs.Client.{Client, Carries, LastFinishes, asked_requests}
 use Rattle.proxy_engines.specs.Host.{HostOutboxState, LinkState, CarriesHost}

@@ -5,18 +5,18 @@ use Rattle.proxy_engines.specs.Ends.{HasGivenAll, KeepsReader}
 use Rattle.proxy_engines.specs.Host.{HostOutboxState, LinkState}
 use Rattle.proxy_engines.specs.Faults.{HasNoFaultOn, HasRead, IfFault, IsCauseOf, IsLate, IsLateOn, IsOfDevice, LinkMove, is_fault}
 use Rattle.proxy_engines.specs.declared.error.EngineError.{EngineError}
-use Rattle.proxy_engines.specs.declared.link.Found.{Found}
+use Rattle.proxy_engines.specs.declared.link.NextValue.{NextValue}
 use Rattle.proxy_engines.specs.declared.link.Outcome.{Outcome}
 
 -- A value waits for its turn, a byte is refused, or all values that came were given, as was found.
-pub record FindsNext (link : LinkState) (found : Found) : Type 0 where
-  pub idle : found ≡ Found.Idle → (link.next ≡ None) × HasGivenAll link.inbox
-  pub value : found ≡ Found.Value → (link.next ≢ None) × (link.inbox.values.refusal ≡ None)
-  pub garbled : found ≡ Found.Garbled → link.inbox.values.refusal ≢ None
+pub record FindsNext (link : LinkState) (found : NextValue) : Type 0 where
+  pub idle : found ≡ NextValue.Idle → (link.next ≡ None) × HasGivenAll link.inbox
+  pub value : found ≡ NextValue.Value → (link.next ≢ None) × (link.inbox.values.refusal ≡ None)
+  pub garbled : found ≡ NextValue.Garbled → link.inbox.values.refusal ≢ None
 
 -- The next value was looked for: what was found is told, or there was no memory, and nothing is refused. Both devices are as they
 -- were.
-pub record LooksForValue (move : LinkMove) (result : Result Found EngineError) : Type 0 where
+pub record LooksForValue (move : LinkMove) (result : Result NextValue EngineError) : Type 0 where
   pub found : IfOk result (FindsNext move.new)
   pub err : IfErr result (λ e. (e ≡ EngineError.NoMemory) × (move.new.inbox.values.refusal ≡ None))
   pub counts : KeepsReader move.old.inbox move.new.inbox × (move.new.counts ≡ move.old.counts)

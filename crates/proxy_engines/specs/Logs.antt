@@ -5,7 +5,7 @@ use Rattle.splitter.specs.Requests.{AreRequests}
 use Rattle.proxy_history.specs.History.{History}
 use Rattle.proxy_history.specs.Replies.{replies_from}
 use Rattle.proxy_history.specs.Output.{transcript, upstream}
-use Rattle.proxy_history.specs.Own.{connection_steps, host_steps}
+use Rattle.proxy_history.specs.OwnSteps.{connection_steps, host_steps}
 use Rattle.proxy_history.specs.declared.event.Kind.{Kind}
 use Rattle.proxy_engines.specs.Client.{Client, Carries, Goes, asked_requests}
 use Rattle.proxy_engines.specs.Ends.{RestState}

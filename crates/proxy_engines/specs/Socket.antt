@@ -7,7 +7,7 @@ use Rattle.splitter.specs.Request.{Request, read}
 use Rattle.splitter.specs.Requests.{AreRequests, up_to_last}
 use Rattle.proxy_history.specs.History.{History, accepted_count, handed_count, is_closed}
 use Rattle.proxy_history.specs.Output.{transcript}
-use Rattle.proxy_history.specs.Own.{connection_steps}
+use Rattle.proxy_history.specs.OwnSteps.{connection_steps}
 use Rattle.proxy_devices.specs.Device.{Counts}
 use Rattle.proxy_engines.specs.Ends.{RestState, HoldsBehind, end_with}
 use Rattle.proxy_engines.specs.Client.{Client, Carries, Goes, NoneFinishes, asked_requests, waiting_requests}

@@ -2,7 +2,7 @@
 use Rattle.std.specs.Prelude.{◌≡◌, ℕ, List}
 use Rattle.ticket_gate.specs.Journal.{StartsWith, steps_of}
 use Rattle.proxy_history.specs.History.{History, Step}
-use Rattle.proxy_history.specs.Seen.{history_of_seen}
+use Rattle.proxy_history.specs.SeenSteps.{history_of_seen}
 
 -- the steps of this pass among those that it has seen, the newest first
 abbrev pub own_steps : ℕ → List Step → History

@@ -14,7 +14,7 @@ ghost use Rattle.proxy_engines.specs.Moves.{AsTold, told_by_step, told_by_turn};
 
 use crate::error::EngineError;
 use crate::inbox::{Inbox, Rest};
-use crate::one_turn::{arrive, open, tell};
+use crate::one_turn::{arrive, make_turn, open};
 use crate::outbox::Outbox;
 use proxy_core::{Answer, CoreTurns, Event, Request};
 use proxy_devices::{IoOutcome, ReadTally, WriteTally};
@@ -105,8 +105,8 @@ impl<R: ReadTally, W: WriteTally> Model for ClientEngine<R, W> {
 
 #[tactic(auto, using(crate::proofs::ClientMoves::same_goes, crate::proofs::ClientMoves::goes_then))]
 impl<R: ReadTally, W: WriteTally> ClientEngine<R, W> {
-    ghost use Rattle.proxy_engines.specs.Client.{AwaitsBytes, AwaitsReplies, Client, Carries, ClosesFirst, Cuts, Goes, HandsNothing, HasNext, HasNoFault, HasSameCounts, IsReadOut, IsHeldBack, IsIdle, IsLive, IsOver, MayGoOn};
-    ghost use Rattle.proxy_engines.specs.ClientSteps.{EndsOnce, FetchesNext, HandsDue, HandsOne, LooksForNext, MovesClient, OffersOne, ReadsClient, StopsReading, TakesIn, TellsStep, WritesClient};
+    ghost use Rattle.proxy_engines.specs.Client.{AwaitsBytes, AwaitsReplies, Client, Carries, ClosesFirst, Cuts, Goes, HandsNothing, HasNext, HasNoFault, HasSameCounts, IsReadOut, IsHeldBack, IsIdle, IsLive, IsOver, MayGoOn, TakesNothing};
+    ghost use Rattle.proxy_engines.specs.ClientSteps.{AcceptsOne, EndsOnce, FetchesNext, HandsDue, HandsOne, LooksForNext, MovesClient, OffersOne, ReadsClient, StopsReading, TakesIn, TellsStep, WritesClient};
     ghost use Rattle.proxy_history.specs.declared.refusal.Refusal.{Refusal};
     ghost use Rattle.splitter.specs.declared.request.Request.{Request};
     ghost use Rattle.proxy_engines.specs.Lends.{lends_client_reader, lends_client_writer, with_client_reader, with_client_writer};
@@ -120,7 +120,7 @@ impl<R: ReadTally, W: WriteTally> ClientEngine<R, W> {
         ensures hands { HandsOne (T.cause (T.setting turns.old)) (T.seen turns.new)
             self.old self.new result }
     {
-        match tell(rt, turns, Event::Handed { conn: self.conn }) {
+        match make_turn(rt, turns, Event::Handed { conn: self.conn }) {
             Ok(Answer::Bytes { text }) => {
                 self.outbox.put(text);
                 self.handed = self.handed.saturating_add(1);
@@ -148,7 +148,7 @@ impl<R: ReadTally, W: WriteTally> ClientEngine<R, W> {
             turns.new ≡ own_history T.pass T.seen turns.old)
             × ((n : ℕ) × (e ≡ EngineError.TurnRefused n))) }
     {
-        match tell(rt, turns, Event::Closed { conn: self.conn }) {
+        match make_turn(rt, turns, Event::Closed { conn: self.conn }) {
             Ok(answer) => {
                 drop(answer);
                 self.stage = Stage::Closed { is_cut: false };
@@ -173,7 +173,7 @@ impl<R: ReadTally, W: WriteTally> ClientEngine<R, W> {
     {
         self.stage = Stage::Failed;
         let close = Event::Closed { conn: self.conn };
-        match tell(rt, turns, close) {
+        match make_turn(rt, turns, close) {
             Ok(told) => {
                 drop(told);
                 self.stage = Stage::Closed { is_cut: true };
@@ -198,7 +198,7 @@ impl<R: ReadTally, W: WriteTally> ClientEngine<R, W> {
             turns.new ≡ own_history T.pass T.seen turns.old)
             × ((n : ℕ) × (e ≡ EngineError.TurnRefused n))) }
     {
-        match tell(rt, turns, Event::Finished { conn: self.conn }) {
+        match make_turn(rt, turns, Event::Finished { conn: self.conn }) {
             Ok(answer) => {
                 drop(answer);
                 self.stage = Stage::Finishing;
@@ -258,8 +258,8 @@ impl<R: ReadTally, W: WriteTally> ClientEngine<R, W> {
         }
     }
 
-    // Whether a request waits, or has come completely.
-    fn has_next(&mut self) -> Result<bool, EngineError>
+    // Fetches the next complete request, unless one waits. False: there is none.
+    fn fetch_if_none(&mut self) -> Result<bool, EngineError>
         requires stage { self.old.stage ≡ Stage.Open }
         requires last { self.old.is_drained ≡ true → self.old.next ≡ Some Request.Broken }
         ensures goes { (H : History) → Goes self.old self.new H H false }
@@ -359,10 +359,19 @@ impl<R: ReadTally, W: WriteTally> ClientEngine<R, W> {
         if self.is_to_stop() {
             return self.stop_reading(rt, turns);
         }
-        if !self.has_next()? {
+        if !self.fetch_if_none()? {
             return self.read(rt, turns);
         }
         self.offer(rt, turns)
+    }
+
+    // Whether a request may be accepted. A refused byte that waits may be, also after a drain.
+    fn may_accept(&self) -> bool
+        ensures may { result ≡ true → (self.now.stage ≡ Stage.Open)
+            × (self.now.is_drained ≡ true → self.now.next ≡ Some Request.Broken) }
+        ensures not { result ≡ false → TakesNothing self.now }
+    {
+        matches!(self.stage, Stage::Open) && !self.is_to_stop()
     }
 
     // Closes the connection, once all accepted commands are handed out.
@@ -384,7 +393,7 @@ impl<R: ReadTally, W: WriteTally> ClientEngine<R, W> {
     }
 
     // Hands out a reply, if one is due. No turn is made if all accepted commands are handed out, since it would be refused.
-    fn has_handed<Rt: Wait, T: CoreTurns>(
+    fn hand_if_due<Rt: Wait, T: CoreTurns>(
         &mut self,
         rt: &Rt,
         turns: &mut T,
@@ -419,7 +428,7 @@ impl<R: ReadTally, W: WriteTally> ClientEngine<R, W> {
         if !self.outbox.is_empty() {
             return self.write(rt, turns);
         }
-        if self.has_handed(rt, turns)? {
+        if self.hand_if_due(rt, turns)? {
             return Ok(Progress::Moved);
         }
         match self.stage {
@@ -455,6 +464,30 @@ impl<R: ReadTally, W: WriteTally> ClientEngine<R, W> {
             Stage::Failed => self.cut(rt, turns, Ok(Progress::Cut)),
             Stage::Open | Stage::AtEnd | Stage::Finishing => self.go_on(rt, turns),
         }
+    }
+
+    /// Accepts the waiting request, or the next one that has come whole, and hands out, writes and reads nothing.
+    /// `Moved`: it was accepted. `Idle`: nothing more is accepted, too many commands are unwritten, or none has come
+    /// whole. So a pipeline that has come whole is accepted before a reply is asked for.
+    ///
+    /// Refused 1401 for want of memory and 1404 where the turn was refused; nothing is lost.
+    pub fn accept<Rt: Wait, T: CoreTurns>(
+        &mut self,
+        rt: &Rt,
+        turns: &mut T,
+    ) -> Result<Progress, EngineError>
+        ensures moves { MovesClient T.pass T.setting T.seen T.cause turns.old turns.new
+            self.old self.new (told_by_step result) result }
+        ensures accepts { AcceptsOne (T.cause (T.setting turns.old)) (T.seen turns.old)
+            (T.seen turns.new) self.old self.new result }
+    {
+        if !self.may_accept() {
+            return Ok(Progress::Idle);
+        }
+        if !self.fetch_if_none()? {
+            return Ok(Progress::Idle);
+        }
+        self.offer(rt, turns)
     }
 
     /// Reads and accepts nothing from here on, not even a waiting request: accepted ones are answered and written, and

@@ -2,7 +2,7 @@
 ghost use Rattle.std.specs.Prelude.{◌≡◌, ◌≢◌, ◌⊎◌, ◌↔◌, ℕ, List, [], Option, Some, None, IfOk, IfErr, IfSome, IsSome, OnOk, OnErr, true, false, unwrap_or};
 ghost use Rattle.std.specs.Borrow.{sem};
 ghost use Rattle.proxy_history.specs.History.{History};
-ghost use Rattle.proxy_history.specs.Own.{host_steps};
+ghost use Rattle.proxy_history.specs.OwnSteps.{host_steps};
 ghost use Rattle.proxy_history.specs.declared.event.Event.{Event};
 ghost use Rattle.proxy_history.specs.declared.refusal.Refusal.{Refusal};
 ghost use Rattle.proxy_engines.specs.Turns.{KeepsTurns, own_history};
@@ -11,7 +11,7 @@ ghost use Rattle.proxy_engines.specs.Moves.{AsTold, told_by_turn};
 ghost use Rattle.proxy_engines.specs.Faults.{HasNoFaultOn, IsLate, IsNumberedOn, IsPlain};
 ghost use Rattle.proxy_engines.specs.Ends.{HasGivenAll};
 ghost use Rattle.proxy_engines.specs.Host.{LinkState, CarriesHost};
-ghost use Rattle.proxy_engines.specs.HostTurns.{MakesStep, RecordsFault, MovesEnds, MovesHost, TakesOne, TellsHost, call_of};
+ghost use Rattle.proxy_engines.specs.HostTurns.{MakesStep, RecordsFault, RestsSending, MovesEnds, MovesHost, SendsHost, TakesOne, TellsHost, call_of};
 ghost use Rattle.proxy_engines.specs.HostStep.{TellsFault, after_fault, answer_of, ends_of};
 
 use crate::client::Progress;
@@ -341,6 +341,54 @@ impl<R: ReadTally + Drop, W: WriteTally + Drop> HostEngine<R, W> {
         } else {
             self.go_on_alone(rt, turns, moment)
         }
+    }
+
+    // Writes pending bytes once, or takes one part, where there is a link and no unrecorded fault.
+    fn send_on<Rt: Wait, T: CoreTurns>(
+        &mut self,
+        rt: &Rt,
+        turns: &mut T,
+        moment: u64,
+    ) -> Result<Progress, EngineError>
+        requires no_fault { self.old.fault ≡ None }
+        ensures { SendsHost T.pass T.setting T.seen T.cause turns.old turns.new
+            self.old self.new moment result }
+    {
+        let Some(link) = &mut self.link else {
+            return Ok(Progress::Idle);
+        };
+        match link.send(&mut self.outbox, rt, turns, moment)? {
+            Outcome::Idle => Ok(Progress::Idle),
+            Outcome::Moved => Ok(Progress::Moved),
+            Outcome::Fault { kind, error } => {
+                self.fault = Some(kind);
+                self.tell_fault(rt, turns, kind, error, moment)
+            }
+        }
+    }
+
+    /// Sends at this moment, in milliseconds, and reads nothing: on a link it writes pending bytes once, or takes one
+    /// part if none are pending. `Moved`: the writer took bytes, or a part was taken. `Idle`: the writer paused, no part
+    /// waits, there is no link, or an earlier fault is to be recorded first. So all parts that wait are sent before the
+    /// link is read.
+    ///
+    /// A failed write is a fault of kind Dropped, as in [`step`](HostEngine::step), and refused 1403. Refused 1401 for
+    /// want of memory and 1404 where a turn was refused; the next call then continues at the same place.
+    pub fn send<Rt: Wait, T: CoreTurns>(
+        &mut self,
+        rt: &Rt,
+        turns: &mut T,
+        moment: u64,
+    ) -> Result<Progress, EngineError>
+        ensures sends { self.old.fault ≡ None → SendsHost T.pass T.setting T.seen T.cause
+            turns.old turns.new self.old self.new moment result }
+        ensures rests { self.old.fault ≢ None → RestsSending T.pass T.setting T.seen T.cause
+            turns.old turns.new self.old self.new result }
+    {
+        if self.fault.is_some() {
+            return Ok(Progress::Idle);
+        }
+        self.send_on(rt, turns, moment)
     }
 
     /// Makes a step at this moment, in milliseconds. It records an earlier fault. It writes pending bytes once, or

@@ -12,7 +12,7 @@ ghost use Rattle.proxy_engines.specs.Faults.{IsLate, IsNumberedOn};
 ghost use Rattle.proxy_engines.specs.Host.{LinkState, FailsHost};
 
 use crate::error::EngineError;
-use crate::one_turn::tell;
+use crate::one_turn::make_turn;
 use bytes::Bytes;
 use proxy_core::{Answer, CoreTurns, Event, Kind};
 use proxy_devices::{IoOutcome, WriteTally};
@@ -96,7 +96,7 @@ impl HostOutbox {
         if self.moments.reserve(1).is_err() {
             return Err(EngineError::NoMemory);
         }
-        match tell(rt, turns, Event::Taken { host: self.host }) {
+        match make_turn(rt, turns, Event::Taken { host: self.host }) {
             Ok(Answer::Sent { epoch, text, .. }) => {
                 self.moments.push_back_reserved(moment);
                 if epoch != self.epoch {
@@ -131,7 +131,7 @@ impl HostOutbox {
             kind,
             t: moment,
         };
-        match tell(rt, turns, event) {
+        match make_turn(rt, turns, event) {
             Ok(answer) => {
                 drop(answer);
                 self.epoch = self.epoch.saturating_add(1);

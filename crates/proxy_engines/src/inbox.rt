@@ -15,7 +15,7 @@ use std::marker::Model;
 pub const READ_SIZE: usize = 16_384;
 
 // The most bytes of a first read, and the least length of the buffer.
-const LEAST_READ_SIZE: usize = 1_024;
+const MIN_READ_SIZE: usize = 1_024;
 
 // Whether memory was refused, and not a byte.
 fn is_memory(error: &RespError) -> bool
@@ -26,13 +26,13 @@ fn is_memory(error: &RespError) -> bool
 
 // The length that a buffer should have after a read of `last` bytes; 0 before the first one.
 fn fitting_size(length: usize, last: usize) -> usize
-    requires { (LEAST_READ_SIZE ≤ length) × (length ≤ READ_SIZE) }
-    ensures { (LEAST_READ_SIZE ≤ result) × (result ≤ READ_SIZE) }
+    requires { (MIN_READ_SIZE ≤ length) × (length ≤ READ_SIZE) }
+    ensures { (MIN_READ_SIZE ≤ result) × (result ≤ READ_SIZE) }
 {
     if last >= length {
         (2 * length).min(READ_SIZE)
     } else if last > 0 && last <= length / 8 {
-        (length / 2).max(LEAST_READ_SIZE)
+        (length / 2).max(MIN_READ_SIZE)
     } else {
         length
     }
@@ -54,7 +54,7 @@ pub struct Rest {
 impl Model for Rest {
     ghost use Rattle.std.specs.Prelude.{◌≡◌, ◌≤◌, None, take, length};
     ghost use Rattle.proxy_engines.specs.Ends.{RestState};
-    ghost use Rattle.proxy_engines.specs.declared.inbox.TheConstants.{READ_SIZE, LEAST_READ_SIZE};
+    ghost use Rattle.proxy_engines.specs.declared.inbox.TheConstants.{READ_SIZE, MIN_READ_SIZE};
 
     ghost Value = { RestState };
 
@@ -70,7 +70,7 @@ impl Model for Rest {
       values = r.values;
     } };
 
-    ghost invariant = { λ r. (LEAST_READ_SIZE ≤ length r.buffer.items)
+    ghost invariant = { λ r. (MIN_READ_SIZE ≤ length r.buffer.items)
         × (length r.buffer.items ≤ READ_SIZE) × (r.fresh ≤ length r.buffer.items)
         × (r.values.refusal ≡ None) };
 }
@@ -93,7 +93,7 @@ pub(crate) struct Inbox<R: ReadTally> {
 impl<R: ReadTally> Model for Inbox<R> {
     ghost use Rattle.std.specs.Prelude.{◌≡◌, ◌≤◌, true, take, length};
     ghost use Rattle.proxy_engines.specs.Ends.{InboxState, HasNothingToGive};
-    ghost use Rattle.proxy_engines.specs.declared.inbox.TheConstants.{READ_SIZE, LEAST_READ_SIZE};
+    ghost use Rattle.proxy_engines.specs.declared.inbox.TheConstants.{READ_SIZE, MIN_READ_SIZE};
 
     ghost Value = { InboxState };
 
@@ -110,7 +110,7 @@ impl<R: ReadTally> Model for Inbox<R> {
       values = i.values;
     } };
 
-    ghost invariant = { λ i. (LEAST_READ_SIZE ≤ length i.buffer.items)
+    ghost invariant = { λ i. (MIN_READ_SIZE ≤ length i.buffer.items)
         × (length i.buffer.items ≤ READ_SIZE) × (i.fresh ≤ length i.buffer.items)
         × (i.has_given_all ≡ true → HasNothingToGive i.values) };
 }
@@ -128,7 +128,7 @@ impl<R: ReadTally> Inbox<R> {
         ensures whole { IfOk result (λ i. i.values.refusal ≡ None) }
         ensures back { IfErr result (λ r. r ≡ input) }
     {
-        match vec![in alloc; 0; LEAST_READ_SIZE] {
+        match vec![in alloc; 0; MIN_READ_SIZE] {
             Ok(buffer) => Ok(Inbox {
                 alloc,
                 input,

@@ -27,8 +27,9 @@ pub use error::EngineError;
 pub use host::HostEngine;
 pub use inbox::{READ_SIZE, Rest};
 pub use laws::{
-    accepted_are_first, clients_carry_logs, ended_is_whole, engines_leave_others, hosts_carry_logs,
-    others_leave_engines, reads_are_limited, sockets_carry_logs, sockets_go_on,
+    accepted_are_first, clients_carry_logs, ended_is_whole, engines_keep_logs,
+    engines_leave_others, hosts_carry_logs, others_leave_engines, reads_are_limited,
+    sockets_carry_logs, sockets_go_on,
 };
 pub use proxy_devices::{Faulty, IoOutcome, ReadTally, Tallied, Tally, WriteTally};
 pub use threads::run_all;

@@ -71,7 +71,7 @@ impl Outcome {
 
 // The next thing in the bytes read.
 #[derive(Clone, Copy, Drop)]
-enum Found {
+enum NextValue {
     Value,
     Idle,
     Garbled,
@@ -181,23 +181,23 @@ impl<R: ReadTally, W: WriteTally> Link<R, W> {
     }
 
     // Looks for the next complete value.
-    fn next_value(&mut self) -> Result<Found, EngineError>
+    fn next_value(&mut self) -> Result<NextValue, EngineError>
         requires whole { self.old.inbox.values.refusal ≡ None }
         ensures goes { (outbox : HostOutboxState)
             → GoesWithoutTurn (on_link outbox self.old) (on_link outbox self.new) (Some false) }
         ensures looks { LooksForValue (record { old = self.old; new = self.new }) result }
     {
         if self.next.is_some() {
-            return Ok(Found::Value);
+            return Ok(NextValue::Value);
         }
         // A host's values are read as requests are.
         match self.inbox.next_request() {
             Ok(Some(Request::Read(value))) => {
                 drop(self.next.replace(value));
-                Ok(Found::Value)
+                Ok(NextValue::Value)
             }
-            Ok(Some(Request::Broken)) => Ok(Found::Garbled),
-            Ok(None) => Ok(Found::Idle),
+            Ok(Some(Request::Broken)) => Ok(NextValue::Garbled),
+            Ok(None) => Ok(NextValue::Idle),
             Err(_) => Err(EngineError::NoMemory),
         }
     }
@@ -277,12 +277,12 @@ impl<R: ReadTally, W: WriteTally> Link<R, W> {
             (record { old = self.old; new = self.new }) result }
     {
         match self.next_value()? {
-            Found::Idle => Ok(Outcome::Idle),
-            Found::Garbled => Ok(Outcome::Fault {
+            NextValue::Idle => Ok(Outcome::Idle),
+            NextValue::Garbled => Ok(Outcome::Fault {
                 kind: Kind::Garbled,
                 error: None,
             }),
-            Found::Value => self.answer(outbox, rt, turns, moment),
+            NextValue::Value => self.answer(outbox, rt, turns, moment),
         }
     }
 
@@ -314,8 +314,8 @@ impl<R: ReadTally, W: WriteTally> Link<R, W> {
         unreachable!()
     }
 
-    // Writes pending bytes once, or takes one part.
-    fn send<Rt: Wait, T: CoreTurns>(
+    /// Writes pending bytes once, or takes one part.
+    pub(crate) fn send<Rt: Wait, T: CoreTurns>(
         &mut self,
         outbox: &mut HostOutbox,
         rt: &Rt,

@@ -4,7 +4,7 @@ ghost use Rattle.journal_core.specs.Journal.{step_by};
 ghost use Rattle.ticket_gate.specs.Journal.{AddsTurn};
 ghost use Rattle.splitter.specs.Plan.{is_last};
 ghost use Rattle.proxy_history.specs.History.{plan_for};
-ghost use Rattle.proxy_history.specs.Own.{connection_steps};
+ghost use Rattle.proxy_history.specs.OwnSteps.{connection_steps};
 ghost use Rattle.proxy_history.specs.StepLaws.{is_last_answer};
 ghost use Rattle.proxy_history.specs.declared.answer.Answer.{Answer};
 ghost use Rattle.proxy_history.specs.declared.event.Event.{Event};
@@ -61,7 +61,7 @@ impl Denied {
 
 /// Makes one turn. A refused event comes back. Callers know the kind of the event, so little is moved.
 #[inline(always)]
-pub(crate) fn ask<Rt: Wait, T: CoreTurns>(
+pub(crate) fn offer_event<Rt: Wait, T: CoreTurns>(
     rt: &Rt,
     turns: &mut T,
     event: Event,
@@ -86,7 +86,7 @@ pub(crate) fn ask<Rt: Wait, T: CoreTurns>(
 
 /// Makes one turn, and drops the event if it is refused.
 #[inline(always)]
-pub(crate) fn tell<Rt: Wait, T: CoreTurns>(
+pub(crate) fn make_turn<Rt: Wait, T: CoreTurns>(
     rt: &Rt,
     turns: &mut T,
     event: Event,
@@ -100,7 +100,7 @@ pub(crate) fn tell<Rt: Wait, T: CoreTurns>(
         (own_history T.pass T.seen turns.old)
         (own_history T.pass T.seen turns.new) (T.seen turns.new) r) }
 {
-    match ask(rt, turns, event) {
+    match offer_event(rt, turns, event) {
         Ok(answer) => Ok(answer),
         Err((denied, event)) => {
             drop(event);
@@ -133,7 +133,7 @@ pub(crate) fn arrive<Rt: Wait, T: CoreTurns>(
         (Event.Arrived conn request) (own_history T.pass T.seen turns.old)
         (own_history T.pass T.seen turns.new) (T.seen turns.new) r.0) }
 {
-    match ask(rt, turns, Event::Arrived { conn, request }) {
+    match offer_event(rt, turns, Event::Arrived { conn, request }) {
         Ok(Answer::Accepted { local, .. }) => Ok(is_last_answer(local)),
         Ok(_) => unreachable!(),
         Err((denied, Event::Arrived { request, .. })) => Err((denied, request)),
@@ -151,7 +151,7 @@ pub(crate) fn open<Rt: Wait, T: CoreTurns>(rt: &Rt, turns: &mut T) -> Result<u64
         (own_history T.pass T.seen turns.old)
         (own_history T.pass T.seen turns.new) (T.seen turns.new) r) }
 {
-    match tell(rt, turns, Event::Opened) {
+    match make_turn(rt, turns, Event::Opened) {
         Ok(Answer::Opened { conn }) => Ok(conn),
         Ok(_) => unreachable!(),
         Err(denied) => Err(denied),
@@ -182,7 +182,7 @@ pub(crate) fn give<Rt: Wait, T: CoreTurns>(
         value,
         t: moment,
     };
-    match ask(rt, turns, event) {
+    match offer_event(rt, turns, event) {
         Ok(answer) => {
             drop(answer);
             Ok(())

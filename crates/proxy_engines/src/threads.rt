@@ -189,17 +189,17 @@ fn room_for<T>(alloc: Global, count: usize) -> Result<Vec<T>, EngineError>
     }
 }
 
-// Room for works: begun ones, settled ones, and their answers.
+// The lists of works: begun ones, settled ones, and their answers.
 #[derive(Drop)]
-struct Room<Rt: Wait, K: Work<Rt>, F> {
+struct WorkLists<Rt: Wait, K: Work<Rt>, F> {
     begun: Vec<Begun<Rt, K, F>>,
     settled: Vec<Settled<Rt, K>>,
     answers: Vec<WorkResult>,
 }
 
-impl<Rt: Wait, K: Work<Rt> + Drop, F: Drop> Room<Rt, K, F> {
+impl<Rt: Wait, K: Work<Rt> + Drop, F: Drop> WorkLists<Rt, K, F> {
     // Room for this many works.
-    fn for_works(alloc: Global, count: usize) -> Result<Room<Rt, K, F>, EngineError>
+    fn for_works(alloc: Global, count: usize) -> Result<WorkLists<Rt, K, F>, EngineError>
         ensures begun { IfOk result (λ r. (r.begun.items ≡ []) × (count ≤ vec_capacity r.begun)) }
         ensures settled { IfOk result
             (λ r. (r.settled.items ≡ []) × (count ≤ vec_capacity r.settled)) }
@@ -210,7 +210,7 @@ impl<Rt: Wait, K: Work<Rt> + Drop, F: Drop> Room<Rt, K, F> {
         let begun = room_for(alloc, count)?;
         let settled = room_for(alloc, count)?;
         let answers = room_for(alloc, count)?;
-        Ok(Room {
+        Ok(WorkLists {
             begun,
             settled,
             answers,
@@ -226,7 +226,7 @@ fn run_one<Rt: Wait, K: Work<Rt> + Drop>(rt: &Rt, mut work: K) -> WorkResult
     work.run(rt)
 }
 
-// Runs the works, each by the call that `make` makes of it, and waits for their answers. Room is there, so it can't be refused.
+// Runs the works, each by the call that `make` makes of it, and waits for their answers. The lists have room for them.
 fn run_in<
     's,
     E,
@@ -234,10 +234,16 @@ fn run_in<
     K: Work<Rt> + Drop,
     F: FnOnce() -> WorkResult + Send + Drop + 's,
     G: Fn(K) -> F,
->(scope: &Scope<'s, E>, rt: &Rt, works: Vec<K>, make: G, room: Room<Rt, K, F>) -> Vec<WorkResult>
-    requires begun { (room.begun.items ≡ []) × (vec_len works ≤ vec_capacity room.begun) }
-    requires settled { (room.settled.items ≡ []) × (vec_len works ≤ vec_capacity room.settled) }
-    requires answered { (room.answers.items ≡ []) × (vec_len works ≤ vec_capacity room.answers) }
+>(
+    scope: &Scope<'s, E>,
+    rt: &Rt,
+    works: Vec<K>,
+    make: G,
+    lists: WorkLists<Rt, K, F>,
+) -> Vec<WorkResult>
+    requires begun { (lists.begun.items ≡ []) × (vec_len works ≤ vec_capacity lists.begun) }
+    requires settled { (lists.settled.items ≡ []) × (vec_len works ≤ vec_capacity lists.settled) }
+    requires answered { (lists.answers.items ≡ []) × (vec_len works ≤ vec_capacity lists.answers) }
     requires fresh { All K.is_fresh works.items }
     requires makes { (work : K) → K.is_fresh work → G.pre make work }
     requires callable { (work : K) (call : F) → K.is_fresh work → G.post make work call
@@ -246,11 +252,11 @@ fn run_in<
         → G.post make work call → F.post call answer → K.may_answer work answer }
     ensures { AllZip K.may_answer works.items result.items }
 {
-    let Room {
+    let WorkLists {
         begun,
         settled,
         answers,
-    } = room;
+    } = lists;
     let begun = begin_all(scope, works, make, begun);
     let settled = settle_all(begun, settled);
     answer_all(rt, settled, answers)
@@ -277,8 +283,8 @@ pub fn run_all<Rt: Threads + Wait + Sync, K: Work<Rt> + Send + Drop>(
             ensures each { IfOk result (λ answers. AllZip K.may_answer works.items answers.items) }
             ensures err { IfErr result (λ e. e ≡ EngineError.NoMemory) }
         {
-            let room = Room::for_works(alloc, works.len())?;
-            Ok(run_in(scope, rt, works, |work| move || run_one(rt, work), room))
+            let lists = WorkLists::for_works(alloc, works.len())?;
+            Ok(run_in(scope, rt, works, |work| move || run_one(rt, work), lists))
         },
     )
 }

@@ -7,7 +7,7 @@ use Rattle.std.proofs.lemmas.List.Folds.{sum_by-replicate}
 use Rattle.std.proofs.lemmas.List.Elements.{All-weaker, All-contains_itself, All-contains, All-append, All-cons, All-head, All-tail, All-replicate, Contains-append_left, Contains-append_right}
 use Rattle.proxy_generations.specs.declared.step_kind.StepKind.{StepKind}
 use Rattle.proxy_generations.specs.declared.step_kind.StepKind.TheVariants.{Opened, Accepted, Sent, Matched, Lost, Handed, Finished, Closed, Swept}
-use Rattle.proxy_generations.specs.declared.budget.TheConstants.{MAX_STEPS}
+use Rattle.proxy_generations.specs.declared.budget.TheConstants.{JOURNAL_STEPS}
 use Rattle.proxy_generations.specs.Steps.{IsOwed, made, owed, cost, freed, cost_of, freed_of, owed_by, done_by}
 use Rattle.proxy_generations.specs.Budget.{LoanState, BudgetState, no_loan, no_budget, free_steps, capped, borrowed, lent_more, loan_after, settled}
 use Rattle.proxy_generations.specs.BudgetLaws.{IsWithin, Pays}
@@ -83,7 +83,7 @@ pays_at_first workers = record {
 }
 
 pub pays_once_lent : (b : BudgetState) (xs ys : List LoanState) (l : LoanState) (ks : List StepKind) (steps : ℕ)
-    → b.spent + b.lent + steps ≤ MAX_STEPS → Pays b (xs ++ l ∷ ys) ks → Pays (lent_more steps b) (xs ++ borrowed steps l ∷ ys) ks
+    → b.spent + b.lent + steps ≤ JOURNAL_STEPS → Pays b (xs ++ l ∷ ys) ks → Pays (lent_more steps b) (xs ++ borrowed steps l ∷ ys) ks
 pays_once_lent b xs ys l ks steps fits pays =
     let m = borrowed steps l in
     let lent = pays.lent in
@@ -119,7 +119,7 @@ pays_once_noted b xs ys l ks k free pays =
     }
 
 pub pays_once_settled : (b : BudgetState) (xs ys : List LoanState) (l : LoanState) (ks : List StepKind)
-    → Pays b (xs ++ l ∷ ys) ks → Pays (settled MAX_STEPS l b) (xs ++ no_loan ∷ ys) ks
+    → Pays b (xs ++ l ∷ ys) ks → Pays (settled JOURNAL_STEPS l b) (xs ++ no_loan ∷ ys) ks
 pays_once_settled b xs ys l ks pays =
     let lent = pays.lent in
     let spent = pays.spent in
@@ -145,7 +145,7 @@ spent_is_lent (l ∷ ls) all =
     let others = spent_is_lent ls (All-tail IsWithin l ls all) in
     omega (arith, sum_by-cons (λ l. l.spent) l ls, sum_by-cons (λ l. l.lent) l ls, sum_by-cons (λ l. l.freed) l ls)
 
-pub owed_fits : (b : BudgetState) (ls : List LoanState) (ks : List StepKind) → Pays b ls ks → IsOwed ks → made ks + owed ks ≤ MAX_STEPS
+pub owed_fits : (b : BudgetState) (ls : List LoanState) (ks : List StepKind) → Pays b ls ks → IsOwed ks → made ks + owed ks ≤ JOURNAL_STEPS
 owed_fits b ls ks pays are =
     let paid = owed_is_paid ks are in
     let spent_is = spent_is_lent ls pays.within in

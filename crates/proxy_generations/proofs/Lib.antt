@@ -1,6 +1,6 @@
 pub mod HistoryLemmas
 pub mod ConnectionLemmas
-pub mod StandsLemmas
+pub mod GenerationsStateLemmas
 pub mod LawLemmas
 pub mod BudgetLemmas
 pub mod PayloadLemmas

@@ -2,7 +2,7 @@
 use Rattle.std.specs.Prelude.{◌≡◌, ◌≤◌, ◌+◌, ℕ, List, [], ◌∷◌, ◌++◌, All, replicate, sum_by}
 use Rattle.proxy_generations.specs.declared.step_kind.StepKind.{StepKind}
 use Rattle.proxy_generations.specs.declared.step_kind.StepKind.TheVariants.{Accepted}
-use Rattle.proxy_generations.specs.declared.budget.TheConstants.{MAX_STEPS}
+use Rattle.proxy_generations.specs.declared.budget.TheConstants.{JOURNAL_STEPS}
 use Rattle.limits.specs.declared.journals.TheConstants.{MAX_COMMAND_STEPS}
 use Rattle.proxy_generations.specs.Steps.{IsOwed, made, owed, cost, freed, cost_of}
 use Rattle.proxy_generations.specs.Budget.{LoanState, BudgetState, no_loan, no_budget, free_steps, capped, borrowed, lent_more, loan_after, settled}
@@ -25,7 +25,7 @@ pub record Pays (b : BudgetState) (ls : List LoanState) (ks : List StepKind) : T
   pub within : All IsWithin ls
   pub lent : sum_by (λ l. l.lent) ls ≤ b.lent
   pub spent : cost ks + sum_by (λ l. l.freed) ls ≤ freed ks + b.spent + sum_by (λ l. l.spent) ls
-  pub fits : b.spent + b.lent ≤ MAX_STEPS
+  pub fits : b.spent + b.lent ≤ JOURNAL_STEPS
 
 -- so it is at the beginning, with so many workers
 abbrev pub PaysAtFirst : Type 0
@@ -34,7 +34,7 @@ PaysAtFirst = (workers : ℕ) → Pays no_budget (replicate workers no_loan) []
 -- so it stays where a worker borrows what the budget lends
 abbrev pub PaysOnceLent : Type 0
 PaysOnceLent = (b : BudgetState) (xs ys : List LoanState) (l : LoanState) (ks : List StepKind) (steps : ℕ)
-    → b.spent + b.lent + steps ≤ MAX_STEPS → Pays b (xs ++ l ∷ ys) ks
+    → b.spent + b.lent + steps ≤ JOURNAL_STEPS → Pays b (xs ++ l ∷ ys) ks
     → Pays (lent_more steps b) (xs ++ borrowed steps l ∷ ys) ks
 
 -- where a worker makes a step that costs no more than it has free
@@ -45,9 +45,9 @@ PaysOnceNoted = (b : BudgetState) (xs ys : List LoanState) (l : LoanState) (ks :
 -- and where a worker settles
 abbrev pub PaysOnceSettled : Type 0
 PaysOnceSettled = (b : BudgetState) (xs ys : List LoanState) (l : LoanState) (ks : List StepKind)
-    → Pays b (xs ++ l ∷ ys) ks → Pays (settled MAX_STEPS l b) (xs ++ no_loan ∷ ys) ks
+    → Pays b (xs ++ l ∷ ys) ks → Pays (settled JOURNAL_STEPS l b) (xs ++ no_loan ∷ ys) ks
 
 -- And as long as it is so, every step that is owed fits the journal.
 abbrev pub OwedFits : Type 0
 OwedFits = (b : BudgetState) (ls : List LoanState) (ks : List StepKind) → Pays b ls ks → IsOwed ks
-    → made ks + owed ks ≤ MAX_STEPS
+    → made ks + owed ks ≤ JOURNAL_STEPS

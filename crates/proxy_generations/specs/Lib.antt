@@ -3,7 +3,7 @@ pub mod OpenGenerations
 pub mod Events
 pub mod History
 pub mod Phase
-pub mod Stands
+pub mod GenerationsState
 pub mod Laws
 pub mod Steps
 pub mod Budget

@@ -6,8 +6,8 @@ use crate::step_kind::StepKind;
 use limits::MAX_COMMAND_STEPS;
 use std::marker::Model;
 
-/// The most steps of a journal, as a count of steps.
-pub const MAX_STEPS: u64 = limits::MAX_STEPS as u64;
+// The most steps of a journal.
+const JOURNAL_STEPS: u64 = limits::MAX_STEPS as u64;
 
 /// The steps lent to a worker by its generation's budget, and those it spent.
 #[derive(Debug, Drop)]
@@ -77,7 +77,7 @@ impl Loan {
 
 /// The steps of one journal: those spent for good, and those lent to workers.
 ///
-/// Their sum is at most `MAX_STEPS`.
+/// Their sum is at most `limits::MAX_STEPS`.
 #[derive(Debug, Drop)]
 pub struct Budget {
     spent: u64,
@@ -86,14 +86,14 @@ pub struct Budget {
 
 impl Model for Budget {
     ghost use Rattle.std.specs.Prelude.{◌+◌, ◌≤◌};
-    ghost use Rattle.proxy_generations.specs.declared.budget.TheConstants.{MAX_STEPS};
+    ghost use Rattle.proxy_generations.specs.declared.budget.TheConstants.{JOURNAL_STEPS};
     ghost use Rattle.proxy_generations.specs.Budget.{BudgetState};
 
     ghost Value = { BudgetState };
 
     ghost view = { λ b. record { spent = b.spent; lent = b.lent } };
 
-    ghost invariant = { λ b. b.spent + b.lent ≤ MAX_STEPS };
+    ghost invariant = { λ b. b.spent + b.lent ≤ JOURNAL_STEPS };
 }
 
 impl Budget {
@@ -109,18 +109,18 @@ impl Budget {
     /// The steps spent for good.
     pub fn spent(&self) -> u64
         ensures spent { result ≡ self.now.spent }
-        ensures fits { self.now.spent + self.now.lent ≤ MAX_STEPS }
+        ensures fits { self.now.spent + self.now.lent ≤ JOURNAL_STEPS }
     {
         self.spent
     }
 
     /// Lends this many steps if they fit beside those spent and lent. Otherwise nothing changes, and the result is `false`.
     pub fn lend(&mut self, steps: u64) -> bool
-        ensures fits { IsTrue result ↔ (self.old.spent + self.old.lent + steps ≤ MAX_STEPS) }
+        ensures fits { IsTrue result ↔ (self.old.spent + self.old.lent + steps ≤ JOURNAL_STEPS) }
         ensures lent { OnTrue result (self.new ≡ lent_more steps self.old) }
         ensures unchanged { OnFalse result (self.new ≡ self.old) }
     {
-        if steps > MAX_STEPS - self.spent - self.lent {
+        if steps > JOURNAL_STEPS - self.spent - self.lent {
             return false;
         }
         self.lent += steps;
@@ -132,7 +132,7 @@ impl Budget {
     ///
     /// A loan of another budget spends no more than fits, and returns no more than is lent.
     pub fn settle(&mut self, loan: &mut Loan)
-        ensures settled { self.new ≡ settled MAX_STEPS loan.old self.old }
+        ensures settled { self.new ≡ settled JOURNAL_STEPS loan.old self.old }
         ensures empty { loan.new ≡ no_loan }
     {
         self.lent = self.lent.saturating_sub(loan.lent);
@@ -140,7 +140,7 @@ impl Budget {
             .spent
             .saturating_add(loan.spent.saturating_sub(loan.freed))
             .saturating_sub(loan.freed.saturating_sub(loan.spent));
-        self.spent = spent.min(MAX_STEPS - self.lent);
+        self.spent = spent.min(JOURNAL_STEPS - self.lent);
         *loan = Loan::new();
     }
 }

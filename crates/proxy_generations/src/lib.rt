@@ -13,7 +13,7 @@ mod opened;
 mod payload;
 mod step_kind;
 
-pub use budget::{Budget, Loan, MAX_STEPS};
+pub use budget::{Budget, Loan};
 pub use laws::{generations_follow, owed_steps_fit};
 pub use lifecycle::{Due, Generations, Phase};
 pub use marks::Marks;

@@ -33,7 +33,7 @@ pub struct Due<H> {
 
 // The state of the next generation.
 #[derive(Drop)]
-enum Next<H> {
+enum NextGeneration<H> {
     // None was asked for since the last one opened or failed.
     Unasked,
     // It starts from this handover.
@@ -60,7 +60,7 @@ pub struct Generations<H> {
     still_since: Option<u64>,
     // The moment when the newest one opened.
     drains_since: Option<u64>,
-    next: Next<H>,
+    next: NextGeneration<H>,
     // The number of generations asked for, beside the first; it is the next one's number.
     asked: u64,
     // The last sweep known to the newest one when it was full.
@@ -70,7 +70,7 @@ pub struct Generations<H> {
 impl<H: Drop> Generations<H> {
     ghost use Rattle.proxy_generations.specs.Phase.{IsPhase};
     ghost use Rattle.proxy_generations.specs.OpenGenerations.{HadTime, MayBeLeft};
-    ghost use Rattle.proxy_generations.specs.Stands.{Settings, Stands, Tells, Gives, EndsServing, IsSweepDue};
+    ghost use Rattle.proxy_generations.specs.GenerationsState.{Settings, Stands, Tells, Gives, EndsServing, IsSweepDue};
 
     /// No generation is open, and the first one, number 0, is due without a handover. A sweep is due every
     /// `interval_ms` milliseconds; `max_failures` failures in a row end the server.
@@ -87,7 +87,7 @@ impl<H: Drop> Generations<H> {
             near_since: None,
             still_since: None,
             drains_since: None,
-            next: Next::Wanted(None),
+            next: NextGeneration::Wanted(None),
             asked: 0,
             handed_sweep: None,
         }
@@ -101,9 +101,9 @@ impl<H: Drop> Generations<H> {
         if self.older.is_some() {
             return None;
         }
-        match mem::replace(&mut self.next, Next::Unasked) {
-            Next::Wanted(from) => {
-                self.next = Next::Opening;
+        match mem::replace(&mut self.next, NextGeneration::Unasked) {
+            NextGeneration::Wanted(from) => {
+                self.next = NextGeneration::Opening;
                 Some(Due {
                     number: self.asked,
                     from,
@@ -118,10 +118,11 @@ impl<H: Drop> Generations<H> {
 
     // Whether this is the number of the one being opened.
     fn is_opening(&self, number: u64) -> bool
-        ensures { IsTrue result ↔ ((self.now.next ≡ Next.Opening) × (number ≡ self.now.asked)) }
+        ensures { IsTrue result ↔ ((self.now.next ≡ NextGeneration.Opening)
+            × (number ≡ self.now.asked)) }
     {
         match &self.next {
-            Next::Opening => number == self.asked,
+            NextGeneration::Opening => number == self.asked,
             _ => false,
         }
     }
@@ -140,7 +141,7 @@ impl<H: Drop> Generations<H> {
             self.near_since = None;
             self.drains_since = Some(now);
             self.still_since = self.drains_since;
-            self.next = Next::Unasked;
+            self.next = NextGeneration::Unasked;
             self.tries_left = self.max_failures;
         }
     }
@@ -156,7 +157,7 @@ impl<H: Drop> Generations<H> {
         if !self.is_opening(number) {
             return false;
         }
-        self.next = Next::Unasked;
+        self.next = NextGeneration::Unasked;
         self.tries_left = self.tries_left.saturating_sub(1);
         self.tries_left == 0 || self.newest.is_none()
     }
@@ -201,7 +202,7 @@ impl<H: Drop> Generations<H> {
     pub fn full(&mut self, by: u64, now: u64, handover: H)
         ensures { Tells (Full by now handover) self.old self.new }
     {
-        let Next::Unasked = &self.next else {
+        let NextGeneration::Unasked = &self.next else {
             return;
         };
         let Some(newest) = self.newest else {
@@ -211,7 +212,7 @@ impl<H: Drop> Generations<H> {
             return;
         };
         if newest.number == by && self.has_given_up(now) {
-            self.next = Next::Wanted(Some(handover));
+            self.next = NextGeneration::Wanted(Some(handover));
             self.asked = asked;
             self.handed_sweep = Some(newest.swept);
         }
@@ -248,7 +249,7 @@ impl<H: Drop> Generations<H> {
             return Phase::Stopped;
         }
         match &self.next {
-            Next::Wanted(_) => Phase::Stopped,
+            NextGeneration::Wanted(_) => Phase::Stopped,
             _ if self.near_since.is_some() => Phase::GivingUp,
             _ => Phase::Draining,
         }

@@ -137,25 +137,25 @@ pub use Rattle.proxy_history.proofs.sending.WaitingStepLemmas.{all_stay as filte
 -- OWN STEPS, AND THE ORDER IN WHICH A PASS SEES THEM
 
 -- own steps tell all of a connection
-pub use Rattle.proxy_history.proofs.OwnLemmas.{connection_steps_tell_all as SameOfConnection-connection_steps}
+pub use Rattle.proxy_history.proofs.OwnStepsLemmas.{connection_steps_tell_all as SameOfConnection-connection_steps}
 -- steps of others leave it as it is
-pub use Rattle.proxy_history.proofs.OwnLemmas.{others_leave_connections as SameOfConnection-append}
+pub use Rattle.proxy_history.proofs.OwnStepsLemmas.{others_leave_connections as SameOfConnection-append}
 -- own steps tell all of a host
-pub use Rattle.proxy_history.proofs.OwnLemmas.{host_steps_tell_all as SameOfHost-host_steps}
+pub use Rattle.proxy_history.proofs.OwnStepsLemmas.{host_steps_tell_all as SameOfHost-host_steps}
 -- steps of others leave it as it is
-pub use Rattle.proxy_history.proofs.OwnLemmas.{others_leave_hosts as SameOfHost-append}
+pub use Rattle.proxy_history.proofs.OwnStepsLemmas.{others_leave_hosts as SameOfHost-append}
 -- later steps stand in front of a history
-pub use Rattle.proxy_history.proofs.SeenLemmas.{history_of_seen-append}
+pub use Rattle.proxy_history.proofs.SeenStepsLemmas.{history_of_seen-append}
 -- and so does one more step
-pub use Rattle.proxy_history.proofs.SeenLemmas.{history_of_seen-push}
+pub use Rattle.proxy_history.proofs.SeenStepsLemmas.{history_of_seen-push}
 -- each order gives the other
-pub use Rattle.proxy_history.proofs.SeenLemmas.{orders_hold_the_same as OrdersAgree-seen}
+pub use Rattle.proxy_history.proofs.SeenStepsLemmas.{orders_hold_the_same as OrdersAgree-seen}
 -- what is seen is legal with one more step that may follow
-pub use Rattle.proxy_history.proofs.SeenLemmas.{seen_steps_follow as IsLegal-history_of_seen-push}
+pub use Rattle.proxy_history.proofs.SeenStepsLemmas.{seen_steps_follow as IsLegal-history_of_seen-push}
 -- each beginning of a legal journal is legal
-pub use Rattle.proxy_history.proofs.SeenLemmas.{seen_beginnings_are_legal as IsLegal-history_of_seen-append}
+pub use Rattle.proxy_history.proofs.SeenStepsLemmas.{seen_beginnings_are_legal as IsLegal-history_of_seen-append}
 -- what a history tells, in the order in which a pass sees it
-pub use Rattle.proxy_history.proofs.SeenLemmas.{seen_is_read_in_order as IsReadInOrder-seen}
+pub use Rattle.proxy_history.proofs.SeenStepsLemmas.{seen_is_read_in_order as IsReadInOrder-seen}
 -- LISTS AND COUNTS
 
 -- no count falls

@@ -9,7 +9,7 @@ pub mod FaultLemmas
 pub mod LimitLemmas
 pub mod EjectionLemmas
 pub mod ReadingLemmas
-pub mod OwnLemmas
-pub mod SeenLemmas
+pub mod OwnStepsLemmas
+pub mod SeenStepsLemmas
 pub mod StepLemmas
 pub mod CallerLemmas

@@ -15,7 +15,7 @@ use Rattle.proxy_history.specs.Past.{past}
 use Rattle.proxy_history.specs.Cause.{own_cause, causes}
 use Rattle.proxy_history.specs.Answer.{answer_to, local_of}
 use Rattle.proxy_history.specs.Legal.{IsLegal, MayFollow}
-use Rattle.proxy_history.specs.Own.{is_connection_step, connection_steps}
+use Rattle.proxy_history.specs.OwnSteps.{is_connection_step, connection_steps}
 use Rattle.proxy_history.specs.StepLaws.{is_last_answer, IsAnswerTo, IsOfPresentEpoch}
 use Rattle.proxy_history.specs.declared.event.Event.{Event}
 use Rattle.proxy_history.specs.declared.event.Event.TheVariants.{Opened, Arrived, Finished, Taken, Answered, Failed, Handed, Closed}

@@ -8,7 +8,7 @@ use Rattle.proxy_history.specs.Past.{past}
 use Rattle.proxy_history.specs.Outcome.{outcome}
 use Rattle.proxy_history.specs.Legal.{IsLegal}
 use Rattle.proxy_history.specs.Output.{transcript}
-use Rattle.proxy_history.specs.Own.{is_of_connection}
+use Rattle.proxy_history.specs.OwnSteps.{is_of_connection}
 use Rattle.proxy_history.specs.declared.event.Event.TheVariants.{Handed}
 use Rattle.proxy_history.specs.declared.answer.Answer.TheVariants as answer
 

@@ -14,8 +14,8 @@ pub mod Payload
 pub mod Answer
 pub mod Legal
 pub mod Output
-pub mod Own
-pub mod Seen
+pub mod OwnSteps
+pub mod SeenSteps
 pub mod Laws
 pub mod StepLaws
 pub mod CauseLaws
@@ -25,7 +25,7 @@ pub mod CommandLaws
 pub mod SendingLaws
 pub mod EjectionLaws
 pub mod LimitLaws
-pub mod OwnLaws
-pub mod SeenLaws
+pub mod OwnStepsLaws
+pub mod SeenStepsLaws
 pub mod Proxy
 pub mod Hosts

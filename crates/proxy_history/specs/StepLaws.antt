@@ -6,7 +6,7 @@ use Rattle.splitter.specs.declared.plans.Local.TheVariants as locals
 use Rattle.proxy_history.specs.Setting.{Setting}
 use Rattle.proxy_history.specs.History.{History, Step, plan_for, openings, epoch}
 use Rattle.proxy_history.specs.Legal.{IsLegal}
-use Rattle.proxy_history.specs.Own.{connection_steps}
+use Rattle.proxy_history.specs.OwnSteps.{connection_steps}
 use Rattle.proxy_history.specs.declared.event.Event.{Event}
 use Rattle.proxy_history.specs.declared.event.Event.TheVariants.{Opened, Arrived, Finished, Taken, Answered, Failed, Swept, Handed, Closed}
 use Rattle.proxy_history.specs.declared.answer.Answer.{Answer}

@@ -24,12 +24,13 @@ pub use event::{Event, Kind};
 pub use journal_core::Step;
 pub use laws::{
     answers_fit, beginnings_are_legal, closed_gets_nothing, commands_have_their_parts,
-    each_taken_sends, ejections_choose_hosts_alone, epochs_end_by_faults, faults_raise_epochs,
-    few_are_out, finishing_takes_nothing, handed_is_its_outcome, limits_hold, none_is_sent_twice,
-    not_ready_means, nothing_else_is_sent, openings_come_first, outcomes_are_as_planned,
-    outcomes_stay, owners_stay, parts_have_arrived, replies_are_in_order, replies_go_out_once,
-    replies_were_asked, sent_parts_arrived, unopened_have_no_steps, unsent_parts_wait,
-    upstream_is_what_was_sent, values_are_own, waiting_is_in_order,
+    each_taken_sends, ejections_choose_hosts_alone, epochs_are_present, epochs_end_by_faults,
+    faults_raise_epochs, few_are_out, finishing_takes_nothing, handed_is_its_outcome, limits_hold,
+    none_is_sent_twice, not_ready_means, nothing_else_is_sent, openings_come_first,
+    outcomes_are_as_planned, outcomes_stay, owners_stay, parts_have_arrived, refusals_mean,
+    replies_are_in_order, replies_go_out_once, replies_were_asked, sent_parts_arrived,
+    unopened_have_no_steps, unsent_parts_wait, upstream_is_what_was_sent, values_are_own,
+    waiting_is_in_order,
 };
 pub use own_laws::{
     connection_steps_tell_all, host_steps_tell_all, orders_hold_the_same, others_leave_connections,

@@ -2,8 +2,8 @@
 //!
 //! A history has the newest step first; a journal, as a pass sees it, the oldest. A connection's steps are its opening
 //! and its events; a host's are its taken parts, its replies and its faults.
-ghost use Rattle.proxy_history.specs.OwnLaws.{ConnectionStepsTellAll, HostStepsTellAll, OthersLeaveConnections, OthersLeaveHosts};
-ghost use Rattle.proxy_history.specs.SeenLaws.{OrdersHoldTheSame, SeenBeginningsAreLegal, SeenIsReadInOrder, SeenStepsFollow};
+ghost use Rattle.proxy_history.specs.OwnStepsLaws.{ConnectionStepsTellAll, HostStepsTellAll, OthersLeaveConnections, OthersLeaveHosts};
+ghost use Rattle.proxy_history.specs.SeenStepsLaws.{OrdersHoldTheSame, SeenBeginningsAreLegal, SeenIsReadInOrder, SeenStepsFollow};
 
 /// A connection's own steps determine all of it: its output and requests, the numbers of accepted and handed out
 /// commands, and whether it finishes and is closed.

@@ -3,7 +3,7 @@ use Rattle.std.proofs.Common.{◌≡◌, ◌⊎◌, ℕ, Bool, [], ◌∷◌, �
 use Rattle.std.specs.Prelude.{Result}
 use Rattle.std.proofs.lemmas.List.Elements.{filter-append}
 use Rattle.proxy_history.specs.History.{History, Step}
-use Rattle.proxy_history.specs.Own.{connection_steps, is_connection_step}
+use Rattle.proxy_history.specs.OwnSteps.{connection_steps, is_connection_step}
 use Rattle.proxy_history.specs.declared.event.Event.{Event}
 use Rattle.proxy_history.specs.declared.event.Kind.{Kind}
 use Rattle.proxy_engines.specs.Client.{Client, Goes}

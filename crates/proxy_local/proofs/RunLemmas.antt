@@ -12,8 +12,8 @@ use Rattle.proxy_history.specs.History.{History, Step, requests}
 use Rattle.proxy_history.specs.Legal.{IsLegal}
 use Rattle.proxy_history.specs.Output.{transcript}
 use Rattle.proxy_history.specs.Proxy.{Proxy}
-use Rattle.proxy_history.specs.Seen.{history_of_seen}
-use Rattle.proxy_history.specs.Own.{connection_steps, is_connection_step}
+use Rattle.proxy_history.specs.SeenSteps.{history_of_seen}
+use Rattle.proxy_history.specs.OwnSteps.{connection_steps, is_connection_step}
 use Rattle.proxy_history.specs.declared.answer.Answer.{Answer}
 use Rattle.proxy_history.specs.declared.event.Event.{Event}
 use Rattle.proxy_history.proofs.CallerLemmas as history

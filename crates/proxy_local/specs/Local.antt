@@ -7,7 +7,7 @@ use Rattle.proxy_history.specs.Setting.{Setting}
 use Rattle.proxy_history.specs.History.{History, handed_count, is_closed}
 use Rattle.proxy_history.specs.Legal.{IsLegal}
 use Rattle.proxy_history.specs.Output.{transcript}
-use Rattle.proxy_history.specs.Own.{connection_steps}
+use Rattle.proxy_history.specs.OwnSteps.{connection_steps}
 use Rattle.proxy_engines.specs.Client.{asked_requests}
 use Rattle.proxy_local.specs.Stubs.{IsOfStubs}
 

@@ -3,7 +3,7 @@ use Rattle.std.specs.Prelude.{◌≡◌, ◌≢◌, ℕ, List, [], ◌++◌}
 use Rattle.std.specs.Io.KnownBytes.{Consumes, Appends}
 use Rattle.std.specs.List.{AllZip}
 use Rattle.proxy_history.specs.History.{History, Step}
-use Rattle.proxy_history.specs.Own.{connection_steps}
+use Rattle.proxy_history.specs.OwnSteps.{connection_steps}
 use Rattle.proxy_history.specs.declared.event.Event.{Event}
 use Rattle.proxy_history.specs.declared.refusal.Refusal.{Refusal}
 use Rattle.proxy_engines.specs.Client.{Client, Carries}

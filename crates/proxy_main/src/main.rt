@@ -7,7 +7,7 @@ ghost use Rattle.std.specs.Prelude.{IfOk};
 ghost use Rattle.proxy_config.specs.RingParts.{AreRingParts};
 
 use mio::net::TcpListener;
-use proxy_command_line::{Asked, KIT, Refused, VERSION};
+use proxy_command_line::{Action, CommandLineError, KIT, VERSION};
 use proxy_config::{Config, ConfigError, check_line};
 use proxy_exit_status::Ending;
 use proxy_local::local_run;
@@ -204,24 +204,24 @@ fn run<
         return ended(rt, Ending::Memory);
     };
     match proxy_command_line::read(rt.alloc(), words.as_slice()) {
-        Ok(Asked::Local) => run_local(rt),
-        Ok(Asked::Check { config }) => run_check(rt, config.as_str()),
+        Ok(Action::Local) => run_local(rt),
+        Ok(Action::Check { config }) => run_check(rt, config.as_str()),
         Ok(
-            Asked::Serve {
+            Action::Serve {
                 config,
                 connections,
                 metrics,
             },
         ) => run_serve(rt, config.as_str(), connections, metrics),
-        Err(Refused::Memory) => ended(rt, Ending::Memory),
-        Err(Refused::NoAddress) => {
+        Err(CommandLineError::Memory) => ended(rt, Ending::Memory),
+        Err(CommandLineError::NoAddress) => {
             let _ = eprintln!(rt;
                 "error: what --metrics names is no address with a port, as 127.0.0.1:9121"
             );
             BAD_COMMAND_LINE
         }
-        Err(Refused::Told(told)) => match told.print(rt) {
-            Ok(()) if told.is_help() => 0,
+        Err(CommandLineError::Parser(text)) => match text.print(rt) {
+            Ok(()) if text.is_help() => 0,
             Ok(()) => BAD_COMMAND_LINE,
             Err(_) => ended(rt, Ending::Socket),
         },

@@ -1,3 +1,3 @@
 mod ThreadSharing
 pub mod SocketLemmas
-pub mod WorkerLemmas
+pub mod WorkerConnectionLemmas

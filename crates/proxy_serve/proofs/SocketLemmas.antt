@@ -1,25 +1,24 @@
 -- What a worker's clients and hosts keep of their sockets' logs.
-use Rattle.std.proofs.Common.{◌≡◌, ◌≢◌, ◌⊎◌, ◌∙◌, ℕ, Bool, List, [], ◌∷◌, Option, Some, None, eq-eqb, inl, inr, refl}
+use Rattle.std.proofs.Common.{◌≡◌, ◌≢◌, ◌⊎◌, ◌∙◌, ℕ, List, [], ◌∷◌, Some, None, eq-eqb, inl, inr, refl}
 use Rattle.std.specs.Prelude.{Result}
 use Rattle.proxy_history.specs.History.{History}
-use Rattle.proxy_history.specs.Own.{connection_steps}
+use Rattle.proxy_history.specs.OwnSteps.{connection_steps}
 use Rattle.proxy_history.specs.declared.answer.Answer.{Answer}
 use Rattle.proxy_history.specs.declared.event.Event.{Event}
 use Rattle.proxy_history.specs.declared.event.Kind.{Kind}
 use Rattle.journal_core.specs.Journal.{step_by}
 use Rattle.proxy_devices.specs.Device.{ReadState, WriteState}
 use Rattle.proxy_engines.specs.ClientSteps.{OpensClient}
-use Rattle.proxy_engines.specs.Client.{Client, Carries, Goes}
+use Rattle.proxy_engines.specs.Client.{Client, Carries}
 use Rattle.proxy_engines.specs.Ends.{RestState}
 use Rattle.proxy_engines.specs.Socket.{IsLeft, IsRest}
 use Rattle.proxy_engines.specs.Host.{HostEnds, HostOutboxState, LinkState, CarriesHost}
 use Rattle.proxy_engines.specs.declared.client.Progress.{Progress}
 use Rattle.proxy_engines.specs.declared.error.EngineError.{EngineError}
 use Rattle.proxy_engines.specs.Keeps.{KeepsSocket, no_logs}
-use Rattle.proxy_engines.specs.HostStep.{HostCall, HostState, Records, RestsHost, StepsHost, ends_of}
-use Rattle.proxy_engines.specs.Moves.{AsTold}
+use Rattle.proxy_engines.specs.HostStep.{HostCall, HostState, Records, RestsHost, StepsHost, WorksHost, ends_of}
 use Rattle.proxy_engines.proofs.CallerLemmas as engines
-use Rattle.proxy_serve.specs.Sockets.{IsCarried, IsServed, KeepsHost, MayDrain, OpensSocket}
+use Rattle.proxy_serve.specs.Sockets.{IsCarried, CarriesItsSocket, KeepsHost, MayDrain, OpensSocket}
 
 -- CLIENTS
 
@@ -28,11 +27,11 @@ pub KeepsSocket-may_drain : (old new : Client) (H : History) → MayDrain old ne
 KeepsSocket-may_drain old new H (inl same) = rw same (engines.KeepsSocket-same old H)
 KeepsSocket-may_drain old new H (inr drained) = rw drained (engines.KeepsSocket-drained old H)
 
--- one step of a client: it may drain, moves, and may drain
-pub KeepsSocket-step : (a b c d : Client) (H H' : History) (told : Option Bool) → MayDrain a b → AsTold (Goes b c H H') told → MayDrain c d → KeepsSocket a d H H'
-KeepsSocket-step a b c d H H' told first goes last =
+-- one step of a client: it may drain, keeps its socket, and may drain
+pub KeepsSocket-step : (a b c d : Client) (H H' : History) → MayDrain a b → KeepsSocket b c H H' → MayDrain c d → KeepsSocket a d H H'
+KeepsSocket-step a b c d H H' first keeps last =
     engines.KeepsSocket-then a b d H H H' (KeepsSocket-may_drain a b H first)
-    (engines.KeepsSocket-then b c d H H' H' (engines.KeepsSocket-told b c H H' told goes) (KeepsSocket-may_drain c d H' last))
+    (engines.KeepsSocket-then b c d H H' H' keeps (KeepsSocket-may_drain c d H' last))
 
 -- HOSTS
 
@@ -50,6 +49,12 @@ KeepsHost-records call kind r = engines.KeepsLink-records no_logs call kind r
 pub KeepsHost-steps : (unasked : HostOutboxState → LinkState → Type 0) (call : HostCall) (result : Result Progress EngineError)
     → (StepsHost unasked call result ⊎ RestsHost call result) → KeepsHost (ends_of call.old) (ends_of call.new) call.before call.after
 KeepsHost-steps unasked call result s = engines.KeepsLink-steps no_logs unasked call result s
+
+-- what was sent without a fault to be recorded, or nothing, keeps a link
+pub KeepsHost-sends : (unasked : HostOutboxState → LinkState → Type 0) (call : HostCall) (result : Result Progress EngineError)
+    → (call.old.fault ≡ None → WorksHost unasked call result) → (call.old.fault ≢ None → (call.new ≡ call.old) × (call.after ≡ call.before))
+    → KeepsHost (ends_of call.old) (ends_of call.new) call.before call.after
+KeepsHost-sends unasked call result sent rests = engines.KeepsLink-sends no_logs unasked call result call.old.fault refl sent rests
 
 -- a link over a socket from which nothing was read, and to which nothing was written, is kept from its first byte on
 pub KeepsHost-attached : (old new : HostState) (k : LinkState) → old.link ≡ None → new.outbox ≡ old.outbox → new.link ≡ Some k
@@ -97,7 +102,7 @@ module _ (pass : ℕ) (before after : History) (reader : ReadState) (writer : Wr
   }
 
 -- a socket that a served engine left is between two connections
-pub leaves_socket : (e : Client) (rest : RestState) (told taken : List ℕ) → IsServed e
+pub leaves_socket : (e : Client) (rest : RestState) (told taken : List ℕ) → CarriesItsSocket e
     → ((H : History) (gave got : List ℕ) → Carries e H gave got → IsLeft e.conn H gave got rest)
     → told ≡ e.inbox.told → taken ≡ e.outbox.taken → IsCarried rest (record { told = told; taken = taken })
 leaves_socket e rest told taken served left is_told is_taken = (

@@ -1,2 +1,2 @@
 pub mod Sockets
-pub mod Workers
+pub mod WorkerConnections

@@ -1,7 +1,7 @@
 -- What a worker's clients and hosts keep of their sockets' logs.
 use Rattle.std.specs.Prelude.{◌≡◌, ◌≢◌, ◌⊎◌, ◌++◌, [], true, List}
 use Rattle.proxy_history.specs.History.{History}
-use Rattle.proxy_history.specs.Own.{connection_steps}
+use Rattle.proxy_history.specs.OwnSteps.{connection_steps}
 use Rattle.proxy_engines.specs.Client.{Client}
 use Rattle.proxy_engines.specs.Socket.{Past}
 use Rattle.proxy_engines.specs.Ends.{RestState}
@@ -32,7 +32,7 @@ pub record OpensSocket (engine : Client) (before after : History) : Type 0 where
   pub carries : CarriesSocketLogs pasts engine after no_logs
 
 -- An engine carries all that its socket's logs hold, over some steps.
-pub record IsServed (engine : Client) : Type 0 where
+pub record CarriesItsSocket (engine : Client) : Type 0 where
   pub pasts : List Past
   pub steps : History
   pub carries : CarriesSocketLogs pasts engine steps no_logs

@@ -27,7 +27,7 @@ const LISTENER: Token = Token(usize::MAX);
 const MAX_MOVES: u32 = 16;
 
 // The most bytes of one read.
-const READ_SIZE: usize = 1_024;
+const VISIT_READ_SIZE: usize = 1_024;
 
 // The most events taken from the poll at once.
 const MAX_EVENTS: usize = 64;
@@ -54,7 +54,7 @@ fn limits() -> Limits {
     limits.limits.max_head_len = MAX_HEAD;
     limits.max_body_len = MAX_BODY;
     limits.max_pending = 0;
-    limits.read_size = READ_SIZE;
+    limits.read_size = VISIT_READ_SIZE;
     limits
 }
 

@@ -47,7 +47,7 @@ impl Board {
         self.newest.store(newest, Ordering::SeqCst);
     }
 
-    /// The generation's task. One that isn't open yet drains: it has no connection.
+    /// The generation's phase. One that isn't open yet is `Draining` here: it has no connection.
     pub(crate) fn phase(&self, number: u64) -> Phase {
         let newest = self.newest.load(Ordering::SeqCst);
         if newest == number {

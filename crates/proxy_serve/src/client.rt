@@ -1,8 +1,9 @@
 //! A client's connection, as its worker holds it.
-ghost use Rattle.std.specs.Prelude.{◌≡◌, true, IfOk, OnErr};
+ghost use Rattle.std.specs.Prelude.{◌≡◌, ◌≢◌, true, IfOk, OnErr};
 ghost use Rattle.proxy_engines.specs.Keeps.{KeepsSocket};
 ghost use Rattle.proxy_engines.specs.Turns.{own_history};
-ghost use Rattle.proxy_serve.specs.Sockets.{IsServed, MayDrain, OpensSocket};
+ghost use Rattle.proxy_serve.specs.WorkerConnections.{IsLast};
+ghost use Rattle.proxy_serve.specs.Sockets.{CarriesItsSocket, MayDrain, OpensSocket};
 
 use crate::counted_turns::{CountedTurns, TurnCounts};
 use crate::generation_state::{GenerationState, LARGE, LARGE_STEP};
@@ -15,7 +16,7 @@ use proxy_core::CoreTurns;
 use proxy_engines::{ClientEngine, EngineError, Progress, Rest};
 use proxy_exit_status::Ending;
 use proxy_histogram::{Histogram, Unanswered};
-use proxy_serve_core::Refusals;
+use proxy_serve_core::{Discarded, Refusals};
 use std::alloc::Global;
 use std::marker::Model;
 use std::sync::Wait;
@@ -31,7 +32,8 @@ type Engine = ClientEngine<Reader, Writer>;
 enum SocketStage {
     /// Its engine is stepped.
     Served,
-    /// Its connection in the core is closed: the socket goes over, or its last bytes are written.
+    /// Its engine isn't stepped any more: its connection is closed, its device has failed, or the journal has no room for
+    /// its next turn. The socket goes over, or its last bytes are written.
     Leaving,
     /// The sending half is closed; input is discarded until this moment.
     Lingering { until: u64 },
@@ -39,11 +41,30 @@ enum SocketStage {
 
 /// A worker's round over its clients.
 #[derive(Clone, Copy, Drop)]
-pub(crate) struct Round {
+pub(crate) struct ClientRound {
     /// Its moment, in milliseconds.
     pub(crate) now: u64,
     /// Steps of the journal that the worker keeps for its links.
     pub(crate) reserve: u64,
+}
+
+/// What a round knows of its client's next command.
+#[derive(Clone, Copy, Drop)]
+struct Intake {
+    // The number of accepted commands at which there was room for one more.
+    room_for: Option<u64>,
+    // The number of bytes that had come when no further command was whole.
+    searched: Option<u64>,
+}
+
+impl Intake {
+    // Nothing is known yet.
+    fn new() -> Intake {
+        Intake {
+            room_for: None,
+            searched: None,
+        }
+    }
 }
 
 /// The result of a client's round.
@@ -198,13 +219,13 @@ pub(crate) enum StepError {
     /// The server ends.
     Ends(Ending),
     /// The device failed, or the turn has no meaning: the connection or link ends alone.
-    Alone,
+    EndsOne,
 }
 
 impl StepError {
     /// Whether the connection or link ends alone.
-    pub(crate) fn is_alone(self) -> bool {
-        matches!(self, StepError::Alone)
+    pub(crate) fn ends_one(self) -> bool {
+        matches!(self, StepError::EndsOne)
     }
 }
 
@@ -215,7 +236,7 @@ impl From<EngineError> for StepError {
             EngineError::NoMemory | EngineError::TurnRefused { number: 1001 } => StepError::Memory,
             EngineError::TurnRefused { number: 1002 } => StepError::Full,
             EngineError::TurnRefused { number: 1202 } => StepError::Ends(Ending::Spent),
-            _ => StepError::Alone,
+            _ => StepError::EndsOne,
         }
     }
 }
@@ -299,7 +320,7 @@ impl Client {
         registry: &Registry,
         generation: &GenerationState<'_>,
     ) -> Option<CarriedSocket>
-        requires { IsServed self.engine }
+        requires { CarriesItsSocket self.engine }
     {
         let Client {
             engine,
@@ -393,11 +414,12 @@ impl Client {
         generation: &GenerationState<'_>,
         buffer: &mut Vec<u8>,
         durations: &mut Histogram,
-        round: Round,
+        round: ClientRound,
     ) -> Result<Stepped, StepError>
-        ensures { KeepsSocket self.old.engine self.new.engine
+        ensures keeps { KeepsSocket self.old.engine self.new.engine
             (own_history T.pass T.seen turns.old.turns)
             (own_history T.pass T.seen turns.new.turns) }
+        ensures leaves { IfOk result (λ s. IsLast s → self.new.stage ≢ SocketStage.Served) }
     {
         self.has_more = false;
         match self.stage {
@@ -419,7 +441,7 @@ impl Client {
         generation: &GenerationState<'_>,
         buffer: &mut Vec<u8>,
         durations: &mut Histogram,
-        round: Round,
+        round: ClientRound,
     ) -> Result<(), StepError>
         ensures { KeepsSocket self.old.engine self.new.engine
             (own_history T.pass T.seen turns.old.turns)
@@ -478,13 +500,12 @@ impl Client {
             (own_history T.pass T.seen turns.new.turns) }
     {
         let most_parts = generation.parts_per_worker();
-        // (the number of accepted commands at which there was room for one more)
-        let mut room_for = None;
+        let mut intake = Intake::new();
         for _ in 0..MAX_CLIENT_STEPS {
             if turns.counts().parts >= most_parts {
                 break;
             }
-            if self.step(rt, turns, generation, reserve, &mut room_for)? {
+            if self.step(rt, turns, generation, reserve, &mut intake)? {
                 return Ok(());
             }
         }
@@ -492,23 +513,47 @@ impl Client {
         Ok(())
     }
 
-    // Steps once. A command is taken in only if the journal has room for all steps that it will owe. True: nothing more
-    // can be done for now.
+    // Accepts a command or steps once. A command is taken in only if the journal has room for all steps that it will owe.
+    // True: nothing more can be done for now.
     fn step<R: Wait, T: CoreTurns>(
         &mut self,
         rt: &R,
         turns: &mut CountedTurns<T>,
         generation: &GenerationState<'_>,
         reserve: u64,
-        room_for: &mut Option<u64>,
+        intake: &mut Intake,
     ) -> Result<bool, StepError>
         ensures { KeepsSocket self.old.engine self.new.engine
             (own_history T.pass T.seen turns.old.turns)
             (own_history T.pass T.seen turns.new.turns) }
     {
-        self.find_room(rt, turns, generation, reserve, room_for);
-        let stepped = self.engine.step(rt, turns);
-        self.heed(stepped, generation)
+        self.find_room(rt, turns, generation, reserve, &mut intake.room_for);
+        let stepped = self.accept_or_step(rt, turns, &mut intake.searched);
+        self.handle_stepped(stepped, generation)
+    }
+
+    // Accepts a command that has come whole, if there may be one, or steps the engine once.
+    fn accept_or_step<R: Wait, T: CoreTurns>(
+        &mut self,
+        rt: &R,
+        turns: &mut CountedTurns<T>,
+        searched: &mut Option<u64>,
+    ) -> Result<Progress, EngineError>
+        ensures { KeepsSocket self.old.engine self.new.engine
+            (own_history T.pass T.seen turns.old.turns)
+            (own_history T.pass T.seen turns.new.turns) }
+    {
+        let count = self.engine.reader().count();
+        if *searched == Some(count) {
+            return self.engine.step(rt, turns);
+        }
+        match self.engine.accept(rt, turns) {
+            Ok(Progress::Idle) => {
+                *searched = Some(count);
+                self.engine.step(rt, turns)
+            }
+            accepted => accepted,
+        }
     }
 
     // Drains unless the journal has room for a further command with all steps that it will owe.
@@ -533,7 +578,7 @@ impl Client {
     }
 
     // Handles the result of an engine's step. True: nothing more can be done for now.
-    fn heed(
+    fn handle_stepped(
         &mut self,
         stepped: Result<Progress, EngineError>,
         generation: &GenerationState<'_>,
@@ -543,7 +588,7 @@ impl Client {
         match stepped {
             Ok(progress) => {
                 self.refusals.succeeded();
-                Ok(self.heed_progress(progress))
+                Ok(self.handle_progress(progress))
             }
             Err(error) => {
                 self.handle_error(StepError::from(error), generation)?;
@@ -553,7 +598,7 @@ impl Client {
     }
 
     // Handles what a step achieved. True: nothing more can be done for now.
-    fn heed_progress(&mut self, progress: Progress) -> bool
+    fn handle_progress(&mut self, progress: Progress) -> bool
         ensures { self.new.engine ≡ self.old.engine }
     {
         match progress {
@@ -592,7 +637,7 @@ impl Client {
     {
         match error {
             StepError::Full if !self.is_drained => self.stop_accepting(generation),
-            StepError::Full | StepError::Alone => self.stage = SocketStage::Leaving,
+            StepError::Full | StepError::EndsOne => self.stage = SocketStage::Leaving,
             StepError::Memory => return Err(self.refuse()),
             StepError::Ends(_) => return Err(error),
         }
@@ -629,11 +674,11 @@ impl Client {
     fn count_unfinished_bytes(&mut self, generation: &GenerationState<'_>, has_accepted: bool)
         ensures { self.new.engine ≡ self.old.engine }
     {
-        let taken = self.engine.reader().count();
+        let count = self.engine.reader().count();
         if has_accepted {
-            self.begun = taken;
+            self.begun = count;
         }
-        let unfinished = taken.saturating_sub(self.begun);
+        let unfinished = count.saturating_sub(self.begun);
         generation.note_unfinished(unfinished, self.unfinished);
         let grows = unfinished > self.unfinished;
         self.unfinished = unfinished;
@@ -651,7 +696,8 @@ impl Client {
         generation: &GenerationState<'_>,
         now: u64,
     ) -> Stepped
-        ensures { self.new.engine ≡ self.old.engine }
+        ensures engine { self.new.engine ≡ self.old.engine }
+        ensures leaves { IsLast result → self.new.stage ≢ SocketStage.Served }
     {
         if matches!(self.stage, SocketStage::Leaving) {
             if self.engine.writer().has_buffered() && !self.is_broken() {
@@ -672,10 +718,13 @@ impl Client {
                 Stepped::Idle
             };
         };
-        if now >= until || self.is_broken() || self.engine.reader_mut().throw_away() {
-            Stepped::Closed
-        } else {
-            Stepped::Idle
+        if now >= until || self.is_broken() {
+            return Stepped::Closed;
+        }
+        match self.engine.reader_mut().throw_away() {
+            Discarded::Ended => Stepped::Closed,
+            Discarded::Emptied => Stepped::Idle,
+            Discarded::Partly => Stepped::Ready,
         }
     }
 }

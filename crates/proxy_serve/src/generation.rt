@@ -1,7 +1,7 @@
 //! A generation: a journal, its gate, and the threads that make turns at it.
 ghost use Rattle.std.specs.Prelude.{◌≡◌, [], IfOk, ⊤};
 ghost use Rattle.ticket_gate.specs.Gate.{IsSpareOf};
-ghost use Rattle.proxy_serve.specs.Workers.{steps_of};
+ghost use Rattle.proxy_serve.specs.WorkerConnections.{steps_of};
 ghost use Rattle.proxy_config.specs.RingParts.{AreRingParts};
 
 use crate::generation_state::{GenerationState, WorkerStatus};

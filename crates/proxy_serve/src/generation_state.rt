@@ -210,7 +210,8 @@ impl<'a> GenerationState<'a> {
         self.workers.get(index)
     }
 
-    /// The generation's phase. Sockets wait in the queues while it takes in nothing and no newer generation is open.
+    /// As `Server::phase`, but `Draining` once `stop_accepting` was called. Sockets wait in the queues while it takes in
+    /// nothing and no newer generation is open.
     pub(crate) fn phase(&self) -> Phase {
         let phase = self.server.phase(self.number);
         if phase == Phase::Serving && self.is_full() {
@@ -310,12 +311,12 @@ impl<'a> GenerationState<'a> {
         self.is_full.store(true, Ordering::SeqCst);
     }
 
-    /// Counts a connection that was opened.
+    /// Counts a socket that may get a connection here, before the phase is read.
     pub(crate) fn count_opened(&self) {
         self.open.fetch_add(1, Ordering::SeqCst);
     }
 
-    /// Counts a closed connection.
+    /// Takes one back: it got no connection, or has none here any more.
     pub(crate) fn count_gone(&self) {
         self.open.fetch_sub(1, Ordering::SeqCst);
     }

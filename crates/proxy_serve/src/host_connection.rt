@@ -4,7 +4,7 @@ ghost use Rattle.proxy_history.specs.History.{History};
 ghost use Rattle.proxy_engines.specs.HostStep.{ends_of};
 ghost use Rattle.proxy_engines.specs.Turns.{own_history};
 ghost use Rattle.proxy_serve.specs.Sockets.{KeepsHost};
-ghost use Rattle.proxy_serve.specs.Workers.{CarriesLink};
+ghost use Rattle.proxy_serve.specs.WorkerConnections.{CarriesLink};
 
 use crate::client::StepError;
 use crate::counted_turns::{CountedTurns, TurnCounts};
@@ -15,7 +15,7 @@ use mio::event::Event as Readiness;
 use mio::net::TcpStream;
 use mio::{Interest, Registry, Token};
 use proxy_core::CoreTurns;
-use proxy_engines::{HostEngine, Progress};
+use proxy_engines::{EngineError, HostEngine, Progress};
 use proxy_exit_status::Ending;
 use proxy_serve_core::Refusals;
 use std::alloc::Global;
@@ -23,7 +23,7 @@ use std::mem;
 use std::net::{Net, SocketAddr};
 use std::sync::Wait;
 
-// The most steps of one host in a round.
+// The most steps of one host in a round, and the most sends before each.
 const MAX_HOST_STEPS: u32 = 4_096;
 
 // A host is looked at after this many milliseconds at the latest, so that a late reply is noticed.
@@ -243,7 +243,7 @@ impl HostConnection {
         }
         self.has_more = self.has_more || stepped.is_err();
         match stepped {
-            Ok(true) if self.is_log_due(round.now) => Ok(HostStepped::Unreachable),
+            Ok(true) if self.note_log_due(round.now) => Ok(HostStepped::Unreachable),
             Ok(_) => Ok(HostStepped::Done),
             Err(StepError::Memory) if self.refusals.refused() => Err(StepError::Ends(
                 Ending::Memory,
@@ -253,7 +253,7 @@ impl HostConnection {
     }
 
     // Whether it is time to log again that the host can't be reached.
-    fn is_log_due(&mut self, now: u64) -> bool
+    fn note_log_due(&mut self, now: u64) -> bool
         ensures { self.new.engine ≡ self.old.engine }
     {
         let is_due = match self.logged_at {
@@ -387,7 +387,8 @@ impl HostConnection {
         }
     }
 
-    // Steps the engine once, and records what that says of the socket. A link that has to go is given up first.
+    // Sends all that waits, steps the engine once, and records what that says of the socket. A link that has to go is given up
+    // first.
     fn step<R: Wait, T: CoreTurns>(
         &mut self,
         rt: &R,
@@ -403,7 +404,7 @@ impl HostConnection {
     {
         self.give_up_if_due(rt, turns, generation, round)?;
         let before = *turns.counts();
-        let stepped = self.engine.step(rt, turns, round.now);
+        let stepped = self.send_and_step(rt, turns, round.now);
         self.note_step(&before, turns.counts());
         match stepped {
             Ok(progress) => Ok(progress),
@@ -412,6 +413,42 @@ impl HostConnection {
                 Ok(Progress::Moved)
             }
         }
+    }
+
+    // Sends all that waits, then steps the engine once.
+    fn send_and_step<R: Wait, T: CoreTurns>(
+        &mut self,
+        rt: &R,
+        turns: &mut CountedTurns<T>,
+        now: u64,
+    ) -> Result<Progress, EngineError>
+        ensures needs_link { IfOk result (λ p. p ≡ Progress.NeedsLink
+            → (self.new.engine.link ≡ None) × (self.new.engine.fault ≡ None)) }
+        ensures keeps { KeepsHost (ends_of self.old.engine) (ends_of self.new.engine)
+            (own_history T.pass T.seen turns.old.turns)
+            (own_history T.pass T.seen turns.new.turns) }
+    {
+        self.send_all(rt, turns, now)?;
+        self.engine.step(rt, turns, now)
+    }
+
+    // Sends until nothing more can be sent, or `MAX_HOST_STEPS` times.
+    fn send_all<R: Wait, T: CoreTurns>(
+        &mut self,
+        rt: &R,
+        turns: &mut CountedTurns<T>,
+        now: u64,
+    ) -> Result<(), EngineError>
+        ensures { KeepsHost (ends_of self.old.engine) (ends_of self.new.engine)
+            (own_history T.pass T.seen turns.old.turns)
+            (own_history T.pass T.seen turns.new.turns) }
+    {
+        for _ in 0..MAX_HOST_STEPS {
+            let Progress::Moved = self.engine.send(rt, turns, now)? else {
+                return Ok(());
+            };
+        }
+        Ok(())
     }
 
     // Gives up a link that has to go.
@@ -459,7 +496,7 @@ impl HostConnection {
             (own_history T.pass T.seen turns.new.turns) }
     {
         match error {
-            StepError::Alone => Ok(()),
+            StepError::EndsOne => Ok(()),
             StepError::Full => self.give_up(rt, turns, now),
             StepError::Memory | StepError::Ends(_) => Err(error),
         }
@@ -476,8 +513,8 @@ impl HostConnection {
         ensures engine { self.new.engine ≡ self.old.engine }
         ensures turns { turns.new.turns ≡ turns.old.turns }
     {
-        let taken = self.taken();
-        let came = taken.unwrap_or(0).saturating_sub(self.begun);
+        let count = self.read_count();
+        let came = count.unwrap_or(0).saturating_sub(self.begun);
         let is_small = came.max(self.coming).max(turns.unreported_bytes()) < LARGE;
         let has_room = if is_small {
             turns.has_room_for_reply(came)
@@ -487,11 +524,11 @@ impl HostConnection {
         if !is_small {
             self.coming = came;
         }
-        taken.is_some() && (gives_up || !has_room)
+        count.is_some() && (gives_up || !has_room)
     }
 
     // The bytes that came on the link.
-    fn taken(&self) -> Option<u64> {
+    fn read_count(&self) -> Option<u64> {
         match self.engine.reader() {
             Some(reader) => Some(reader.count()),
             None => None,
@@ -502,8 +539,8 @@ impl HostConnection {
     fn note_reply(&mut self)
         ensures { self.new.engine ≡ self.old.engine }
     {
-        if let Some(taken) = self.taken() {
-            self.begun = taken;
+        if let Some(count) = self.read_count() {
+            self.begun = count;
         }
     }
 
@@ -523,7 +560,7 @@ impl HostConnection {
         match given_up {
             Ok(()) => Ok(()),
             Err(error) => match StepError::from(error) {
-                StepError::Alone => Ok(()),
+                StepError::EndsOne => Ok(()),
                 other => Err(other),
             },
         }
@@ -616,7 +653,7 @@ impl HostConnection {
         match self.engine.refused(rt, turns, now) {
             Ok(()) => Ok(()),
             Err(error) => match StepError::from(error) {
-                StepError::Alone => Ok(()),
+                StepError::EndsOne => Ok(()),
                 other => Err(other),
             },
         }

@@ -6,9 +6,9 @@
 //! follow once their accepted commands are answered.
 //!
 //! It stands on the engines and the core, of which the answers are proved, and on `proxy_history` and `journal_core`,
-//! whose steps its contracts name. Here bytes, readiness and time are brought to engines. Over each pass of a worker
-//! every client and host keeps what its engine carries of its socket's logs. Begin with `serve` in `serving.rt`, then
-//! `Worker::run_once` in `worker.rt`.
+//! whose steps its contracts name. Here bytes, readiness and time are brought to engines. The clients and hosts of a
+//! worker are its `WorkerConnections`, whose invariant is that each one's engine carries its socket's logs. Begin with
+//! `serve` in `serving.rt`, then `Worker::run_once` in `worker.rt`.
 #![tactic(auto)]
 
 mod admin;
@@ -27,6 +27,7 @@ mod stats;
 mod stop;
 mod sweeping;
 mod worker;
+mod worker_connections;
 
 pub use admin::Admin;
 pub use generation::ServeRuntime;

@@ -3,7 +3,7 @@
 /// The severity of a line, as in syslog.
 #[derive(Clone, Copy, Debug, PartialEq, Eq)]
 pub enum Level {
-    /// The program ends.
+    /// The program ends, or the operator's address answers no more.
     Error,
     /// Clients or a host have a problem.
     Warning,

@@ -221,7 +221,7 @@ impl Server {
     /// Reserves memory in the queue for one more carried-over socket. False: there is none.
     ///
     /// The room stays: for each queue one worker alone puts such sockets in, and one takes them out.
-    pub(crate) fn has_room_to_carry<R: Wait>(&self, rt: &R, index: usize) -> bool {
+    pub(crate) fn reserve_to_carry<R: Wait>(&self, rt: &R, index: usize) -> bool {
         match self.queues.get(index) {
             Some(queue) => queue.carried.lock(rt).reserve(1).is_ok(),
             None => false,
@@ -275,11 +275,11 @@ impl Server {
     }
 
     /// Why the server ended, unless it is done.
-    pub(crate) fn stop<R: Wait>(&self, rt: &R) -> Option<Stop> {
+    pub(crate) fn stop_reason<R: Wait>(&self, rt: &R) -> Option<Stop> {
         *self.stop.lock(rt)
     }
 
-    /// The generation's task.
+    /// The generation's phase, as `Board::phase` has it; `Stopped` once the server ends.
     pub(crate) fn phase(&self, number: u64) -> Phase {
         if self.runs() {
             self.board.phase(number)

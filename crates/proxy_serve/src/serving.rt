@@ -443,7 +443,7 @@ impl GenerationThreads {
 
 // Returns the reason of the end, or writes the last line.
 fn finish<R: Wait, W: Write>(rt: &R, server: &Server, output: &mut W) -> Result<(), Stop> {
-    match server.stop(rt) {
+    match server.stop_reason(rt) {
         Some(stop) => Err(stop),
         None => write_counts(&server.counts(rt), output),
     }

@@ -1,36 +1,29 @@
 //! A worker: a thread that has a poll and steps its clients and hosts.
-ghost use Rattle.std.specs.Prelude.{◌≡◌, ◌+◌, [], IfOk, OnOk};
-ghost use Rattle.proxy_serve.specs.Workers.{IsNewcomer, IsServing, RiseTo, ServesHosts, steps_of};
+ghost use Rattle.std.specs.Prelude.{◌≡◌, [], IfOk};
+ghost use Rattle.proxy_serve.specs.WorkerConnections.{IsLast, IsLeaving, steps_of};
 
-use crate::client::{CarriedSocket, Client, Round, StepError, Stepped};
-use crate::counted_turns::CountedTurns;
+use crate::client::{CarriedSocket, StepError, Stepped};
 use crate::generation::ThreadContext;
 use crate::generation_state::GenerationState;
-use crate::host_connection::{HostConnection, HostRound, HostStepped};
+use crate::host_connection::{HostRound, HostStepped};
 use crate::log::Level;
 use crate::server::Server;
 use crate::stop::Stop;
+use crate::worker_connections::{ClientResult, HOSTS, HostResult, WorkerConnections};
 use limits::MAX_SOCKETS;
 use mio::event::Event;
 use mio::net::TcpStream;
 use mio::{Events, Interest, Poll, Token};
-use proxy_config::Config;
 use proxy_exit_status::Ending;
-use proxy_generations::{Phase, StepKind};
-use proxy_histogram::Histogram;
-use proxy_serve_core::{Refusals, hosts_of_worker};
+use proxy_generations::Phase;
+use proxy_serve_core::Refusals;
 use proxy_stats::CountedSeat;
-use slab::Slab;
-use std::alloc::{AllocError, Global};
+use std::alloc::AllocError;
 use std::marker::Model;
-use std::mem;
 use std::net::{Net, SocketAddr};
 use std::rt::Clock;
 use std::sync::Wait;
 use std::time::Duration;
-
-// Tokens from here on are hosts; the greatest one is the waker's.
-const HOSTS: usize = 1 << 32;
 
 /// The token of a worker's waker.
 pub(crate) const WAKER: Token = Token(usize::MAX);
@@ -77,7 +70,7 @@ impl Drop for WorkerSetup<'_> {
 
 impl<'a> Model for WorkerSetup<'a> {
     ghost use Rattle.std.specs.Prelude.{◌≡◌, ℕ, []};
-    ghost use Rattle.proxy_serve.specs.Workers.{steps_of};
+    ghost use Rattle.proxy_serve.specs.WorkerConnections.{steps_of};
 
     ghost Value = { ℕ };
 
@@ -119,25 +112,25 @@ impl<'a> WorkerSetup<'a> {
     }
 
     // The worker with its hosts and no clients; ends with `Memory` where there is none for the hosts.
-    fn worker(self) -> Result<Worker<'a>, Ending>
-        ensures { IfOk result (λ w. IsServing w.clients w.hosts.items (steps_of w.turns.turns)) }
-    {
+    fn worker(self) -> Result<Worker<'a>, Ending> {
         let WorkerSetup {
             context,
             index,
             poll,
             seat,
         } = self;
-        let (alloc, generation) = (context.alloc, context.generation);
-        Ok(Worker {
+        let ThreadContext {
             alloc,
+            generation,
+            config,
+            marks: _,
+        } = context;
+        let workers = generation.server().workers();
+        Ok(Worker {
             index,
             poll,
             generation,
-            turns: CountedTurns::new(seat),
-            clients: Slab::new(alloc),
-            hosts: hosts_of(alloc, index, generation.server().workers(), context.config)?,
-            buffer: Vec::new(alloc),
+            connections: WorkerConnections::new(alloc, index, workers, config, seat)?,
             opening: Refusals::new(),
             lacks_memory: false,
             may_have_sockets: true,
@@ -148,61 +141,9 @@ impl<'a> WorkerSetup<'a> {
             ends_inputs: false,
             gives_up: false,
             awaiting: 0,
-            durations: Histogram::new(),
             reported_at: 0,
         })
     }
-}
-
-// Reports the durations of commands.
-fn report_durations<R: Wait>(rt: &R, server: &Server, durations: &mut Histogram) {
-    let reported = mem::replace(durations, Histogram::new());
-    if reported.total > 0 {
-        server.add_durations(rt, &reported);
-    }
-}
-
-// The hosts of the worker with this index, each without a link.
-fn hosts_of(
-    alloc: Global,
-    index: usize,
-    workers: usize,
-    config: &Config,
-) -> Result<Vec<HostConnection>, Ending>
-    ensures { IfOk result (λ hosts. ServesHosts hosts.items []) }
-{
-    let mut hosts = Vec::new(alloc);
-    if workers == 0 {
-        return Ok(hosts);
-    }
-    let own = hosts_of_worker(alloc, index, workers, config.hosts.len())?;
-    for host in 0..config.hosts.len() {
-        push_host(&mut hosts, alloc, host, &own, config)?;
-    }
-    Ok(hosts)
-}
-
-// Adds the host of this number, without a link, if it is the worker's own.
-fn push_host(
-    hosts: &mut Vec<HostConnection>,
-    alloc: Global,
-    host: usize,
-    own: &[usize],
-    config: &Config,
-) -> Result<(), Ending>
-    requires { RiseTo hosts.old.items host }
-    ensures { OnOk result (RiseTo hosts.new.items (host + 1)) }
-{
-    if !own.contains(&host) {
-        return Ok(());
-    }
-    let Some(entry) = config.hosts.get(host) else {
-        return Ok(());
-    };
-    let token = Token(HOSTS.saturating_add(hosts.len()));
-    let reply_ms = u64::from(config.reply_ms);
-    hosts.push(HostConnection::new(alloc, host, entry.address, token, reply_ms))?;
-    Ok(())
 }
 
 /// The result for the first socket in a worker's queue.
@@ -216,6 +157,15 @@ enum OpenResult {
     None,
 }
 
+// The number of waiting clients after the round of one that waited before, or waits now.
+fn awaiting_after(awaiting: usize, did_await: bool, awaits: bool) -> usize {
+    match (did_await, awaits) {
+        (true, false) => awaiting.saturating_sub(1),
+        (false, true) => awaiting.saturating_add(1),
+        (true, true) | (false, false) => awaiting,
+    }
+}
+
 /// A generation's counts of parts for hosts and of replies for clients, at one moment.
 #[derive(Clone, Copy, Drop)]
 struct GenerationCounts {
@@ -225,15 +175,10 @@ struct GenerationCounts {
 
 /// A running worker.
 struct Worker<'a> {
-    alloc: Global,
     index: usize,
     poll: Poll,
     generation: &'a GenerationState<'a>,
-    turns: CountedTurns<CountedSeat<'a>>,
-    clients: Slab<Client>,
-    hosts: Vec<HostConnection>,
-    // Lent to one socket after another for its output.
-    buffer: Vec<u8>,
+    connections: WorkerConnections<'a>,
     // Consecutive refusals of memory to the first socket in the queue.
     opening: Refusals,
     // Whether something in this round found no memory.
@@ -252,8 +197,7 @@ struct Worker<'a> {
     gives_up: bool,
     // The number of clients that wait for replies.
     awaiting: usize,
-    // The durations of commands since the last report, and when that was.
-    durations: Histogram,
+    // When durations were last reported, in milliseconds.
     reported_at: u64,
 }
 
@@ -261,14 +205,10 @@ struct Worker<'a> {
 impl Drop for Worker<'_> {
     fn drop(self) {
         let Worker {
-            alloc: _,
             index: _,
             poll: _,
             generation: _,
-            turns: _,
-            clients: _,
-            hosts: _,
-            buffer: _,
+            connections: _,
             opening: _,
             lacks_memory: _,
             may_have_sockets: _,
@@ -279,7 +219,6 @@ impl Drop for Worker<'_> {
             ends_inputs: _,
             gives_up: _,
             awaiting: _,
-            durations: _,
             reported_at: _,
         } = self;
     }
@@ -287,9 +226,7 @@ impl Drop for Worker<'_> {
 
 impl<'a> Worker<'a> {
     // Serves once all threads of the generation have come, then closes what is left, or ends the server.
-    fn run<R: Wait + Net + Clock + Eprint>(mut self, rt: &R, events: Events)
-        requires { IsServing self.clients self.hosts.items (steps_of self.turns.turns) }
-    {
+    fn run<R: Wait + Net + Clock + Eprint>(mut self, rt: &R, events: Events) {
         if !self.generation.wait_for_all(rt) {
             return;
         }
@@ -304,12 +241,7 @@ impl<'a> Worker<'a> {
         &mut self,
         rt: &R,
         mut events: Events,
-    ) -> Result<(), Stop>
-        requires { IsServing self.old.clients self.old.hosts.items
-            (steps_of self.old.turns.turns) }
-        ensures { IsServing self.new.clients self.new.hosts.items
-            (steps_of self.new.turns.turns) }
-    {
+    ) -> Result<(), Stop> {
         let mut pause = 0;
         self.settle(rt);
         for _ in rt.forever() {
@@ -328,12 +260,7 @@ impl<'a> Worker<'a> {
     }
 
     // Drains and gives up with the generation. False: its last sockets are to be closed.
-    fn follow_phase(&mut self) -> bool
-        requires { IsServing self.old.clients self.old.hosts.items
-            (steps_of self.old.turns.turns) }
-        ensures { IsServing self.new.clients self.new.hosts.items
-            (steps_of self.new.turns.turns) }
-    {
+    fn follow_phase(&mut self) -> bool {
         match self.generation.phase() {
             Phase::Serving => {}
             Phase::Draining => self.drain(),
@@ -347,12 +274,7 @@ impl<'a> Worker<'a> {
     }
 
     // Waits at most this many milliseconds for the poll's events.
-    fn wait(&mut self, events: &mut Events, pause: u64) -> Result<(), Stop>
-        requires { IsServing self.old.clients self.old.hosts.items
-            (steps_of self.old.turns.turns) }
-        ensures { IsServing self.new.clients self.new.hosts.items
-            (steps_of self.new.turns.turns) }
-    {
+    fn wait(&mut self, events: &mut Events, pause: u64) -> Result<(), Stop> {
         let polled = self.poll.poll(events, Some(Duration::from_millis(pause)));
         if let Some(worker) = self.generation.worker(self.index) {
             worker.mark_awake();
@@ -364,12 +286,7 @@ impl<'a> Worker<'a> {
     }
 
     // Answers what it still can, and hands sockets over, before it closes the others.
-    fn finish<R: Wait + Net + Clock + Eprint>(&mut self, rt: &R) -> Result<(), Stop>
-        requires { IsServing self.old.clients self.old.hosts.items
-            (steps_of self.old.turns.turns) }
-        ensures { IsServing self.new.clients self.new.hosts.items
-            (steps_of self.new.turns.turns) }
-    {
+    fn finish<R: Wait + Net + Clock + Eprint>(&mut self, rt: &R) -> Result<(), Stop> {
         self.drain();
         self.gives_up = true;
         for _ in 0..MAX_LAST_ROUNDS {
@@ -388,93 +305,48 @@ impl<'a> Worker<'a> {
         }
     }
 
-    // Reports the worker's turns. It keeps a lent step for a fault of each of its links, because a fault must be recorded.
-    fn settle<R: Wait>(&mut self, rt: &R)
-        requires { IsServing self.old.clients self.old.hosts.items
-            (steps_of self.old.turns.turns) }
-        ensures { IsServing self.new.clients self.new.hosts.items
-            (steps_of self.new.turns.turns) }
-    {
-        let reserve = self.reserve();
-        self.generation.settle(rt, &mut self.turns, reserve);
+    // Reports the worker's turns.
+    fn settle<R: Wait>(&mut self, rt: &R) {
+        self.connections.settle(rt, self.generation);
     }
 
-    // The lent steps that it keeps: one for a fault of each of its links.
-    fn reserve(&self) -> u64 {
-        self.hosts.len() as u64
+    // Reports the durations of commands.
+    fn report_durations<R: Wait>(&mut self, rt: &R) {
+        let reported = self.connections.take_durations();
+        if reported.total > 0 {
+            self.generation.server().add_durations(rt, &reported);
+        }
     }
 
     // Ends all clients' inputs once the server drains.
-    fn end_inputs(&mut self)
-        requires { IsServing self.old.clients self.old.hosts.items
-            (steps_of self.old.turns.turns) }
-        ensures { IsServing self.new.clients self.new.hosts.items
-            (steps_of self.new.turns.turns) }
-    {
+    fn end_inputs(&mut self) {
         if self.ends_inputs || !self.generation.server().is_draining() {
             return;
         }
         self.ends_inputs = true;
-        for key in 0..self.clients.capacity() {
-            self.end_input(key);
+        for key in 0..self.connections.capacity() {
+            self.connections.end_input(key);
         }
-    }
-
-    // Ends the input of the client with this key, if there is one.
-    fn end_input(&mut self, key: usize)
-        requires { IsServing self.old.clients self.old.hosts.items
-            (steps_of self.old.turns.turns) }
-        ensures { IsServing self.new.clients self.new.hosts.items
-            (steps_of self.new.turns.turns) }
-    {
-        let Some(client) = self.clients.get_mut(key) else {
-            return;
-        };
-        client.end_input();
     }
 
     // Takes in nothing more from any client.
-    fn drain(&mut self)
-        requires { IsServing self.old.clients self.old.hosts.items
-            (steps_of self.old.turns.turns) }
-        ensures { IsServing self.new.clients self.new.hosts.items
-            (steps_of self.new.turns.turns) }
-    {
-        if self.is_draining || self.clients.is_empty() {
+    fn drain(&mut self) {
+        if self.is_draining || self.connections.is_empty() {
             return;
         }
         self.is_draining = true;
-        for key in 0..self.clients.capacity() {
-            self.drain_client(key);
+        for key in 0..self.connections.capacity() {
+            self.connections.drain(key);
         }
-    }
-
-    // Takes in nothing more from the client with this key, if there is one.
-    fn drain_client(&mut self, key: usize)
-        requires { IsServing self.old.clients self.old.hosts.items
-            (steps_of self.old.turns.turns) }
-        ensures { IsServing self.new.clients self.new.hosts.items
-            (steps_of self.new.turns.turns) }
-    {
-        let Some(client) = self.clients.get_mut(key) else {
-            return;
-        };
-        client.drain();
     }
 
     // Writes the buffered bytes of connections that are cut short, and counts these as closed.
     fn close_clients<R: Wait + Eprint>(&mut self, rt: &R) {
         let server = self.generation.server();
         let mut cut = 0u32;
-        for key in 0..self.clients.capacity() {
-            if let Some(client) = self.clients.get_mut(key) {
-                if client.is_uncounted() {
-                    cut = cut.saturating_add(1);
-                    server.count_closed(rt);
-                }
-                client.shut_down(&mut self.buffer);
-                server.count_dropped(rt);
-                self.generation.count_gone();
+        for key in 0..self.connections.capacity() {
+            if self.close_client(rt, key) {
+                cut = cut.saturating_add(1);
             }
         }
         if cut > 0 && server.runs() {
@@ -484,8 +356,22 @@ impl<'a> Worker<'a> {
                 "{tag}redproxy: generation {number} is cut short, {cut} connections are closed"
             );
         }
-        report_durations(rt, server, &mut self.durations);
+        self.report_durations(rt);
         self.close_carried(rt);
+    }
+
+    // Closes the socket of the client with this key, if there is one. True: its connection is cut short.
+    fn close_client<R: Wait>(&mut self, rt: &R, key: usize) -> bool {
+        let Some(is_cut) = self.connections.shut_down(key) else {
+            return false;
+        };
+        let server = self.generation.server();
+        if is_cut {
+            server.count_closed(rt);
+        }
+        server.count_dropped(rt);
+        self.generation.count_gone();
+        is_cut
     }
 
     // Closes the sockets in the queue: once the server ends no generation takes them.
@@ -495,11 +381,10 @@ impl<'a> Worker<'a> {
             if server.runs() {
                 return;
             }
-            let Some(mut carried) = server.take_carried(rt, self.index) else {
+            let Some(carried) = server.take_carried(rt, self.index) else {
                 return;
             };
-            carried.shut_down(&mut self.buffer);
-            drop(carried);
+            self.connections.close_carried(carried);
             server.count_closed_and_dropped(rt);
         }
     }
@@ -520,73 +405,32 @@ impl<'a> Worker<'a> {
 
     // Whether parts or replies came since the round began, or clients needn't be held back any more.
     fn has_news(&self, before: GenerationCounts) -> bool {
-        (!self.hosts.is_empty() && before.parts != self.generation.parts())
+        (self.connections.host_count() > 0 && before.parts != self.generation.parts())
             || (self.awaiting > 0 && before.replies != self.generation.replies())
             || (self.is_held_back && !self.generation.must_hold_back())
     }
 
     // Gives each event of the poll to its host or client.
-    fn on_readiness(&mut self, events: &Events)
-        requires { IsServing self.old.clients self.old.hosts.items
-            (steps_of self.old.turns.turns) }
-        ensures { IsServing self.new.clients self.new.hosts.items
-            (steps_of self.new.turns.turns) }
-    {
+    fn on_readiness(&mut self, events: &Events) {
         for event in events {
             self.on_event(event);
         }
     }
 
     // Gives an event of the poll to its host or client.
-    fn on_event(&mut self, event: &Event)
-        requires { IsServing self.old.clients self.old.hosts.items
-            (steps_of self.old.turns.turns) }
-        ensures { IsServing self.new.clients self.new.hosts.items
-            (steps_of self.new.turns.turns) }
-    {
+    fn on_event(&mut self, event: &Event) {
         let token = event.token();
         if token == WAKER {
             self.may_have_sockets = true;
         } else if token.0 >= HOSTS {
-            self.on_host_event(token.0 - HOSTS, event);
+            self.connections.on_host_event(token.0 - HOSTS, event);
         } else {
-            self.on_client_event(token.0, event);
+            self.connections.on_client_event(token.0, event);
         }
     }
 
-    // Gives an event of the poll to a host.
-    fn on_host_event(&mut self, index: usize, event: &Event)
-        requires { IsServing self.old.clients self.old.hosts.items
-            (steps_of self.old.turns.turns) }
-        ensures { IsServing self.new.clients self.new.hosts.items
-            (steps_of self.new.turns.turns) }
-    {
-        let Some(host) = self.hosts.get_mut(index) else {
-            return;
-        };
-        host.on_readiness(event);
-    }
-
-    // Gives an event of the poll to a client.
-    fn on_client_event(&mut self, key: usize, event: &Event)
-        requires { IsServing self.old.clients self.old.hosts.items
-            (steps_of self.old.turns.turns) }
-        ensures { IsServing self.new.clients self.new.hosts.items
-            (steps_of self.new.turns.turns) }
-    {
-        let Some(client) = self.clients.get_mut(key) else {
-            return;
-        };
-        client.on_readiness(event);
-    }
-
     // One round: new sockets, replies, clients, and the parts that these queued. True: more can be done at once.
-    fn run_once<R: Wait + Net + Clock + Eprint>(&mut self, rt: &R) -> Result<bool, Stop>
-        requires { IsServing self.old.clients self.old.hosts.items
-            (steps_of self.old.turns.turns) }
-        ensures { IsServing self.new.clients self.new.hosts.items
-            (steps_of self.new.turns.turns) }
-    {
+    fn run_once<R: Wait + Net + Clock + Eprint>(&mut self, rt: &R) -> Result<bool, Stop> {
         let now = now(rt);
         self.lacks_memory = false;
         if self.may_have_sockets || now.saturating_sub(self.accepted_at) >= PAUSE_MS {
@@ -597,19 +441,14 @@ impl<'a> Worker<'a> {
         let moves = self.step_all(rt, now)?;
         if now.saturating_sub(self.reported_at) >= PAUSE_MS {
             self.reported_at = now;
-            report_durations(rt, self.generation.server(), &mut self.durations);
+            self.report_durations(rt);
         }
         self.wake_others(before);
         Ok(moves)
     }
 
     // Steps hosts, then clients, then hosts for the parts that these queued.
-    fn step_all<R: Wait + Net + Eprint>(&mut self, rt: &R, now: u64) -> Result<bool, Stop>
-        requires { IsServing self.old.clients self.old.hosts.items
-            (steps_of self.old.turns.turns) }
-        ensures { IsServing self.new.clients self.new.hosts.items
-            (steps_of self.new.turns.turns) }
-    {
+    fn step_all<R: Wait + Net + Eprint>(&mut self, rt: &R, now: u64) -> Result<bool, Stop> {
         let hosts = self.step_hosts(rt, now)?;
         let clients = self.step_clients(rt, now)?;
         let after = self.step_hosts(rt, now)?;
@@ -626,12 +465,7 @@ impl<'a> Worker<'a> {
     }
 
     // Counts a refusal of memory to the first socket in the queue.
-    fn count_refusal(&mut self) -> Result<(), Stop>
-        requires { IsServing self.old.clients self.old.hosts.items
-            (steps_of self.old.turns.turns) }
-        ensures { IsServing self.new.clients self.new.hosts.items
-            (steps_of self.new.turns.turns) }
-    {
+    fn count_refusal(&mut self) -> Result<(), Stop> {
         self.lacks_memory = true;
         self.may_have_sockets = true;
         if self.opening.refused() {
@@ -642,12 +476,7 @@ impl<'a> Worker<'a> {
     }
 
     // Handles an error. Without memory the step is made again, until too many were refused in a row.
-    fn handle_error(&mut self, error: StepError) -> Result<(), Stop>
-        requires { IsServing self.old.clients self.old.hosts.items
-            (steps_of self.old.turns.turns) }
-        ensures { IsServing self.new.clients self.new.hosts.items
-            (steps_of self.new.turns.turns) }
-    {
+    fn handle_error(&mut self, error: StepError) -> Result<(), Stop> {
         match error {
             StepError::Full => {
                 self.generation.stop_accepting();
@@ -658,35 +487,24 @@ impl<'a> Worker<'a> {
                 self.lacks_memory = true;
                 Ok(())
             }
-            StepError::Alone => Ok(()),
+            StepError::EndsOne => Ok(()),
         }
     }
 
     // Handles the error of a connection that is being opened.
-    fn handle_open_error(&mut self, error: StepError) -> Result<(), Stop>
-        requires { IsServing self.old.clients self.old.hosts.items
-            (steps_of self.old.turns.turns) }
-        ensures { IsServing self.new.clients self.new.hosts.items
-            (steps_of self.new.turns.turns) }
-    {
+    fn handle_open_error(&mut self, error: StepError) -> Result<(), Stop> {
         match error {
             StepError::Memory => self.count_refusal(),
-            StepError::Full | StepError::Ends(_) | StepError::Alone => self.handle_error(error),
+            StepError::Full | StepError::Ends(_) | StepError::EndsOne => self.handle_error(error),
         }
     }
 
     // Whether one more connection may be opened: the generation serves, and its journal has room for it and a command.
-    fn may_open<R: Wait>(&mut self, rt: &R) -> bool
-        requires { IsServing self.old.clients self.old.hosts.items
-            (steps_of self.old.turns.turns) }
-        ensures { IsServing self.new.clients self.new.hosts.items
-            (steps_of self.new.turns.turns) }
-    {
+    fn may_open<R: Wait>(&mut self, rt: &R) -> bool {
         if self.generation.phase() != Phase::Serving {
             return false;
         }
-        let reserve = self.reserve().saturating_add(StepKind::Opened.cost());
-        let has_room = self.generation.lend(rt, &mut self.turns, reserve);
+        let has_room = self.connections.borrow_for_client(rt, self.generation);
         if !has_room {
             self.generation.stop_accepting();
         }
@@ -695,12 +513,7 @@ impl<'a> Worker<'a> {
 
     // Opens the sockets in the worker's queue, carried-over ones first. Each is counted before the phase is read: so
     // none comes to a generation that has drained.
-    fn accept_new<R: Wait>(&mut self, rt: &R) -> Result<(), Stop>
-        requires { IsServing self.old.clients self.old.hosts.items
-            (steps_of self.old.turns.turns) }
-        ensures { IsServing self.new.clients self.new.hosts.items
-            (steps_of self.new.turns.turns) }
-    {
+    fn accept_new<R: Wait>(&mut self, rt: &R) -> Result<(), Stop> {
         self.may_have_sockets = false;
         for _ in 0..MAX_EVENTS {
             self.generation.count_opened();
@@ -723,17 +536,12 @@ impl<'a> Worker<'a> {
     }
 
     // Opens the first socket in the worker's queue, a carried-over one first.
-    fn accept_one<R: Wait>(&mut self, rt: &R) -> Result<OpenResult, Stop>
-        requires { IsServing self.old.clients self.old.hosts.items
-            (steps_of self.old.turns.turns) }
-        ensures { IsServing self.new.clients self.new.hosts.items
-            (steps_of self.new.turns.turns) }
-    {
+    fn accept_one<R: Wait>(&mut self, rt: &R) -> Result<OpenResult, Stop> {
         let server = self.generation.server();
         if !server.has_waiting(rt, self.index) {
             return Ok(OpenResult::None);
         }
-        if !self.reserve_slot() {
+        if !self.connections.reserve_slot() {
             self.count_refusal()?;
             return Ok(OpenResult::None);
         }
@@ -746,66 +554,33 @@ impl<'a> Worker<'a> {
         }
     }
 
-    // Makes room for one more client. False: there is no memory.
-    fn reserve_slot(&mut self) -> bool
-        requires { IsServing self.old.clients self.old.hosts.items
-            (steps_of self.old.turns.turns) }
-        ensures { IsServing self.new.clients self.new.hosts.items
-            (steps_of self.new.turns.turns) }
-    {
-        self.clients.reserve(1).is_ok()
-    }
-
-    // Gives the client a slot: it has a connection from here on.
-    fn insert<R: Wait>(&mut self, rt: &R, mut client: Client) -> OpenResult
-        requires serving { IsServing self.old.clients self.old.hosts.items
-            (steps_of self.old.turns.turns) }
-        requires new { IsNewcomer client.engine self.old.clients
-            (steps_of self.old.turns.turns) }
-        ensures { IsServing self.new.clients self.new.hosts.items
-            (steps_of self.new.turns.turns) }
-    {
+    // The result for a socket whose connection was opened. Without room for the client it is closed.
+    fn handle_opened<R: Wait>(&mut self, rt: &R, has_room: bool) -> OpenResult {
         self.opening.succeeded();
-        self.begin_input(&mut client);
-        let Ok(_) = self.clients.insert(client) else {
-            self.generation.server().count_closed_and_dropped(rt);
-            return OpenResult::Closed;
-        };
-        OpenResult::Opened
-    }
-
-    // Ends the input of a new client where the server drains.
-    fn begin_input(&self, client: &mut Client)
-        ensures { client.new.engine ≡ client.old.engine }
-    {
-        if self.ends_inputs {
-            client.end_input();
+        if has_room {
+            return OpenResult::Opened;
         }
+        self.generation.server().count_closed_and_dropped(rt);
+        OpenResult::Closed
     }
 
     // Opens a carried-over socket. It waits in the queue again where there is no memory or no step left. Where its
     // connection can't be opened otherwise, its buffered bytes are written and it is closed.
-    fn open_carried<R: Wait>(&mut self, rt: &R, carried: CarriedSocket) -> Result<OpenResult, Stop>
-        requires { IsServing self.old.clients self.old.hosts.items
-            (steps_of self.old.turns.turns) }
-        ensures { IsServing self.new.clients self.new.hosts.items
-            (steps_of self.new.turns.turns) }
-    {
-        let token = Token(self.clients.vacant_key());
-        let opened = Client::open_carried(
+    fn open_carried<R: Wait>(
+        &mut self,
+        rt: &R,
+        carried: CarriedSocket,
+    ) -> Result<OpenResult, Stop> {
+        let opened = self.connections.open_carried(
             rt,
-            self.alloc,
-            &mut self.turns,
+            self.generation,
             self.poll.registry(),
-            token,
             carried,
+            self.ends_inputs,
         );
         match opened {
-            Ok(client) => {
-                client.note_carried(self.generation);
-                Ok(self.insert(rt, client))
-            }
-            Err((error, carried)) => self.refuse_carried(rt, StepError::from(error), carried),
+            Ok(has_room) => Ok(self.handle_opened(rt, has_room)),
+            Err((error, carried)) => self.refuse_carried(rt, error, carried),
         }
     }
 
@@ -814,18 +589,12 @@ impl<'a> Worker<'a> {
         &mut self,
         rt: &R,
         error: StepError,
-        mut carried: CarriedSocket,
-    ) -> Result<OpenResult, Stop>
-        requires { IsServing self.old.clients self.old.hosts.items
-            (steps_of self.old.turns.turns) }
-        ensures { IsServing self.new.clients self.new.hosts.items
-            (steps_of self.new.turns.turns) }
-    {
+        carried: CarriedSocket,
+    ) -> Result<OpenResult, Stop> {
         let server = self.generation.server();
         self.handle_open_error(error)?;
-        if error.is_alone() {
-            carried.shut_down(&mut self.buffer);
-            drop(carried);
+        if error.ends_one() {
+            self.connections.close_carried(carried);
             server.count_closed_and_dropped(rt);
             return Ok(OpenResult::Closed);
         }
@@ -835,7 +604,7 @@ impl<'a> Worker<'a> {
 
     // Registers the next client's socket with the poll.
     fn register(&self, stream: &mut TcpStream) -> bool {
-        let token = Token(self.clients.vacant_key());
+        let token = Token(self.connections.vacant_key());
         let interests = Interest::READABLE | Interest::WRITABLE;
         self.poll
             .registry()
@@ -844,37 +613,27 @@ impl<'a> Worker<'a> {
     }
 
     // Opens a new socket. One whose connection can't be opened is dropped.
-    fn open<R: Wait>(&mut self, rt: &R, mut stream: TcpStream) -> Result<OpenResult, Stop>
-        requires { IsServing self.old.clients self.old.hosts.items
-            (steps_of self.old.turns.turns) }
-        ensures { IsServing self.new.clients self.new.hosts.items
-            (steps_of self.new.turns.turns) }
-    {
+    fn open<R: Wait>(&mut self, rt: &R, mut stream: TcpStream) -> Result<OpenResult, Stop> {
         let _ = stream.set_nodelay(true);
         if !self.register(&mut stream) {
             self.generation.server().count_dropped(rt);
             return Ok(OpenResult::Closed);
         }
-        match Client::open(rt, self.alloc, &mut self.turns, stream) {
-            Ok(client) => Ok(self.insert(rt, client)),
+        match self.connections.open(rt, stream, self.ends_inputs) {
+            Ok(has_room) => Ok(self.handle_opened(rt, has_room)),
             Err(error) => {
                 self.generation.server().count_dropped(rt);
-                self.handle_open_error(StepError::from(error))?;
+                self.handle_open_error(error)?;
                 Ok(OpenResult::Closed)
             }
         }
     }
 
     // Steps each host that can make progress, and logs those that can't be reached. True: more can be done at once.
-    fn step_hosts<R: Wait + Net + Eprint>(&mut self, rt: &R, now: u64) -> Result<bool, Stop>
-        requires { IsServing self.old.clients self.old.hosts.items
-            (steps_of self.old.turns.turns) }
-        ensures { IsServing self.new.clients self.new.hosts.items
-            (steps_of self.new.turns.turns) }
-    {
+    fn step_hosts<R: Wait + Net + Eprint>(&mut self, rt: &R, now: u64) -> Result<bool, Stop> {
         let parts = self.generation.parts();
         let mut moves = false;
-        for index in 0..self.hosts.len() {
+        for index in 0..self.connections.host_count() {
             moves = self.step_host(rt, index, now)? || moves;
         }
         self.mark_parts_seen(parts, now);
@@ -887,48 +646,35 @@ impl<'a> Worker<'a> {
         rt: &R,
         index: usize,
         now: u64,
-    ) -> Result<bool, Stop>
-        requires { IsServing self.old.clients self.old.hosts.items
-            (steps_of self.old.turns.turns) }
-        ensures { IsServing self.new.clients self.new.hosts.items
-            (steps_of self.new.turns.turns) }
-    {
-        let Some(host) = self.hosts.get_mut(index) else {
-            return Ok(false);
-        };
-        if !host.may_go(self.generation, now) {
-            return Ok(false);
-        }
+    ) -> Result<bool, Stop> {
         let round = HostRound {
             now,
             gives_up: self.gives_up,
         };
-        let stepped = host.run_once(
-            rt,
-            &mut self.turns,
-            self.generation,
-            self.poll.registry(),
-            &mut self.buffer,
-            round,
-        );
-        let moves = host.may_go(self.generation, now);
-        let address = host.address();
-        self.heed_host(rt, address, stepped)?;
+        let registry = self.poll.registry();
+        let Some(
+            HostResult {
+                stepped,
+                address,
+                moves,
+            },
+        ) = self
+            .connections
+            .step_host(rt, self.generation, registry, index, round)
+        else {
+            return Ok(false);
+        };
+        self.handle_host(rt, address, stepped)?;
         Ok(moves)
     }
 
     // Handles the result of a host's round, and logs a host that can't be reached.
-    fn heed_host<R: Eprint>(
+    fn handle_host<R: Eprint>(
         &mut self,
         rt: &R,
         address: SocketAddr,
         stepped: Result<HostStepped, StepError>,
-    ) -> Result<(), Stop>
-        requires { IsServing self.old.clients self.old.hosts.items
-            (steps_of self.old.turns.turns) }
-        ensures { IsServing self.new.clients self.new.hosts.items
-            (steps_of self.new.turns.turns) }
-    {
+    ) -> Result<(), Stop> {
         match stepped {
             Ok(HostStepped::Done) => Ok(()),
             Ok(HostStepped::Unreachable) => {
@@ -942,11 +688,11 @@ impl<'a> Worker<'a> {
 
     // Marks parts as seen, unless a host is connecting: parts for that must hold clients back.
     fn mark_parts_seen(&self, parts: u64, now: u64) {
-        if self.hosts.iter().any(|host| host.is_connecting(now)) {
+        if self.connections.is_connecting(now) {
             return;
         }
         if let Some(worker) = self.generation.worker(self.index) {
-            let seen = if self.hosts.is_empty() {
+            let seen = if self.connections.host_count() == 0 {
                 u64::MAX
             } else {
                 parts
@@ -958,15 +704,10 @@ impl<'a> Worker<'a> {
     }
 
     // Steps each client, beginning where the last round stopped. In between, hosts take parts where these hold clients back.
-    fn step_clients<R: Wait + Net + Eprint>(&mut self, rt: &R, now: u64) -> Result<bool, Stop>
-        requires { IsServing self.old.clients self.old.hosts.items
-            (steps_of self.old.turns.turns) }
-        ensures { IsServing self.new.clients self.new.hosts.items
-            (steps_of self.new.turns.turns) }
-    {
+    fn step_clients<R: Wait + Net + Eprint>(&mut self, rt: &R, now: u64) -> Result<bool, Stop> {
         let mut moves = false;
         self.is_held_back = false;
-        let count = self.clients.capacity();
+        let count = self.connections.capacity();
         for step in 0..count {
             let key = self.next.saturating_add(step) % count;
             if self.generation.must_hold_back() {
@@ -986,89 +727,57 @@ impl<'a> Worker<'a> {
 
     // Gives the socket to the worker of this index in the newest generation. Without memory it stays for now.
     fn carry_over<R: Wait>(&mut self, rt: &R, key: usize) -> Result<bool, Stop>
-        requires { IsServing self.old.clients self.old.hosts.items
-            (steps_of self.old.turns.turns) }
-        ensures { IsServing self.new.clients self.new.hosts.items
-            (steps_of self.new.turns.turns) }
+        requires { IsLeaving self.old.connections.clients key }
     {
         let server = self.generation.server();
-        if !server.has_room_to_carry(rt, self.index) {
-            if let Some(client) = self.clients.get_mut(key) {
-                let error = client.refuse();
+        if !server.reserve_to_carry(rt, self.index) {
+            if let Some(error) = self.connections.refuse(key) {
                 self.handle_error(error)?;
             }
             return Ok(true);
         }
-        if let Some(client) = self.clients.try_remove(key) {
-            match client.carry(self.poll.registry(), self.generation) {
-                Some(carried) => server.carry(rt, self.index, carried),
-                None => server.count_closed_and_dropped(rt),
-            }
+        match self
+            .connections
+            .carry(self.generation, self.poll.registry(), key)
+        {
+            Some(carried) => server.carry(rt, self.index, carried),
+            None => server.count_closed_and_dropped(rt),
         }
         self.generation.count_gone();
         Ok(false)
     }
 
     // Steps a client if it can make progress. True: more can be done at once.
-    fn step_client<R: Wait>(&mut self, rt: &R, key: usize, now: u64) -> Result<bool, Stop>
-        requires { IsServing self.old.clients self.old.hosts.items
-            (steps_of self.old.turns.turns) }
-        ensures { IsServing self.new.clients self.new.hosts.items
-            (steps_of self.new.turns.turns) }
-    {
-        let Some(client) = self.clients.get_mut(key) else {
+    fn step_client<R: Wait>(&mut self, rt: &R, key: usize, now: u64) -> Result<bool, Stop> {
+        let Some(
+            ClientResult {
+                stepped,
+                did_await,
+                awaits,
+            },
+        ) = self.connections.step_client(rt, self.generation, key, now)
+        else {
             return Ok(false);
         };
-        if !client.may_go(self.generation, now) {
-            return Ok(false);
-        }
-        let did_await = client.awaits_reply();
-        let reserve = self.hosts.len() as u64;
-        let stepped = client.run_once(
-            rt,
-            &mut self.turns,
-            self.generation,
-            &mut self.buffer,
-            &mut self.durations,
-            Round { now, reserve },
-        );
-        let awaits = client.awaits_reply() && !matches!(stepped, Ok(Stepped::Closed));
-        self.count_awaiting(did_await, awaits);
-        self.heed(rt, key, stepped)
-    }
-
-    // Updates the number of waiting clients by one client, before and after its round.
-    fn count_awaiting(&mut self, did_await: bool, awaits: bool)
-        requires { IsServing self.old.clients self.old.hosts.items
-            (steps_of self.old.turns.turns) }
-        ensures { IsServing self.new.clients self.new.hosts.items
-            (steps_of self.new.turns.turns) }
-    {
-        if did_await && !awaits {
-            self.awaiting = self.awaiting.saturating_sub(1);
-        }
-        if awaits && !did_await {
-            self.awaiting = self.awaiting.saturating_add(1);
-        }
+        let awaits = awaits && !matches!(stepped, Ok(Stepped::Closed));
+        self.awaiting = awaiting_after(self.awaiting, did_await, awaits);
+        self.handle_stepped(rt, key, stepped)
     }
 
     // Handles the result of a client's round. True: more can be done at once.
-    fn heed<R: Wait>(
+    fn handle_stepped<R: Wait>(
         &mut self,
         rt: &R,
         key: usize,
         stepped: Result<Stepped, StepError>,
     ) -> Result<bool, Stop>
-        requires { IsServing self.old.clients self.old.hosts.items
-            (steps_of self.old.turns.turns) }
-        ensures { IsServing self.new.clients self.new.hosts.items
-            (steps_of self.new.turns.turns) }
+        requires { IfOk stepped (λ s. IsLast s → IsLeaving self.old.connections.clients key) }
     {
         match stepped {
             Ok(Stepped::Idle) => Ok(false),
             Ok(Stepped::Ready) => Ok(true),
             Ok(Stepped::Closed) => {
-                let _ = self.clients.try_remove(key);
+                self.connections.remove(key);
                 self.generation.count_gone();
                 self.generation.server().count_dropped(rt);
                 Ok(false)

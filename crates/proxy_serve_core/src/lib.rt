@@ -1,7 +1,7 @@
-//! The parts of `redproxy serve` that need no socket. They are a writer with a buffer, the reading end of a socket, the
-//! two halves of a socket for an engine, the assignment of clients and hosts to workers, what the log says of ejected
-//! hosts, and refusals of memory in a row. They are also the choice of sockets and of the end, and the reading of
-//! signals. It stands on `limits` and `proxy_devices`, which has its log of bytes. Begin with `write_buffer.rt`.
+//! What `redproxy serve` decides and buffers without a system call: the halves of a socket over any reader and writer,
+//! which worker has which client and host, when a host's ejection is logged, when memory is refused for good, what
+//! signals ask, and when all is done. It stands on `limits`, and on `proxy_devices` for counts and logs of bytes. Begin
+//! with `socket_writer.rt`, then `write_buffer.rt`.
 #![tactic(auto)]
 
 mod assignment;
@@ -18,7 +18,7 @@ mod write_buffer;
 pub use assignment::{RoundRobin, hosts_of_worker};
 pub use ejection_log::EjectionLog;
 pub use laws::{accepted_goes_out, buffered_is_limited, delivered_is_received};
-pub use read_end::ReadEnd;
+pub use read_end::{Discarded, ReadEnd};
 pub use refusals::Refusals;
 pub use signals::{Asked, asked_by_signals, is_term_blocked};
 pub use socket_reader::SocketReader;

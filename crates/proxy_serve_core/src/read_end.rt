@@ -7,13 +7,24 @@ ghost use Rattle.proxy_devices.specs.Device.{LogsCall};
 ghost use Rattle.proxy_serve_core.specs.ReadEnd.{CountsDown, Discards, EndsByPause, IsOver, Passes};
 
 use limits::MAX_LAST;
-use proxy_devices::Log;
+use proxy_devices::ByteLog;
 use std::io;
 use std::io::{ErrorKind, Read};
 use std::marker::Model;
 
 // The most reads of one call of `throw_away`.
 const MAX_THROWN: u32 = 64;
+
+/// What was thrown away of an input.
+#[derive(Clone, Copy, Debug, PartialEq, Eq)]
+pub enum Discarded {
+    /// All that came before its end, or before it failed.
+    Ended,
+    /// All that has come.
+    Emptied,
+    /// A part of what has come; more may be there.
+    Partly,
+}
 
 /// What is known of a reader that a poll watches. The reader itself comes with each call.
 ///
@@ -29,9 +40,9 @@ pub struct ReadEnd {
     // come.
     left: Option<u64>,
     // The bytes that the reader delivered, for proofs.
-    received: Log,
+    received: ByteLog,
     // The bytes that the caller was delivered, for proofs.
-    delivered: Log,
+    delivered: ByteLog,
 }
 
 impl Model for ReadEnd {
@@ -71,8 +82,8 @@ impl ReadEnd {
             is_closed: false,
             count: 0,
             left: None,
-            received: Log::new(),
-            delivered: Log::new(),
+            received: ByteLog::new(),
+            delivered: ByteLog::new(),
         }
     }
 
@@ -247,22 +258,23 @@ impl ReadEnd {
         }
     }
 
-    /// Reads and discards what has come. True: the input has ended or failed.
-    pub fn throw_away<R: Read>(&mut self, reader: &mut R) -> bool
+    /// Reads and discards what has come, by at most 64 reads of 16,384 bytes.
+    pub fn throw_away<R: Read>(&mut self, reader: &mut R) -> Discarded
         ensures bytes { Discards self.old self.new
             (R.remaining reader.old) (R.remaining reader.new) }
-        ensures paused { result ≡ false → self.new.is_readable ≡ false }
+        ensures paused { result ≡ Discarded.Emptied → self.new.is_readable ≡ false }
         ensures left { self.new.left ≡ self.old.left }
         ensures closed { self.new.is_closed ≡ self.old.is_closed }
     {
-        let mut piece = [0u8; 1_024];
+        let mut piece = [0u8; 16_384];
         for _ in 0..MAX_THROWN {
             match self.read_once(reader, &mut piece) {
-                Ok(0) => return true,
+                Ok(0) => return Discarded::Ended,
                 Ok(_) => {}
-                Err(error) => return error.kind() != ErrorKind::WouldBlock,
+                Err(error) if error.kind() == ErrorKind::WouldBlock => return Discarded::Emptied,
+                Err(_) => return Discarded::Ended,
             }
         }
-        true
+        Discarded::Partly
     }
 }

@@ -8,7 +8,7 @@ ghost use Rattle.proxy_devices.specs.Faulty.{moved_count};
 ghost use Rattle.proxy_serve_core.specs.ReadEnd.{CountsDown, Discards};
 ghost use Rattle.proxy_serve_core.specs.SocketReader.{LeavesLeft, PassesOn, StaysWhole, engine_reader, fresh_reader};
 
-use crate::read_end::ReadEnd;
+use crate::read_end::{Discarded, ReadEnd};
 use limits::MAX_LAST;
 use proxy_devices::{Counter, IoOutcome, ReadTally, Tally};
 use std::io;
@@ -102,10 +102,10 @@ impl<S: Read> SocketReader<S> {
         self.end.may_read()
     }
 
-    /// Reads and discards what has come; each later read fails. True: the input has ended or failed.
-    pub fn throw_away(&mut self) -> bool
+    /// Reads and discards what has come, by at most 64 reads of 16,384 bytes; each later read fails.
+    pub fn throw_away(&mut self) -> Discarded
         ensures bytes { Discards self.old.end self.new.end None None }
-        ensures paused { result ≡ false → self.new.end.is_readable ≡ false }
+        ensures paused { result ≡ Discarded.Emptied → self.new.end.is_readable ≡ false }
         ensures left { self.new.end.left ≡ self.old.end.left }
         ensures closed { self.new.end.is_closed ≡ self.old.end.is_closed }
         ensures broken { self.new.is_broken ≡ true }

@@ -6,7 +6,7 @@ ghost use Rattle.std.specs.IoError.{error_kind};
 ghost use Rattle.proxy_serve_core.specs.WriteBuffer.{GoesOut, may_write};
 
 use limits::MAX_BUFFERED;
-use proxy_devices::Log;
+use proxy_devices::ByteLog;
 use std::alloc::{AllocError, Global};
 use std::io::{ErrorKind, Write};
 use std::marker::Model;
@@ -27,7 +27,7 @@ pub struct WriteBuffer<W: Write> {
     alloc: Global,
     writer: W,
     // The bytes that the writer took, for proofs.
-    taken: Log,
+    taken: ByteLog,
     bytes: Vec<u8>,
     // The number of bytes in front that are written.
     written: usize,
@@ -103,7 +103,7 @@ impl<W: Write> WriteBuffer<W> {
         WriteBuffer {
             alloc,
             writer,
-            taken: Log::new(),
+            taken: ByteLog::new(),
             bytes: Vec::new(alloc),
             written: 0,
             is_writable: true,

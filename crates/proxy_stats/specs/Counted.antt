@@ -2,7 +2,7 @@
 use Rattle.std.specs.Prelude.{◌≡◌, ℕ, ◌<◌, ◌^◌, All, List, length, map, sum_by}
 use Rattle.std.specs.List.{range_with_len}
 use Rattle.proxy_history.specs.History.{Step}
-use Rattle.proxy_history.specs.Seen.{history_of_seen}
+use Rattle.proxy_history.specs.SeenSteps.{history_of_seen}
 use Rattle.proxy_core.specs.Recorded.{Origin, handover_of, setting_by}
 use Rattle.proxy_stats.specs.declared.tally.Counts.{Counts}
 use Rattle.proxy_stats.specs.declared.tally.HostCounts.{HostCounts}

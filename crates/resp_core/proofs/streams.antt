@@ -1,6 +1,6 @@
 -- A stream of values, and a reader that is fed it.
 pub mod SplitsLemmas
-pub mod FrontLemmas
+pub mod FirstValueLemmas
 pub mod StreamLawLemmas
 pub mod ReadableLemmas
 pub mod ReaderStateLemmas

@@ -2,6 +2,6 @@
 pub mod OpenListLemmas
 pub mod HeadLemmas
 pub mod ResumedReadingLemmas
-pub mod ProgressLemmas
+pub mod PartialValueLemmas
 pub mod LineLemmas
 pub mod SeenBytesLemmas

@@ -9,12 +9,12 @@ pub mod ReadingAnswers
 pub mod ResumedReading
 pub mod OpenLists
 pub mod SeenBytes
-pub mod Progress
+pub mod PartialValue
 pub mod ReaderState
 pub mod Offset
 pub mod Refusals
 pub mod Stream
-pub mod Front
+pub mod FirstValue
 pub mod ValueLimits
 pub mod Command
 pub mod Laws

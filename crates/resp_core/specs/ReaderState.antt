@@ -2,25 +2,25 @@
 use Rattle.std.specs.Prelude.{◌≡◌, ℕ, ◌-◌, List, [], length, Option, Some, None, IfSome, IfNone}
 use Rattle.resp_core.specs.Tree.{Tree}
 use Rattle.resp_core.specs.declared.error.RespError.{RespError}
-use Rattle.resp_core.specs.declared.progress.Progress.{Progress}
+use Rattle.resp_core.specs.declared.partial_value.PartialValue.{PartialValue}
 use Rattle.resp_core.specs.Offset.{offset_of, number_of}
 use Rattle.resp_core.specs.Stream.{Splits, HasRefusal, told_offset}
-use Rattle.resp_core.specs.Progress.{Reads, held_of, shown_progress}
+use Rattle.resp_core.specs.PartialValue.{Reads, held_of, shown_progress}
 
 -- what clauses see of a reader: how many members an array may have, how many bytes came before the unfinished value, how
 -- far it has come in that value, and the refusal that was told
 pub record ReaderState : Type 0 where
   pub most : ℕ
   pub consumed : ℕ
-  pub progress : Progress
+  pub progress : PartialValue
   pub refusal : Option RespError
 
 -- the state of a reader whose unfinished value has come so far, whatever room there is behind its bytes
-abbrev pub state_of : ℕ → ℕ → Progress → Option RespError → ReaderState
+abbrev pub state_of : ℕ → ℕ → PartialValue → Option RespError → ReaderState
 state_of most consumed p refusal = record { most = most; consumed = consumed; progress = shown_progress p; refusal = refusal }
 
 -- how many bytes behind the values given a reader has been fed, and 0 after a refusal
-abbrev pub unread_by : Option RespError → Progress → ℕ
+abbrev pub unread_by : Option RespError → PartialValue → ℕ
 unread_by None p = held_of p
 unread_by (Some e) p = 0
 
@@ -44,7 +44,7 @@ pub record Stands (r : ReaderState) (b : List ℕ) (ts : List Tree) : Type 0 whe
   pub told : IfSome r.refusal (λ e. HasRefusal r.most b ts (offset_of e) (number_of e))
 
 -- what holds of the fields of a reader: some bytes lead to how far it has come
-pub record IsReached (most : ℕ) (p : Progress) : Type 0 where
+pub record IsReached (most : ℕ) (p : PartialValue) : Type 0 where
   pub held : List ℕ
   pub reads : Reads most held p
 

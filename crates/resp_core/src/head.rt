@@ -247,7 +247,7 @@ pub(crate) fn step(head: Head, byte: u8, most: u64, left: u32) -> Result<Next, R
 }
 
 // Why a head can't go on: the byte at this place is refused.
-pub(crate) struct Refused(pub(crate) Refusal, pub(crate) usize);
+pub(crate) struct RefusedByte(pub(crate) Refusal, pub(crate) usize);
 
 // Reads a head as far as it has come. Returns what it came to, and the number of bytes read.
 pub(crate) fn read_head(
@@ -255,7 +255,7 @@ pub(crate) fn read_head(
     bytes: &[u8],
     most: u64,
     left: u32,
-) -> Result<(Next, usize), Refused>
+) -> Result<(Next, usize), RefusedByte>
     requires good { IsGoodHead most left head }
     ensures inside { IfOk result (λ x. x.1 ≤ length bytes.now) }
     ensures gives { IfOk result (λ x. GoesOn most left head (take x.1 bytes.now) x.0) }
@@ -270,7 +270,7 @@ pub(crate) fn read_head(
         match step(head, bytes[i], most, left) {
             Ok(Next::Head(next)) => head = next,
             Ok(Next::Found(found)) => return Ok((Next::Found(found), i + 1)),
-            Err(refusal) => return Err(Refused(refusal, i)),
+            Err(refusal) => return Err(RefusedByte(refusal, i)),
         }
     }
     Ok((Next::Head(head), bytes.len()))

@@ -13,10 +13,10 @@ mod error;
 mod head;
 mod laws;
 mod parse;
-mod progress;
+mod partial_value;
 mod reader;
-mod room;
 mod text;
+mod text_block;
 mod texts;
 mod value;
 

@@ -9,7 +9,7 @@ ghost use Rattle.resp_core.specs.Value.{tree_of};
 ghost use Rattle.resp_core.specs.Grammar.{max_text};
 
 use crate::error::RespError;
-use crate::progress::{Halt, Progress};
+use crate::partial_value::{Halt, PartialValue};
 use crate::value::Value;
 use limits::{MAX_CLIENT_MEMBERS, MAX_HOST_MEMBERS};
 use std::alloc::Global;
@@ -47,7 +47,7 @@ impl Limits {
 /// buffer of at most 32,768 bytes.
 #[derive(Drop)]
 pub struct Reader {
-    progress: Progress,
+    progress: PartialValue,
     // The bytes of the stream before the unfinished value, at most the greatest `u64`.
     consumed: u64,
     array: u32,
@@ -56,7 +56,7 @@ pub struct Reader {
 
 impl Model for Reader {
     ghost use Rattle.resp_core.specs.ReaderState.{ReaderState, IsReached, state_of};
-    ghost use Rattle.resp_core.specs.Progress.{IsGood};
+    ghost use Rattle.resp_core.specs.PartialValue.{IsGood};
     ghost use Rattle.std.specs.Coded.{codes};
     ghost use Rattle.resp_core.specs.Code.{tree_code};
 
@@ -77,7 +77,7 @@ impl Reader {
         ensures refusal { result.refusal ≡ None }
     {
         Reader {
-            progress: Progress::new(alloc),
+            progress: PartialValue::new(alloc),
             consumed: 0,
             array: limits.array,
             refusal: None,

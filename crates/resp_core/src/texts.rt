@@ -1,11 +1,11 @@
 //! Texts in blocks that they share.
-ghost use Rattle.std.specs.Prelude.{◌≡◌, IfOk, IsTrue};
+ghost use Rattle.std.specs.Prelude.{◌≡◌, ◌++◌, IfOk, IsTrue, OnOk};
 ghost use Rattle.resp_core.specs.Text.{text};
-ghost use Rattle.resp_core.specs.Tree.{is_plain_tree};
+ghost use Rattle.resp_core.specs.Tree.{bulk, is_plain_tree};
 ghost use Rattle.resp_core.specs.Value.{tree_of};
 
-use crate::room::Room;
-use crate::text::append_value;
+use crate::text::{append_value, bulk_len, put_bulk};
+use crate::text_block::TextBlock;
 use crate::value::Value;
 use bytes::Bytes;
 use std::alloc::{AllocError, Global};
@@ -26,7 +26,7 @@ pub struct Texts {
     alloc: Global,
     // A text while it is written.
     draft: Vec<u8>,
-    room: Room,
+    block: TextBlock,
 }
 
 impl Model for Texts {
@@ -43,7 +43,7 @@ impl Texts {
         Texts {
             alloc,
             draft: Vec::new(alloc),
-            room: Room::new(alloc, MAX_TEXT_BLOCK),
+            block: TextBlock::new(alloc, MAX_TEXT_BLOCK),
         }
     }
 
@@ -63,18 +63,60 @@ impl Texts {
         self.draft.clear();
         self.draft.reserve(MAX_SHORT)?;
         append_value(value, &mut self.draft)?;
-        self.room.copy_of(self.draft.as_slice())
+        self.block.copy_of(self.draft.as_slice())
     }
 
-    /// Keeps a text that is written already. A short one is copied to the shared block.
+    /// The text that begins with `head` and ends with a bulk string of this payload.
     ///
     /// Refused only for want of memory.
-    pub fn hold(&mut self, text: Vec<u8>) -> Result<Bytes, AllocError>
-        ensures { IfOk result (λ bytes. bytes ≡ text.items) }
+    pub fn bulk_behind(&mut self, head: &[u8], payload: &[u8]) -> Result<Bytes, AllocError>
+        ensures { IfOk result (λ bytes. bytes ≡ head.now ++ text (bulk payload.now)) }
     {
-        if text.len() > MAX_SHORT {
+        let length = (head.len() as u64).saturating_add(bulk_len(payload.len() as u64));
+        if length > MAX_SHORT as u64 {
+            let mut text = Vec::with_capacity(self.alloc, length as usize)?;
+            append_behind(head, payload, &mut text)?;
             return Ok(Bytes::from_vec(text)?);
         }
-        self.room.copy_of(text.as_slice())
+        self.draft.clear();
+        self.draft.reserve(MAX_SHORT)?;
+        append_behind(head, payload, &mut self.draft)?;
+        self.block.copy_of(self.draft.as_slice())
     }
+
+    /// The text that begins with `head` and ends with bulk strings of these two payloads.
+    ///
+    /// Refused only for want of memory.
+    pub fn bulks_behind(
+        &mut self,
+        head: &[u8],
+        first: &[u8],
+        second: &[u8],
+    ) -> Result<Bytes, AllocError>
+        ensures { IfOk result
+            (λ bytes. bytes ≡ head.now ++ text (bulk first.now) ++ text (bulk second.now)) }
+    {
+        let before = (head.len() as u64).saturating_add(bulk_len(first.len() as u64));
+        let length = before.saturating_add(bulk_len(second.len() as u64));
+        if length > MAX_SHORT as u64 {
+            let mut text = Vec::with_capacity(self.alloc, length as usize)?;
+            append_behind(head, first, &mut text)?;
+            put_bulk(second, &mut text)?;
+            return Ok(Bytes::from_vec(text)?);
+        }
+        self.draft.clear();
+        self.draft.reserve(MAX_SHORT)?;
+        append_behind(head, first, &mut self.draft)?;
+        put_bulk(second, &mut self.draft)?;
+        self.block.copy_of(self.draft.as_slice())
+    }
+}
+
+// Appends these bytes, and a bulk string behind them.
+fn append_behind(head: &[u8], payload: &[u8], out: &mut Vec<u8>) -> Result<(), AllocError>
+    ensures { OnOk result (out.new.items
+        ≡ out.old.items ++ head.now ++ text (bulk payload.now)) }
+{
+    out.extend_from_slice(head)?;
+    put_bulk(payload, out)
 }

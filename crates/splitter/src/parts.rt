@@ -14,8 +14,8 @@ use crate::error::SplitError;
 use crate::plans::{PartPlan, PartPlans, Planned};
 use bytes::Bytes;
 use itoa::Buffer;
-use resp_core::{Texts, Value, Values, bulk_len, put_bulk};
-use std::alloc::{AllocError, Global};
+use resp_core::{Texts, Value, Values, put_bulk};
+use std::alloc::Global;
 
 /// The one part of a command that goes to the host of its word `key_at`. The value must be the command with these
 /// words; `text_len` is the length of its text.
@@ -54,7 +54,7 @@ pub(crate) fn key_parts(
     let head = head(alloc, 2, name)?;
     let mut parts = Vec::with_capacity(alloc, words.0.len() - 1)?;
     for at in 1..words.0.len() {
-        parts.push(key_part(alloc, texts, head.as_slice(), words.word(at))?)?;
+        parts.push(key_part(texts, head.as_slice(), words.word(at))?)?;
     }
     Ok(PartPlans(parts))
 }
@@ -76,7 +76,7 @@ pub(crate) fn pair_parts(
     let mut parts = Vec::with_capacity(alloc, count)?;
     for pair in 0..count {
         let (key, value) = (words.word(2 * pair + 1), words.word(2 * pair + 2));
-        parts.push(pair_part(alloc, texts, head.as_slice(), key, value)?)?;
+        parts.push(pair_part(texts, head.as_slice(), key, value)?)?;
     }
     Ok(PartPlans(parts))
 }
@@ -94,36 +94,19 @@ fn head(alloc: Global, words: usize, name: Bytes) -> Result<Vec<u8>, SplitError>
     Ok(head)
 }
 
-// The beginning of a command's text, with room for this many bytes of words.
-fn begun(alloc: Global, head: &[u8], words: u64) -> Result<Vec<u8>, AllocError>
-    ensures { IfOk result (λ text. text.items ≡ head.now) }
-{
-    let mut text = Vec::with_capacity(alloc, head.len().saturating_add(words as usize))?;
-    text.extend_from_slice(head)?;
-    Ok(text)
-}
-
 // The part of a command with one key, whose text begins with `head`.
-fn key_part(
-    alloc: Global,
-    texts: &mut Texts,
-    head: &[u8],
-    key: &Bytes,
-) -> Result<PartPlan, SplitError>
+fn key_part(texts: &mut Texts, head: &[u8], key: &Bytes) -> Result<PartPlan, SplitError>
     ensures part { IfOk result (λ p. p ≡ part_of key.now (head.now ++ text (bulk key.now))) }
     ensures err { IfErr result (λ e. e ≡ SplitError.NoMemory) }
 {
-    let mut text = begun(alloc, head, bulk_len(key.len() as u64))?;
-    put_bulk(key.as_slice(), &mut text)?;
     Ok(PartPlan {
         key: key.clone()?,
-        text: texts.hold(text)?,
+        text: texts.bulk_behind(head, key.as_slice())?,
     })
 }
 
 // The part of a command with a key and its value, whose text begins with `head`.
 fn pair_part(
-    alloc: Global,
     texts: &mut Texts,
     head: &[u8],
     key: &Bytes,
@@ -133,12 +116,8 @@ fn pair_part(
         (λ p. p ≡ part_of key.now (head.now ++ text (bulk key.now) ++ text (bulk value.now))) }
     ensures err { IfErr result (λ e. e ≡ SplitError.NoMemory) }
 {
-    let words = bulk_len(key.len() as u64).saturating_add(bulk_len(value.len() as u64));
-    let mut text = begun(alloc, head, words)?;
-    put_bulk(key.as_slice(), &mut text)?;
-    put_bulk(value.as_slice(), &mut text)?;
     Ok(PartPlan {
         key: key.clone()?,
-        text: texts.hold(text)?,
+        text: texts.bulks_behind(head, key.as_slice(), value.as_slice())?,
     })
 }

@@ -16,7 +16,7 @@ pub const MAX_TAKEN: usize = 65_536;
 
 // The next step.
 #[derive(Drop)]
-pub(crate) enum Next {
+pub(crate) enum SessionStep {
     // Read a request.
     Read,
     // Serve this one.
@@ -32,7 +32,7 @@ pub(crate) enum Next {
 pub(crate) struct Session {
     pub(crate) stub: Stub,
     requests: Reader,
-    next: Next,
+    next: SessionStep,
     replies: Unread,
     // No further request is read.
     is_over: bool,
@@ -44,7 +44,7 @@ impl Session {
         Session {
             stub: Stub::new(alloc),
             requests: Reader::new(alloc, Limits::CLIENT),
-            next: Next::Read,
+            next: SessionStep::Read,
             replies: Unread::new(alloc),
             is_over: false,
         }
@@ -100,17 +100,17 @@ impl Session {
     fn go_on(&mut self) -> Result<bool, StubError>
         ensures falls { IfOk result (λ went. went ≡ true → left_of self.new < left_of self.old) }
     {
-        match mem::replace(&mut self.next, Next::Read) {
-            Next::Read => self.read_request(),
-            Next::Serve(request) => {
+        match mem::replace(&mut self.next, SessionStep::Read) {
+            SessionStep::Read => self.read_request(),
+            SessionStep::Serve(request) => {
                 self.serve(request)?;
                 Ok(true)
             }
-            Next::Say(reply) => {
+            SessionStep::Say(reply) => {
                 self.say(reply)?;
                 Ok(true)
             }
-            Next::Garble => {
+            SessionStep::Garble => {
                 self.garble()?;
                 Ok(true)
             }
@@ -119,7 +119,7 @@ impl Session {
 
     // Reads the next request. False: none has come.
     fn read_request(&mut self) -> Result<bool, StubError>
-        requires next { self.old.next ≡ Next.Read }
+        requires next { self.old.next ≡ SessionStep.Read }
         ensures falls { IfOk result (λ came. came ≡ true → left_of self.new < left_of self.old) }
     {
         if self.is_over {
@@ -127,7 +127,7 @@ impl Session {
         }
         match self.requests.next_value() {
             Ok(Some(request)) => {
-                self.then(Next::Serve(request));
+                self.then(SessionStep::Serve(request));
                 Ok(true)
             }
             Ok(None) => Ok(false),
@@ -141,7 +141,7 @@ impl Session {
 
     // Serves a request by the stub's script.
     fn serve(&mut self, request: Value) -> Result<(), StubError>
-        requires next { self.old.next ≡ Next.Read }
+        requires next { self.old.next ≡ SessionStep.Read }
         ensures requests { self.new.requests ≡ self.old.requests }
         ensures next { OnOk result (steps_of self.new.next ≤ 1) }
     {
@@ -152,34 +152,34 @@ impl Session {
                 Ok(())
             }
             Err(error) => {
-                self.then(Next::Serve(request));
+                self.then(SessionStep::Serve(request));
                 Err(error)
             }
         }
     }
 
     // The next step after the stub's response to a request.
-    fn serve_by_script(&mut self, request: &Value) -> Result<Next, StubError>
+    fn serve_by_script(&mut self, request: &Value) -> Result<SessionStep, StubError>
         ensures requests { (self.new.requests ≡ self.old.requests)
             × (self.new.next ≡ self.old.next) }
         ensures next { IfOk result (λ next. steps_of next ≤ 1) }
     {
         match self.stub.serve(request)? {
-            Response::Answer(value) => Ok(Next::Say(Reply { value })),
-            Response::Silence => Ok(Next::Read),
+            Response::Answer(value) => Ok(SessionStep::Say(Reply { value })),
+            Response::Silence => Ok(SessionStep::Read),
             Response::End => {
                 self.is_over = true;
-                Ok(Next::Read)
+                Ok(SessionStep::Read)
             }
-            Response::Garbage => Ok(Next::Garble),
+            Response::Garbage => Ok(SessionStep::Garble),
         }
     }
 
     // Appends a reply.
     fn say(&mut self, reply: Reply) -> Result<(), StubError>
-        requires next { self.old.next ≡ Next.Read }
+        requires next { self.old.next ≡ SessionStep.Read }
         ensures requests { self.new.requests ≡ self.old.requests }
-        ensures next { OnOk result (self.new.next ≡ Next.Read) }
+        ensures next { OnOk result (self.new.next ≡ SessionStep.Read) }
     {
         match self.replies.put(&reply) {
             Ok(()) => {
@@ -187,7 +187,7 @@ impl Session {
                 Ok(())
             }
             Err(error) => {
-                self.then(Next::Say(reply));
+                self.then(SessionStep::Say(reply));
                 Err(error)
             }
         }
@@ -195,19 +195,19 @@ impl Session {
 
     // Appends a line that is no reply.
     fn garble(&mut self) -> Result<(), StubError>
-        requires next { self.old.next ≡ Next.Read }
+        requires next { self.old.next ≡ SessionStep.Read }
         ensures requests { self.new.requests ≡ self.old.requests }
-        ensures next { OnOk result (self.new.next ≡ Next.Read) }
+        ensures next { OnOk result (self.new.next ≡ SessionStep.Read) }
     {
         let said = self.replies.put_garbage();
         if said.is_err() {
-            self.then(Next::Garble);
+            self.then(SessionStep::Garble);
         }
         said
     }
 
     // Sets the next step.
-    fn then(&mut self, next: Next)
+    fn then(&mut self, next: SessionStep)
         ensures { self.new ≡ record self.old { next = next } }
     {
         drop(mem::replace(&mut self.next, next));

@@ -5,7 +5,7 @@ use crate::journal::{
     Deed, Loss, begins_sent, count, handed_before_last_arrival, last_loss, last_trip, sent_in,
     sent_len,
 };
-use crate::rig::{Ends, Link, Rig, Told};
+use crate::rig::{Ends, Link, Rig, StepFailure};
 use crate::stage::Stage;
 use crate::turns::Ration;
 use proxy_core::{Core, Event, Kind, Refusal, Request, Trip};
@@ -52,9 +52,9 @@ pub(crate) enum Act {
     Unread(u32),
 
     // The newest error of a client's step.
-    ClientTold(Option<Told>),
+    ClientFailed(Option<StepFailure>),
     // The newest error of a host's step.
-    HostTold(Option<Told>),
+    HostFailed(Option<StepFailure>),
     // No step returned another error than this one.
     OnlyTold(EngineError),
 
@@ -233,8 +233,8 @@ impl<'a> Rig<'a> {
             Act::IsRefused(deed, refusal) => {
                 see_refusal(self.refusal(rt, event_of(deed)), Some(refusal))
             }
-            Act::ClientTold(told) => see_told(self.of_client, told),
-            Act::HostTold(told) => see_told(self.of_host, told),
+            Act::ClientFailed(told) => see_failure(self.of_client, told),
+            Act::HostFailed(told) => see_failure(self.of_host, told),
             Act::OnlyTold(error) => see_only(self.of_client, self.of_host, error),
             Act::Recorded(steps) => self.see_recorded(steps),
             _ => on_stage(self.stage, self.core(), act),
@@ -338,7 +338,7 @@ fn see_refusal(came: Option<Refusal>, refusal: Option<Refusal>) -> Result<(), Ca
     unless(came == refusal, "a refusal", number)
 }
 
-fn see_told(came: Option<Told>, told: Option<Told>) -> Result<(), Came> {
+fn see_failure(came: Option<StepFailure>, told: Option<StepFailure>) -> Result<(), Came> {
     let number = came.map_or(0, |told| u64::from(told.error.number()));
     unless(
         came == told,
@@ -347,7 +347,11 @@ fn see_told(came: Option<Told>, told: Option<Told>) -> Result<(), Came> {
     )
 }
 
-fn see_only(one: Option<Told>, other: Option<Told>, error: EngineError) -> Result<(), Came> {
+fn see_only(
+    one: Option<StepFailure>,
+    other: Option<StepFailure>,
+    error: EngineError,
+) -> Result<(), Came> {
     for told in [one, other] {
         let came = told.map_or(error, |told| told.error);
         unless(came == error, "an error", u64::from(came.number()))?;

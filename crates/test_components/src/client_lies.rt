@@ -3,7 +3,7 @@
 use crate::acts::{Act, Fault, STUBS, Scene, play};
 use crate::fake_devices::{Feed, Text};
 use crate::journal::Deed;
-use crate::rig::{Ends, Link, Told};
+use crate::rig::{Ends, Link, StepFailure};
 use crate::texts::{
     BOTH_ANSWERS, Exchange, GET, NOTHING, OTHER_ANSWERS, OTHER_KEYS, PINGS, SET_AND_MGET,
 };
@@ -13,19 +13,19 @@ use std::sync::Wait;
 use std::test::Fail;
 
 // The result of a client whose writer failed, and of one whose reader failed.
-const WRITE_FAILED: Option<Told> = Some(Told {
+const WRITE_FAILED: Option<StepFailure> = Some(StepFailure {
     error: EngineError::WriteFailed,
     deed: Some(Deed::Closed),
 });
 
-const READ_FAILED: Option<Told> = Some(Told {
+const READ_FAILED: Option<StepFailure> = Some(StepFailure {
     error: EngineError::ReadFailed,
     deed: Some(Deed::Closed),
 });
 
 // A client closed because its writer failed.
 const WRITER_CUT: &[Act] = &[
-    Act::ClientTold(WRITE_FAILED),
+    Act::ClientFailed(WRITE_FAILED),
     Act::IsNumbered(EngineError::WriteFailed, 1403),
     Act::Did(Deed::Closed, 1),
     Act::Steps(Progress::Cut, 3),
@@ -86,7 +86,7 @@ fn failing_writers_cut(rt: HostRuntime) -> Result<(), Fail> {
 
 // A client closed because its reader failed.
 const READER_CUT: &[Act] = &[
-    Act::ClientTold(READ_FAILED),
+    Act::ClientFailed(READ_FAILED),
     Act::IsNumbered(EngineError::ReadFailed, 1402),
     Act::Did(Deed::Closed, 1),
     Act::Steps(Progress::Cut, 3),
@@ -159,7 +159,7 @@ const PINGS_IN_TIME: &[Act] = &[
     ),
     Act::Runs(0),
     Act::Took(Text::All(b"+PONG\r\n+PONG\r\n")),
-    Act::ClientTold(None),
+    Act::ClientFailed(None),
     Act::Steps(Progress::Ended, 2),
 ];
 
@@ -239,8 +239,8 @@ const NEVER_READS: &[Act] = &[
     Act::IsShut(false),
     Act::Runs(0),
     Act::Took(Text::Times(NOTHING, 1_030, b"")),
-    Act::ClientTold(None),
-    Act::HostTold(None),
+    Act::ClientFailed(None),
+    Act::HostFailed(None),
 ];
 
 #[test]

@@ -189,9 +189,9 @@ pub(crate) fn outcome_of(turn: Result<u64, TurnRefusal<AdditionRefusal, u64>>) -
 
 // Facts about a total's steps: the number for each of four passes, whether all are of these passes and in order, their
 // number, and their sum.
-type Found = ([u64; 4], bool, u64, u64);
+type TotalFacts = ([u64; 4], bool, u64, u64);
 
-fn found(state: Option<RunningTotal>, passes: usize) -> Option<Found> {
+fn found(state: Option<RunningTotal>, passes: usize) -> Option<TotalFacts> {
     let state = state?;
     let mut counts = [0u64; 4];
     for pass in 0..4usize {
@@ -348,7 +348,7 @@ fn mix_four<R: thread::Threads + Wait + Sync>(
 }
 
 // Whether the steps are those answered: each pass's 250 waiting ones, and others.
-fn is_mixed(answered: [u64; 4], found: Option<Found>) -> bool {
+fn is_mixed(answered: [u64; 4], found: Option<TotalFacts>) -> bool {
     let Some(found) = found else {
         return false;
     };

@@ -3,7 +3,7 @@
 use crate::acts::{Act, Fault, Scene, play};
 use crate::fake_devices::{Feed, Text};
 use crate::journal::Deed;
-use crate::rig::{Ends, Link, Peer, REPLY_MS, Told};
+use crate::rig::{Ends, Link, Peer, REPLY_MS, StepFailure};
 use crate::texts::{FAILURE, GET, NOTHING, SET};
 use proxy_core::{Kind, Trip};
 use proxy_engines::{EngineError, Progress};
@@ -28,8 +28,8 @@ const HALF: &[Act] = &[
     Act::Runs(3),
     Act::Took(Text::All(FAILURE)),
     Act::Lost(Kind::Dropped, 1, 3),
-    Act::ClientTold(None),
-    Act::HostTold(None),
+    Act::ClientFailed(None),
+    Act::HostFailed(None),
 ];
 
 // Every proper beginning of the reply.
@@ -210,7 +210,7 @@ const FOUR_PARTS: &[u8] =
 fn check_link<Rt: Wait + AllocGlobal>(
     rt: &Rt,
     (reads, writes): (u64, u64),
-    (told, times): (Option<Told>, usize),
+    (told, times): (Option<StepFailure>, usize),
 ) -> Result<(), Fault> {
     let to = Peer::Stub(&[]);
     let links = [
@@ -218,7 +218,7 @@ fn check_link<Rt: Wait + AllocGlobal>(
         Act::Links(Link { to, reads, writes }),
         Act::Links(Link::STUB),
         Act::Runs(3),
-        Act::HostTold(told),
+        Act::HostFailed(told),
         Act::Did(Deed::Failed, times),
     ];
     let scene = Scene {
@@ -237,16 +237,16 @@ const FOUR_ANSWERED: &[Act] = &[
 ];
 
 // The error of a host whose link failed, and the number of faults.
-const READ_FAILED: (Option<Told>, usize) = (
-    Some(Told {
+const READ_FAILED: (Option<StepFailure>, usize) = (
+    Some(StepFailure {
         error: EngineError::ReadFailed,
         deed: Some(Deed::Failed),
     }),
     1,
 );
 
-const WRITE_FAILED: (Option<Told>, usize) = (
-    Some(Told {
+const WRITE_FAILED: (Option<StepFailure>, usize) = (
+    Some(StepFailure {
         error: EngineError::WriteFailed,
         deed: Some(Deed::Failed),
     }),

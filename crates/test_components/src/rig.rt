@@ -119,15 +119,15 @@ impl Link {
 
 // An error of an engine's step, and the newest step of the journal right after it.
 #[derive(Clone, Copy, PartialEq)]
-pub(crate) struct Told {
+pub(crate) struct StepFailure {
     pub(crate) error: EngineError,
     pub(crate) deed: Option<Deed>,
 }
 
-impl Told {
-    fn now(error: EngineError, core: &Core) -> Told {
+impl StepFailure {
+    fn now(error: EngineError, core: &Core) -> StepFailure {
         let deed = last_deed(core);
-        Told { error, deed }
+        StepFailure { error, deed }
     }
 }
 
@@ -142,8 +142,8 @@ pub(crate) struct Rig<'a> {
     links: Vec<Link>,
     given: usize,
     // The newest error of a client, and of a host.
-    pub(crate) of_client: Option<Told>,
-    pub(crate) of_host: Option<Told>,
+    pub(crate) of_client: Option<StepFailure>,
+    pub(crate) of_host: Option<StepFailure>,
     // The length of the journal when it was last looked at.
     pub(crate) seen: usize,
 }
@@ -336,7 +336,7 @@ impl<'a> Rig<'a> {
             match engine {
                 Engine::Client(client) => match client.step(rt, &mut self.turns) {
                     Ok(progress) => has_moved |= progress == Progress::Moved,
-                    Err(error) => self.of_client = Some(Told::now(error, self.turns.core())),
+                    Err(error) => self.of_client = Some(StepFailure::now(error, self.turns.core())),
                 },
                 Engine::Host(host) => match host.step(rt, &mut self.turns, moment) {
                     Ok(Progress::NeedsLink) => {
@@ -347,7 +347,7 @@ impl<'a> Rig<'a> {
                         }
                     }
                     Ok(progress) => has_moved |= progress == Progress::Moved,
-                    Err(error) => self.of_host = Some(Told::now(error, self.turns.core())),
+                    Err(error) => self.of_host = Some(StepFailure::now(error, self.turns.core())),
                 },
             }
         }

@@ -20,17 +20,17 @@ enum Then {
     Fails,
 }
 
-// The meeting of two readers, and the bytes that their writers took.
+// Where two readers meet, and the number of bytes that their writers took.
 #[derive(Drop)]
-struct Room {
+struct MeetingPoint {
     first_is_here: AtomicBool,
     second_is_here: AtomicBool,
     taken: AtomicU64,
 }
 
-impl Room {
-    fn new() -> Room {
-        Room {
+impl MeetingPoint {
+    fn new() -> MeetingPoint {
+        MeetingPoint {
             first_is_here: AtomicBool::new(false),
             second_is_here: AtomicBool::new(false),
             taken: AtomicU64::new(0),
@@ -52,7 +52,7 @@ fn rises(flag: &AtomicBool) -> bool {
 // Returns its text only once the other reader is here too, and fails if that never comes.
 #[derive(Drop)]
 struct Meeting<'a> {
-    room: &'a Room,
+    point: &'a MeetingPoint,
     is_first: bool,
     text: &'static [u8],
     then: Then,
@@ -61,11 +61,11 @@ struct Meeting<'a> {
 impl Meeting<'_> {
     fn meets(&self) -> bool {
         if self.is_first {
-            self.room.first_is_here.store(true, SeqCst);
-            rises(&self.room.second_is_here)
+            self.point.first_is_here.store(true, SeqCst);
+            rises(&self.point.second_is_here)
         } else {
-            self.room.second_is_here.store(true, SeqCst);
-            rises(&self.room.first_is_here)
+            self.point.second_is_here.store(true, SeqCst);
+            rises(&self.point.first_is_here)
         }
     }
 }
@@ -89,12 +89,12 @@ impl Read for Meeting<'_> {
 // Counts the bytes that it takes.
 #[derive(Drop)]
 struct Counter<'a> {
-    room: &'a Room,
+    point: &'a MeetingPoint,
 }
 
 impl Write for Counter<'_> {
     fn write(&mut self, bytes: &[u8]) -> io::Result<usize> {
-        self.room.taken.fetch_add(bytes.len() as u64, SeqCst);
+        self.point.taken.fetch_add(bytes.len() as u64, SeqCst);
         Ok(bytes.len())
     }
 
@@ -109,18 +109,18 @@ type Client<'a> = ClientWork<Alone<Core>, Tallied<Meeting<'a>>, Tallied<Counter<
 fn client<'a, R: Wait>(
     rt: &R,
     alloc: Global,
-    room: &'a Room,
+    point: &'a MeetingPoint,
     is_first: bool,
     then: Then,
 ) -> Result<Client<'a>, Fail> {
     let mut turns = Alone::new(core(alloc)?, 0);
     let reader = Tallied::new(Meeting {
-        room,
+        point,
         is_first,
         text: b"*1\r\n$4\r\nPING\r\n",
         then,
     });
-    let writer = Tallied::new(Counter { room });
+    let writer = Tallied::new(Counter { point });
     match ClientEngine::open(rt, alloc, &mut turns, reader, writer) {
         Ok(engine) => Ok(ClientWork { engine, turns }),
         Err(_) => Err(Fail::from("no memory for a client")),
@@ -128,22 +128,26 @@ fn client<'a, R: Wait>(
 }
 
 // Two clients that meet, the second with a reader that fails in the end.
-fn clients<'a, R: Wait>(rt: &R, alloc: Global, room: &'a Room) -> Result<Vec<Client<'a>>, Fail> {
+fn clients<'a, R: Wait>(
+    rt: &R,
+    alloc: Global,
+    point: &'a MeetingPoint,
+) -> Result<Vec<Client<'a>>, Fail> {
     let mut works = Vec::new(alloc);
-    works.push(client(rt, alloc, room, true, Then::Ends)?)?;
-    works.push(client(rt, alloc, room, false, Then::Fails)?)?;
+    works.push(client(rt, alloc, point, true, Then::Ends)?)?;
+    works.push(client(rt, alloc, point, false, Then::Fails)?)?;
     Ok(works)
 }
 
 // Works that ran one after another would not meet, and the first one would report a failed reader.
 #[test]
 fn two_workers_meet(rt: HostRuntime) -> Result<(), Fail> {
-    let room = Room::new();
-    let works = clients(&rt, rt.alloc(), &room)?;
+    let point = MeetingPoint::new();
+    let works = clients(&rt, rt.alloc(), &point)?;
     let answers = run_all(&rt, rt.alloc(), works)?;
     assert!(rt; answers.len() == 2);
     assert!(rt; answers[0] == Ok(()));
     assert!(rt; answers[1] == Err(EngineError::ReadFailed));
-    assert!(rt; room.taken.load(SeqCst) == 14);
+    assert!(rt; point.taken.load(SeqCst) == 14);
     Ok(())
 }

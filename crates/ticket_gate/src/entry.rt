@@ -4,7 +4,7 @@ ghost use Rattle.ticket_gate.specs.Gate.{IsAtRest};
 ghost use Rattle.ticket_gate.specs.Visit.{KeepsSeen, MayEnter, HoldsTicket, IsInside};
 ghost use Rattle.ticket_gate.specs.Entry.{FoundShut};
 
-use crate::gate::{DRAWN, Gate, Place, SERVING};
+use crate::gate::{DRAWN, Gate, GateSeat, SERVING};
 use crate::recorded::Recorded;
 use crate::steps::{DrawTicket, EnterAtOnce, LookAtServing, ReadDrawn};
 use crossbeam_utils::Backoff;
@@ -25,7 +25,7 @@ pub(crate) enum EntryRefusal {
 impl<S: Recorded> Gate<S> {
     // Enters if nothing holds or awaits the gate, and returns the ticket.
     #[inline(always)]
-    pub(crate) fn enter_at_once(&self, seat: &mut Place<S>) -> Result<u64, EntryRefusal>
+    pub(crate) fn enter_at_once(&self, seat: &mut GateSeat<S>) -> Result<u64, EntryRefusal>
         requires { MayEnter self.now.id seat.old }
         ensures gate { seat.new.table_id ≡ seat.old.table_id }
         ensures inside { IfOk result (λ t. (t < 2 ^ 64 - 1)
@@ -47,7 +47,7 @@ impl<S: Recorded> Gate<S> {
     }
 
     // Tries to enter at once a few times. `None`: it didn't enter.
-    fn enter_soon(&self, seat: &mut Place<S>) -> Option<u64>
+    fn enter_soon(&self, seat: &mut GateSeat<S>) -> Option<u64>
         requires { MayEnter self.now.id seat.old }
         ensures gate { seat.new.table_id ≡ seat.old.table_id }
         ensures entered { MatchOption result
@@ -66,7 +66,7 @@ impl<S: Recorded> Gate<S> {
     }
 
     // Draws a ticket. `None`: all are drawn.
-    fn draw<R: Wait>(&self, rt: &R, seat: &mut Place<S>) -> Option<u64>
+    fn draw<R: Wait>(&self, rt: &R, seat: &mut GateSeat<S>) -> Option<u64>
         requires { MayEnter self.now.id seat.old }
         ensures gate { seat.new.table_id ≡ seat.old.table_id }
         ensures ticket { MatchOption result
@@ -88,7 +88,7 @@ impl<S: Recorded> Gate<S> {
     }
 
     // Waits until the ticket is served.
-    fn wait<R: Wait>(&self, rt: &R, seat: &mut Place<S>, ticket: u64)
+    fn wait<R: Wait>(&self, rt: &R, seat: &mut GateSeat<S>, ticket: u64)
         requires { (seat.old.table_id ≡ self.now.id)
             × HoldsTicket seat.old.me.0.own ticket seat.old }
         ensures gate { seat.new.table_id ≡ seat.old.table_id }
@@ -106,7 +106,7 @@ impl<S: Recorded> Gate<S> {
 
     // Enters, and returns the ticket. `None`: all tickets are drawn.
     #[inline(always)]
-    pub(crate) fn enter<R: Wait>(&self, rt: &R, seat: &mut Place<S>) -> Option<u64>
+    pub(crate) fn enter<R: Wait>(&self, rt: &R, seat: &mut GateSeat<S>) -> Option<u64>
         requires { MayEnter self.now.id seat.old }
         ensures gate { seat.new.table_id ≡ seat.old.table_id }
         ensures entered { MatchOption result

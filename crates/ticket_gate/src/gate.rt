@@ -31,7 +31,7 @@ pub type SeatView<S> = View<
 >;
 
 /// A seat at the gate's table; a spare one has no number, a pass has one.
-pub(crate) type Place<S> = Seat<Option<S>, SeatView<S>>;
+pub(crate) type GateSeat<S> = Seat<Option<S>, SeatView<S>>;
 
 /// A gate's opening: its state, which takes no bytes here, and its first ticket.
 type Opening<S> = (Snapshot<S>, u64);
@@ -67,7 +67,7 @@ impl<S: Recorded> Model for Gate<S> {
 /// A place at a gate for one thread, without a number. It takes no bytes.
 #[derive(Drop)]
 pub struct Spare<S: Recorded> {
-    pub(crate) seat: Place<S>,
+    pub(crate) seat: GateSeat<S>,
 }
 
 impl<S: Recorded> Model for Spare<S> {
@@ -83,7 +83,7 @@ impl<S: Recorded> Model for Spare<S> {
 #[derive(Drop)]
 pub struct Pass<S: Recorded> {
     pub(crate) number: u64,
-    pub(crate) seat: Place<S>,
+    pub(crate) seat: GateSeat<S>,
 }
 
 impl<S: Recorded> Model for Pass<S> {

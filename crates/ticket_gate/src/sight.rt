@@ -5,7 +5,7 @@ ghost use Rattle.ticket_gate.specs.Visit.{IsInside, KeepsSeen};
 ghost use Rattle.ticket_gate.specs.Journal.{GrowsByOthers};
 ghost use Rattle.ticket_gate.specs.declared.refusal.TurnRefusal.TheVariants.{Spent};
 
-use crate::gate::{Gate, Pass, Place, SERVING, STATE};
+use crate::gate::{Gate, GateSeat, Pass, SERVING, STATE};
 use crate::recorded::Recorded;
 use crate::refusal::TurnRefusal;
 use crate::steps::ServeNext;
@@ -13,7 +13,7 @@ use std::sync::Wait;
 
 impl<S: Recorded> Gate<S> {
     // Looks at the state, and serves the next ticket.
-    fn look(&self, seat: &mut Place<S>, ticket: u64) -> S::Sight
+    fn look(&self, seat: &mut GateSeat<S>, ticket: u64) -> S::Sight
         requires gate { seat.old.table_id ≡ self.now.id }
         requires inside { IsInside S.journal S.setting S.legal seat.old.me.0.own ticket seat.old }
         requires ticket { ticket + 1 < 2 ^ 64 }

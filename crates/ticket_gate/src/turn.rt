@@ -6,7 +6,7 @@ ghost use Rattle.ticket_gate.specs.Journal.{AddsTurn};
 ghost use Rattle.ticket_gate.specs.Refusal.{RefusesAtOnce, RefusesAfterWaiting};
 
 use crate::entry::EntryRefusal;
-use crate::gate::{Gate, Pass, Place, SERVING, STATE};
+use crate::gate::{Gate, GateSeat, Pass, SERVING, STATE};
 use crate::recorded::Recorded;
 use crate::refusal::TurnRefusal;
 use crate::steps::ServeNext;
@@ -18,7 +18,7 @@ impl<S: Recorded> Gate<S> {
     #[inline(always)]
     fn work(
         &self,
-        seat: &mut Place<S>,
+        seat: &mut GateSeat<S>,
         number: u64,
         ticket: u64,
         event: S::Event,

@@ -10,7 +10,7 @@ use std::sync::Wait;
 use ticket_gate::Alone;
 
 // More steps than any round needs: one with this many doesn't end.
-const MAX_STEPS: u64 = 1_000_000;
+const MAX_TURNS: u64 = 1_000_000;
 
 // No reply is late.
 const REPLY_MS: u64 = 1_000;
@@ -50,7 +50,7 @@ impl<'a> ClientSide<'a> {
 
     // Steps until there is nothing to do.
     fn run<R: Wait>(&mut self, rt: &R, turns: &mut Alone<Core>) -> Result<()> {
-        for _ in 0..MAX_STEPS {
+        for _ in 0..MAX_TURNS {
             self.steps = self.steps.saturating_add(1);
             match self.engine.step(rt, turns) {
                 Ok(Progress::Moved) => {}
@@ -87,7 +87,7 @@ impl<'a> HostSide<'a> {
 
     // Steps until there is nothing to do.
     fn run<R: Wait>(&mut self, rt: &R, turns: &mut Alone<Core>) -> Result<()> {
-        for _ in 0..MAX_STEPS {
+        for _ in 0..MAX_TURNS {
             self.steps = self.steps.saturating_add(1);
             match self.engine.step(rt, turns, MOMENT) {
                 Ok(Progress::Moved) => {}
@@ -133,7 +133,7 @@ impl<'a> Scene<'a> {
     /// Serves the client until it has all replies, and returns the number of steps. In turn, the client's engine steps
     /// until it is idle, the host's does so too, and again after the host has answered.
     pub(crate) fn serve<R: Wait>(&mut self, rt: &R, turns: &mut Alone<Core>) -> Result<Sides> {
-        for _ in 0..MAX_STEPS {
+        for _ in 0..MAX_TURNS {
             self.client.run(rt, turns)?;
             if self.peers.client.is_done() {
                 return Ok(self.steps());

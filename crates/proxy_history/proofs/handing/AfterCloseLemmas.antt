@@ -10,7 +10,7 @@ use Rattle.proxy_history.specs.Cause.{own_cause, causes}
 use Rattle.proxy_history.specs.Legal.{IsLegal}
 use Rattle.proxy_history.specs.Answer.{answer_to}
 use Rattle.proxy_history.specs.Output.{handed_text, transcript}
-use Rattle.proxy_history.specs.Own.{is_of_connection}
+use Rattle.proxy_history.specs.OwnSteps.{is_of_connection}
 use Rattle.proxy_history.specs.declared.event.Event.{Event}
 use Rattle.proxy_history.specs.declared.event.Event.TheVariants.{Arrived, Finished, Handed, Closed}
 use Rattle.proxy_history.proofs.causes.NoCauseLemmas.{are_false}

@@ -3,7 +3,7 @@ use Rattle.std.proofs.Common.{ℕ, List, take, arith}
 use Rattle.std.proofs.lemmas.List.{length-take-le}
 use Rattle.resp_core.specs.Tree.{Tree}
 use Rattle.resp_core.specs.Grammar.{max_depth}
-use Rattle.resp_core.specs.Front.{IsFirstValue}
+use Rattle.resp_core.specs.FirstValue.{IsFirstValue}
 use Rattle.resp_core.specs.Readable.{IsReadable}
 use Rattle.resp_core.proofs.SpellingLemmas.{spelling_is_shortest, read_values_are_plain}
 

@@ -1,18 +1,18 @@
 -- Laws of readers: how a reader comes to stand after more bytes and more values.
 use Rattle.std.proofs.Common.{◌≡◌, ℕ, ◌+◌, ◌-◌, ◌<◌, ◌≤◌, List, refl, [], ◌∷◌, ◌++◌, length, take, drop, Option, Some, None, IfNone, sym, ap, ◌∙◌, subst, arith}
 use Rattle.std.proofs.lemmas.List.{length-append, length-take, length-drop, take-append-drop}
-use Rattle.resp_core.specs.Front.{IsUnfinished, IsFault}
+use Rattle.resp_core.specs.FirstValue.{IsUnfinished, IsFault}
 use Rattle.resp_core.specs.Tree.{Tree}
 use Rattle.resp_core.specs.Grammar.{max_text}
 use Rattle.resp_core.specs.Stream.{Splits, told_offset, HasRefusal, HasNoRefusal}
 use Rattle.resp_core.specs.ReaderState.{ReaderState, IsReached, Stands, StandsBehind, Unmoved, Leaves, unread_bytes}
-use Rattle.resp_core.specs.Progress.{Reads, Gave, held_of, shown_progress}
+use Rattle.resp_core.specs.PartialValue.{Reads, Gave, held_of, shown_progress}
 use Rattle.resp_core.specs.Offset.{offset_of, number_of}
 use Rattle.resp_core.specs.declared.error.RespError.{RespError}
-use Rattle.resp_core.specs.declared.progress.Progress.{Progress}
+use Rattle.resp_core.specs.declared.partial_value.PartialValue.{PartialValue}
 use Rattle.resp_core.specs.Readable.{IsReadable}
 use Rattle.resp_core.proofs.streams.ReadableLemmas.{first_readable}
-use Rattle.resp_core.proofs.unfinished.ProgressLemmas.{held_is, reads_shown, shown_reads, unfinished_too}
+use Rattle.resp_core.proofs.unfinished.PartialValueLemmas.{held_is, reads_shown, shown_reads, unfinished_too}
 use Rattle.resp_core.proofs.streams.SplitsLemmas.{splits_fed, splits_more, splits_shorter, told_later, first_value_some, no_refusal_of, refusal_of_fault}
 
 -- what holds where nothing was refused
@@ -79,13 +79,13 @@ module _ (r s : ReaderState) (most : s.most ≡ r.most) where
 pub no_refusal : (r : ReaderState) (b : List ℕ) (ts : List Tree) → r.refusal ≡ None → ((held : List ℕ) → Reads r.most held r.progress → IsUnfinished r.most held) → Stands r b ts → HasNoRefusal r.most b ts
 no_refusal r b ts none on g = no_refusal_of r.most b g.rest ts g.splits (on g.rest (if_none none g.reads))
 
-pub few_left : (most : ℕ) (p q : Progress) → ((held : List ℕ) → Reads most held p → Reads most held q × IsUnfinished most held) → IsReached most p → held_of q ≤ max_text
+pub few_left : (most : ℕ) (p q : PartialValue) → ((held : List ℕ) → Reads most held p → Reads most held q × IsUnfinished most held) → IsReached most p → held_of q ≤ max_text
 few_left most p q on g =
     let f = on g.held g.reads in
     omega (arith, held_is most g.held q f.0, f.1.few)
 
 -- and none is left to give
-pub rests_unfinished : (most : ℕ) (p q : Progress) → ((held : List ℕ) → Reads most held p → Reads most held q × IsUnfinished most held) → IsReached most p → (held : List ℕ) → Reads most held q → IsUnfinished most held
+pub rests_unfinished : (most : ℕ) (p q : PartialValue) → ((held : List ℕ) → Reads most held p → Reads most held q × IsUnfinished most held) → IsReached most p → (held : List ℕ) → Reads most held q → IsUnfinished most held
 rests_unfinished most p q on g held r = let f = on g.held g.reads in unfinished_too most g.held held q f.0 r f.1
 
 -- a reader that refuses a byte
@@ -94,7 +94,7 @@ has_refusal r b ts place at number none on e g =
     subst (λ (z : ℕ). HasRefusal r.most b ts z number) (sym (e ∙ told_later r.consumed (length b - length g.rest) place (if_none none g.consumed_is)))
     (refusal_of_fault r.most b g.rest ts place number g.splits (on g.rest (if_none none g.reads)))
 
-pub gives_readable : (most len : ℕ) (p q : Progress) (t : Tree) → ((held : List ℕ) → Reads most held p → Gave most held t len q) → IsReached most p → IsReadable most t
+pub gives_readable : (most len : ℕ) (p q : PartialValue) (t : Tree) → ((held : List ℕ) → Reads most held p → Gave most held t len q) → IsReached most p → IsReadable most t
 gives_readable most len p q t on g = first_readable most g.held t len (on g.held g.reads).first
 
 -- how many bytes a reader holds
@@ -102,21 +102,21 @@ pub leaves : (r : ReaderState) (b : List ℕ) (ts : List Tree) (n : ℕ) → n �
 leaves r b ts n e g none = record { rest = g.rest; splits = g.splits; length_is = e ∙ held_is r.most g.rest r.progress (if_none none g.reads) }
 
 -- how far it has come, without the room behind its bytes
-pub shown_gave : (most len : ℕ) (t : Tree) (p q : Progress) → ((held : List ℕ) → Reads most held p → Gave most held t len q) → (held : List ℕ) → Reads most held (shown_progress p) → Gave most held t len (shown_progress q)
+pub shown_gave : (most len : ℕ) (t : Tree) (p q : PartialValue) → ((held : List ℕ) → Reads most held p → Gave most held t len q) → (held : List ℕ) → Reads most held (shown_progress p) → Gave most held t len (shown_progress q)
 shown_gave most len t p q on held r =
     let g = on held (shown_reads most held p r) in
     record { first = g.first; reads = reads_shown most (drop len held) q g.reads }
 
-pub shown_on : (most : ℕ) (p q : Progress) (f : List ℕ → List ℕ) → ((held : List ℕ) → Reads most held p → Reads most (f held) q) → (held : List ℕ) → Reads most held (shown_progress p) → Reads most (f held) (shown_progress q)
+pub shown_on : (most : ℕ) (p q : PartialValue) (f : List ℕ → List ℕ) → ((held : List ℕ) → Reads most held p → Reads most (f held) q) → (held : List ℕ) → Reads most held (shown_progress p) → Reads most (f held) (shown_progress q)
 shown_on most p q f on held r = reads_shown most (f held) q (on held (shown_reads most held p r))
 
-pub shown_reached : (most : ℕ) (p : Progress) → IsReached most p → IsReached most (shown_progress p)
+pub shown_reached : (most : ℕ) (p : PartialValue) → IsReached most p → IsReached most (shown_progress p)
 shown_reached most p g = record { held = g.held; reads = reads_shown most g.held p g.reads }
 
-pub given_reached : (most len : ℕ) (t : Tree) (p q : Progress) → ((held : List ℕ) → Reads most held p → Gave most held t len q) → IsReached most p → IsReached most q
+pub given_reached : (most len : ℕ) (t : Tree) (p q : PartialValue) → ((held : List ℕ) → Reads most held p → Gave most held t len q) → IsReached most p → IsReached most q
 given_reached most len t p q on g = record { held = drop len g.held; reads = (on g.held g.reads).reads }
 
-pub on_reached : (most : ℕ) (p q : Progress) (f : List ℕ → List ℕ) → ((held : List ℕ) → Reads most held p → Reads most (f held) q) → IsReached most p → IsReached most q
+pub on_reached : (most : ℕ) (p q : PartialValue) (f : List ℕ → List ℕ) → ((held : List ℕ) → Reads most held p → Reads most (f held) q) → IsReached most p → IsReached most q
 on_reached most p q f on g = record { held = f g.held; reads = on g.held g.reads }
 
 -- the values that a reader has given stand at the front of what it was fed

@@ -1,7 +1,7 @@
 -- Laws of streams and readers.
 use Rattle.std.proofs.Common.{◌≡◌, ◌⊎◌, inl, inr, ⊎_elim, ℕ, ◌+◌, ◌-◌, ◌<◌, ◌≤◌, List, [], ◌∷◌, ◌++◌, length, take, refl, sym, ap, ◌∙◌, subst, append_assoc, arith}
 use Rattle.std.proofs.lemmas.List.{length-append, length-take}
-use Rattle.resp_core.specs.Front.{IsFirstValue, IsUnfinished, IsFault}
+use Rattle.resp_core.specs.FirstValue.{IsFirstValue, IsUnfinished, IsFault}
 use Rattle.resp_core.specs.Tree.{Tree}
 use Rattle.resp_core.specs.Grammar.{IsText, max_text, max_depth}
 use Rattle.resp_core.specs.Reading.{found, value_at}

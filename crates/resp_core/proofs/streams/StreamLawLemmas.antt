@@ -9,11 +9,11 @@ use Rattle.resp_core.specs.Text.{text}
 use Rattle.resp_core.specs.Offset.{refusal_number}
 use Rattle.resp_core.specs.Refusals.{IsTold}
 use Rattle.resp_core.specs.declared.error.Refusal.TheVariants.{TooLong}
-use Rattle.resp_core.specs.Front.{IsFirstValue, IsUnfinished, IsFault}
+use Rattle.resp_core.specs.FirstValue.{IsFirstValue, IsUnfinished, IsFault}
 use Rattle.resp_core.specs.Stream.{HasWhole, Splits, AreValues, IsRefusedAt, HasRefusal, HasNoRefusal, told_offset}
 use Rattle.resp_core.specs.Laws.{NoTextBeginsAnother, Holds, EachStreamHolds, OneHolding, RefusalStays, OneRefusedByte, OneRefusal, ValuesStay, TextIsReadBack, TextIsReadNext, ValuesGoOn}
 use Rattle.resp_core.proofs.reading.WholeValueLemmas.{value-reads, text_nonempty}
-use Rattle.resp_core.proofs.streams.FrontLemmas.{same_front, first_found, first_too_long, first_unfinished, first_unfinished_long, first_told}
+use Rattle.resp_core.proofs.streams.FirstValueLemmas.{same_front, first_found, first_too_long, first_unfinished, first_unfinished_long, first_told}
 use Rattle.resp_core.proofs.refusals.ToldNumberLemmas.{cases_deep, one_number}
 use Rattle.resp_core.proofs.streams.SplitsLemmas.{splits_fed, splits_more, are_values, no_refusal_of, refusal_of_fault, one_reading}
 use Rattle.resp_core.proofs.RoundTripLemmas.{text_is_read}

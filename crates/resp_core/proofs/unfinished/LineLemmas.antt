@@ -9,11 +9,11 @@ use Rattle.resp_core.specs.declared.error.Refusal.{Refusal}
 use Rattle.resp_core.specs.declared.value.Value.{Value}
 use Rattle.resp_core.specs.declared.head.Next.TheVariants as nexts
 use Rattle.resp_core.specs.declared.head.Found.TheVariants as founds
-use Rattle.resp_core.specs.declared.progress.Progress.{Progress}
+use Rattle.resp_core.specs.declared.partial_value.PartialValue.{PartialValue}
 use Rattle.resp_core.specs.Grammar.{max_depth, max_text}
 use Rattle.resp_core.specs.Reading.{found, unfinished, refused, and_then, text_at, value_at}
 use Rattle.resp_core.specs.OpenLists.{nested_outcome}
-use Rattle.resp_core.specs.Progress.{Reads, resume, seen_of}
+use Rattle.resp_core.specs.PartialValue.{Reads, resume, seen_of}
 use Rattle.resp_core.proofs.reading.RefusedPlaces.{InLine}
 use Rattle.resp_core.proofs.reading.PartLemmas.{IsTextLine, text-reads}
 use Rattle.resp_core.proofs.unfinished.ResumedReadingLemmas.{CutsAt, take_of_take, refused_end, reads_refused, reads_unfinished}
@@ -44,12 +44,12 @@ cuts_line_at v b items rest s b_is few e =
       front = sym (take_of_take (length s) v items (omega (arith, l))) ∙ ap (take (length s)) (parts ∙ append_assoc s line_end rest) ∙ take_at s (line_end ++ rest) (length s) refl;
     }
 
-pub line_along : (k : Line) (most l : ℕ) (p q : Progress) (b rest s : List ℕ) (w : Value) → p.done ≡ None → p.next ≡ nexts.Found (founds.Line k) → q.opens.items ≡ p.opens.items → q.done ≡ Some w → tree_of w ≡ line_tree k s → text_at [] b ≡ found s rest → take l p.pending.items ≡ s ++ line_end → (y : List ℕ) → resume most p (take l p.pending.items ++ y) ≡ resume most q y
+pub line_along : (k : Line) (most l : ℕ) (p q : PartialValue) (b rest s : List ℕ) (w : Value) → p.done ≡ None → p.next ≡ nexts.Found (founds.Line k) → q.opens.items ≡ p.opens.items → q.done ≡ Some w → tree_of w ≡ line_tree k s → text_at [] b ≡ found s rest → take l p.pending.items ≡ s ++ line_end → (y : List ℕ) → resume most p (take l p.pending.items ++ y) ≡ resume most q y
 line_along k most l p q b rest s w none is opens done t e all y =
     rw (none, is, opens, done, t, all) (ap (nested_outcome most max_depth p.opens.items) (ap (λ o. and_then o (λ s rest. found (line_tree k s) rest)) ((line_cut b rest s e).same y)))
 
 -- a line that is refused
-pub line_refused : (k : Line) (most v : ℕ) (held : List ℕ) (p : Progress) (b rest : List ℕ) (w : Refusal) → p.done ≡ None → p.next ≡ nexts.Found (founds.Line k) → b ≡ take v p.pending.items → p.came ≤ max_text + 1 → v ≡ min (length p.pending.items) (max_text + 1 - p.came) → text_at [] b ≡ refused w rest → Reads most held p → value_at most max_depth (seen_of held) ≡ refused w (drop (p.came + (v - length rest)) (seen_of held))
+pub line_refused : (k : Line) (most v : ℕ) (held : List ℕ) (p : PartialValue) (b rest : List ℕ) (w : Refusal) → p.done ≡ None → p.next ≡ nexts.Found (founds.Line k) → b ≡ take v p.pending.items → p.came ≤ max_text + 1 → v ≡ min (length p.pending.items) (max_text + 1 - p.came) → text_at [] b ≡ refused w rest → Reads most held p → value_at most max_depth (seen_of held) ≡ refused w (drop (p.came + (v - length rest)) (seen_of held))
 line_refused k most v held p b rest w none is b_is few v_is e r =
     let q = refused_end IsTextLine InLine (text_at []) text-reads b rest w e in
     let len : length b ≡ v = omega (arith, ap length b_is, length-take-le v p.pending.items (omega (arith, v_is))) in
@@ -61,7 +61,7 @@ line_end_inside v xs rest w e =
     let h = (refused_end IsTextLine InLine (text_at []) text-reads (take v xs) rest w e).0 in
     omega (arith, h, length-take v xs)
 
-pub line_unfinished : (k : Line) (most v : ℕ) (held : List ℕ) (p : Progress) (b : List ℕ) → p.done ≡ None → p.next ≡ nexts.Found (founds.Line k) → b ≡ take v p.pending.items → p.came ≤ max_text + 1 → v ≡ min (length p.pending.items) (max_text + 1 - p.came) → text_at [] b ≡ unfinished → Reads most held p → value_at most max_depth (seen_of held) ≡ unfinished
+pub line_unfinished : (k : Line) (most v : ℕ) (held : List ℕ) (p : PartialValue) (b : List ℕ) → p.done ≡ None → p.next ≡ nexts.Found (founds.Line k) → b ≡ take v p.pending.items → p.came ≤ max_text + 1 → v ≡ min (length p.pending.items) (max_text + 1 - p.came) → text_at [] b ≡ unfinished → Reads most held p → value_at most max_depth (seen_of held) ≡ unfinished
 line_unfinished k most v held p b none is b_is few v_is e r =
     let f : text_at [] (take v p.pending.items) ≡ unfinished = ap (text_at []) (sym b_is) ∙ e in
     reads_unfinished most held p v few v_is (rw (none, is) (ap (λ o. and_then o (λ s rest. found (line_tree k s) rest)) f)) r

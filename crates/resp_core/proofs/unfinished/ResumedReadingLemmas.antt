@@ -12,14 +12,14 @@ use Rattle.resp_core.specs.declared.head.Next.{Next}
 use Rattle.resp_core.specs.declared.head.Next.TheVariants as nexts
 use Rattle.resp_core.specs.declared.head.Head.TheVariants as heads
 use Rattle.resp_core.specs.declared.head.Found.TheVariants as founds
-use Rattle.resp_core.specs.declared.progress.Progress.{Progress}
+use Rattle.resp_core.specs.declared.partial_value.PartialValue.{PartialValue}
 use Rattle.resp_core.specs.Grammar.{max_depth, max_text}
 use Rattle.resp_core.specs.Reading.{payload_at, members_at, Outcome, found, unfinished, refused, value_at}
 use Rattle.resp_core.specs.ResumedReading.{head_at, next_at, GoesOn}
 use Rattle.resp_core.specs.declared.begun.Begun.{Begun}
 use Rattle.resp_core.specs.Text.{line_end}
 use Rattle.resp_core.specs.OpenLists.{nested_outcome, in_list}
-use Rattle.resp_core.specs.Progress.{Reads, resume, due_at, seen_of}
+use Rattle.resp_core.specs.PartialValue.{Reads, resume, due_at, seen_of}
 use Rattle.resp_core.proofs.unfinished.OpenListLemmas.{nested_refused, nested_unfinished, nested_push, list_opens}
 use Rattle.resp_core.proofs.reading.WholeValueLemmas.{IsPayload, InPayload, payload-reads}
 use Rattle.resp_core.proofs.reading.GrammarReaderLemmas.{IsReader}
@@ -43,7 +43,7 @@ take_visible v m xs e =
     ]
 
 -- so many bytes more were taken
-pub reads_on : (most : ℕ) (held : List ℕ) (p q : Progress) (k : ℕ) → k ≤ length p.pending.items → q.pending.items ≡ drop k p.pending.items → q.came ≡ p.came + k → ((y : List ℕ) → resume most p (take k p.pending.items ++ y) ≡ resume most q y) → Reads most held p → Reads most held q
+pub reads_on : (most : ℕ) (held : List ℕ) (p q : PartialValue) (k : ℕ) → k ≤ length p.pending.items → q.pending.items ≡ drop k p.pending.items → q.came ≡ p.came + k → ((y : List ℕ) → resume most p (take k p.pending.items ++ y) ≡ resume most q y) → Reads most held p → Reads most held q
 reads_on most held p q k few rest came same r = record {
   taken = r.taken ++ take k p.pending.items;
   split = r.split ∙ ap (λ z. r.taken ++ z) (sym (take-append-drop k p.pending.items)) ∙ sym (append_assoc r.taken (take k p.pending.items) (drop k p.pending.items)) ∙ ap (λ z. (r.taken ++ take k p.pending.items) ++ z) (sym rest);
@@ -52,25 +52,25 @@ reads_on most held p q k few rest came same r = record {
 }
 
 -- what is looked at: the bytes taken, and those that may be seen of the pending ones
-pub seen_is : (most : ℕ) (held : List ℕ) (p : Progress) (v : ℕ) → p.came ≤ max_text + 1 → v ≡ min (length p.pending.items) (max_text + 1 - p.came) → (r : Reads most held p) → seen_of held ≡ r.taken ++ take v p.pending.items
+pub seen_is : (most : ℕ) (held : List ℕ) (p : PartialValue) (v : ℕ) → p.came ≤ max_text + 1 → v ≡ min (length p.pending.items) (max_text + 1 - p.came) → (r : Reads most held p) → seen_of held ≡ r.taken ++ take v p.pending.items
 seen_is most held p v few e r =
     ap (take (max_text + 1)) r.split ∙ take_past r.taken p.pending.items (max_text + 1 - p.came) (max_text + 1) (omega (arith, r.came))
     ∙ ap (λ z. r.taken ++ z) (sym (take_visible v (max_text + 1 - p.came) p.pending.items e))
 
 -- a byte is refused
-pub reads_refused : (most : ℕ) (held : List ℕ) (p : Progress) (v place : ℕ) (w : Refusal) → p.came ≤ max_text + 1 → v ≡ min (length p.pending.items) (max_text + 1 - p.came) → due_at most (max_depth - length p.opens.items) p.done p.next (take v p.pending.items) ≡ refused w (drop place (take v p.pending.items)) → Reads most held p → value_at most max_depth (seen_of held) ≡ refused w (drop (p.came + place) (seen_of held))
+pub reads_refused : (most : ℕ) (held : List ℕ) (p : PartialValue) (v place : ℕ) (w : Refusal) → p.came ≤ max_text + 1 → v ≡ min (length p.pending.items) (max_text + 1 - p.came) → due_at most (max_depth - length p.opens.items) p.done p.next (take v p.pending.items) ≡ refused w (drop place (take v p.pending.items)) → Reads most held p → value_at most max_depth (seen_of held) ≡ refused w (drop (p.came + place) (seen_of held))
 reads_refused most held p v place w few e h r =
     let s = seen_is most held p v few e r in
     let d : drop (p.came + place) (seen_of held) ≡ drop place (take v p.pending.items) = ap (drop (p.came + place)) s ∙ ap (λ z. drop (z + place) (r.taken ++ take v p.pending.items)) (sym r.came) ∙ drop-append-add r.taken (take v p.pending.items) place in
     ap (value_at most max_depth) s ∙ r.same (take v p.pending.items) ∙ ap (nested_outcome most max_depth p.opens.items) h ∙ nested_refused most max_depth p.opens.items w _ ∙ ap (refused w) (sym d)
 
 -- it is less than a value
-pub reads_unfinished : (most : ℕ) (held : List ℕ) (p : Progress) (v : ℕ) → p.came ≤ max_text + 1 → v ≡ min (length p.pending.items) (max_text + 1 - p.came) → due_at most (max_depth - length p.opens.items) p.done p.next (take v p.pending.items) ≡ unfinished → Reads most held p → value_at most max_depth (seen_of held) ≡ unfinished
+pub reads_unfinished : (most : ℕ) (held : List ℕ) (p : PartialValue) (v : ℕ) → p.came ≤ max_text + 1 → v ≡ min (length p.pending.items) (max_text + 1 - p.came) → due_at most (max_depth - length p.opens.items) p.done p.next (take v p.pending.items) ≡ unfinished → Reads most held p → value_at most max_depth (seen_of held) ≡ unfinished
 reads_unfinished most held p v few e h r =
     ap (value_at most max_depth) (seen_is most held p v few e r) ∙ r.same (take v p.pending.items) ∙ ap (nested_outcome most max_depth p.opens.items) h ∙ nested_unfinished most max_depth p.opens.items
 
 -- a head goes on
-pub head_goes_on : (most : ℕ) (p q : Progress) (h : Head) (next : Next) (v k : ℕ) → p.done ≡ None → p.next ≡ nexts.Head h → q.opens.items ≡ p.opens.items → q.done ≡ None → q.next ≡ next → k ≤ v → GoesOn most (max_depth - length p.opens.items) h (take k (take v p.pending.items)) next → (y : List ℕ) → resume most p (take k p.pending.items ++ y) ≡ resume most q y
+pub head_goes_on : (most : ℕ) (p q : PartialValue) (h : Head) (next : Next) (v k : ℕ) → p.done ≡ None → p.next ≡ nexts.Head h → q.opens.items ≡ p.opens.items → q.done ≡ None → q.next ≡ next → k ≤ v → GoesOn most (max_depth - length p.opens.items) h (take k (take v p.pending.items)) next → (y : List ℕ) → resume most p (take k p.pending.items ++ y) ≡ resume most q y
 head_goes_on most p q h next v k none is opens none' is' few g y =
     rw (none, is, opens, none', is') (ap (nested_outcome most max_depth p.opens.items) (ap (λ z. head_at most (max_depth - length p.opens.items) h (z ++ y)) (sym (take_of_take k v p.pending.items few)) ∙ g y))
 
@@ -113,7 +113,7 @@ opens_more most n opens more begun y e f g =
     ∙ ap (λ z. nested_outcome most max_depth z (value_at most (max_depth - length more) y)) (sym e)
 
 -- nothing was taken
-pub reads_along : (most : ℕ) (held : List ℕ) (p q : Progress) → q.pending.items ≡ p.pending.items → q.came ≡ p.came → ((y : List ℕ) → resume most p y ≡ resume most q y) → Reads most held p → Reads most held q
+pub reads_along : (most : ℕ) (held : List ℕ) (p q : PartialValue) → q.pending.items ≡ p.pending.items → q.came ≡ p.came → ((y : List ℕ) → resume most p y ≡ resume most q y) → Reads most held p → Reads most held q
 reads_along most held p q e f same r = record {
   taken = r.taken;
   split = r.split ∙ ap (λ z. r.taken ++ z) (sym e);
@@ -121,7 +121,7 @@ reads_along most held p q e f same r = record {
   same = λ y. r.same y ∙ same y;
 }
 
-pub opens_along : (most n : ℕ) (p q : Progress) (begun : Begun) → p.done ≡ None → p.next ≡ nexts.Found (founds.Members n) → q.opens.items ≡ p.opens.items ++ begun ∷ [] → begun.due + 1 ≡ n → begun.members ≡ [] → q.done ≡ None → q.next ≡ nexts.Head heads.Type → (y : List ℕ) → resume most p y ≡ resume most q y
+pub opens_along : (most n : ℕ) (p q : PartialValue) (begun : Begun) → p.done ≡ None → p.next ≡ nexts.Found (founds.Members n) → q.opens.items ≡ p.opens.items ++ begun ∷ [] → begun.due + 1 ≡ n → begun.members ≡ [] → q.done ≡ None → q.next ≡ nexts.Head heads.Type → (y : List ℕ) → resume most p y ≡ resume most q y
 opens_along most n p q begun none is e f g done next y = rw (none, is, done, next) (opens_more most n p.opens.items q.opens.items begun y e f g)
 
 -- where a payload is cut
@@ -144,12 +144,12 @@ cuts_at n v b items rest s b_is few e =
       front = sym (take_of_take (length s) v items (omega (arith, l))) ∙ ap (take (length s)) (parts ∙ append_assoc s line_end rest) ∙ take_at s (line_end ++ rest) (length s) refl;
     }
 
-pub bulk_along : (most n k : ℕ) (p q : Progress) (b rest s : List ℕ) (w : Value) → p.done ≡ None → p.next ≡ nexts.Found (founds.Payload n) → q.opens.items ≡ p.opens.items → q.done ≡ Some w → tree_of w ≡ bulk s → payload_at (Some n) b ≡ found (bulk s) rest → take k p.pending.items ≡ s ++ line_end → (y : List ℕ) → resume most p (take k p.pending.items ++ y) ≡ resume most q y
+pub bulk_along : (most n k : ℕ) (p q : PartialValue) (b rest s : List ℕ) (w : Value) → p.done ≡ None → p.next ≡ nexts.Found (founds.Payload n) → q.opens.items ≡ p.opens.items → q.done ≡ Some w → tree_of w ≡ bulk s → payload_at (Some n) b ≡ found (bulk s) rest → take k p.pending.items ≡ s ++ line_end → (y : List ℕ) → resume most p (take k p.pending.items ++ y) ≡ resume most q y
 bulk_along most n k p q b rest s w none is opens done t e all y =
     rw (none, is, opens, done, t, all) (ap (nested_outcome most max_depth p.opens.items) ((payload_cut n b rest s e).same y))
 
 -- a payload that is refused
-pub payload_refused : (most n v : ℕ) (held : List ℕ) (p : Progress) (b rest : List ℕ) (w : Refusal) → p.done ≡ None → p.next ≡ nexts.Found (founds.Payload n) → b ≡ take v p.pending.items → p.came ≤ max_text + 1 → v ≡ min (length p.pending.items) (max_text + 1 - p.came) → payload_at (Some n) b ≡ refused w rest → Reads most held p → value_at most max_depth (seen_of held) ≡ refused w (drop (p.came + (v - length rest)) (seen_of held))
+pub payload_refused : (most n v : ℕ) (held : List ℕ) (p : PartialValue) (b rest : List ℕ) (w : Refusal) → p.done ≡ None → p.next ≡ nexts.Found (founds.Payload n) → b ≡ take v p.pending.items → p.came ≤ max_text + 1 → v ≡ min (length p.pending.items) (max_text + 1 - p.came) → payload_at (Some n) b ≡ refused w rest → Reads most held p → value_at most max_depth (seen_of held) ≡ refused w (drop (p.came + (v - length rest)) (seen_of held))
 payload_refused most n v held p b rest w none is b_is few v_is e r =
     let q = refused_end (IsPayload (Some n)) (InPayload (Some n)) (payload_at (Some n)) (payload-reads (Some n)) b rest w e in
     let len : length b ≡ v = omega (arith, ap length b_is, length-take-le v p.pending.items (omega (arith, v_is))) in
@@ -161,13 +161,13 @@ payload_end_inside n v xs rest w e =
     let h = (refused_end (IsPayload (Some n)) (InPayload (Some n)) (payload_at (Some n)) (payload-reads (Some n)) (take v xs) rest w e).0 in
     omega (arith, h, length-take v xs)
 
-pub payload_unfinished : (most n v : ℕ) (held : List ℕ) (p : Progress) (b : List ℕ) → p.done ≡ None → p.next ≡ nexts.Found (founds.Payload n) → b ≡ take v p.pending.items → p.came ≤ max_text + 1 → v ≡ min (length p.pending.items) (max_text + 1 - p.came) → payload_at (Some n) b ≡ unfinished → Reads most held p → value_at most max_depth (seen_of held) ≡ unfinished
+pub payload_unfinished : (most n v : ℕ) (held : List ℕ) (p : PartialValue) (b : List ℕ) → p.done ≡ None → p.next ≡ nexts.Found (founds.Payload n) → b ≡ take v p.pending.items → p.came ≤ max_text + 1 → v ≡ min (length p.pending.items) (max_text + 1 - p.came) → payload_at (Some n) b ≡ unfinished → Reads most held p → value_at most max_depth (seen_of held) ≡ unfinished
 payload_unfinished most n v held p b none is b_is few v_is e r =
     let f : payload_at (Some n) (take v p.pending.items) ≡ unfinished = ap (payload_at (Some n)) (sym b_is) ∙ e in
     reads_unfinished most held p v few v_is (rw (none, is) f) r
 
 -- a value came behind the last head, and nothing was taken for it
-pub reads_found : (most : ℕ) (held : List ℕ) (p q : Progress) (v : Value) → p.done ≡ None → q.pending ≡ p.pending → q.opens ≡ p.opens → q.came ≡ p.came → q.done ≡ Some v → ((left : ℕ) (y : List ℕ) → next_at most left p.next y ≡ found (tree_of v) y) → Reads most held p → Reads most held q
+pub reads_found : (most : ℕ) (held : List ℕ) (p q : PartialValue) (v : Value) → p.done ≡ None → q.pending ≡ p.pending → q.opens ≡ p.opens → q.came ≡ p.came → q.done ≡ Some v → ((left : ℕ) (y : List ℕ) → next_at most left p.next y ≡ found (tree_of v) y) → Reads most held p → Reads most held q
 reads_found most held p q v none pending opens came done same r =
     reads_along most held p q (ap (λ z. z.items) pending) came
     (λ y. rw (none, opens, done) (ap (nested_outcome most max_depth p.opens.items) (same (max_depth - length p.opens.items) y))) r

@@ -5,7 +5,7 @@ use Rattle.proxy_engines.proofs.one_turn.open.Goals.{in-Ok-Opened, in-Err}
 
 pub returns-clause-new : goal.returns-clause-new
 returns-clause-new g c =
-    elim c.match-tell.branch [
+    elim c.match-make_turn.branch [
       | in-Ok-Opened w ↦
           let makes = rw w.in-Ok-Opened.field-0-is at w.in-Ok-Opened.ensures.added in
           let before = g.T.Turns.seen c.args.turns.now in
@@ -16,7 +16,7 @@ returns-clause-new g c =
 
 pub returns-clause-denied : goal.returns-clause-denied
 returns-clause-denied g c =
-    elim c.match-tell.branch [
+    elim c.match-make_turn.branch [
       | in-Ok-Opened w ↦ rw w.result-is tt
       | in-Err w ↦ rw w.result-is w.in-Err.ensures.denied
     ]

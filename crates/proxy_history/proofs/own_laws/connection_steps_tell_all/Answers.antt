@@ -1,4 +1,4 @@
-use Rattle.proxy_history.proofs.OwnLemmas.{connection_steps_tell_all as law}
+use Rattle.proxy_history.proofs.OwnStepsLemmas.{connection_steps_tell_all as law}
 use Rattle.proxy_history.proofs.own_laws.connection_steps_tell_all.Goals as goal
 
 pub returns : goal.returns

@@ -1,4 +1,4 @@
-use Rattle.proxy_history.proofs.OwnLemmas.{host_steps_tell_all as law}
+use Rattle.proxy_history.proofs.OwnStepsLemmas.{host_steps_tell_all as law}
 use Rattle.proxy_history.proofs.own_laws.host_steps_tell_all.Goals as goal
 
 pub returns : goal.returns

@@ -6,7 +6,7 @@ use Rattle.proxy_engines.proofs.client.ClientEngine.close.Goals as goal
 pub returns-in-Ok-clause-moves : goal.returns-in-Ok-clause-moves
 returns-in-Ok-clause-moves g c =
     record {
-      turns = c.tell.ensures.turns;
+      turns = c.make_turn.ensures.turns;
       goes = rw (c.in-Ok.ensures.answered.steps, ← c.self.view_is)
           (true, closed_goes _ (g.T.Turns.pass c.args.turns.now) c.in-Ok.answer _ (rw (← c.self.view_is) at c.requires.stage) (rw (← c.self.view_is) at c.requires.nothing) (rw (← c.self.view_is) at c.requires.handed));
       unfailed = rw (← c.self.view_is) (refl, refl);
@@ -16,10 +16,10 @@ returns-in-Ok-clause-moves g c =
 pub returns-in-Err-clause-moves : goal.returns-in-Err-clause-moves
 returns-in-Err-clause-moves g c =
     record {
-      turns = c.tell.ensures.turns;
+      turns = c.make_turn.ensures.turns;
       goes = (false, same_goes _ _ _ c.in-Err.ensures.denied.rests);
       unfailed = tt;
-      number = is_numbered g.T.Turns.cause g.met.T.CoreTurns.refusals_mean (g.T.Turns.setting c.args.turns.now) _ (g.T.Turns.seen c.tell.new.turns) c.in-Err.denied c.in-Err.ensures.denied.due c.error.result c.error.ensures (λ x none. none);
+      number = is_numbered g.T.Turns.cause g.met.T.CoreTurns.refusals_mean (g.T.Turns.setting c.args.turns.now) _ (g.T.Turns.seen c.make_turn.new.turns) c.in-Err.denied c.in-Err.ensures.denied.due c.error.result c.error.ensures (λ x none. none);
     }
 
 pub returns-in-Ok-clause-ok : goal.returns-in-Ok-clause-ok

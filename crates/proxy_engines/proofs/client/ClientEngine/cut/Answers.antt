@@ -5,10 +5,10 @@ use Rattle.proxy_engines.proofs.NumberLemmas.{is_numbered}
 use Rattle.proxy_engines.proofs.client.ClientEngine.cut.Goals as goal
 
 pub returns-in-Ok-clause-turns : goal.returns-in-Ok-clause-turns
-returns-in-Ok-clause-turns g c = c.tell.ensures.turns
+returns-in-Ok-clause-turns g c = c.make_turn.ensures.turns
 
 pub returns-in-Err-clause-turns : goal.returns-in-Err-clause-turns
-returns-in-Err-clause-turns g c = c.tell.ensures.turns
+returns-in-Err-clause-turns g c = c.make_turn.ensures.turns
 
 pub returns-in-Ok-clause-cuts : goal.returns-in-Ok-clause-cuts
 returns-in-Ok-clause-cuts g c = rw (c.in-Ok.ensures.answered.steps, ← c.self.view_is) (inl (cut_goes _ (g.T.Turns.pass c.args.turns.now) c.in-Ok.told _, refl, refl))
@@ -21,4 +21,4 @@ returns-in-Ok-clause-number g c = inl refl
 
 pub returns-in-Err-clause-number : goal.returns-in-Err-clause-number
 returns-in-Err-clause-number g c =
-    inr (is_numbered g.T.Turns.cause g.met.T.CoreTurns.refusals_mean (g.T.Turns.setting c.args.turns.now) _ (g.T.Turns.seen c.tell.new.turns) c.in-Err.denied c.in-Err.ensures.denied.due c.error.result c.error.ensures (λ x none. none))
+    inr (is_numbered g.T.Turns.cause g.met.T.CoreTurns.refusals_mean (g.T.Turns.setting c.args.turns.now) _ (g.T.Turns.seen c.make_turn.new.turns) c.in-Err.denied c.in-Err.ensures.denied.due c.error.result c.error.ensures (λ x none. none))

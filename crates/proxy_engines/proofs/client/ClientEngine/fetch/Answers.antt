@@ -18,6 +18,7 @@ pub returns-in-Err-clause-fetches : goal.returns-in-Err-clause-fetches
 returns-in-Err-clause-fetches g c =
     record {
       keeps = (search rules, ap (λ (e : Client). e.stage) c.self.view_is ∙ c.requires.stage, (c.next_request.ensures.keeps.0.2 ∙ ap (λ (e : Client). e.inbox.counts) c.self.view_is, ap (λ (e : Client). e.outbox.counts) c.self.view_is));
+      ends = rw (← c.self.view_is) (c.next_request.ensures.keeps.0, refl);
       next = tt;
       err = refl;
     }
@@ -26,6 +27,7 @@ pub returns-in-Ok-clause-fetches : goal.returns-in-Ok-clause-fetches
 returns-in-Ok-clause-fetches g c =
     record {
       keeps = (search rules, ap (λ (e : Client). e.stage) c.self.view_is ∙ c.requires.stage, (c.next_request.ensures.keeps.0.2 ∙ ap (λ (e : Client). e.inbox.counts) c.self.view_is, ap (λ (e : Client). e.outbox.counts) c.self.view_is));
+      ends = rw (← c.self.view_is) (c.next_request.ensures.keeps.0, refl);
       next = record { some = search rules; none = search rules };
       err = tt;
     }

@@ -10,7 +10,7 @@ use Rattle.proxy_engines.proofs.client.ClientEngine.hand.Goals as goal
 pub returns-in-Ok-Bytes-clause-moves : goal.returns-in-Ok-Bytes-clause-moves
 returns-in-Ok-Bytes-clause-moves g c =
     record {
-      turns = c.tell.ensures.turns;
+      turns = c.make_turn.ensures.turns;
       goes = let adds = rw c.in-Ok-Bytes.field-0-is at c.in-Ok-Bytes.ensures.answered in
           rw (c.put.ensures, c.saturating_add-self-inside.ensures, adds.steps, ← c.self.view_is)
           (handed_goes _ (g.T.Turns.pass c.args.turns.now) _ c.in-Ok-Bytes.text (rw adds.steps at adds.few) (rw (← c.self.view_is) at c.requires.nothing) (rw (← c.self.view_is) at c.requires.live));
@@ -21,10 +21,10 @@ returns-in-Ok-Bytes-clause-moves g c =
 pub returns-in-Err-clause-moves : goal.returns-in-Err-clause-moves
 returns-in-Err-clause-moves g c =
     record {
-      turns = c.tell.ensures.turns;
+      turns = c.make_turn.ensures.turns;
       goes = turn_told _ c.told_as.result (told_ok c.in-Err.denied false c.told_as.result c.told_as.ensures (λ b. b ≡ false) (λ x is soft. refl)) (same_goes _ _ _ c.in-Err.ensures.denied.rests);
       unfailed = any_ok _ c.told_as.result (refl, refl);
-      number = told_number c.in-Err.denied false c.told_as.result c.told_as.ensures (g.T.Turns.cause (g.T.Turns.setting c.args.turns.now)) (Event.Handed c.self.inside.conn) (g.T.Turns.seen c.tell.new.turns) c.in-Err.ensures.denied.due;
+      number = told_number c.in-Err.denied false c.told_as.result c.told_as.ensures (g.T.Turns.cause (g.T.Turns.setting c.args.turns.now)) (Event.Handed c.self.inside.conn) (g.T.Turns.seen c.make_turn.new.turns) c.in-Err.ensures.denied.due;
     }
 
 pub returns-in-Ok-Bytes-clause-hands : goal.returns-in-Ok-Bytes-clause-hands
@@ -40,7 +40,7 @@ returns-in-Err-clause-hands g c =
     record {
       stage = refl;
       not_ready = let made = g.T.Turns.setting c.args.turns.now in
-          let seen = g.T.Turns.seen c.tell.new.turns in
+          let seen = g.T.Turns.seen c.make_turn.new.turns in
           let event = Event.Handed c.self.inside.conn in
           rw (← c.self.view_is)
           (told_ok c.in-Err.denied false c.told_as.result c.told_as.ensures _

@@ -56,6 +56,7 @@ pub returns-in-Err-clause-offers : goal.returns-in-Err-clause-offers
 returns-in-Err-clause-offers g c =
     record {
       live = rw (ap (λ (e : Client). e.stage) c.self.view_is ∙ c.requires.stage) tt;
+      ends = rw (← c.self.view_is) (refl, refl);
       ok = let back = ap Some c.in-Err.ensures.back ∙ sym c.in-Some.is ∙ c.take.ensures.value in
           let made = g.T.Turns.setting c.args.turns.now in
           let seen = g.T.Turns.seen c.arrive.new.turns in
@@ -79,6 +80,7 @@ pub returns-then-is_last-clause-offers : goal.returns-then-is_last-clause-offers
 returns-then-is_last-clause-offers g c =
     record {
       live = tt;
+      ends = rw (← c.self.view_is) (refl, refl);
       ok = inl refl;
       err = tt;
     }
@@ -87,6 +89,7 @@ pub returns-else-is_last-clause-offers : goal.returns-else-is_last-clause-offers
 returns-else-is_last-clause-offers g c =
     record {
       live = rw (ap (λ (e : Client). e.stage) c.self.view_is ∙ c.requires.stage) tt;
+      ends = rw (← c.self.view_is) (refl, refl);
       ok = inl refl;
       err = tt;
     }
@@ -95,6 +98,7 @@ pub returns-in_default-clause-offers : goal.returns-in_default-clause-offers
 returns-in_default-clause-offers g c =
     record {
       live = search rules;
+      ends = rw (← c.self.view_is) (refl, refl);
       ok = search rules;
       err = tt;
     }

@@ -14,26 +14,26 @@ pub returns-then-not-branch-clause-moves : goal.returns-then-not-branch-clause-m
 returns-then-not-branch-clause-moves g c =
     record {
       turns = c.read.ensures.moves.turns;
-      goes = told_then _ _ _ _ _ _ (told_by_step c.read.result) (c.has_next.ensures.goes _) c.read.ensures.moves.goes;
-      unfailed = rw c.has_next.ensures.looks.keeps.1.1 at (rw c.has_next.ensures.looks.keeps.1.0 at c.read.ensures.moves.unfailed);
+      goes = told_then _ _ _ _ _ _ (told_by_step c.read.result) (c.fetch_if_none.ensures.goes _) c.read.ensures.moves.goes;
+      unfailed = rw c.fetch_if_none.ensures.looks.keeps.1.1 at (rw c.fetch_if_none.ensures.looks.keeps.1.0 at c.read.ensures.moves.unfailed);
       number = c.read.ensures.moves.number;
     }
 
-pub returns-in_err-has_next-clause-moves : goal.returns-in_err-has_next-clause-moves
-returns-in_err-has_next-clause-moves g c =
+pub returns-in_err-fetch_if_none-clause-moves : goal.returns-in_err-fetch_if_none-clause-moves
+returns-in_err-fetch_if_none-clause-moves g c =
     record {
       turns = keeps_same _ _ _ _;
-      goes = step-err _ c.from_residual.result c.from_residual.ensures.0 (false, c.has_next.ensures.goes _);
+      goes = step-err _ c.from_residual.result c.from_residual.ensures.0 (false, c.fetch_if_none.ensures.goes _);
       unfailed = IfOk-from_err c.from_residual.result _ c.from_residual.ensures.0;
-      number = let (_, result_is, error_is) = err_from_is_err_and c.from_residual.result c.from_residual.ensures.1 in rw (result_is, error_is, c.in_err-has_next.ensures.looks.err) tt;
+      number = let (_, result_is, error_is) = err_from_is_err_and c.from_residual.result c.from_residual.ensures.1 in rw (result_is, error_is, c.in_err-fetch_if_none.ensures.looks.err) tt;
     }
 
 pub returns-clause-moves : goal.returns-clause-moves
 returns-clause-moves g c =
     record {
       turns = c.offer.ensures.moves.turns;
-      goes = told_then _ _ _ _ _ _ (told_by_step c.offer.result) (c.has_next.ensures.goes _) c.offer.ensures.moves.goes;
-      unfailed = rw c.has_next.ensures.looks.keeps.1.1 at (rw c.has_next.ensures.looks.keeps.1.0 at c.offer.ensures.moves.unfailed);
+      goes = told_then _ _ _ _ _ _ (told_by_step c.offer.result) (c.fetch_if_none.ensures.goes _) c.offer.ensures.moves.goes;
+      unfailed = rw c.fetch_if_none.ensures.looks.keeps.1.1 at (rw c.fetch_if_none.ensures.looks.keeps.1.0 at c.offer.ensures.moves.unfailed);
       number = c.offer.ensures.moves.number;
     }
 
@@ -54,14 +54,14 @@ pub returns-then-not-branch-clause-takes : goal.returns-then-not-branch-clause-t
 returns-then-not-branch-clause-takes g c =
     record {
       ok = if_ok _ _ c.read.result (λ p (live, told). (live, moved_or_idle _ p told)) c.read.ensures.reads.ok;
-      err = if_err _ _ c.read.result (λ e told. inr told) (rw c.has_next.ensures.looks.keeps.1.0 at c.read.ensures.reads.err);
-      idle = if_ok _ _ c.read.result (λ p (_, told) idle. inr (idle_for _ p told idle)) (rw c.has_next.ensures.looks.keeps.1.0 at c.read.ensures.reads.ok);
+      err = if_err _ _ c.read.result (λ e told. inr told) (rw c.fetch_if_none.ensures.looks.keeps.1.0 at c.read.ensures.reads.err);
+      idle = if_ok _ _ c.read.result (λ p (_, told) idle. inr (idle_for _ p told idle)) (rw c.fetch_if_none.ensures.looks.keeps.1.0 at c.read.ensures.reads.ok);
     }
 
-pub returns-in_err-has_next-clause-takes : goal.returns-in_err-has_next-clause-takes
-returns-in_err-has_next-clause-takes g c =
+pub returns-in_err-fetch_if_none-clause-takes : goal.returns-in_err-fetch_if_none-clause-takes
+returns-in_err-fetch_if_none-clause-takes g c =
     record {
       ok = IfOk-from_err c.from_residual.result _ c.from_residual.ensures.0;
-      err = let (_, result_is, error_is) = err_from_is_err_and c.from_residual.result c.from_residual.ensures.1 in rw (result_is, error_is) (inl c.in_err-has_next.ensures.looks.err);
+      err = let (_, result_is, error_is) = err_from_is_err_and c.from_residual.result c.from_residual.ensures.1 in rw (result_is, error_is) (inl c.in_err-fetch_if_none.ensures.looks.err);
       idle = IfOk-from_err c.from_residual.result _ c.from_residual.ensures.0;
     }

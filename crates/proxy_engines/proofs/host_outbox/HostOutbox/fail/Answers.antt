@@ -8,7 +8,7 @@ pub returns-in-Ok : goal.returns-in-Ok
 returns-in-Ok g c =
     record {
       records = record {
-        turns = c.tell.ensures.turns;
+        turns = c.make_turn.ensures.turns;
         fails = rw (c.saturating_add-self-inside.ensures, c.new.ensures, c.clear.ensures.items, c.in-Ok.ensures.answered.steps, ← c.self.view_is)
             (λ k. fault_records _ k (g.T.Turns.pass c.args.turns.now) _ c.args.kind c.args.moment c.in-Ok.answer c.if-self.false (rw c.in-Ok.ensures.answered.steps at c.in-Ok.ensures.answered.few));
         same = tt;
@@ -21,11 +21,11 @@ pub returns-in-Err : goal.returns-in-Err
 returns-in-Err g c =
     record {
       records = record {
-        turns = c.tell.ensures.turns;
+        turns = c.make_turn.ensures.turns;
         fails = tt;
         same = (refl, c.in-Err.ensures.denied.rests);
         err = (_, c.error.ensures);
-        number = inl (is_numbered g.T.Turns.cause g.met.T.CoreTurns.refusals_mean (g.T.Turns.setting c.args.turns.now) _ (g.T.Turns.seen c.tell.new.turns) c.in-Err.denied c.in-Err.ensures.denied.due c.error.result c.error.ensures (λ x none. none));
+        number = inl (is_numbered g.T.Turns.cause g.met.T.CoreTurns.refusals_mean (g.T.Turns.setting c.args.turns.now) _ (g.T.Turns.seen c.make_turn.new.turns) c.in-Err.denied c.in-Err.ensures.denied.due c.error.result c.error.ensures (λ x none. none));
       };
     }
 

@@ -19,7 +19,7 @@ returns-then-is_err-clause-moves g c = λ k.
 pub returns-then-epoch-self-clause-moves : goal.returns-then-epoch-self-clause-moves
 returns-then-epoch-self-clause-moves g c = λ k.
     record {
-      turns = c.tell.ensures.turns;
+      turns = c.make_turn.ensures.turns;
       goes = let adds = rw c.in-Ok-Sent.field-0-is at c.in-Ok-Sent.ensures.answered in (
         true,
         rw (c.push_back_reserved.ensures.items, c.reserve.ensures.items, adds.steps, ← c.self.view_is)
@@ -31,7 +31,7 @@ returns-then-epoch-self-clause-moves g c = λ k.
 pub returns-else-epoch-self-clause-moves : goal.returns-else-epoch-self-clause-moves
 returns-else-epoch-self-clause-moves g c = λ k.
     record {
-      turns = c.tell.ensures.turns;
+      turns = c.make_turn.ensures.turns;
       goes = let adds = rw c.in-Ok-Sent.field-0-is at c.in-Ok-Sent.ensures.answered in
           rw (c.push_back_reserved.ensures.items, c.reserve.ensures.items, adds.steps, ← c.self.view_is)
           (taken_on _ (g.T.Turns.pass c.args.turns.now) _ c.in-Ok-Sent.epoch _ c.args.moment c.in-Ok-Sent.text (rw (← c.self.view_is) at c.requires.nothing) c.if-self.false k c.if-epoch-self.false);
@@ -41,10 +41,10 @@ returns-else-epoch-self-clause-moves g c = λ k.
 pub returns-in-Err-clause-moves : goal.returns-in-Err-clause-moves
 returns-in-Err-clause-moves g c = λ k.
     record {
-      turns = c.tell.ensures.turns;
+      turns = c.make_turn.ensures.turns;
       goes = turn_told _ c.told_as.result (told_ok c.in-Err.denied false c.told_as.result c.told_as.ensures (λ b. b ≡ false) (λ x is soft. refl)) (rw (c.reserve.ensures.items, ← c.self.view_is) (stays_on _ k _ _ c.args.moment c.in-Err.ensures.denied.rests));
       plain = if_err _ _ c.told_as.result (λ e (plain, number). (plain, inl number))
-          (told_plain c.in-Err.denied false c.told_as.result c.told_as.ensures (g.T.Turns.cause (g.T.Turns.setting c.args.turns.now)) (Event.Taken c.self.inside.host) (g.T.Turns.seen c.tell.new.turns) c.in-Err.ensures.denied.due);
+          (told_plain c.in-Err.denied false c.told_as.result c.told_as.ensures (g.T.Turns.cause (g.T.Turns.setting c.args.turns.now)) (Event.Taken c.self.inside.host) (g.T.Turns.seen c.make_turn.new.turns) c.in-Err.ensures.denied.due);
     }
 
 pub returns-then-self-clause-moves : goal.returns-then-self-clause-moves
@@ -85,7 +85,7 @@ returns-in-Err-clause-none g c = told_ok c.in-Err.denied false c.told_as.result 
 pub returns-in-Err-clause-nothing_waits : goal.returns-in-Err-clause-nothing_waits
 returns-in-Err-clause-nothing_waits g c =
     let made = g.T.Turns.setting c.args.turns.now in
-    let seen = g.T.Turns.seen c.tell.new.turns in
+    let seen = g.T.Turns.seen c.make_turn.new.turns in
     let event = Event.Taken c.self.inside.host in
     rw (← c.self.view_is)
     (told_ok c.in-Err.denied false c.told_as.result c.told_as.ensures _

@@ -1,6 +1,6 @@
 use Rattle.std.proofs.Common.{inl, inr, eq-eqb}
 use Rattle.proxy_generations.specs.Events.{Failed}
-use Rattle.proxy_generations.proofs.StandsLemmas.{tells_nothing, tells_it, opening_is, is_opening, stands_failed, tries_end, newest-none, none_from, none_to}
+use Rattle.proxy_generations.proofs.GenerationsStateLemmas.{tells_nothing, tells_it, opening_is, is_opening, stands_failed, tries_end, newest-none, none_from, none_to}
 use Rattle.proxy_generations.proofs.lifecycle.Generations.failed.Goals as goal
 
 pub returns-then-not-is_opening-clause-tells : goal.returns-then-not-is_opening-clause-tells

@@ -1,6 +1,6 @@
 use Rattle.std.proofs.Common.{arith}
 use Rattle.proxy_generations.specs.Events.{Full}
-use Rattle.proxy_generations.proofs.StandsLemmas.{tells_it, stands_full}
+use Rattle.proxy_generations.proofs.GenerationsStateLemmas.{tells_it, stands_full}
 use Rattle.proxy_generations.proofs.lifecycle.Generations.full.Goals as goal
 
 pub returns-then-has_given_up : goal.returns-then-has_given_up

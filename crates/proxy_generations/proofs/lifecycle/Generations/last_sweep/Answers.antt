@@ -1,5 +1,5 @@
 use Rattle.std.proofs.Common.{refl}
-use Rattle.proxy_generations.proofs.StandsLemmas.{newest_sweep, sweep_told}
+use Rattle.proxy_generations.proofs.GenerationsStateLemmas.{newest_sweep, sweep_told}
 use Rattle.proxy_generations.proofs.lifecycle.Generations.last_sweep.Goals as goal
 
 pub returns-in-Some : goal.returns-in-Some

@@ -1,5 +1,5 @@
 use Rattle.proxy_generations.specs.Events.{Opened}
-use Rattle.proxy_generations.proofs.StandsLemmas.{tells_nothing, tells_it, opening_is, is_opening, stands_opened}
+use Rattle.proxy_generations.proofs.GenerationsStateLemmas.{tells_nothing, tells_it, opening_is, is_opening, stands_opened}
 use Rattle.proxy_generations.proofs.lifecycle.Generations.opened.Goals as goal
 
 pub returns-then-is_opening : goal.returns-then-is_opening

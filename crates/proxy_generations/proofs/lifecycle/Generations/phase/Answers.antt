@@ -1,5 +1,5 @@
 use Rattle.std.proofs.lemmas.Bool.{iff_false}
-use Rattle.proxy_generations.proofs.StandsLemmas.{number_newest, number_older, serves, is_gone, gives_up, drains, is_unasked, none_otherwise}
+use Rattle.proxy_generations.proofs.GenerationsStateLemmas.{number_newest, number_older, serves, is_gone, gives_up, drains, is_unasked, none_otherwise}
 use Rattle.proxy_generations.proofs.lifecycle.Generations.phase.Goals as goal
 
 pub returns-then-has_number : goal.returns-then-has_number

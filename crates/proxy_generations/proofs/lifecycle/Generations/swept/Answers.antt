@@ -1,4 +1,4 @@
-use Rattle.proxy_generations.proofs.StandsLemmas.{tells_swept}
+use Rattle.proxy_generations.proofs.GenerationsStateLemmas.{tells_swept}
 use Rattle.proxy_generations.proofs.lifecycle.Generations.swept.Goals as goal
 
 pub returns : goal.returns

@@ -1,5 +1,5 @@
 use Rattle.std.proofs.Common.{sym, ap, ◌∙◌}
-use Rattle.resp_core.specs.Progress.{held_of, shown_progress}
+use Rattle.resp_core.specs.PartialValue.{held_of, shown_progress}
 use Rattle.resp_core.specs.ReaderState.{ReaderState, unread_by, unread_bytes}
 use Rattle.resp_core.proofs.streams.ReaderStateLemmas.{none_if, leaves}
 use Rattle.resp_core.proofs.reader.Reader.held.Goals as goal

@@ -1,5 +1,5 @@
 use Rattle.std.proofs.Common.{[], refl}
-use Rattle.resp_core.proofs.unfinished.ProgressLemmas.{reads_shown}
+use Rattle.resp_core.proofs.unfinished.PartialValueLemmas.{reads_shown}
 use Rattle.resp_core.proofs.reader.Reader.new.Goals as goal
 
 pub invariant_of-result : goal.invariant_of-result

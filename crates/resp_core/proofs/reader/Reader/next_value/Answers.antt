@@ -1,12 +1,12 @@
 use Rattle.std.proofs.Common.{◌<◌, ◌∷◌, ◌++◌, [], ℕ, List, Some, refl, sym, ◌∙◌, subst, ◌≤◌}
 use Rattle.resp_core.specs.Tree.{Tree}
 use Rattle.resp_core.specs.Value.{tree_of}
-use Rattle.resp_core.specs.Front.{IsFault}
+use Rattle.resp_core.specs.FirstValue.{IsFault}
 use Rattle.resp_core.specs.Readable.{IsReadable}
 use Rattle.resp_core.specs.Offset.{offset_of, number_of}
 use Rattle.resp_core.specs.Stream.{HasRefusal, HasNoRefusal}
 use Rattle.resp_core.specs.ReaderState.{ReaderState, state_of, Stands, Unmoved, unread_bytes}
-use Rattle.resp_core.proofs.unfinished.ProgressLemmas.{shown_reads}
+use Rattle.resp_core.proofs.unfinished.PartialValueLemmas.{shown_reads}
 use Rattle.resp_core.proofs.streams.ReaderStateLemmas.{stands_given, stands_told, unmoved, falls, few_left, no_refusal, rests_unfinished, has_refusal, gives_readable, shown_gave, shown_on, shown_reached, given_reached, on_reached}
 use Rattle.resp_core.specs.Grammar.{max_text}
 use Rattle.resp_core.proofs.reader.Reader.next_value.Goals as goal

@@ -1,0 +1,447 @@
+-- How calls keep what `Generations` knows.
+use Rattle.std.proofs.Common.{◌≡◌, ◌⊎◌, ◌↔◌, ◌<◌, ◌≤◌, ◌+◌, ◌-◌, ◌^◌, ℕ, Bool, true, false, Option, Some, None, unwrap_or, is_some, not, IfSome, IsNone, List, ◌∷◌, inl, inr, refl, sym, ap, arith}
+use Rattle.std.proofs.lemmas.Bool.{eq-eqb, ne_eqb, cases_eq}
+use Rattle.std.specs.Prelude.{IsSome}
+use Rattle.proxy_generations.specs.Events.{Event, Opened, Failed, Near, Full, Progressed, Swept, newest, draining, has_connections, is_asked, near_since, failures, handover, last_number, last_sweep, opening}
+use Rattle.proxy_generations.specs.History.{MayHappen, IsHistory, HasGivenUp, IsStill}
+use Rattle.proxy_generations.specs.GenerationsState.{Settings, Stands, Tells, open_of, next_of}
+use Rattle.proxy_generations.specs.OpenGenerations.{IsNumber, HadTime, MayBeLeft}
+use Rattle.proxy_generations.specs.declared.opened.Open.{Open}
+use Rattle.proxy_generations.specs.declared.lifecycle.NextGeneration.TheVariants.{Unasked, Wanted, Opening}
+use Rattle.proxy_generations.specs.declared.lifecycle.Generations.{Generations}
+use Rattle.proxy_generations.proofs.HistoryLemmas.{IsOrdered, ordered, same}
+use Rattle.proxy_generations.proofs.ConnectionLemmas.{connected, connects, apart, not_gone, gone}
+use Rattle.std.specs.Option.{SomeIff}
+use Rattle.proxy_generations.specs.Phase.{IsPhase}
+use Rattle.proxy_generations.specs.declared.lifecycle.Phase.TheVariants.{Serving, Draining, GivingUp, Stopped}
+
+same_kept : (a b : Open) → Some a ≡ Some b → a ≡ b
+same_kept a b e = cc
+
+-- what `is_none` says
+pub none_from : (o : Option Open) (b : Bool) → is_some o ≡ not b → b ≡ true → o ≡ None
+none_from None b e is = refl
+none_from (Some x) b e is = absurd cc
+
+pub none_to : (o : Option Open) (b : Bool) → is_some o ≡ not b → o ≡ None → b ≡ true
+none_to None true e is = refl
+none_to None false e is = absurd cc
+none_to (Some x) b e is = absurd cc
+
+-- what `is_some` says
+pub none_otherwise : (o : Option ℕ) (b : Bool) → b ≡ is_some o → b ≡ false → o ≡ None
+none_otherwise None b e is = refl
+none_otherwise (Some x) b e is = absurd cc
+
+module _ {H : Type 0} where
+  -- a call that counts nowhere, and changes nothing
+  pub tells_nothing : (e : Event H) (m : Generations H) → ((s : Settings) (es : List (Event H)) → Stands m s es → ¬ MayHappen e es)
+      → Tells e m m
+  tells_nothing e m never = record {
+    counts = λ s es st may. absurd (never s es st may);
+    ignored = λ s es st no. refl;
+  }
+
+  -- a call that always counts
+  pub tells_it : (e : Event H) (m k : Generations H)
+      → ((s : Settings) (es : List (Event H)) → Stands m s es → MayHappen e es × Stands k s (e ∷ es)) → Tells e m k
+  tells_it e m k always = record {
+    counts = λ s es st may. (always s es st).1;
+    ignored = λ s es st no. absurd (no (always s es st).0);
+  }
+
+  next-opening : (asked : Bool) (number : Option ℕ) (from : Option H) → next_of asked number from ≡ Opening
+      → (asked ≡ true) × ((n : ℕ) × (number ≡ Some n))
+  next-opening false number from e = absurd cc
+  next-opening true None from e = absurd cc
+  next-opening true (Some n) from e = (refl, (n, refl))
+
+  next-unasked : (asked : Bool) (number : Option ℕ) (from : Option H) → next_of asked number from ≡ Unasked → asked ≡ false
+  next-unasked false number from e = refl
+  next-unasked true None from e = absurd cc
+  next-unasked true (Some n) from e = absurd cc
+
+  -- the one being opened, as it is kept
+  pub opening_is : (m : Generations H) (s : Settings) (es : List (Event H)) (number : ℕ) → Stands m s es
+      → m.next ≡ Opening → number ≡ m.asked → opening es ≡ Some number
+  opening_is m s es number st next is =
+      let (asked, (n, o)) = next-opening (is_asked es) (opening es) (handover es) (let e = st.next_is in cc) in
+      let number_is = ((ordered es st.may).opens n o).0 in
+      let asked_is = st.asked_is in cc
+
+  pub is_opening : (m : Generations H) (s : Settings) (es : List (Event H)) (number : ℕ) → Stands m s es
+      → opening es ≡ Some number → (m.next ≡ Opening) × (number ≡ m.asked)
+  is_opening m s es number st o =
+      let is = (ordered es st.may).opens number o in
+      let next_is = st.next_is in
+      let next : next_of (is_asked es) (opening es) (handover es) ≡ Opening = rw (is.1, o) in
+      let asked_is = st.asked_is in
+      (cc, cc)
+
+  not_opening_at : (o : Option ℕ) (es : List (Event H)) → IsOrdered es → opening es ≡ o → is_asked es ≡ false → o ≡ None
+  not_opening_at None es order e unasked = refl
+  not_opening_at (Some n) es order e unasked = absurd (let asked = (order.opens n e).1 in cc)
+
+  -- none is being opened where none is asked for
+  not_opening : (es : List (Event H)) → IsHistory es → is_asked es ≡ false → opening es ≡ None
+  not_opening es h unasked = not_opening_at (opening es) es (ordered es h) refl unasked
+
+  sweep_is : (es : List (Event H)) (n swept : ℕ) → Some (record { number = n; swept = swept }) ≡ open_of es (Some n)
+      → swept ≡ last_sweep n es
+  sweep_is es n swept e = ap (λ o. o.swept) (same_kept (record { number = n; swept = swept }) (record { number = n; swept = last_sweep n es }) e)
+
+  -- a generation with another number is kept as it was
+  open_of-opened : (n t : ℕ) (es : List (Event H)) (o : Option ℕ) → ((k : ℕ) → o ≡ Some k → n ≡ k → ⊥)
+      → open_of (Opened n t ∷ es) o ≡ open_of es o
+  open_of-opened n t es None other = refl
+  open_of-opened n t es (Some k) other = rw (ne_eqb n k (other k refl))
+
+  pub stands_opened : (m : Generations H) (s : Settings) (es : List (Event H)) (n t swept : ℕ) → Stands m s es
+      → opening es ≡ Some n → swept ≡ unwrap_or m.handed_sweep t
+      → Stands (record m {
+        tries_left = m.max_failures;
+        newest = Some (record { number = n; swept = swept });
+        older = m.newest;
+        near_since = None;
+        still_since = Some t;
+        drains_since = Some t;
+        next = Unasked;
+      }) s (Opened n t ∷ es)
+  stands_opened m s es n t swept st o is =
+      let order = ordered es st.may in
+      let opens = order.opens n o in
+      let handed = st.handed_is in record {
+        may = (o, st.may);
+        interval_is = st.interval_is;
+        most_is = st.most_is;
+        tries_are = let most = st.most_is in omega arith;
+        newest_is = rw (eq-eqb n n refl) (ap (λ x. Some (record { number = n; swept = x })) (rw (← handed) is));
+        older_is = let was = st.newest_is in
+            let stays = open_of-opened n t es (newest es) (λ k e is_k. let less = order.fresh k e opens.1 in omega (arith, opens.0)) in cc;
+        near_is = refl;
+        still_is = refl;
+        drains_is = refl;
+        next_is = refl;
+        asked_is = st.asked_is;
+        handed_is = st.handed_is;
+      }
+
+  -- the number of an open one, as it is kept
+  pub number_is : (es : List (Event H)) (o : Option ℕ) (kept : Option Open) (n : ℕ) → kept ≡ open_of es o
+      → IsNumber kept n ↔ (o ≡ Some n)
+  number_is es None None n e = (λ x. absurd x, λ x. absurd cc)
+  number_is es None (Some kept) n e = absurd cc
+  number_is es (Some k) None n e = absurd cc
+  number_is es (Some k) (Some kept) n e = (λ x. cc, λ x. cc)
+
+  pub stands_failed : (m : Generations H) (s : Settings) (es : List (Event H)) (n tries : ℕ) → Stands m s es
+      → opening es ≡ Some n → tries ≡ m.tries_left - 1
+      → Stands (record m { tries_left = tries; next = Unasked }) s (Failed n ∷ es)
+  stands_failed m s es n tries st o is = record {
+    may = (o, st.may);
+    interval_is = st.interval_is;
+    most_is = st.most_is;
+    tries_are = let were = st.tries_are in omega arith;
+    newest_is = st.newest_is;
+    older_is = st.older_is;
+    near_is = st.near_is;
+    still_is = st.still_is;
+    drains_is = st.drains_is;
+    next_is = refl;
+    asked_is = st.asked_is;
+    handed_is = st.handed_is;
+  }
+
+  -- the last failure that is borne
+  pub tries_end : (m : Generations H) (s : Settings) (es : List (Event H)) (tries : ℕ) → Stands m s es → tries ≡ m.tries_left - 1
+      → (tries ≡ 0) ↔ (s.max_failures ≤ failures es + 1)
+  tries_end m s es tries st is = let were = st.tries_are in (λ e. omega arith, λ b. omega arith)
+
+  none_is : (es : List (Event H)) (o : Option ℕ) (kept : Option Open) → kept ≡ open_of es o → (kept ≡ None) ↔ (o ≡ None)
+  none_is es None None e = (λ x. refl, λ x. refl)
+  none_is es None (Some kept) e = absurd cc
+  none_is es (Some k) None e = absurd cc
+  none_is es (Some k) (Some kept) e = (λ x. absurd cc, λ x. absurd cc)
+
+  -- none is open
+  pub newest-none : (m : Generations H) (s : Settings) (es : List (Event H)) → Stands m s es → (m.newest ≡ None) ↔ (newest es ≡ None)
+  newest-none m s es st = none_is es (newest es) m.newest st.newest_is
+
+  -- nothing keeps a further one from being asked for
+  pub had_time : (m : Generations H) (s : Settings) (es : List (Event H)) (now : ℕ) → Stands m s es
+      → HadTime m now ↔ ((draining es ≡ None) ⊎ HasGivenUp es now)
+  had_time m s es now st =
+      let none = none_is es (draining es) m.older st.older_is in
+      let near = st.near_is in (
+        λ x. elim x [ inl e ↦ inl (none.0 e) | inr (since, e, long) ↦ inr (since, cc, long) ],
+        λ x. elim x [ inl e ↦ inl (none.1 e) | inr (since, e, long) ↦ inr (since, cc, long) ],
+      )
+
+  pub stands_full : (m : Generations H) (s : Settings) (es : List (Event H)) (by now swept asked : ℕ) (from : H) → Stands m s es
+      → m.next ≡ Unasked → m.newest ≡ Some (record { number = by; swept = swept }) → asked ≡ m.asked + 1 → asked < 2 ^ 64
+      → HadTime m now
+      → MayHappen (Full by now from) es
+      × Stands (record m { next = Wanted (Some from); asked = asked; handed_sweep = Some swept }) s (Full by now from ∷ es)
+  stands_full m s es by now swept asked from st next kept is fits had =
+      let unasked = next-unasked (is_asked es) (opening es) (handover es) (let e = st.next_is in cc) in
+      let newest_is = (number_is es (newest es) m.newest by st.newest_is).0 (rw kept refl) in
+      let asked_is = st.asked_is in
+      let room : last_number es + 1 < 2 ^ 64 = omega arith in
+      let was = st.newest_is in
+      let same_open : Some (record { number = by; swept = swept }) ≡ open_of es (newest es) = cc in
+      let none : opening es ≡ None = not_opening es st.may unasked in
+      let may : MayHappen (Full by now from) es = (newest_is, unasked, room, (had_time m s es now st).0 had) in
+      let swept_is = sweep_is es by swept (rw newest_is at same_open) in (
+        may,
+        record {
+          may = (may, st.may);
+          interval_is = st.interval_is;
+          most_is = st.most_is;
+          tries_are = st.tries_are;
+          newest_is = st.newest_is;
+          older_is = st.older_is;
+          near_is = st.near_is;
+          still_is = st.still_is;
+          drains_is = st.drains_is;
+          next_is = rw none refl;
+          asked_is = omega arith;
+          handed_is = ap Some swept_is;
+        },
+      )
+
+  -- nothing keeps an older one from being given up
+  pub may_be_left : (m : Generations H) (s : Settings) (es : List (Event H)) (now : ℕ) → Stands m s es
+      → MayBeLeft m now ↔ ((draining es ≡ None) ⊎ IsStill es now)
+  may_be_left m s es now st =
+      let none = none_is es (draining es) m.older st.older_is in
+      let still = st.still_is in
+      let drains = st.drains_is in (
+        λ x. elim x [
+          | inl e ↦ inl (none.0 e)
+          | inr (inl (since, e, long)) ↦ inr (inl (since, cc, long))
+          | inr (inr (since, e, long)) ↦ inr (inr (since, cc, long))
+        ],
+        λ x. elim x [
+          | inl e ↦ inl (none.1 e)
+          | inr (inl (since, e, long)) ↦ inr (inl (since, cc, long))
+          | inr (inr (since, e, long)) ↦ inr (inr (since, cc, long))
+        ],
+      )
+
+  -- once a host answered it
+  pub stands_progressed : (m : Generations H) (s : Settings) (es : List (Event H)) (n now : ℕ) → Stands m s es
+      → draining es ≡ Some n → Stands (record m { still_since = Some now }) s (Progressed n now ∷ es)
+  stands_progressed m s es n now st may = record {
+    may = (may, st.may);
+    interval_is = st.interval_is;
+    most_is = st.most_is;
+    tries_are = st.tries_are;
+    newest_is = st.newest_is;
+    older_is = st.older_is;
+    near_is = st.near_is;
+    still_is = refl;
+    drains_is = st.drains_is;
+    next_is = st.next_is;
+    asked_is = st.asked_is;
+    handed_is = st.handed_is;
+  }
+
+  -- once it said that it is near its marks
+  pub stands_near : (m : Generations H) (s : Settings) (es : List (Event H)) (by now since : ℕ) → Stands m s es
+      → MayHappen (Near by now) es → since ≡ unwrap_or m.near_since now
+      → Stands (record m { near_since = Some since }) s (Near by now ∷ es)
+  stands_near m s es by now since st may is =
+      let near = st.near_is in record {
+        may = (may, st.may);
+        interval_is = st.interval_is;
+        most_is = st.most_is;
+        tries_are = st.tries_are;
+        newest_is = st.newest_is;
+        older_is = st.older_is;
+        near_is = ap Some (rw (← near) is);
+        still_is = st.still_is;
+        drains_is = st.drains_is;
+        next_is = st.next_is;
+        asked_is = st.asked_is;
+        handed_is = st.handed_is;
+      }
+
+  -- which one has a number, as it is kept
+  pub number_newest : (m : Generations H) (s : Settings) (es : List (Event H)) (n : ℕ) → Stands m s es
+      → IsNumber m.newest n ↔ (newest es ≡ Some n)
+  number_newest m s es n st = number_is es (newest es) m.newest n st.newest_is
+
+  pub number_older : (m : Generations H) (s : Settings) (es : List (Event H)) (n : ℕ) → Stands m s es
+      → IsNumber m.older n ↔ (draining es ≡ Some n)
+  number_older m s es n st = number_is es (draining es) m.older n st.older_is
+
+  -- what the newest one is to do
+  pub serves : (es : List (Event H)) → IsHistory es → (n : ℕ) → newest es ≡ Some n → IsPhase Serving es n
+  serves es h n e = record {
+    serves = (λ x. e, λ x. refl);
+    drains = (λ x. absurd cc, λ x. absurd (apart es h n e x.0.0));
+    gives_up = (λ x. absurd cc, λ x. absurd (apart es h n e x.0.0));
+    stops = (
+      λ x. absurd cc,
+      λ x. elim x [
+        | inl way ↦ absurd (apart es h n e way.0)
+        | inr none ↦ absurd (not_gone es h n (inl e) none)
+      ],
+    );
+  }
+
+  -- what one is to do that is neither
+  pub is_gone : (es : List (Event H)) → IsHistory es → (n : ℕ) → (newest es ≡ Some n → ⊥) → (draining es ≡ Some n → ⊥)
+      → IsPhase Stopped es n
+  is_gone es h n not_newest not_draining = record {
+    serves = (λ x. absurd cc, λ e. absurd (not_newest e));
+    drains = (λ x. absurd cc, λ x. absurd (not_draining x.0.0));
+    gives_up = (λ x. absurd cc, λ x. absurd (not_draining x.0.0));
+    stops = (λ x. inr (gone es h n not_newest not_draining), λ x. refl);
+  }
+
+  -- what the draining one is to do where a further one is asked for
+  pub is_in_the_way : (es : List (Event H)) → IsHistory es → (n : ℕ) → draining es ≡ Some n → is_asked es ≡ true
+      → IsPhase Stopped es n
+  is_in_the_way es h n e asked = record {
+    serves = (λ x. absurd cc, λ f. absurd (apart es h n f e));
+    drains = (λ x. absurd cc, λ x. absurd (let other = x.0.1 in cc));
+    gives_up = (λ x. absurd cc, λ x. absurd (let other = x.0.1 in cc));
+    stops = (λ x. inl (e, asked), λ x. refl);
+  }
+
+  -- and where none is
+  pub gives_up : (es : List (Event H)) → IsHistory es → (n : ℕ) → draining es ≡ Some n → is_asked es ≡ false → IsSome (near_since es)
+      → IsPhase GivingUp es n
+  gives_up es h n e unasked near = record {
+    serves = (λ x. absurd cc, λ f. absurd (apart es h n f e));
+    drains = (λ x. absurd cc, λ x. absurd (let other = x.1 in cc));
+    gives_up = (λ x. ((e, unasked), near), λ x. refl);
+    stops = (
+      λ x. absurd cc,
+      λ x. elim x [
+        | inl way ↦ absurd (let other = way.1 in cc)
+        | inr none ↦ absurd (not_gone es h n (inr e) none)
+      ],
+    );
+  }
+
+  pub drains : (es : List (Event H)) → IsHistory es → (n : ℕ) → draining es ≡ Some n → is_asked es ≡ false → near_since es ≡ None
+      → IsPhase Draining es n
+  drains es h n e unasked near = record {
+    serves = (λ x. absurd cc, λ f. absurd (apart es h n f e));
+    drains = (λ x. ((e, unasked), near), λ x. refl);
+    gives_up = (λ x. absurd cc, λ x. absurd (let other = x.1 in cc));
+    stops = (
+      λ x. absurd cc,
+      λ x. elim x [
+        | inl way ↦ absurd (let other = way.1 in cc)
+        | inr none ↦ absurd (not_gone es h n (inr e) none)
+      ],
+    );
+  }
+
+  asked_at : (es : List (Event H)) → IsHistory es → (n : ℕ) → draining es ≡ Some n → (asked : Bool) (o : Option ℕ) → is_asked es ≡ asked
+      → opening es ≡ o → ((from : Option H) → next_of asked o (handover es) ≡ Wanted from → ⊥) → asked ≡ false
+  asked_at es h n e false o a b never = refl
+  asked_at es h n e true None a b never = absurd (never (handover es) refl)
+  asked_at es h n e true (Some k) a b never = absurd (let none = ((ordered es h).opens k b).2 in cc)
+
+  -- while one drains, a further one that isn't wanted isn't asked for
+  pub is_unasked : (m : Generations H) (s : Settings) (es : List (Event H)) (n : ℕ) → Stands m s es → draining es ≡ Some n
+      → ((from : Option H) → m.next ≡ Wanted from → ⊥) → is_asked es ≡ false
+  is_unasked m s es n st e never =
+      asked_at es st.may n e (is_asked es) (opening es) refl refl (λ from x. never from (let is = st.next_is in cc))
+
+  next-wanted : (asked : Bool) (number : Option ℕ) (from kept : Option H) → next_of asked number from ≡ Wanted kept → asked ≡ true
+  next-wanted false number from kept e = absurd cc
+  next-wanted true None from kept e = refl
+  next-wanted true (Some n) from kept e = absurd cc
+
+  -- a further one that is wanted is asked for
+  pub is_wanted : (m : Generations H) (s : Settings) (es : List (Event H)) (from : Option H) → Stands m s es → m.next ≡ Wanted from
+      → is_asked es ≡ true
+  is_wanted m s es from st e = next-wanted (is_asked es) (opening es) (handover es) from (let is = st.next_is in cc)
+
+  -- the last sweep of the one kept with this number
+  sweep_at : (es : List (Event H)) (o : Option ℕ) (kept : Option Open) (n t : ℕ) → kept ≡ open_of es o
+      → kept ≡ Some (record { number = n; swept = t }) → (o ≡ Some n) × (t ≡ last_sweep n es)
+  sweep_at es None kept n t e is = absurd cc
+  sweep_at es (Some k) kept n t e is =
+      let both = same_kept (record { number = n; swept = t }) (record { number = k; swept = last_sweep k es }) cc in
+      let number : n ≡ k = ap (λ x. x.number) both in
+      let swept : t ≡ last_sweep k es = ap (λ x. x.swept) both in
+      (cc, rw number swept)
+
+  pub newest_sweep : (m : Generations H) (s : Settings) (es : List (Event H)) (n t : ℕ) → Stands m s es
+      → m.newest ≡ Some (record { number = n; swept = t }) → (has_connections n es ≡ true) × (t ≡ last_sweep n es)
+  newest_sweep m s es n t st e =
+      let is = sweep_at es (newest es) m.newest n t st.newest_is e in
+      (connects es st.may n (inl is.0), is.1)
+
+  pub older_sweep : (m : Generations H) (s : Settings) (es : List (Event H)) (n t : ℕ) → Stands m s es
+      → m.older ≡ Some (record { number = n; swept = t }) → (has_connections n es ≡ true) × (t ≡ last_sweep n es)
+  older_sweep m s es n t st e =
+      let is = sweep_at es (draining es) m.older n t st.older_is e in
+      (connects es st.may n (inr is.0), is.1)
+
+  -- neither has this number
+  pub none_has : (m : Generations H) (s : Settings) (es : List (Event H)) (n : ℕ) → Stands m s es → ¬ IsNumber m.newest n
+      → ¬ IsNumber m.older n → has_connections n es ≡ true → ⊥
+  none_has m s es n st a b has = elim (connected es st.may n has) [
+    | inl e ↦ a ((number_newest m s es n st).1 e)
+    | inr e ↦ b ((number_older m s es n st).1 e)
+  ]
+
+  -- an open one, as it is kept after a sweep
+  open_of-swept : (n t : ℕ) (es : List (Event H)) (o : Option ℕ) (kept after : Option Open) → kept ≡ open_of es o
+      → (IsNumber kept n → after ≡ Some (record { number = n; swept = t })) → (¬ IsNumber kept n → after ≡ kept)
+      → after ≡ open_of (Swept n t ∷ es) o
+  open_of-swept n t es None kept after e same_is other_is =
+      let never : ¬ IsNumber kept n = λ x. absurd (let f = (number_is es None kept n e).0 x in cc) in
+      let is = other_is never in cc
+  open_of-swept n t es (Some k) kept after e same_is other_is = elim (cases_eq n k) [
+    | inl is ↦ rw (← is, eq-eqb n n refl) (same_is ((number_is es (Some k) kept n e).1 (ap Some (sym is))))
+    | inr differs ↦
+        let never : ¬ IsNumber kept n = λ x. differs (sym (same k n ((number_is es (Some k) kept n e).0 x))) in
+        let stays = other_is never in rw (ne_eqb n k differs, stays) e
+  ]
+
+  pub stands_swept : (m : Generations H) (s : Settings) (es : List (Event H)) (n t : ℕ) (newer elder : Option Open) → Stands m s es
+      → has_connections n es ≡ true
+      → (IsNumber m.newest n → newer ≡ Some (record { number = n; swept = t })) → (¬ IsNumber m.newest n → newer ≡ m.newest)
+      → (IsNumber m.older n → elder ≡ Some (record { number = n; swept = t })) → (¬ IsNumber m.older n → elder ≡ m.older)
+      → Stands (record m { newest = newer; older = elder }) s (Swept n t ∷ es)
+  stands_swept m s es n t newer elder st has a b c d = record {
+    may = (has, st.may);
+    interval_is = st.interval_is;
+    most_is = st.most_is;
+    tries_are = st.tries_are;
+    newest_is = open_of-swept n t es (newest es) m.newest newer st.newest_is a b;
+    older_is = open_of-swept n t es (draining es) m.older elder st.older_is c d;
+    near_is = st.near_is;
+    still_is = st.still_is;
+    drains_is = st.drains_is;
+    next_is = st.next_is;
+    asked_is = st.asked_is;
+    handed_is = st.handed_is;
+  }
+
+  -- a sweep is told
+  pub tells_swept : (m : Generations H) (n t : ℕ) (newer elder : Option Open)
+      → (IsNumber m.newest n → newer ≡ Some (record { number = n; swept = t })) → (¬ IsNumber m.newest n → newer ≡ m.newest)
+      → (IsNumber m.older n → elder ≡ Some (record { number = n; swept = t })) → (¬ IsNumber m.older n → elder ≡ m.older)
+      → Tells (Swept n t) m (record m { newest = newer; older = elder })
+  tells_swept m n t newer elder a b c d = record {
+    counts = λ s es st may. stands_swept m s es n t newer elder st may a b c d;
+    ignored = λ s es st not_open.
+        let x = b (λ is. not_open (connects es st.may n (inl ((number_newest m s es n st).0 is)))) in
+        let y = d (λ is. not_open (connects es st.may n (inr ((number_older m s es n st).0 is)))) in rw (x, y) refl;
+  }
+
+  -- the last sweep of the older one, where it is asked for
+  pub sweep_told : (m : Generations H) (s : Settings) (es : List (Event H)) (n : ℕ) (r : Option ℕ) → Stands m s es
+      → ¬ IsNumber m.newest n → IfSome r (λ t. m.older ≡ Some (record { number = n; swept = t }))
+      → (IsNone r → ¬ IsNumber m.older n) → SomeIff r (has_connections n es ≡ true) (last_sweep n es)
+  sweep_told m s es n None st a some none = λ has. none_has m s es n st a (none refl) has
+  sweep_told m s es n (Some t) st a some none = older_sweep m s es n t st some

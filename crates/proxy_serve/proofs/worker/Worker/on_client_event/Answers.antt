@@ -1,6 +1,0 @@
-use Rattle.std.proofs.Common.{sym}
-use Rattle.proxy_serve.proofs.WorkerLemmas.{serves_same}
-use Rattle.proxy_serve.proofs.worker.Worker.on_client_event.Goals as goal
-
-pub returns : goal.returns
-returns c = serves_same _ _ _ c.in-Some.client.now _ _ (sym c.in-Some.ensures.value) c.on_readiness.ensures c.requires

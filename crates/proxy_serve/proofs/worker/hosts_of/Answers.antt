@@ -1,5 +1,0 @@
-use Rattle.proxy_serve.proofs.WorkerLemmas.{rises_empty}
-use Rattle.proxy_serve.proofs.worker.hosts_of.Goals as goal
-
-pub loop-host-init : goal.loop-host-init
-loop-host-init c = rises_empty _ _ c.new-hosts.ensures.items

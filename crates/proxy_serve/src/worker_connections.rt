@@ -1,0 +1,472 @@
+//! The clients and hosts of a worker, and the turns by which these are stepped.
+ghost use Rattle.std.specs.Prelude.{◌≡◌, ◌+◌, [], IfOk, IfSome, OnOk};
+ghost use Rattle.proxy_serve.specs.WorkerConnections.{AddsClient, ChangesClient, ChangesHost, IsLast, IsLeaving, IsNewcomer, KeepsClients, MakesRoom, RemovesClient, RiseTo, ServesHosts, steps_of};
+
+use crate::client::{CarriedSocket, Client, ClientRound, StepError, Stepped};
+use crate::counted_turns::CountedTurns;
+use crate::generation_state::GenerationState;
+use crate::host_connection::{HostConnection, HostRound, HostStepped};
+use mio::event::Event;
+use mio::net::TcpStream;
+use mio::{Registry, Token};
+use proxy_config::Config;
+use proxy_exit_status::Ending;
+use proxy_generations::StepKind;
+use proxy_histogram::Histogram;
+use proxy_serve_core::hosts_of_worker;
+use proxy_stats::CountedSeat;
+use slab::Slab;
+use std::alloc::Global;
+use std::marker::Model;
+use std::mem;
+use std::net::{Net, SocketAddr};
+use std::sync::Wait;
+
+/// Tokens from here on are hosts. The token of a client is its key.
+pub(crate) const HOSTS: usize = 1 << 32;
+
+/// What came of a client's round.
+#[derive(Clone, Copy, Drop)]
+pub(crate) struct ClientResult {
+    /// Its result.
+    pub(crate) stepped: Result<Stepped, StepError>,
+    /// Whether the client waited for replies before.
+    pub(crate) did_await: bool,
+    /// Whether it waits for replies now.
+    pub(crate) awaits: bool,
+}
+
+/// What came of a host's round.
+#[derive(Clone, Copy, Drop)]
+pub(crate) struct HostResult {
+    /// Its result.
+    pub(crate) stepped: Result<HostStepped, StepError>,
+    /// The host's address.
+    pub(crate) address: SocketAddr,
+    /// Whether more can be done at once.
+    pub(crate) moves: bool,
+}
+
+/// The clients and hosts of a worker.
+///
+/// At all times each client's engine has done just what its socket's logs show, and each host's what its link's show,
+/// over the steps of this seat. A client goes only by `remove` and `carry`.
+pub(crate) struct WorkerConnections<'a> {
+    alloc: Global,
+    turns: CountedTurns<CountedSeat<'a>>,
+    clients: Slab<Client>,
+    hosts: Vec<HostConnection>,
+    // Lent to one socket after another for its output.
+    buffer: Vec<u8>,
+    // The durations of commands since they were last taken.
+    durations: Histogram,
+}
+
+// Written out so that a drop is one call: each function that holds one is proved sooner.
+impl Drop for WorkerConnections<'_> {
+    fn drop(self) {
+        let WorkerConnections {
+            alloc: _,
+            turns: _,
+            clients: _,
+            hosts: _,
+            buffer: _,
+            durations: _,
+        } = self;
+    }
+}
+
+impl<'a> Model for WorkerConnections<'a> {
+    ghost use Rattle.proxy_serve.specs.WorkerConnections.{WorkerConnectionsState, IsServing, steps_of};
+
+    ghost Value = { WorkerConnectionsState };
+
+    ghost use Rattle.proxy_serve.specs.contracts.client.Client as client;
+    ghost use Rattle.proxy_serve.specs.contracts.host_connection.HostConnection as host_connection;
+    ghost use Rattle.slab.specs.Slab.{slab_code};
+    ghost use Rattle.std.specs.Coded.{codes};
+    ghost use Rattle.resp_core.specs.Code.{tree_code};
+
+    ghost coded = { Prim.hlevel (codes, tree_code, slab_code, client.the_row.coded, host_connection.the_row.coded) };
+
+    ghost view = { λ c. record {
+      clients = c.clients;
+      hosts = c.hosts.items;
+      steps = steps_of c.turns.turns;
+    } };
+
+    ghost invariant = { λ c. IsServing c.clients c.hosts.items (steps_of c.turns.turns) };
+}
+
+impl<'a> WorkerConnections<'a> {
+    /// The hosts of the worker with this index, each without a link, and no client. Ends with `Memory` where there is
+    /// none for the hosts.
+    pub(crate) fn new(
+        alloc: Global,
+        index: usize,
+        workers: usize,
+        config: &Config,
+        seat: CountedSeat<'a>,
+    ) -> Result<WorkerConnections<'a>, Ending>
+        requires { steps_of seat ≡ [] }
+    {
+        let hosts = hosts_of(alloc, index, workers, config)?;
+        Ok(WorkerConnections {
+            alloc,
+            turns: CountedTurns::new(seat),
+            clients: Slab::new(alloc),
+            hosts,
+            buffer: Vec::new(alloc),
+            durations: Histogram::new(),
+        })
+    }
+
+    /// The clients' keys are below this number.
+    pub(crate) fn capacity(&self) -> usize {
+        self.clients.capacity()
+    }
+
+    /// Whether there is no client.
+    pub(crate) fn is_empty(&self) -> bool {
+        self.clients.is_empty()
+    }
+
+    /// The key of the next client.
+    pub(crate) fn vacant_key(&self) -> usize {
+        self.clients.vacant_key()
+    }
+
+    /// The number of hosts.
+    pub(crate) fn host_count(&self) -> usize {
+        self.hosts.len()
+    }
+
+    /// Whether a host's link is connecting.
+    pub(crate) fn is_connecting(&self, now: u64) -> bool {
+        is_any_connecting(&self.hosts, now)
+    }
+
+    // The lent steps that it keeps: one for a fault of each of its links, because a fault must be recorded.
+    fn reserve(&self) -> u64 {
+        self.hosts.len() as u64
+    }
+
+    /// Reports what its turns did, and returns unspent steps. A step for a fault of each link stays lent.
+    pub(crate) fn settle<R: Wait>(&mut self, rt: &R, generation: &GenerationState<'_>)
+        ensures { self.new ≡ self.old }
+    {
+        let reserve = self.reserve();
+        generation.settle(rt, &mut self.turns, reserve);
+    }
+
+    /// Borrows the steps of a further connection and a command of it. False: the journal hasn't that many left.
+    pub(crate) fn borrow_for_client<R: Wait>(
+        &mut self,
+        rt: &R,
+        generation: &GenerationState<'_>,
+    ) -> bool
+        ensures { self.new ≡ self.old }
+    {
+        let reserve = self.reserve().saturating_add(StepKind::Opened.cost());
+        generation.lend(rt, &mut self.turns, reserve)
+    }
+
+    /// Makes room for one more client. False: there is no memory.
+    pub(crate) fn reserve_slot(&mut self) -> bool
+        ensures { MakesRoom self.old self.new }
+    {
+        self.clients.reserve(1).is_ok()
+    }
+
+    /// Takes the durations of commands since the last call.
+    pub(crate) fn take_durations(&mut self) -> Histogram
+        ensures { self.new ≡ self.old }
+    {
+        mem::replace(&mut self.durations, Histogram::new())
+    }
+
+    /// Opens a connection on a new socket, which is registered under the vacant key. With `ends_input` its input ends
+    /// behind what has come. False: there was no room for it, and its connection is dropped.
+    pub(crate) fn open<R: Wait>(
+        &mut self,
+        rt: &R,
+        stream: TcpStream,
+        ends_input: bool,
+    ) -> Result<bool, StepError>
+        ensures { AddsClient self.old self.new }
+    {
+        match Client::open(rt, self.alloc, &mut self.turns, stream) {
+            Ok(client) => Ok(self.insert(client, ends_input)),
+            Err(error) => Err(StepError::from(error)),
+        }
+    }
+
+    /// Opens a connection on a carried-over socket, which it registers under the vacant key. With `ends_input` its
+    /// input ends behind what has come. False: there was no room for it, and its connection is dropped. If the
+    /// connection is refused the socket comes back.
+    pub(crate) fn open_carried<R: Wait>(
+        &mut self,
+        rt: &R,
+        generation: &GenerationState<'_>,
+        registry: &Registry,
+        carried: CarriedSocket,
+        ends_input: bool,
+    ) -> Result<bool, (StepError, CarriedSocket)>
+        ensures { AddsClient self.old self.new }
+    {
+        let token = Token(self.clients.vacant_key());
+        let opened = Client::open_carried(
+            rt,
+            self.alloc,
+            &mut self.turns,
+            registry,
+            token,
+            carried,
+        );
+        match opened {
+            Ok(client) => {
+                client.note_carried(generation);
+                Ok(self.insert(client, ends_input))
+            }
+            Err((error, carried)) => Err((StepError::from(error), carried)),
+        }
+    }
+
+    // Gives the client a slot: it has a connection from here on. False: there is no room.
+    fn insert(&mut self, mut client: Client, ends_input: bool) -> bool
+        requires { IsNewcomer client.engine self.old.clients self.old.steps }
+        ensures hosts { self.new.hosts ≡ self.old.hosts }
+        ensures steps { self.new.steps ≡ self.old.steps }
+        ensures stay { KeepsClients self.old.clients self.new.clients }
+    {
+        begin_input(&mut client, ends_input);
+        let Ok(_) = self.clients.insert(client) else {
+            return false;
+        };
+        true
+    }
+
+    /// Records what the poll reports of a client's socket.
+    pub(crate) fn on_client_event(&mut self, key: usize, event: &Event)
+        ensures { ChangesClient key self.old self.new }
+    {
+        let Some(client) = self.clients.get_mut(key) else {
+            return;
+        };
+        client.on_readiness(event);
+    }
+
+    /// Records what the poll reports of a host's socket.
+    pub(crate) fn on_host_event(&mut self, index: usize, event: &Event)
+        ensures { ChangesHost index self.old self.new }
+    {
+        let Some(host) = self.hosts.get_mut(index) else {
+            return;
+        };
+        host.on_readiness(event);
+    }
+
+    /// Takes in no further commands of the client with this key.
+    pub(crate) fn drain(&mut self, key: usize)
+        ensures { ChangesClient key self.old self.new }
+    {
+        let Some(client) = self.clients.get_mut(key) else {
+            return;
+        };
+        client.drain();
+    }
+
+    /// Ends the input of the client with this key behind the bytes that have come.
+    pub(crate) fn end_input(&mut self, key: usize)
+        ensures { ChangesClient key self.old self.new }
+    {
+        let Some(client) = self.clients.get_mut(key) else {
+            return;
+        };
+        client.end_input();
+    }
+
+    /// Steps the client with this key. `None`: it can't make progress now, or there is no such client.
+    pub(crate) fn step_client<R: Wait>(
+        &mut self,
+        rt: &R,
+        generation: &GenerationState<'_>,
+        key: usize,
+        now: u64,
+    ) -> Option<ClientResult>
+        ensures changes { ChangesClient key self.old self.new }
+        ensures leaves { IfSome result (λ r. IfOk r.stepped
+            (λ s. IsLast s → IsLeaving self.new.clients key)) }
+    {
+        let reserve = self.reserve();
+        let Some(client) = self.clients.get_mut(key) else {
+            return None;
+        };
+        if !client.may_go(generation, now) {
+            return None;
+        }
+        let did_await = client.awaits_reply();
+        let stepped = client.run_once(
+            rt,
+            &mut self.turns,
+            generation,
+            &mut self.buffer,
+            &mut self.durations,
+            ClientRound { now, reserve },
+        );
+        let awaits = client.awaits_reply();
+        Some(ClientResult {
+            stepped,
+            did_await,
+            awaits,
+        })
+    }
+
+    /// Steps the host with this index. `None`: it can't make progress now, or there is no such host.
+    pub(crate) fn step_host<R: Wait + Net>(
+        &mut self,
+        rt: &R,
+        generation: &GenerationState<'_>,
+        registry: &Registry,
+        index: usize,
+        round: HostRound,
+    ) -> Option<HostResult>
+        ensures { ChangesHost index self.old self.new }
+    {
+        let Some(host) = self.hosts.get_mut(index) else {
+            return None;
+        };
+        if !host.may_go(generation, round.now) {
+            return None;
+        }
+        let stepped = host.run_once(
+            rt,
+            &mut self.turns,
+            generation,
+            registry,
+            &mut self.buffer,
+            round,
+        );
+        let moves = host.may_go(generation, round.now);
+        let address = host.address();
+        Some(HostResult {
+            stepped,
+            address,
+            moves,
+        })
+    }
+
+    /// Drops a client that isn't served any more.
+    pub(crate) fn remove(&mut self, key: usize)
+        requires { IsLeaving self.old.clients key }
+        ensures { RemovesClient key self.old self.new }
+    {
+        drop(self.clients.try_remove(key));
+    }
+
+    /// Takes the socket of a client that isn't served any more, with its unused input, for the newest generation.
+    /// `None`: its connection can't go on, and the socket is dropped; or there is no such client.
+    pub(crate) fn carry(
+        &mut self,
+        generation: &GenerationState<'_>,
+        registry: &Registry,
+        key: usize,
+    ) -> Option<CarriedSocket>
+        requires { IsLeaving self.old.clients key }
+        ensures { RemovesClient key self.old self.new }
+    {
+        match self.clients.try_remove(key) {
+            Some(client) => client.carry(registry, generation),
+            None => None,
+        }
+    }
+
+    /// Counts a refusal of memory to a client's socket that would go over. The client tries again, unless too many were
+    /// refused in a row. `None`: there is no such client.
+    pub(crate) fn refuse(&mut self, key: usize) -> Option<StepError>
+        ensures { ChangesClient key self.old self.new }
+    {
+        let Some(client) = self.clients.get_mut(key) else {
+            return None;
+        };
+        Some(client.refuse())
+    }
+
+    /// Writes what the client's socket takes at once, and closes its sending half. True: its connection wasn't counted
+    /// as closed yet. `None`: there is no such client.
+    pub(crate) fn shut_down(&mut self, key: usize) -> Option<bool>
+        ensures { ChangesClient key self.old self.new }
+    {
+        let Some(client) = self.clients.get_mut(key) else {
+            return None;
+        };
+        let is_uncounted = client.is_uncounted();
+        client.shut_down(&mut self.buffer);
+        Some(is_uncounted)
+    }
+
+    /// Writes what a carried-over socket takes at once, and closes it.
+    pub(crate) fn close_carried(&mut self, mut carried: CarriedSocket)
+        ensures { self.new ≡ self.old }
+    {
+        carried.shut_down(&mut self.buffer);
+        drop(carried);
+    }
+}
+
+// Ends the input of a new client behind what has come, where it is to end.
+fn begin_input(client: &mut Client, ends_input: bool)
+    ensures { client.new.engine ≡ client.old.engine }
+{
+    if ends_input {
+        client.end_input();
+    }
+}
+
+// Whether a link of one of these hosts is connecting.
+fn is_any_connecting(hosts: &[HostConnection], now: u64) -> bool {
+    hosts.iter().any(|host| host.is_connecting(now))
+}
+
+// The hosts of the worker with this index, each without a link.
+fn hosts_of(
+    alloc: Global,
+    index: usize,
+    workers: usize,
+    config: &Config,
+) -> Result<Vec<HostConnection>, Ending>
+    ensures { IfOk result (λ hosts. ServesHosts hosts.items []) }
+{
+    let mut hosts = Vec::new(alloc);
+    if workers == 0 {
+        return Ok(hosts);
+    }
+    let own = hosts_of_worker(alloc, index, workers, config.hosts.len())?;
+    for host in 0..config.hosts.len() {
+        push_host(&mut hosts, alloc, host, &own, config)?;
+    }
+    Ok(hosts)
+}
+
+// Adds the host of this number, without a link, if it is the worker's own.
+fn push_host(
+    hosts: &mut Vec<HostConnection>,
+    alloc: Global,
+    host: usize,
+    own: &[usize],
+    config: &Config,
+) -> Result<(), Ending>
+    requires { RiseTo hosts.old.items host }
+    ensures { OnOk result (RiseTo hosts.new.items (host + 1)) }
+{
+    if !own.contains(&host) {
+        return Ok(());
+    }
+    let Some(entry) = config.hosts.get(host) else {
+        return Ok(());
+    };
+    let token = Token(HOSTS.saturating_add(hosts.len()));
+    let reply_ms = u64::from(config.reply_ms);
+    hosts.push(HostConnection::new(alloc, host, entry.address, token, reply_ms))?;
+    Ok(())
+}

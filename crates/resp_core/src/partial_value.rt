@@ -1,0 +1,439 @@
+//! The state of a reader within an unfinished value.
+ghost use Rattle.std.specs.Prelude.{true, false, ◌≡◌, ◌≢◌, ◌⊎◌, ◌≤◌, ◌<◌, ◌-◌, ◌+◌, ◌++◌, List, ℕ, [], length, take, drop, Some, None, IfOk, IfErr, IfSome, IfNone, OnOk, OnErr, IsOk};
+ghost use Rattle.resp_core.specs.PartialValue.{Reads, IsGood, IsFresh, LeadsTo, LeadsToValue, IsShort, HaltsIn, Gave, HasStopped, shown_progress, to_read};
+ghost use Rattle.resp_core.specs.FirstValue.{IsUnfinished};
+ghost use Rattle.resp_core.specs.Value.{tree_of};
+ghost use Rattle.resp_core.specs.Grammar.{max_text};
+ghost use Rattle.resp_core.specs.declared.error.Refusal.TheVariants.{TooLong, TooDeep};
+
+use crate::begun::{Begun, put};
+use crate::error::Refusal;
+use crate::head::{Found, Head, Line, Next, RefusedByte, read_head};
+use crate::parse::{Stop, take_payload, take_text};
+use crate::text_block::TextBlock;
+use crate::value::{Value, Values};
+use bytes::{Bytes, BytesMut};
+use limits::{MAX_DEPTH, MAX_TEXT};
+use std::alloc::{AllocError, Global};
+use std::mem;
+
+// Shorter payloads and texts are copied, and so are those of less than one in `MAX_KEPT` bytes of
+// the buffer. So a shared one keeps at most `MAX_KEPT` times its bytes.
+const MIN_SHARED: usize = 4_096;
+
+// The most bytes of a block for copies of short texts. An idle connection can keep this many.
+pub(crate) const MAX_COPY_BLOCK: usize = 512;
+
+// The most members of a list for which memory is reserved before they come.
+const FEW_MEMBERS: usize = 4;
+
+pub(crate) const MAX_KEPT: usize = 8;
+
+// The most bytes of a buffer that is kept while no byte is pending.
+pub(crate) const MAX_IDLE: usize = 32_768;
+
+// Why no value was read: memory ran out, or the byte at this place of the value is refused.
+#[derive(Drop)]
+pub(crate) enum Halt {
+    NoMemory,
+    Refused(Refusal, usize),
+}
+
+#[derive(Drop)]
+pub(crate) struct PartialValue {
+    // Bytes fed and not taken, from the next byte of a head on, or from the first one of a text or a payload.
+    pub(crate) pending: BytesMut,
+    // The most bytes for which there was room since nothing was pending.
+    pub(crate) room: usize,
+    // Copies of short payloads and texts.
+    pub(crate) copies: TextBlock,
+    // The open lists, the outermost first.
+    pub(crate) opens: Vec<Begun>,
+    // A complete value that isn't in its list yet.
+    pub(crate) done: Option<Value>,
+    pub(crate) next: Next,
+    // The pending bytes of a line that needn't be looked at again.
+    pub(crate) seen: usize,
+    // The bytes of the value that were taken.
+    pub(crate) came: usize,
+    // Nothing is read while fewer bytes are pending: the length of the payload that is due, 0 if none is known.
+    pub(crate) needed: usize,
+}
+
+// Takes bytes from the front, and returns the first `len` of them.
+fn cut(
+    copies: &mut TextBlock,
+    pending: &mut BytesMut,
+    room: usize,
+    len: usize,
+    taken: usize,
+) -> Result<Bytes, AllocError>
+    requires inside { (len ≤ taken) × (taken ≤ length pending.old.items) }
+    ensures front { IfOk result (λ b. b ≡ take len pending.old.items) }
+    ensures rest { OnOk result (pending.new.items ≡ drop taken pending.old.items) }
+    ensures err { OnErr result (pending.new.items ≡ pending.old.items) }
+{
+    if len < MIN_SHARED || len < room / MAX_KEPT {
+        let front = copies.copy_of(&pending.as_slice()[..len])?;
+        pending.advance(taken);
+        return Ok(front);
+    }
+    let front = pending.freeze_to(len)?;
+    pending.advance(taken - len);
+    Ok(front)
+}
+
+// The refusal to report at this place of a value: at the byte that makes the value too long, none with a higher number.
+fn told_at(refusal: Refusal, place: usize) -> Refusal
+    ensures { ((refusal ≡ TooDeep) × (place ≡ max_text) × (result ≡ TooLong))
+        ⊎ ((place ≡ max_text → refusal ≢ TooDeep) × (result ≡ refusal)) }
+{
+    match refusal {
+        Refusal::TooDeep if place == MAX_TEXT => Refusal::TooLong,
+        other => other,
+    }
+}
+
+impl PartialValue {
+    // Before any byte.
+    pub(crate) fn new(alloc: Global) -> PartialValue
+        ensures good { (most : ℕ) → IsGood most result }
+        ensures reads { (most : ℕ) → Reads most [] result }
+    {
+        PartialValue {
+            pending: BytesMut::new(alloc),
+            room: 0,
+            copies: TextBlock::new(alloc, MAX_COPY_BLOCK),
+            opens: Vec::new(alloc),
+            done: None,
+            next: Next::Head(Head::Type),
+            seen: 0,
+            came: 0,
+            needed: 0,
+        }
+    }
+
+    // Whether a payload is due and hasn't come completely; then there is no complete value.
+    pub(crate) fn is_short(&self) -> bool
+        ensures { result ≡ true → (most : ℕ) → IsGood most self.now → (held : List ℕ)
+            → Reads most held self.now → IsUnfinished most held }
+    {
+        self.pending.len() < self.needed
+    }
+
+    // The bytes of the value that have come, taken or pending.
+    pub(crate) fn held(&self) -> u64
+        requires good { (most : ℕ) × IsGood most self.now }
+        ensures { result ≡ self.now.came + length self.now.pending.items }
+    {
+        self.came as u64 + self.pending.len() as u64
+    }
+
+    // Adds bytes behind those pending.
+    pub(crate) fn feed(&mut self, piece: &[u8]) -> Result<(), AllocError>
+        ensures good { (most : ℕ) → IsGood most self.old → IsGood most self.new }
+        ensures reads { OnOk result ((most : ℕ) (held : List ℕ) → Reads most held self.old
+            → Reads most (held ++ piece.now) self.new) }
+        ensures same { OnErr result (shown_progress self.new ≡ shown_progress self.old) }
+    {
+        match piece {
+            // (one byte is stored without a call that copies any length)
+            [byte] => self.pending.extend_from_slice(&[*byte]),
+            _ => self.pending.extend_from_slice(piece),
+        }
+    }
+
+    // Notes the room for bytes, before any are taken.
+    fn note_room(&mut self)
+        ensures good { (most : ℕ) → IsGood most self.old → IsGood most self.new }
+        ensures same { shown_progress self.new ≡ shown_progress self.old }
+    {
+        self.room = self.room.max(self.pending.capacity());
+    }
+
+    // Drops a large buffer if no byte is pending.
+    fn give_back(&mut self, alloc: Global)
+        ensures good { (most : ℕ) → IsGood most self.old → IsGood most self.new }
+        ensures same { shown_progress self.new ≡ shown_progress self.old }
+    {
+        if self.room > MAX_IDLE && self.pending.is_empty() {
+            self.pending = BytesMut::new(alloc);
+            self.room = 0;
+        }
+    }
+
+    // Forgets everything.
+    pub(crate) fn begin_anew(&mut self, alloc: Global)
+        ensures good { (most : ℕ) → IsGood most self.new }
+        ensures reads { (most : ℕ) → Reads most [] self.new }
+    {
+        drop(mem::replace(self, PartialValue::new(alloc)));
+    }
+
+    // The outermost value and the length of its text, if it has come completely.
+    pub(crate) fn next_value(
+        &mut self,
+        alloc: Global,
+        most: u64,
+    ) -> Result<Option<(Value, usize)>, Halt>
+        requires good { IsGood most self.old }
+        ensures good { IsGood most self.new }
+        ensures value { IfOk result (λ o. IfSome o (λ x. (held : List ℕ) → Reads most held self.old
+            → Gave most held (tree_of x.0) x.1 self.new)) }
+        ensures none { IfOk result (λ o. IfNone o ((held : List ℕ) → Reads most held self.old
+            → Reads most held self.new × IsUnfinished most held)) }
+        ensures halts { IfErr result (λ e. (held : List ℕ) → Reads most held self.old
+            → HasStopped most held self.new e) }
+    {
+        match self.go_on(alloc, most) {
+            Ok(Some(_)) if self.came > MAX_TEXT => Err(Halt::Refused(Refusal::TooLong, MAX_TEXT)),
+            Ok(Some(value)) => {
+                let len = self.came;
+                self.came = 0;
+                Ok(Some((value, len)))
+            }
+            Ok(None) if self.held() > MAX_TEXT as u64 => {
+                Err(Halt::Refused(Refusal::TooLong, MAX_TEXT))
+            }
+            Ok(None) => {
+                self.give_back(alloc);
+                Ok(None)
+            }
+            Err(Halt::NoMemory) => Err(Halt::NoMemory),
+            Err(Halt::Refused(refusal, place)) => {
+                Err(Halt::Refused(told_at(refusal, place), place))
+            }
+        }
+    }
+
+    // Reads to the end of the outermost value, or as far as the bytes go.
+    fn go_on(&mut self, alloc: Global, most: u64) -> Result<Option<Value>, Halt>
+        requires good { IsGood most self.old }
+        ensures good { IsGood most self.new }
+        ensures value { IfOk result (λ o. IfSome o (λ v. IsFresh self.new
+            × LeadsToValue most self.old self.new (tree_of v))) }
+        ensures none { IfOk result (λ o. IfNone o (LeadsTo most self.old self.new
+            × IsShort most self.old)) }
+        ensures halts { IfErr result (λ e. LeadsTo most self.old self.new
+            × HaltsIn most self.old e) }
+    {
+        self.note_room();
+        loop {
+            match self.put_done() {
+                Ok(Some(value)) => return Ok(Some(value)),
+                Ok(None) => {}
+                Err(_) => return Err(Halt::NoMemory),
+            }
+            if !self.turn(alloc, most)? {
+                return Ok(None);
+            }
+        }
+    }
+
+    // Reads a head, or what the last head announced. True: it has come completely.
+    fn turn(&mut self, alloc: Global, most: u64) -> Result<bool, Halt>
+        requires good { IsGood most self.old }
+        requires done { self.old.done ≡ None }
+        ensures good { IsGood most self.new }
+        ensures reads { LeadsTo most self.old self.new }
+        ensures falls { IfOk result (λ came. came ≡ true → to_read self.new < to_read self.old) }
+        ensures none { IfOk result (λ came. came ≡ false → IsShort most self.old) }
+        ensures halts { IfErr result (λ e. HaltsIn most self.old e) }
+    {
+        match self.next {
+            Next::Head(head) => self.go_on_in_head(head, most),
+            Next::Found(found) => self.take_found(alloc, found, most),
+        }
+    }
+
+    // Reads a head to its end, or as far as the bytes go. True: its end came.
+    fn go_on_in_head(&mut self, head: Head, most: u64) -> Result<bool, Halt>
+        requires good { IsGood most self.old }
+        requires head { (self.old.done ≡ None) × (self.old.next ≡ Next.Head head) }
+        ensures good { IsGood most self.new }
+        ensures reads { LeadsTo most self.old self.new }
+        ensures falls { IfOk result (λ came. came ≡ true → to_read self.new < to_read self.old) }
+        ensures none { IfOk result (λ came. came ≡ false → IsShort most self.old) }
+        ensures halts { IfErr result (λ e. HaltsIn most self.old e) }
+    {
+        let left = MAX_DEPTH - self.opens.len() as u32;
+        let visible = self.pending.len().min(MAX_TEXT + 1 - self.came);
+        match read_head(head, &self.pending.as_slice()[..visible], most, left) {
+            Ok((next, taken)) => {
+                self.pending.advance(taken);
+                self.came += taken;
+                self.seen = 0;
+                self.next = next;
+                match next {
+                    Next::Head(_) => Ok(false),
+                    Next::Found(_) => Ok(true),
+                }
+            }
+            Err(RefusedByte(refusal, place)) => Err(Halt::Refused(refusal, self.came + place)),
+        }
+    }
+
+    // Takes what a head announced. True: it has come completely.
+    fn take_found(&mut self, alloc: Global, found: Found, most: u64) -> Result<bool, Halt>
+        requires good { IsGood most self.old }
+        requires next { (self.old.done ≡ None) × (self.old.next ≡ Next.Found found) }
+        ensures good { IsGood most self.new }
+        ensures falls { IfOk result (λ came. came ≡ true → to_read self.new < to_read self.old) }
+        ensures reads { LeadsTo most self.old self.new }
+        ensures none { IfOk result (λ came. came ≡ false → IsShort most self.old) }
+        ensures halts { IfErr result (λ e. HaltsIn most self.old e) }
+    {
+        match found {
+            Found::Line(line) => return self.take_line(line, most),
+            Found::Payload(n) => return self.take_bulk(n, most),
+            Found::Members(n) => {
+                if self.open_list(alloc, most, n).is_err() {
+                    return Err(Halt::NoMemory);
+                }
+            }
+            Found::NullBulk => self.finish(Value::NullBulk),
+            Found::NullList => self.finish(Value::NullList),
+            Found::Whole(n) => self.finish(Value::Whole(n)),
+        }
+        Ok(true)
+    }
+
+    // Sets the complete value of the last head, of which no byte is pending.
+    fn finish(&mut self, value: Value)
+        ensures done { self.new.done ≡ Some value }
+        ensures next { self.new.next ≡ Next.Head Head.Type }
+        ensures same { (self.new.pending ≡ self.old.pending) × (self.new.opens ≡ self.old.opens) }
+        ensures seen { (self.new.seen ≡ self.old.seen) × (self.new.came ≡ self.old.came) }
+        ensures needed { self.new.needed ≡ 0 }
+    {
+        drop(self.done.replace(value));
+        self.next = Next::Head(Head::Type);
+        self.needed = 0;
+    }
+
+    // Puts a complete value into its list, and closes the lists that it completes. Returns the
+    // outermost value if it is complete.
+    fn put_done(&mut self) -> Result<Option<Value>, AllocError>
+        ensures good { (most : ℕ) → IsGood most self.old → IsGood most self.new }
+        ensures fresh { (most : ℕ) → IsGood most self.old
+            → IfOk result (λ o. IfSome o (λ _. IsFresh self.new)) }
+        ensures value { (most : ℕ) → IsGood most self.old
+            → IfOk result (λ o. IfSome o (λ v.
+            LeadsToValue most self.old self.new (tree_of v))) }
+        ensures reads { (most : ℕ) → IsGood most self.old
+            → IfOk result (λ o. IfNone o (LeadsTo most self.old self.new)) }
+        ensures err { (most : ℕ) → IsGood most self.old
+            → OnErr result (LeadsTo most self.old self.new) }
+        ensures none { OnOk result (self.new.done ≡ None) }
+        ensures pending { self.new.pending ≡ self.old.pending }
+        ensures next { self.new.next ≡ self.old.next }
+        ensures came { self.new.came ≡ self.old.came }
+    {
+        let Some(value) = self.done.take() else {
+            return Ok(None);
+        };
+        match put(&mut self.opens, value) {
+            Ok(done) => Ok(done),
+            Err(failed) => {
+                drop(self.done.replace(failed.value));
+                Err(AllocError)
+            }
+        }
+    }
+
+    // Opens a list of `n` members, or completes the empty one.
+    fn open_list(&mut self, alloc: Global, most: u64, n: u64) -> Result<(), AllocError>
+        requires good { IsGood most self.old }
+        requires next { (self.old.done ≡ None) × (self.old.next ≡ Next.Found (Found.Members n)) }
+        ensures good { IsGood most self.new }
+        ensures next { OnOk result (self.new.next ≡ Next.Head Head.Type) }
+        ensures fewer { self.new.pending ≡ self.old.pending }
+        ensures reads { LeadsTo most self.old self.new }
+    {
+        if n == 0 {
+            self.finish(Value::List(Values(Vec::new(alloc))));
+            return Ok(());
+        }
+        let members = Vec::with_capacity(alloc, FEW_MEMBERS.min(n as usize))?;
+        let list = Begun {
+            members: Values(members),
+            due: n - 1,
+        };
+        if self.opens.push(list).is_err() {
+            return Err(AllocError);
+        }
+        self.next = Next::Head(Head::Type);
+        Ok(())
+    }
+
+    // Takes a payload with its line end, if both have come.
+    fn take_bulk(&mut self, n: u64, most: u64) -> Result<bool, Halt>
+        requires good { IsGood most self.old }
+        requires next { (self.old.done ≡ None) × (self.old.next ≡ Next.Found (Found.Payload n)) }
+        ensures good { IsGood most self.new }
+        ensures falls { IfOk result (λ came. came ≡ true → to_read self.new < to_read self.old) }
+        ensures reads { LeadsTo most self.old self.new }
+        ensures none { IfOk result (λ came. came ≡ false → IsShort most self.old) }
+        ensures halts { IfErr result (λ e. HaltsIn most self.old e) }
+    {
+        let visible = self.pending.len().min(MAX_TEXT + 1 - self.came);
+        match take_payload(&self.pending.as_slice()[..visible], n) {
+            Ok((payload, rest)) => {
+                let len = payload.len();
+                let taken = visible - rest.len();
+                let Ok(payload) = cut(&mut self.copies, &mut self.pending, self.room, len, taken)
+                else {
+                    return Err(Halt::NoMemory);
+                };
+                self.came += taken;
+                self.seen = 0;
+                self.finish(Value::Bulk(payload));
+                Ok(true)
+            }
+            Err(Stop::Unfinished) => {
+                self.needed = (n as usize).min(MAX_TEXT + 1 - self.came);
+                Ok(false)
+            }
+            Err(Stop::Refused(refusal, rest)) => {
+                let place = visible - rest.len();
+                Err(Halt::Refused(refusal, self.came + place))
+            }
+        }
+    }
+
+    // Takes a line of text, if it has come completely.
+    fn take_line(&mut self, line: Line, most: u64) -> Result<bool, Halt>
+        requires good { IsGood most self.old }
+        requires next { (self.old.done ≡ None) × (self.old.next ≡ Next.Found (Found.Line line)) }
+        ensures good { IsGood most self.new }
+        ensures falls { IfOk result (λ came. came ≡ true → to_read self.new < to_read self.old) }
+        ensures reads { LeadsTo most self.old self.new }
+        ensures none { IfOk result (λ came. came ≡ false → IsShort most self.old) }
+        ensures halts { IfErr result (λ e. HaltsIn most self.old e) }
+    {
+        let visible = self.pending.len().min(MAX_TEXT + 1 - self.came);
+        match take_text(&self.pending.as_slice()[..visible], self.seen) {
+            Ok((text, rest)) => {
+                let len = text.len();
+                let taken = visible - rest.len();
+                let Ok(text) = cut(&mut self.copies, &mut self.pending, self.room, len, taken)
+                else {
+                    return Err(Halt::NoMemory);
+                };
+                self.came += taken;
+                self.seen = 0;
+                self.finish(line.value(text));
+                Ok(true)
+            }
+            Err(Stop::Unfinished) => {
+                // (the last byte can be the CR of the line's end)
+                self.seen = visible.saturating_sub(1);
+                Ok(false)
+            }
+            Err(Stop::Refused(refusal, rest)) => {
+                let place = visible - rest.len();
+                Err(Halt::Refused(refusal, self.came + place))
+            }
+        }
+    }
+}
