@@ -1,5 +1,5 @@
 //! The way into a gate: at once, or with a ticket.
-ghost use Rattle.std.specs.Prelude.{◌≡◌, ◌-◌, ◌^◌, ◌<◌, IfOk, IfErr, MatchOption};
+ghost use Rattle.std.specs.Prelude.{◌≡◌, ◌-◌, ◌^◌, ◌<◌, ◌≤◌, IfOk, IfErr, MatchOption};
 ghost use Rattle.ticket_gate.specs.Gate.{IsAtRest};
 ghost use Rattle.ticket_gate.specs.Visit.{KeepsSeen, MayEnter, HoldsTicket, IsInside};
 ghost use Rattle.ticket_gate.specs.Entry.{FoundShut};
@@ -9,9 +9,27 @@ use crate::recorded::Recorded;
 use crate::steps::{DrawTicket, EnterAtOnce, LookAtServing, ReadDrawn};
 use crossbeam_utils::Backoff;
 use std::sync::Wait;
+use std::time::Duration;
 
-/// The most tries to enter at once before a turn draws a ticket.
+/// The most tries to enter at once before a turn sleeps between tries.
 pub const MAX_TRIES: u32 = 16;
+
+/// The most tries behind a sleep before a turn draws a ticket.
+pub const MAX_SLEEPS: u32 = 12;
+
+/// The microseconds of the first sleep. Each further one is as much longer.
+const MIN_SLEEP_US: u64 = 50;
+
+/// The most microseconds of a sleep.
+const MAX_SLEEP_US: u64 = 600;
+
+// How many microseconds to sleep behind a number of looks in vain. `None`: it isn't time to sleep yet.
+fn sleep_us(looks: u32) -> Option<u64>
+    ensures { MatchOption result (looks < 16) (λ us. (16 ≤ looks) × (50 ≤ us) × (us ≤ 600)) }
+{
+    let sleeps = looks.checked_sub(MAX_TRIES)?;
+    Some((MIN_SLEEP_US * (sleeps as u64 + 1)).min(MAX_SLEEP_US))
+}
 
 /// Why a place didn't enter at once.
 #[derive(Clone, Copy)]
@@ -46,8 +64,21 @@ impl<S: Recorded> Gate<S> {
         Ok(served)
     }
 
-    // Tries to enter at once a few times. `None`: it didn't enter.
-    fn enter_soon(&self, seat: &mut GateSeat<S>) -> Option<u64>
+    // Waits behind a look that found this ticket served: at first it spins and yields, then it sleeps. Who sleeps leaves the
+    // processor to a thread inside that has none. Nobody wakes it: a turn is shorter than a call of the system.
+    fn pause<R: Wait>(&self, rt: &R, backoff: &Backoff, looks: u32, served: u64) {
+        match sleep_us(looks) {
+            None => backoff.snooze(),
+            Some(us) => {
+                let shared = &self.table.shared;
+                let low = (served % (1 << 32)) as u32;
+                shared.park_timeout(rt, SERVING, low, Duration::from_micros(us));
+            }
+        }
+    }
+
+    // Tries to enter at once, more and more seldom. `None`: it didn't enter.
+    fn enter_soon<R: Wait>(&self, rt: &R, seat: &mut GateSeat<S>) -> Option<u64>
         requires { MayEnter self.now.id seat.old }
         ensures gate { seat.new.table_id ≡ seat.old.table_id }
         ensures entered { MatchOption result
@@ -56,11 +87,12 @@ impl<S: Recorded> Gate<S> {
             × IsInside S.journal S.setting S.legal seat.old.me.0.own t seat.new) }
     {
         let backoff = Backoff::new();
-        for _ in 0..MAX_TRIES {
-            if let Ok(ticket) = self.enter_at_once(seat) {
-                return Some(ticket);
+        for looks in 0..MAX_TRIES + MAX_SLEEPS {
+            match self.enter_at_once(seat) {
+                Ok(ticket) => return Some(ticket),
+                Err(EntryRefusal::Busy { served, .. }) => self.pause(rt, &backoff, looks, served),
+                Err(EntryRefusal::Spent) => return None,
             }
-            backoff.snooze();
         }
         None
     }
@@ -95,11 +127,15 @@ impl<S: Recorded> Gate<S> {
         ensures inside { IsInside S.journal S.setting S.legal seat.old.me.0.own ticket seat.new }
     {
         let backoff = Backoff::new();
+        let mut looks = 0;
         for _ in rt.forever() {
-            if self.table.shared.load::<LookAtServing>(seat, SERVING) == ticket {
+            let served = self.table.shared.load::<LookAtServing>(seat, SERVING);
+            if served == ticket {
                 return;
             }
-            backoff.snooze();
+            self.pause(rt, &backoff, looks, served);
+            // (all wait for a ticket that sleeps, so its sleeps stay short)
+            looks = (looks + 1).min(MAX_TRIES);
         }
         unreachable!()
     }
@@ -115,7 +151,7 @@ impl<S: Recorded> Gate<S> {
             (λ t. (t < 2 ^ 64 - 1)
             × IsInside S.journal S.setting S.legal seat.old.me.0.own t seat.new) }
     {
-        if let Some(ticket) = self.enter_soon(seat) {
+        if let Some(ticket) = self.enter_soon(rt, seat) {
             return Some(ticket);
         }
         let ticket = self.draw(rt, seat)?;

@@ -25,7 +25,7 @@ mod turns;
 mod view;
 
 pub use alone::Alone;
-pub use entry::MAX_TRIES;
+pub use entry::{MAX_SLEEPS, MAX_TRIES};
 pub use gate::{Gate, Pass, Spare};
 pub use laws::rule_in_plain_sentences;
 pub use recorded::Recorded;

@@ -43,7 +43,8 @@ impl<S: Recorded> Gate<S> {
     }
 
     /// Makes one turn: tries to enter at once, like `try_turn`, up to
-    /// [`MAX_TRIES`](crate::MAX_TRIES) times; then draws a ticket and waits until it is served.
+    /// [`MAX_TRIES`](crate::MAX_TRIES) times, and [`MAX_SLEEPS`](crate::MAX_SLEEPS) times more
+    /// behind short sleeps; then draws a ticket and waits until it is served.
     ///
     /// Answered: the pass now sees a legal journal, which begins with what it saw before and ends
     /// with its step. Refused `Spent` (1202), once all tickets were drawn: the pass has seen
