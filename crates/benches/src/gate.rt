@@ -2,7 +2,7 @@
 ghost use Rattle.std.specs.Prelude.{◌≡◌, [], IfOk};
 ghost use Rattle.ticket_gate.specs.Gate.{IsSpareOf};
 
-use crate::laden::{Laden, stirred};
+use crate::laden::{Laden, TurnWork, stirred};
 use anyhow::{Result, bail};
 use std::alloc::Global;
 use std::rt::Clock;
@@ -25,32 +25,54 @@ const MANY_TURNS: u64 = 400_000;
 /// The rounds of work of some 200 ns.
 const ROUNDS: u32 = 80;
 
-/// The work of a thread: the rounds in each turn, and the rounds after it.
+/// The work of a thread: that of each turn, and the rounds after it.
 #[derive(Clone, Copy)]
 struct Work {
-    inside: u32,
+    inside: TurnWork,
     outside: u32,
 }
 
 const NO_WORK: Work = Work {
-    inside: 0,
+    inside: TurnWork {
+        rounds: 0,
+        stops: false,
+    },
     outside: 0,
 };
 
+/// Work of 200 ns in each turn.
+const SHORT: TurnWork = TurnWork {
+    rounds: ROUNDS,
+    stops: false,
+};
+
+/// The same, but one turn of 1,000 takes a millisecond.
+const STOPPING: TurnWork = TurnWork {
+    rounds: ROUNDS,
+    stops: true,
+};
+
 /// The timed work, by name.
-const TIMED: [(&str, Work); 3] = [
+const TIMED: [(&str, Work); 4] = [
     ("no work", NO_WORK),
     (
         "200 ns inside",
         Work {
-            inside: ROUNDS,
+            inside: SHORT,
             outside: 0,
         },
     ),
     (
         "200 ns inside and 400 outside",
         Work {
-            inside: ROUNDS,
+            inside: SHORT,
+            outside: 2 * ROUNDS,
+        },
+    ),
+    (
+        "the same, and a stop of a millisecond in one turn of 1,000",
+        Work {
+            inside: STOPPING,
             outside: 2 * ROUNDS,
         },
     ),

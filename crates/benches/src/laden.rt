@@ -5,24 +5,39 @@ use std::alloc::Global;
 use test_total::{AdditionRefusal, RunningTotal};
 use ticket_gate::Recorded;
 
-/// A running total that does this many rounds of work before each addition.
+/// The work of a turn.
+#[derive(Clone, Copy, Drop)]
+pub(crate) struct TurnWork {
+    /// The rounds of each turn.
+    pub(crate) rounds: u32,
+    /// Whether each turn of `STOP_EVERY` takes `STOP_ROUNDS`, as one does whose thread loses its processor.
+    pub(crate) stops: bool,
+}
+
+/// Where turns stop, one of this many does.
+const STOP_EVERY: usize = 1_000;
+
+/// The rounds of a turn that stops: about a millisecond.
+const STOP_ROUNDS: u32 = 400_000;
+
+/// A running total that does some work before each addition.
 #[derive(Drop)]
 pub struct Laden {
     total: RunningTotal,
-    rounds: u32,
+    work: TurnWork,
     stirred: u64,
 }
 
 impl Laden {
     ghost use Rattle.test_total.specs.RunningTotal.{journal_of};
 
-    /// A total of 0 without a limit, whose turns do this many rounds of work.
-    pub(crate) fn new(alloc: Global, rounds: u32) -> Laden
+    /// A total of 0 without a limit, whose turns do this work.
+    pub(crate) fn new(alloc: Global, work: TurnWork) -> Laden
         ensures { journal_of result.total ≡ [] }
     {
         Laden {
             total: RunningTotal::new(alloc, u64::MAX),
-            rounds,
+            work,
             stirred: 1,
         }
     }
@@ -30,6 +45,15 @@ impl Laden {
     /// The number of answered turns.
     pub(crate) fn turns(&self) -> usize {
         self.total.steps().len()
+    }
+
+    // The rounds of the next turn.
+    fn rounds(&self) -> u32 {
+        if self.work.stops && self.turns() % STOP_EVERY == 0 {
+            STOP_ROUNDS
+        } else {
+            self.work.rounds
+        }
     }
 }
 
@@ -73,7 +97,7 @@ impl Recorded for Laden {
     }
 
     fn turn(&mut self, pass: u64, event: u64) -> Result<u64, (AdditionRefusal, u64)> {
-        self.stirred = stirred(self.stirred, self.rounds);
+        self.stirred = stirred(self.stirred, self.rounds());
         self.total.turn(pass, event)
     }
 

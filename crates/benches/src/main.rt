@@ -11,7 +11,8 @@
 //! fresh core each, and for rounds in which the core goes on until its journal has 20,000 steps.
 //!
 //! `benches gate time` prints the turns a second of 1, 2, 4 and 8 threads on one running total, at a ticket gate and
-//! under std's `Mutex`. The turns only add, or take some 200 ns, or take these and have some 400 ns of other work after each.
+//! under std's `Mutex`. The turns only add, or take some 200 ns, or take these and have some 400 ns of other work after each; and
+//! the last, with one turn of 1,000 that stops for a millisecond. Busy loops beside it show a machine that has other work.
 //!
 //! Times are the least of several rounds, except those of rings, of the reader and of threads. Without words it prints
 //! its usage and the lengths of the journals of a few turns, so that this output is always the same.

@@ -1,5 +1,5 @@
 //! A client's connection, as its worker holds it.
-ghost use Rattle.std.specs.Prelude.{◌≡◌, ◌≢◌, true, IfOk, OnErr};
+ghost use Rattle.std.specs.Prelude.{◌≡◌, ◌≢◌, ◌⊎◌, true, IfOk, OnErr};
 ghost use Rattle.proxy_engines.specs.Keeps.{KeepsSocket};
 ghost use Rattle.proxy_engines.specs.Turns.{own_history};
 ghost use Rattle.proxy_serve.specs.WorkerConnections.{IsLast};
@@ -357,7 +357,8 @@ impl Client {
 
     /// Takes in no further commands. Accepted ones are answered, then the connection is closed.
     pub(crate) fn drain(&mut self)
-        ensures { self.new.engine ≡ record self.old.engine { is_drained = true } }
+        ensures engine { self.new.engine ≡ record self.old.engine { is_drained = true } }
+        ensures stage { self.new.stage ≡ self.old.stage }
     {
         self.engine.drain();
         self.is_drained = true;
@@ -461,7 +462,8 @@ impl Client {
 
     // The journal has no room for a further command: no client's commands are taken in from here on.
     fn stop_accepting(&mut self, generation: &GenerationState<'_>)
-        ensures { self.new.engine ≡ record self.old.engine { is_drained = true } }
+        ensures engine { self.new.engine ≡ record self.old.engine { is_drained = true } }
+        ensures stage { self.new.stage ≡ self.old.stage }
     {
         generation.stop_accepting();
         self.drain();
@@ -599,7 +601,9 @@ impl Client {
 
     // Handles what a step achieved. True: nothing more can be done for now.
     fn handle_progress(&mut self, progress: Progress) -> bool
-        ensures { self.new.engine ≡ self.old.engine }
+        ensures engine { self.new.engine ≡ self.old.engine }
+        ensures leaves { self.new.stage ≢ self.old.stage
+            → (progress ≡ Progress.Cut) ⊎ (progress ≡ Progress.Ended) }
     {
         match progress {
             Progress::Moved => false,
@@ -633,7 +637,9 @@ impl Client {
         error: StepError,
         generation: &GenerationState<'_>,
     ) -> Result<(), StepError>
-        ensures { MayDrain self.old.engine self.new.engine }
+        ensures drains { MayDrain self.old.engine self.new.engine }
+        ensures leaves { self.new.stage ≢ self.old.stage → (error ≡ StepError.EndsOne)
+            ⊎ ((error ≡ StepError.Full) × (self.old.is_drained ≡ true)) }
     {
         match error {
             StepError::Full if !self.is_drained => self.stop_accepting(generation),
@@ -646,7 +652,8 @@ impl Client {
 
     /// Counts a refusal of memory. The step is made again, unless too many were refused in a row.
     pub(crate) fn refuse(&mut self) -> StepError
-        ensures { self.new.engine ≡ self.old.engine }
+        ensures engine { self.new.engine ≡ self.old.engine }
+        ensures stage { self.new.stage ≡ self.old.stage }
     {
         self.has_more = true;
         if self.refusals.refused() {
@@ -722,7 +729,7 @@ impl Client {
             return Stepped::Closed;
         }
         match self.engine.reader_mut().throw_away() {
-            Discarded::Ended => Stepped::Closed,
+            Discarded::Ended | Discarded::Failed => Stepped::Closed,
             Discarded::Emptied => Stepped::Idle,
             Discarded::Partly => Stepped::Ready,
         }

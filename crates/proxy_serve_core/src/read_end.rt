@@ -18,8 +18,10 @@ const MAX_THROWN: u32 = 64;
 /// What was thrown away of an input.
 #[derive(Clone, Copy, Debug, PartialEq, Eq)]
 pub enum Discarded {
-    /// All that came before its end, or before it failed.
+    /// All that came before its end.
     Ended,
+    /// All that came before it failed.
+    Failed,
     /// All that has come.
     Emptied,
     /// A part of what has come; more may be there.
@@ -262,6 +264,7 @@ impl ReadEnd {
     pub fn throw_away<R: Read>(&mut self, reader: &mut R) -> Discarded
         ensures bytes { Discards self.old self.new
             (R.remaining reader.old) (R.remaining reader.new) }
+        ensures ended { result ≡ Discarded.Ended → IsAtEnd (R.remaining reader.new) }
         ensures paused { result ≡ Discarded.Emptied → self.new.is_readable ≡ false }
         ensures left { self.new.left ≡ self.old.left }
         ensures closed { self.new.is_closed ≡ self.old.is_closed }
@@ -272,7 +275,7 @@ impl ReadEnd {
                 Ok(0) => return Discarded::Ended,
                 Ok(_) => {}
                 Err(error) if error.kind() == ErrorKind::WouldBlock => return Discarded::Emptied,
-                Err(_) => return Discarded::Ended,
+                Err(_) => return Discarded::Failed,
             }
         }
         Discarded::Partly
