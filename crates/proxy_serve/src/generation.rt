@@ -9,6 +9,7 @@ use crate::server::{Inherited, Server};
 use crate::stop::Stop;
 use crate::sweeping::SweepThread;
 use crate::worker::{WAKER, WorkerSetup};
+use crossbeam_utils::CachePadded;
 use mio::{Poll, Waker};
 use proxy_config::Config;
 use proxy_core::{Core, Handover, Settings};
@@ -166,7 +167,7 @@ fn waker_of(poll: &Poll) -> Result<Waker, Stop> {
 #[derive(Drop)]
 struct Polls {
     polls: Vec<Poll>,
-    workers: Vec<WorkerStatus>,
+    workers: Vec<CachePadded<WorkerStatus>>,
     wakers: Vec<Waker>,
 }
 
@@ -178,7 +179,7 @@ impl Polls {
             Err(error) => return Err(Stop::socket("cannot make a worker's poll", error)),
         };
         self.workers
-            .push(WorkerStatus::new(waker_of(&poll)?, has_hosts))?;
+            .push(CachePadded::new(WorkerStatus::new(waker_of(&poll)?, has_hosts)))?;
         self.wakers.push(waker_of(&poll)?)?;
         self.polls.push(poll)?;
         Ok(())

@@ -4,6 +4,7 @@ ghost use Rattle.std.specs.Prelude.{◌≡◌};
 use crate::counted_turns::CountedTurns;
 use crate::ledger::Ledger;
 use crate::server::Server;
+use crossbeam_utils::CachePadded;
 use limits::{MAX_COMMAND_STEPS, MAX_PARTS_AT_ONCE, MAX_START_MS, MAX_UNFINISHED, MAX_UNSEEN};
 use mio::Waker;
 use proxy_core::CoreTurns;
@@ -48,11 +49,12 @@ pub(crate) struct WorkerStatus {
     seen: AtomicU64,
 }
 
-/// What the threads of a generation share.
+/// What the threads of a generation share. What each round of a worker writes has cache lines of its own, so that no other reads
+/// wait for it.
 pub(crate) struct GenerationState<'a> {
     server: &'a Server,
     number: u64,
-    workers: Vec<WorkerStatus>,
+    workers: Vec<CachePadded<WorkerStatus>>,
     // The number of its threads that have come.
     come: AtomicU64,
     // STARTING, BEGUN or GIVEN_UP.
@@ -60,15 +62,15 @@ pub(crate) struct GenerationState<'a> {
     // The number of open connections.
     open: AtomicU64,
     // The journal's spent and lent steps.
-    ledger: Mutex<Ledger>,
+    ledger: CachePadded<Mutex<Ledger>>,
     // Whether no further commands are accepted, so that accepted ones can be answered before the journal is full.
     is_full: AtomicBool,
     // The number of parts queued for hosts.
-    parts: AtomicU64,
+    parts: CachePadded<AtomicU64>,
     // Rises when replies come for clients.
-    replies: AtomicU64,
+    replies: CachePadded<AtomicU64>,
     // The bytes of all unfinished commands.
-    unfinished: AtomicU64,
+    unfinished: CachePadded<AtomicU64>,
 }
 
 // Written out so that a drop is one call: each function that holds one is proved sooner.
@@ -141,7 +143,7 @@ impl<'a> GenerationState<'a> {
         server: &'a Server,
         number: u64,
         average: u64,
-        workers: Vec<WorkerStatus>,
+        workers: Vec<CachePadded<WorkerStatus>>,
     ) -> GenerationState<'a> {
         GenerationState {
             server,
@@ -150,11 +152,11 @@ impl<'a> GenerationState<'a> {
             come: AtomicU64::new(0),
             start: AtomicU8::new(STARTING),
             open: AtomicU64::new(0),
-            ledger: Mutex::new(Ledger::new(average)),
+            ledger: CachePadded::new(Mutex::new(Ledger::new(average))),
             is_full: AtomicBool::new(false),
-            parts: AtomicU64::new(0),
-            replies: AtomicU64::new(0),
-            unfinished: AtomicU64::new(0),
+            parts: CachePadded::new(AtomicU64::new(0)),
+            replies: CachePadded::new(AtomicU64::new(0)),
+            unfinished: CachePadded::new(AtomicU64::new(0)),
         }
     }
 
@@ -207,7 +209,10 @@ impl<'a> GenerationState<'a> {
 
     /// The state of a worker.
     pub(crate) fn worker(&self, index: usize) -> Option<&WorkerStatus> {
-        self.workers.get(index)
+        match self.workers.get(index) {
+            Some(worker) => Some(&**worker),
+            None => None,
+        }
     }
 
     /// As `Server::phase`, but `Draining` once `stop_accepting` was called. Sockets wait in the queues while it takes in
