@@ -36,6 +36,11 @@ abbrev pub limit_of : ℕ → Sized → ℕ
 limit_of most sized.Bulk = max_bulk
 limit_of most sized.List = most
 
+-- what a length announces
+abbrev pub found_of : Sized → ℕ → Found
+found_of sized.Bulk n = founds.Payload n
+found_of sized.List n = founds.Members n
+
 -- what is read behind a length
 abbrev pub behind_length : ℕ → ℕ → Sized → Option ℕ → List ℕ → Outcome Tree
 behind_length most left sized.Bulk = payload_at

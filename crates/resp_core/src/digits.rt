@@ -1,7 +1,7 @@
 //! The digits of a length or an integer, read a byte at a time.
-ghost use Rattle.std.specs.Prelude.{◌≡◌, ◌≤◌, ◌^◌, pos, neg_ℤ};
+ghost use Rattle.std.specs.Prelude.{◌≡◌, ◌≤◌, ◌<◌, ◌-◌, ◌^◌, ◌++◌, pos, neg_ℤ, ℕ, List, length, take, Some, IfSome};
 ghost use Rattle.resp_core.specs.ResumedReading.{DigitSteps};
-ghost use Rattle.resp_core.specs.Reading.{of_length, of_integer, digits_at};
+ghost use Rattle.resp_core.specs.Reading.{of_length, of_integer, digits_at, count_at, found};
 
 use crate::error::Refusal;
 
@@ -51,6 +51,37 @@ pub(crate) fn negated(n: u64) -> i64
     ensures { result ≡ neg_ℤ (pos n) }
 {
     if n == 0 { 0 } else { -((n - 1) as i64) - 1 }
+}
+
+// The number of a digit.
+fn digit_of(byte: u8) -> Option<u64>
+    ensures { IfSome result (λ n. (48 ≤ byte) × (byte ≤ 57) × (n ≡ byte - 48)) }
+{
+    if byte.is_ascii_digit() {
+        Some((byte - b'0') as u64)
+    } else {
+        None
+    }
+}
+
+// A length of up to three digits, at most `limit` with its line end, if these stand at the front: the number, and how many bytes it
+// has. Most lengths are such. `None`: they are read a byte at a time.
+#[tactic(auto, unfolding(crate::specs::Reading::digits_at, crate::specs::Reading::count_at, crate::specs::Reading::byte_at))]
+pub(crate) fn short_length(bytes: &[u8], limit: u64) -> Option<(u64, usize)>
+    ensures inside { IfSome result (λ x. (0 < x.1) × (x.1 ≤ length bytes.now) × (x.0 ≤ limit)) }
+    ensures reads { IfSome result (λ x. (rest : List ℕ)
+        → count_at limit (take x.1 bytes.now ++ rest) ≡ found (Some x.0) rest) }
+{
+    let (n, len) = match bytes {
+        [a, b'\r', b'\n', ..] => (digit_of(*a)?, 3),
+        [a, b, b'\r', b'\n', ..] => (digit_of(*a)? * 10 + digit_of(*b)?, 4),
+        [a, b, c, b'\r', b'\n', ..] => (
+            digit_of(*a)? * 100 + digit_of(*b)? * 10 + digit_of(*c)?,
+            5,
+        ),
+        _ => return None,
+    };
+    if n <= limit { Some((n, len)) } else { None }
 }
 
 // The digits' number with one more digit, or `None` at their end.

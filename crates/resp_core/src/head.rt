@@ -1,10 +1,10 @@
 //! The head of a value, read a byte at a time: everything before its text, payload or members.
-ghost use Rattle.std.specs.Prelude.{◌≡◌, ◌≤◌, ◌<◌, length, take, drop, IfOk, IfErr};
-ghost use Rattle.resp_core.specs.ResumedReading.{Steps, DigitSteps, IsNullOf, GoesOn, IsHead, head_at, IsGoodHead, IsGoodNext, IsGoodSized, limit_of, limit_signed, line_tree, signed_value};
+ghost use Rattle.std.specs.Prelude.{◌≡◌, ◌≤◌, ◌<◌, length, take, drop, IfOk, IfErr, IfSome};
+ghost use Rattle.resp_core.specs.ResumedReading.{Steps, DigitSteps, IsNullOf, GoesOn, IsHead, head_at, IsGoodFound, IsGoodHead, IsGoodNext, IsGoodSized, found_of, limit_of, limit_signed, line_tree, signed_value};
 ghost use Rattle.resp_core.specs.Reading.{of_length, of_integer, refused};
 ghost use Rattle.resp_core.specs.Value.{tree_of};
 
-use crate::digits::{negated, of_integer, of_length, step_digits};
+use crate::digits::{negated, of_integer, of_length, short_length, step_digits};
 use crate::error::Refusal;
 use crate::value::Value;
 use bytes::Bytes;
@@ -15,6 +15,28 @@ use limits::{MAX_BULK, MAX_LINE};
 pub(crate) enum Sized {
     Bulk,
     List,
+}
+
+impl Sized {
+    // The greatest length, where a list has at most `most` members.
+    fn limit(self, most: u64) -> u64
+        ensures { result ≡ limit_of most self }
+    {
+        match self {
+            Sized::Bulk => MAX_BULK,
+            Sized::List => most,
+        }
+    }
+
+    // What a length announces.
+    fn found(self, n: u64) -> Found
+        ensures { result ≡ found_of self n }
+    {
+        match self {
+            Sized::Bulk => Found::Payload(n),
+            Sized::List => Found::Members(n),
+        }
+    }
 }
 
 // The value that a line of text belongs to.
@@ -114,20 +136,13 @@ fn step_length(
     ensures steps { Steps most left (Head.Digits sized count n) byte result }
     ensures good { IfOk result (λ next. IsGoodNext most left next) }
 {
-    let limit = match sized {
-        Sized::Bulk => MAX_BULK,
-        Sized::List => most,
-    };
-    match step_digits(of_length(limit), count, n, byte)? {
+    match step_digits(of_length(sized.limit(most)), count, n, byte)? {
         Some(n) => Ok(Next::Head(Head::Digits {
             sized,
             count: count + 1,
             n,
         })),
-        None => Ok(Next::Head(Head::Feed(match sized {
-            Sized::Bulk => Found::Payload(n),
-            Sized::List => Found::Members(n),
-        }))),
+        None => Ok(Next::Head(Head::Feed(sized.found(n)))),
     }
 }
 
@@ -246,6 +261,22 @@ pub(crate) fn step(head: Head, byte: u8, most: u64, left: u32) -> Result<Next, R
     }
 }
 
+// What a length of up to three digits announces, and how many bytes it has. `None`: it is read a byte at a time.
+#[inline(always)]
+fn short_found(head: Head, bytes: &[u8], most: u64, left: u32) -> Option<(Found, usize)>
+    requires good { IsGoodHead most left head }
+    ensures inside { IfSome result (λ x. (0 < x.1) × (x.1 ≤ length bytes.now)) }
+    ensures gives { IfSome result
+        (λ x. GoesOn most left head (take x.1 bytes.now) (Next.Found x.0)) }
+    ensures good { IfSome result (λ x. IsGoodFound most left x.0) }
+{
+    let Head::Length(sized) = head else {
+        return None;
+    };
+    let (n, len) = short_length(bytes, sized.limit(most))?;
+    Some((sized.found(n), len))
+}
+
 // Why a head can't go on: the byte at this place is refused.
 pub(crate) struct RefusedByte(pub(crate) Refusal, pub(crate) usize);
 
@@ -267,6 +298,9 @@ pub(crate) fn read_head(
 {
     let mut head = head;
     for i in 0..bytes.len() {
+        if let Some((found, len)) = short_found(head, &bytes[i..], most, left) {
+            return Ok((Next::Found(found), i + len));
+        }
         match step(head, bytes[i], most, left) {
             Ok(Next::Head(next)) => head = next,
             Ok(Next::Found(found)) => return Ok((Next::Found(found), i + 1)),
