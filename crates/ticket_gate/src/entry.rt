@@ -12,7 +12,7 @@ use std::sync::Wait;
 use std::time::Duration;
 
 /// The most tries to enter at once before a turn sleeps between tries.
-pub const MAX_TRIES: u32 = 16;
+pub const MAX_TRIES: u32 = 10;
 
 /// The most tries behind a sleep before a turn draws a ticket.
 pub const MAX_SLEEPS: u32 = 12;
@@ -25,7 +25,7 @@ const MAX_SLEEP_US: u64 = 600;
 
 // How many microseconds to sleep behind a number of looks in vain. `None`: it isn't time to sleep yet.
 fn sleep_us(looks: u32) -> Option<u64>
-    ensures { MatchOption result (looks < 16) (λ us. (16 ≤ looks) × (50 ≤ us) × (us ≤ 600)) }
+    ensures { MatchOption result (looks < 10) (λ us. (10 ≤ looks) × (50 ≤ us) × (us ≤ 600)) }
 {
     let sleeps = looks.checked_sub(MAX_TRIES)?;
     Some((MIN_SLEEP_US * (sleeps as u64 + 1)).min(MAX_SLEEP_US))
@@ -64,8 +64,8 @@ impl<S: Recorded> Gate<S> {
         Ok(served)
     }
 
-    // Waits behind a look that found this ticket served: at first it spins and yields, then it sleeps. Who sleeps leaves the
-    // processor to a thread inside that has none. Nobody wakes it: a turn is shorter than a call of the system.
+    // Waits behind a look that found this ticket served: at first it spins and yields, and then it sleeps. Who sleeps leaves
+    // the processor to a thread inside that has none. Nobody wakes it: a turn is shorter than a call of the system.
     fn pause<R: Wait>(&self, rt: &R, backoff: &Backoff, looks: u32, served: u64) {
         match sleep_us(looks) {
             None => backoff.snooze(),
