@@ -64,8 +64,8 @@ fn digit_of(byte: u8) -> Option<u64>
     }
 }
 
-// A length of up to three digits, at most `limit` with its line end, if these stand at the front: the number, and how many bytes it
-// has. Most lengths are such. `None`: they are read a byte at a time.
+// The length of at most three digits that stands at the front with its line end, if it is at most `limit`: the number, and how
+// many bytes it has. Most lengths are such. `None`: it is read a byte at a time.
 #[tactic(auto, unfolding(crate::specs::Reading::digits_at, crate::specs::Reading::count_at, crate::specs::Reading::byte_at))]
 pub(crate) fn short_length(bytes: &[u8], limit: u64) -> Option<(u64, usize)>
     ensures inside { IfSome result (λ x. (0 < x.1) × (x.1 ≤ length bytes.now) × (x.0 ≤ limit)) }

@@ -1,5 +1,5 @@
 //! The way into a gate: at once, or with a ticket.
-ghost use Rattle.std.specs.Prelude.{◌≡◌, ◌-◌, ◌^◌, ◌<◌, ◌≤◌, IfOk, IfErr, MatchOption};
+ghost use Rattle.std.specs.Prelude.{◌≡◌, ◌-◌, ◌*◌, ◌^◌, ◌<◌, ◌≤◌, min, IfOk, IfErr, MatchOption};
 ghost use Rattle.ticket_gate.specs.Gate.{IsAtRest};
 ghost use Rattle.ticket_gate.specs.Visit.{KeepsSeen, MayEnter, HoldsTicket, IsInside};
 ghost use Rattle.ticket_gate.specs.Entry.{FoundShut};
@@ -25,7 +25,8 @@ const MAX_SLEEP_US: u64 = 600;
 
 // How many microseconds to sleep behind a number of looks in vain. `None`: it isn't time to sleep yet.
 fn sleep_us(looks: u32) -> Option<u64>
-    ensures { MatchOption result (looks < 10) (λ us. (10 ≤ looks) × (50 ≤ us) × (us ≤ 600)) }
+    ensures { MatchOption result (looks < 10)
+        (λ us. (10 ≤ looks) × (us ≡ min (50 * (looks - 9)) 600)) }
 {
     let sleeps = looks.checked_sub(MAX_TRIES)?;
     Some((MIN_SLEEP_US * (sleeps as u64 + 1)).min(MAX_SLEEP_US))
