@@ -178,8 +178,7 @@ impl Polls {
             Ok(poll) => poll,
             Err(error) => return Err(Stop::socket("cannot make a worker's poll", error)),
         };
-        self.workers
-            .push(CachePadded::new(WorkerStatus::new(waker_of(&poll)?, has_hosts)))?;
+        self.workers.push(CachePadded::new(WorkerStatus::new(waker_of(&poll)?, has_hosts)))?;
         self.wakers.push(waker_of(&poll)?)?;
         self.polls.push(poll)?;
         Ok(())
