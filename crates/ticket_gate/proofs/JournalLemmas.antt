@@ -1,10 +1,10 @@
 -- Lists of steps, and beginnings of lists.
-use Rattle.std.proofs.Common.{◌≡◌, ◌≢◌, ◌⊎◌, ℕ, ◌≤◌, eqb, eq-eqb, ne_eqb, List, [], ◌∷◌, ◌++◌, refl, sym, ap, ◌∙◌, inl, inr, ⊎_elim, append_assoc, arith, Result, Ok, Err}
+use Rattle.std.proofs.Common.{◌≡◌, ◌≢◌, ◌⊎◌, ℕ, ◌≤◌, ◌<◌, eqb, eq-eqb, ne_eqb, List, [], ◌∷◌, ◌++◌, refl, sym, ap, ◌∙◌, subst, inl, inr, ⊎_elim, append_assoc, arith, Result, Ok, Err}
 use Rattle.std.specs.Prelude.{IfOk}
 use Rattle.std.proofs.lemmas.List.Elements.{filter-append}
 use Rattle.journal_core.specs.declared.step.Step.{Step as StepOf}
 use Rattle.journal_core.specs.Journal.{step_by}
-use Rattle.ticket_gate.specs.Journal.{steps_of, StartsWith, PassesBelow, AddsTurn}
+use Rattle.ticket_gate.specs.Journal.{steps_of, StartsWith, PassesBelow, AreOf, AddsTurn, GrowsByOthers}
 
 module _ {X : Type 0} where
   pub append-nil : (xs : List X) → xs ++ [] ≡ xs
@@ -64,6 +64,29 @@ module _ {E A : Type 0} where
   pub passes_below-append : (n : ℕ) (xs ys : List (StepOf E A)) → PassesBelow n xs → PassesBelow n ys → PassesBelow n (xs ++ ys)
   passes_below-append n [] ys below more = more
   passes_below-append n (x ∷ xs) ys below more = (below.0, passes_below-append n xs ys below.1 more)
+
+  pub are_of-append : (n : ℕ) (xs ys : List (StepOf E A)) → AreOf n xs → AreOf n ys → AreOf n (xs ++ ys)
+  are_of-append n [] ys all more = more
+  are_of-append n (x ∷ xs) ys all more = (all.0, are_of-append n xs ys all.1 more)
+
+  -- steps of one pass are none of another
+  pub steps_of-apart : (n m : ℕ) (xs : List (StepOf E A)) → AreOf n xs → m ≢ n → steps_of m xs ≡ []
+  steps_of-apart n m [] all apart = refl
+  steps_of-apart n m (x ∷ xs) all apart = rw (ne_eqb x.pass m (λ e. apart (sym e ∙ all.0))) (steps_of-apart n m xs all.1 apart)
+
+  pub passes_below-of : (n enrolled : ℕ) (xs : List (StepOf E A)) → n < enrolled → AreOf n xs → PassesBelow enrolled xs
+  passes_below-of n enrolled [] low all = tt
+  passes_below-of n enrolled (x ∷ xs) low all = (subst (λ p. p < enrolled) (sym all.0) low, passes_below-of n enrolled xs low all.1)
+
+  -- a turn behind what others added
+  pub adds_turn-behind : (legal : List (StepOf E A) → Type 0) (n : ℕ) (before middle after : List (StepOf E A)) (event : E) (answer : A) → GrowsByOthers n before middle → after ≡ middle ++ step_by n event answer ∷ [] → legal after
+      → AddsTurn legal n before event answer after
+  adds_turn-behind legal n before middle after event answer grows ends ok = record {
+    between = grows.begins.0;
+    ends = ends ∙ ap (λ l. l ++ step_by n event answer ∷ []) grows.begins.1;
+    own = ap (steps_of n) ends ∙ steps_of-append n middle (step_by n event answer ∷ []) ∙ (λ i. grows.own i ++ steps_of-own n event answer i);
+    is_legal = ok;
+  }
 
   -- a turn by the one pass of a state
   pub adds_turn-alone : {R : Type 0} (legal : List (StepOf E A) → Type 0) (n : ℕ) (old new : List (StepOf E A)) (event : E) (outcome : Result A R) → IfOk outcome (λ answer. new ≡ old ++ step_by n event answer ∷ []) → IfOk outcome (λ answer. legal old → legal new) → legal old

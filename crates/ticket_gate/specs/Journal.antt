@@ -17,6 +17,11 @@ abbrev pub PassesBelow : {E A : Type 0} → ℕ → List (StepOf E A) → Type 0
 PassesBelow n [] = Unit {0}
 PassesBelow n (step ∷ steps) = (step.pass < n) × PassesBelow n steps
 
+-- each step was made by the pass n
+abbrev pub AreOf : {E A : Type 0} → ℕ → List (StepOf E A) → Type 0
+AreOf n [] = Unit {0}
+AreOf n (step ∷ steps) = (step.pass ≡ n) × AreOf n steps
+
 -- One turn of the pass n was answered: what it sees now is legal, begins with what it saw before,
 -- and ends with its step. Of its own steps that is the only new one.
 pub record AddsTurn {E A : Type 0} (legal : List (StepOf E A) → Type 0) (n : ℕ)

@@ -6,4 +6,5 @@ pub mod Gate
 pub mod Refusal
 pub mod Entry
 pub mod Visit
+pub mod Hold
 pub mod Turns

@@ -1,9 +1,11 @@
 //! Turns of a pass at a gate.
-ghost use Rattle.std.specs.Prelude.{◌≡◌, ◌-◌, ◌^◌};
+ghost use Rattle.std.specs.Prelude.{◌≡◌, ◌≢◌, ◌⊎◌, ◌+◌, ◌-◌, ◌^◌, ◌<◌, ◌≤◌, true, false, Ok, Err, MatchResult};
 ghost use Rattle.ticket_gate.specs.Gate.{IsPassOf};
-ghost use Rattle.ticket_gate.specs.Turns.{SeatedFacts, seated_at};
+ghost use Rattle.ticket_gate.specs.Turns.{seated_at};
+ghost use Rattle.ticket_gate.specs.declared.refusal.TurnRefusal.TheVariants.{State};
 
-use crate::gate::{Gate, Pass};
+use crate::gate::{Gate, GateSeat, Pass};
+use crate::hold::MAX_TURNS_INSIDE;
 use crate::recorded::Recorded;
 use crate::refusal::TurnRefusal;
 use crate::turns::Turns;
@@ -11,18 +13,48 @@ use std::marker::Model;
 use std::sync::Wait;
 
 /// A pass at its gate, for a worker.
-#[derive(Drop)]
+///
+/// Each turn enters and leaves, unless `hold` was called: then the pass stays inside until `leave`, or
+/// until it has made [`MAX_TURNS_INSIDE`](crate::MAX_TURNS_INSIDE) turns. Others wait meanwhile.
+/// Whether it is inside makes no difference to contracts: they see what the pass has seen.
 pub struct Seated<'a, S: Recorded> {
     gate: &'a Gate<S>,
-    pass: Pass<S>,
+    number: u64,
+    seat: GateSeat<S>,
+    // The ticket with which the pass is inside.
+    ticket: Option<u64>,
+    // Whether it stays inside after a turn, and the turns since it came in.
+    holds: bool,
+    turns: u32,
 }
 
 impl<'a, S: Recorded> Model for Seated<'a, S> {
+    ghost use Rattle.ticket_gate.specs.Hold.{IsSeated, held_facts};
+    ghost use Rattle.ticket_gate.specs.Turns.{SeatedFacts, seated_at};
+
     ghost Value = { SeatedFacts S.Event S.Answer S.Setting };
 
-    ghost view = { λ s. seated_at s.gate.now s.pass };
+    ghost view = { λ s. seated_at s.gate.now (held_facts S.journal s.number s.ticket s.seat) };
 
-    ghost invariant = { λ s. IsPassOf s.gate.now s.pass };
+    ghost invariant = { λ s. IsSeated S.journal S.setting S.legal
+        s.gate.now s.number s.ticket s.seat };
+}
+
+// A pass that is dropped leaves the gate: else nobody could enter any more.
+impl<S: Recorded> Drop for Seated<'_, S> {
+    fn drop(self) {
+        let Seated {
+            gate,
+            number: _,
+            mut seat,
+            ticket,
+            holds: _,
+            turns: _,
+        } = self;
+        if let Some(ticket) = ticket {
+            gate.leave(&mut seat, ticket);
+        }
+    }
 }
 
 impl<'a, S: Recorded> Seated<'a, S> {
@@ -31,16 +63,53 @@ impl<'a, S: Recorded> Seated<'a, S> {
         requires { IsPassOf gate.now pass }
         ensures { result ≡ seated_at gate.now pass }
     {
-        Seated { gate, pass }
+        let Pass { number, seat } = pass;
+        Seated {
+            gate,
+            number,
+            seat,
+            ticket: None,
+            holds: false,
+            turns: 0,
+        }
     }
 
-    /// The pass, with everything that it has seen.
+    /// The pass, with everything that it has seen. It leaves the gate, if it is inside.
     pub fn into_pass(self) -> Pass<S>
         ensures pass { result ≡ self.entry.pass }
         ensures gate { IsPassOf self.entry.gate result }
     {
-        let Seated { gate: _, pass } = self;
-        pass
+        let Seated {
+            gate,
+            number,
+            mut seat,
+            ticket,
+            holds: _,
+            turns: _,
+        } = self;
+        if let Some(ticket) = ticket {
+            gate.leave(&mut seat, ticket);
+        }
+        Pass { number, seat }
+    }
+
+    /// From here on a turn leaves the pass inside the gate, where the next turn needn't enter. The
+    /// caller should `leave` before it waits for anything.
+    pub fn hold(&mut self)
+        ensures { self.new ≡ self.old }
+    {
+        self.holds = true;
+    }
+
+    /// Leaves the gate, if the pass is inside. From here on each turn leaves it too.
+    pub fn leave(&mut self)
+        ensures { self.new ≡ self.old }
+    {
+        self.holds = false;
+        self.turns = 0;
+        if let Some(ticket) = self.ticket {
+            self.ticket = self.gate.stay_or_leave(&mut self.seat, ticket, false);
+        }
     }
 }
 
@@ -51,6 +120,7 @@ impl<'a, S: Recorded> Seated<'a, S> {
     ghost use Rattle.ticket_gate.specs.declared.refusal.TurnRefusal.TheVariants.{Spent};
 
     /// Looks at the state inside the gate, as `Gate::sight` does, and adds no step to its journal.
+    /// Afterwards the pass is outside.
     ///
     /// Answered: the sight is that of the journal that the pass now sees. Refused only `Spent`
     /// (1202), once all tickets were drawn: the pass has seen nothing new.
@@ -67,7 +137,13 @@ impl<'a, S: Recorded> Seated<'a, S> {
             × (self.new.pass.known.seen ≡ self.old.pass.known.seen)
             × (self.new.pass.known.last_drawn ≡ 2 ^ 64 - 1)) }
     {
-        self.gate.sight(rt, &mut self.pass)
+        let ticket = self.gate.come_in(rt, &mut self.seat, self.ticket);
+        self.ticket = None;
+        self.turns = 0;
+        match ticket {
+            Some(ticket) => Ok(self.gate.look(&mut self.seat, ticket)),
+            None => Err(TurnRefusal::Spent { event: () }),
+        }
     }
 }
 
@@ -102,6 +178,39 @@ impl<'a, S: Recorded> Turns for Seated<'a, S> {
         rt: &R,
         event: S::Event,
     ) -> Result<S::Answer, TurnRefusal<S::Refusal, S::Event>> {
-        self.gate.take_turn(rt, &mut self.pass, event)
+        let Some(ticket) = self.gate.come_in(rt, &mut self.seat, self.ticket) else {
+            self.ticket = None;
+            return Err(TurnRefusal::Spent { event });
+        };
+        let outcome = self.gate.turn_inside(&mut self.seat, self.number, event);
+        self.turns = turns_inside(self.turns, self.holds);
+        self.ticket = self
+            .gate
+            .stay_or_leave(&mut self.seat, ticket, self.turns > 0);
+        told_by_state(outcome)
+    }
+}
+
+// The number of turns inside after one more. 0: the pass leaves.
+fn turns_inside(turns: u32, holds: bool) -> u32
+    ensures stays { result ≢ 0 → (holds ≡ true) × (result ≡ turns + 1) × (result < 64) }
+    ensures leaves { result ≡ 0 → (holds ≡ false) ⊎ (64 ≤ turns + 1) }
+{
+    let turns = turns.saturating_add(1);
+    if holds && turns < MAX_TURNS_INSIDE {
+        turns
+    } else {
+        0
+    }
+}
+
+// The state's answer, or its refusal as the gate tells it.
+fn told_by_state<A, C, E>(outcome: Result<A, (C, E)>) -> Result<A, TurnRefusal<C, E>>
+    ensures { MatchResult outcome (λ answer. result ≡ Ok answer)
+        (λ refused. result ≡ Err (State refused.0 refused.1)) }
+{
+    match outcome {
+        Ok(answer) => Ok(answer),
+        Err((cause, event)) => Err(TurnRefusal::State { cause, event }),
     }
 }

@@ -1,27 +1,28 @@
 //! Looks at the state inside a gate.
-ghost use Rattle.std.specs.Prelude.{◌≡◌, ◌+◌, ◌-◌, ◌^◌, ◌<◌, ℕ, Some, IfOk, IfErr, OnOk};
-ghost use Rattle.ticket_gate.specs.Gate.{IsAtRest, IsPassOf, IsSamePass};
-ghost use Rattle.ticket_gate.specs.Visit.{IsInside, KeepsSeen};
+ghost use Rattle.std.specs.Prelude.{◌≡◌, ◌+◌, ◌-◌, ◌^◌, ℕ, [], IfOk, IfErr, OnOk};
+ghost use Rattle.ticket_gate.specs.Gate.{IsPassOf, IsSamePass};
 ghost use Rattle.ticket_gate.specs.Journal.{GrowsByOthers};
+ghost use Rattle.ticket_gate.specs.Rule.{view_of};
+ghost use Rattle.ticket_gate.specs.Steps.{after_exit};
+ghost use Rattle.ticket_gate.specs.Visit.{IsHolding, journal_out};
 ghost use Rattle.ticket_gate.specs.declared.refusal.TurnRefusal.TheVariants.{Spent};
 
-use crate::gate::{Gate, GateSeat, Pass, SERVING, STATE};
+use crate::gate::{Gate, GateSeat, Pass, STATE};
 use crate::recorded::Recorded;
 use crate::refusal::TurnRefusal;
-use crate::steps::ServeNext;
 use std::sync::Wait;
 
 impl<S: Recorded> Gate<S> {
     // Looks at the state, and serves the next ticket.
-    fn look(&self, seat: &mut GateSeat<S>, ticket: u64) -> S::Sight
+    pub(crate) fn look(&self, seat: &mut GateSeat<S>, ticket: u64) -> S::Sight
         requires gate { seat.old.table_id ≡ self.now.id }
-        requires inside { IsInside S.journal S.setting S.legal seat.old.me.0.own ticket seat.old }
-        requires ticket { ticket + 1 < 2 ^ 64 }
-        requires setting { seat.old.me.0.own.setting ≡ Some self.now.setting }
-        requires number { (n : ℕ) × (seat.old.me.0.own.number ≡ Some n) }
+        requires holds { (n : ℕ) × IsHolding S.journal S.setting S.legal
+            self.now.setting n ticket seat.old }
         ensures gate { seat.new.table_id ≡ seat.old.table_id }
-        ensures seen { IsAtRest seat.new × KeepsSeen seat.old.me.0.own seat.new.me.0.own }
-        ensures sight { result ≡ S.sight_of self.now.setting seat.old.me.0.own.seen }
+        ensures left { seat.new.me ≡ (view_of (after_exit seat.old.me.0.own (ticket + 1)
+            (journal_out S.journal seat.old.me.1)), []) }
+        ensures sight { result
+            ≡ S.sight_of self.now.setting (journal_out S.journal seat.old.me.1) }
     {
         let shared = &self.table.shared;
         let state = shared.exchange(seat, STATE, None).unwrap();
@@ -30,7 +31,7 @@ impl<S: Recorded> Gate<S> {
             None => {}
             Some(_) => unreachable!(),
         }
-        shared.store::<ServeNext>(seat, SERVING, ticket + 1);
+        self.leave(seat, ticket);
         sight
     }
 
@@ -56,9 +57,9 @@ impl<S: Recorded> Gate<S> {
             × (pass.new.known.seen ≡ pass.old.known.seen)
             × (pass.new.known.last_drawn ≡ 2 ^ 64 - 1)) }
     {
-        let Some(ticket) = self.enter(rt, &mut pass.seat) else {
-            return Err(TurnRefusal::Spent { event: () });
-        };
-        Ok(self.look(&mut pass.seat, ticket))
+        match self.come_in(rt, &mut pass.seat, None) {
+            Some(ticket) => Ok(self.look(&mut pass.seat, ticket)),
+            None => Err(TurnRefusal::Spent { event: () }),
+        }
     }
 }

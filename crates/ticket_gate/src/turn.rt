@@ -6,15 +6,14 @@ ghost use Rattle.ticket_gate.specs.Journal.{AddsTurn};
 ghost use Rattle.ticket_gate.specs.Refusal.{RefusesAtOnce, RefusesAfterWaiting};
 
 use crate::entry::EntryRefusal;
-use crate::gate::{Gate, GateSeat, Pass, SERVING, STATE};
+use crate::gate::{Gate, GateSeat, Pass};
 use crate::recorded::Recorded;
 use crate::refusal::TurnRefusal;
-use crate::steps::ServeNext;
 use std::sync::Wait;
 
 impl<S: Recorded> Gate<S> {
-    // Takes the state out, makes the turn, puts the state back, and only then serves the next ticket: another
-    // order would let a second thread in to an empty slot.
+    // Makes the turn, which puts the state back, and only then serves the next ticket: another order would let a second
+    // thread in to an empty slot.
     #[inline(always)]
     fn work(
         &self,
@@ -31,14 +30,8 @@ impl<S: Recorded> Gate<S> {
         ensures gate { seat.new.table_id ≡ seat.old.table_id }
         ensures done { HasMadeTurn S.legal S.cause seat.old.me.0.own number event result seat.new }
     {
-        let shared = &self.table.shared;
-        let mut state = shared.exchange(seat, STATE, None).unwrap();
-        let outcome = state.turn(number, event);
-        match shared.exchange(seat, STATE, Some(state)) {
-            None => {}
-            Some(_) => unreachable!(),
-        }
-        shared.store::<ServeNext>(seat, SERVING, ticket + 1);
+        let outcome = self.turn_inside(seat, number, event);
+        self.leave(seat, ticket);
         outcome
     }
 

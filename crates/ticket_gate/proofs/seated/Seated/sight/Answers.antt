@@ -1,5 +1,3 @@
 use Rattle.std.proofs.Common.{rules}
 use Rattle.ticket_gate.proofs.seated.Seated.sight.Goals as goal
 
-pub returns-clause-refused : goal.returns-clause-refused
-returns-clause-refused g c = search rules
