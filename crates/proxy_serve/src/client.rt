@@ -5,14 +5,13 @@ ghost use Rattle.proxy_engines.specs.Turns.{own_history};
 ghost use Rattle.proxy_serve.specs.WorkerConnections.{IsLast};
 ghost use Rattle.proxy_serve.specs.Sockets.{CarriesItsSocket, MayDrain, OpensSocket};
 
-use crate::counted_turns::{CountedTurns, TurnCounts};
+use crate::counted_turns::{CountedTurns, HeldTurns, TurnCounts};
 use crate::generation_state::{GenerationState, LARGE, LARGE_STEP};
 use crate::socket::{Reader, SharedStream, Socket, Writer, note_readable, note_writable};
 use limits::{LINGER_MS, MAX_SPARED};
 use mio::event::Event as Readiness;
 use mio::net::TcpStream;
 use mio::{Registry, Token};
-use proxy_core::CoreTurns;
 use proxy_engines::{ClientEngine, EngineError, Progress, Rest};
 use proxy_exit_status::Ending;
 use proxy_histogram::{Histogram, Unanswered};
@@ -124,7 +123,7 @@ impl CarriedSocket {
     }
 
     // Opens a connection on this socket, which is registered with the poll. If the turn is refused it comes back.
-    fn into_client<R: Wait, T: CoreTurns>(
+    fn into_client<R: Wait, T: HeldTurns>(
         self,
         rt: &R,
         alloc: Global,
@@ -262,7 +261,7 @@ impl Client {
     }
 
     /// Opens a connection on a socket.
-    pub(crate) fn open<R: Wait, T: CoreTurns>(
+    pub(crate) fn open<R: Wait, T: HeldTurns>(
         rt: &R,
         alloc: Global,
         turns: &mut CountedTurns<T>,
@@ -289,7 +288,7 @@ impl Client {
     }
 
     /// Opens a connection on a socket from another generation. If the turn is refused the socket comes back.
-    pub(crate) fn open_carried<R: Wait, T: CoreTurns>(
+    pub(crate) fn open_carried<R: Wait, T: HeldTurns>(
         rt: &R,
         alloc: Global,
         turns: &mut CountedTurns<T>,
@@ -408,7 +407,7 @@ impl Client {
     }
 
     /// Steps the engine until it has to wait, and writes what it buffered.
-    pub(crate) fn run_once<R: Wait, T: CoreTurns>(
+    pub(crate) fn run_once<R: Wait, T: HeldTurns>(
         &mut self,
         rt: &R,
         turns: &mut CountedTurns<T>,
@@ -435,7 +434,7 @@ impl Client {
     }
 
     // Steps the engine until it has to wait, and writes what it buffered.
-    fn serve<R: Wait, T: CoreTurns>(
+    fn serve<R: Wait, T: HeldTurns>(
         &mut self,
         rt: &R,
         turns: &mut CountedTurns<T>,
@@ -451,6 +450,7 @@ impl Client {
         self.replies = generation.replies();
         self.engine.writer_mut().lend_buffer(buffer);
         let stepped = self.step_engine(rt, turns, generation, round.reserve);
+        turns.leave();
         let counts = turns.take_counts();
         self.waits.accepted(round.now, counts.accepted);
         self.waits.answered(round.now, counts.handed, durations);
@@ -490,7 +490,7 @@ impl Client {
     }
 
     // Steps until nothing more can be done, or `MAX_CLIENT_STEPS` are made, or this worker's share of parts has come.
-    fn step_engine<R: Wait, T: CoreTurns>(
+    fn step_engine<R: Wait, T: HeldTurns>(
         &mut self,
         rt: &R,
         turns: &mut CountedTurns<T>,
@@ -517,7 +517,7 @@ impl Client {
 
     // Accepts a command or steps once. A command is taken in only if the journal has room for all steps that it will owe.
     // True: nothing more can be done for now.
-    fn step<R: Wait, T: CoreTurns>(
+    fn step<R: Wait, T: HeldTurns>(
         &mut self,
         rt: &R,
         turns: &mut CountedTurns<T>,
@@ -535,7 +535,7 @@ impl Client {
     }
 
     // Accepts a command that has come whole, if there may be one, or steps the engine once.
-    fn accept_or_step<R: Wait, T: CoreTurns>(
+    fn accept_or_step<R: Wait, T: HeldTurns>(
         &mut self,
         rt: &R,
         turns: &mut CountedTurns<T>,
@@ -545,21 +545,38 @@ impl Client {
             (own_history T.pass T.seen turns.old.turns)
             (own_history T.pass T.seen turns.new.turns) }
     {
+        turns.hold();
         let count = self.engine.reader().count();
         if *searched == Some(count) {
-            return self.engine.step(rt, turns);
+            return self.step_once(rt, turns);
         }
         match self.engine.accept(rt, turns) {
             Ok(Progress::Idle) => {
                 *searched = Some(count);
-                self.engine.step(rt, turns)
+                self.step_once(rt, turns)
             }
             accepted => accepted,
         }
     }
 
+    // Steps the engine once, outside the gate if it may read from the socket.
+    fn step_once<R: Wait, T: HeldTurns>(
+        &mut self,
+        rt: &R,
+        turns: &mut CountedTurns<T>,
+    ) -> Result<Progress, EngineError>
+        ensures { KeepsSocket self.old.engine self.new.engine
+            (own_history T.pass T.seen turns.old.turns)
+            (own_history T.pass T.seen turns.new.turns) }
+    {
+        if self.engine.reader().may_read() {
+            turns.leave();
+        }
+        self.engine.step(rt, turns)
+    }
+
     // Drains unless the journal has room for a further command with all steps that it will owe.
-    fn find_room<R: Wait, T: CoreTurns>(
+    fn find_room<R: Wait, T: HeldTurns>(
         &mut self,
         rt: &R,
         turns: &mut CountedTurns<T>,
@@ -616,7 +633,7 @@ impl Client {
     }
 
     // Whether the journal has room for a further command with all steps that it will owe.
-    fn may_take_in<R: Wait, T: CoreTurns>(
+    fn may_take_in<R: Wait, T: HeldTurns>(
         &self,
         rt: &R,
         turns: &mut CountedTurns<T>,

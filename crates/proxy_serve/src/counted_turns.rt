@@ -4,6 +4,7 @@ ghost use Rattle.std.specs.Prelude.{◌≡◌};
 use crate::ledger::Ledger;
 use proxy_core::{Answer, CoreTurns, Event, Refusal};
 use proxy_generations::{FAR_BYTES, FAR_STEPS, Loan, Payload, StepKind};
+use proxy_stats::CountedSeat;
 use std::mem;
 use std::sync::Wait;
 use ticket_gate::{TurnRefusal, Turns};
@@ -228,6 +229,27 @@ impl Account {
     }
 }
 
+/// Turns that may stay inside a gate in between.
+pub(crate) trait HeldTurns: CoreTurns {
+    /// From here on a turn leaves the pass inside, where the next one needn't enter. Others wait meanwhile.
+    fn hold(&mut self)
+        ensures { self.new ≡ self.old };
+
+    /// Leaves the gate, if the pass is inside. From here on each turn leaves it too.
+    fn leave(&mut self)
+        ensures { self.new ≡ self.old };
+}
+
+impl<'a> HeldTurns for CountedSeat<'a> {
+    fn hold(&mut self) {
+        CountedSeat::hold(self);
+    }
+
+    fn leave(&mut self) {
+        CountedSeat::leave(self);
+    }
+}
+
 /// A worker's turns, counted.
 #[derive(Drop)]
 pub(crate) struct CountedTurns<T: CoreTurns> {
@@ -262,6 +284,24 @@ impl<T: CoreTurns> CountedTurns<T> {
         ensures { self.new.turns ≡ self.old.turns }
     {
         mem::replace(&mut self.account.counts, TurnCounts::NONE)
+    }
+
+    /// Leaves the gate, if the pass is inside, before something that may take long.
+    pub(crate) fn leave(&mut self)
+    where
+        T: HeldTurns,
+        ensures { self.new.turns ≡ self.old.turns }
+    {
+        self.turns.leave();
+    }
+
+    /// From here on a turn leaves the pass inside the gate.
+    pub(crate) fn hold(&mut self)
+    where
+        T: HeldTurns,
+        ensures { self.new.turns ≡ self.old.turns }
+    {
+        self.turns.hold();
     }
 
     /// The steps lent that are neither made nor owed.

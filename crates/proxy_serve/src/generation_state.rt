@@ -1,13 +1,12 @@
 //! What the threads of one generation share beside the gate.
 ghost use Rattle.std.specs.Prelude.{◌≡◌};
 
-use crate::counted_turns::CountedTurns;
+use crate::counted_turns::{CountedTurns, HeldTurns};
 use crate::ledger::Ledger;
 use crate::server::Server;
 use crossbeam_utils::CachePadded;
 use limits::{MAX_COMMAND_STEPS, MAX_PARTS_AT_ONCE, MAX_START_MS, MAX_UNFINISHED, MAX_UNSEEN};
 use mio::Waker;
-use proxy_core::CoreTurns;
 use proxy_generations::Phase;
 use std::rt::Clock;
 use std::sync::atomic::{AtomicBool, AtomicU8, AtomicU64, Ordering};
@@ -232,7 +231,7 @@ impl<'a> GenerationState<'a> {
     }
 
     /// Reports what the worker's turns did, takes back its unspent steps, and lends it this reserve again.
-    pub(crate) fn settle<R: Wait, T: CoreTurns>(
+    pub(crate) fn settle<R: Wait, T: HeldTurns>(
         &self,
         rt: &R,
         turns: &mut CountedTurns<T>,
@@ -240,6 +239,7 @@ impl<'a> GenerationState<'a> {
     )
         ensures { turns.new.turns ≡ turns.old.turns }
     {
+        turns.leave();
         let mut ledger = self.ledger.lock(rt);
         let ledger = &mut *ledger;
         turns.settle(ledger, self.open.load(Ordering::SeqCst));
@@ -247,7 +247,7 @@ impl<'a> GenerationState<'a> {
     }
 
     /// Lends this many steps. False: that many aren't left.
-    pub(crate) fn lend_steps<R: Wait, T: CoreTurns>(
+    pub(crate) fn lend_steps<R: Wait, T: HeldTurns>(
         &self,
         rt: &R,
         turns: &mut CountedTurns<T>,
@@ -255,11 +255,12 @@ impl<'a> GenerationState<'a> {
     ) -> bool
         ensures { turns.new.turns ≡ turns.old.turns }
     {
+        turns.leave();
         turns.borrow_steps(&mut self.ledger.lock(rt), steps)
     }
 
     /// Lends the worker steps until it has enough for any command beside the reserve. False: that many aren't left.
-    pub(crate) fn lend<R: Wait, T: CoreTurns>(
+    pub(crate) fn lend<R: Wait, T: HeldTurns>(
         &self,
         rt: &R,
         turns: &mut CountedTurns<T>,
@@ -274,6 +275,7 @@ impl<'a> GenerationState<'a> {
         let workers = (self.workers.len() as u64).max(1);
         let many = (MAX_LENT / workers).clamp(MAX_COMMAND_STEPS, 2 * MAX_COMMAND_STEPS);
         let missing = least.saturating_sub(turns.free_steps());
+        turns.leave();
         let mut ledger = self.ledger.lock(rt);
         let ledger = &mut *ledger;
         turns.borrow_steps(ledger, many.max(missing)) || turns.borrow_steps(ledger, missing)
@@ -281,7 +283,7 @@ impl<'a> GenerationState<'a> {
 
     /// Whether the journal has room for a host's reply beside all others that are coming, by all workers' reports.
     /// `came` of its bytes have come; `before` had come at the last report.
-    pub(crate) fn takes_reply<R: Wait, T: CoreTurns>(
+    pub(crate) fn takes_reply<R: Wait, T: HeldTurns>(
         &self,
         rt: &R,
         turns: &mut CountedTurns<T>,
@@ -290,6 +292,7 @@ impl<'a> GenerationState<'a> {
     ) -> bool
         ensures { turns.new.turns ≡ turns.old.turns }
     {
+        turns.leave();
         let mut ledger = self.ledger.lock(rt);
         let ledger = &mut *ledger;
         turns.report_payload(ledger);

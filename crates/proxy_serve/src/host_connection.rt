@@ -7,14 +7,13 @@ ghost use Rattle.proxy_serve.specs.Sockets.{KeepsHost};
 ghost use Rattle.proxy_serve.specs.WorkerConnections.{CarriesLink};
 
 use crate::client::StepError;
-use crate::counted_turns::{CountedTurns, TurnCounts};
+use crate::counted_turns::{CountedTurns, HeldTurns, TurnCounts};
 use crate::generation_state::{GenerationState, LARGE};
 use crate::socket::{Reader, SharedStream, Socket, Writer, note_readable, note_writable};
 use limits::{CONNECTING_MS, TELL_MS};
 use mio::event::Event as Readiness;
 use mio::net::TcpStream;
 use mio::{Interest, Registry, Token};
-use proxy_core::CoreTurns;
 use proxy_engines::{EngineError, HostEngine, Progress};
 use proxy_exit_status::Ending;
 use proxy_serve_core::Refusals;
@@ -205,11 +204,7 @@ impl HostConnection {
             LinkState::Down => false,
             LinkState::Connecting { has_event, .. } => *has_event,
             LinkState::Up(_) => {
-                let may_read = match self.engine.reader() {
-                    Some(reader) => reader.may_read(),
-                    None => false,
-                };
-                may_read
+                self.may_read()
                     || match self.engine.writer() {
                         Some(writer) => writer.may_write(),
                         None => false,
@@ -219,7 +214,7 @@ impl HostConnection {
     }
 
     /// Steps the engine until it has to wait, writes what it buffered, and connects where a link is needed.
-    pub(crate) fn run_once<R: Wait + Net, T: CoreTurns>(
+    pub(crate) fn run_once<R: Wait + Net, T: HeldTurns>(
         &mut self,
         rt: &R,
         turns: &mut CountedTurns<T>,
@@ -237,6 +232,7 @@ impl HostConnection {
         self.parts = generation.parts();
         self.lend_buffer(buffer);
         let stepped = self.step_engine(rt, turns, generation, registry, round);
+        turns.leave();
         self.write_out(buffer);
         if turns.take_counts().has_replies {
             generation.count_replies();
@@ -305,7 +301,7 @@ impl HostConnection {
     }
 
     // Steps until nothing more can be done, or `MAX_HOST_STEPS` are made. True: a connection attempt was refused.
-    fn step_engine<R: Wait + Net, T: CoreTurns>(
+    fn step_engine<R: Wait + Net, T: HeldTurns>(
         &mut self,
         rt: &R,
         turns: &mut CountedTurns<T>,
@@ -330,7 +326,7 @@ impl HostConnection {
     }
 
     // Steps once. Where a link is needed it is made, or the waiting parts are given up.
-    fn go_on<R: Wait + Net, T: CoreTurns>(
+    fn go_on<R: Wait + Net, T: HeldTurns>(
         &mut self,
         rt: &R,
         turns: &mut CountedTurns<T>,
@@ -351,7 +347,10 @@ impl HostConnection {
                 self.give_up(rt, turns, round.now)?;
                 Ok(HostMoved::On)
             }
-            Progress::NeedsLink => self.make_link(rt, turns, registry, round.now),
+            Progress::NeedsLink => {
+                turns.leave();
+                self.make_link(rt, turns, registry, round.now)
+            }
             Progress::Idle | Progress::Cut | Progress::Ended => {
                 self.refusals.succeeded();
                 self.abandon_connecting();
@@ -361,7 +360,7 @@ impl HostConnection {
     }
 
     // Connects, and gives the engine the result.
-    fn make_link<R: Wait + Net, T: CoreTurns>(
+    fn make_link<R: Wait + Net, T: HeldTurns>(
         &mut self,
         rt: &R,
         turns: &mut CountedTurns<T>,
@@ -389,7 +388,7 @@ impl HostConnection {
 
     // Sends all that waits, steps the engine once, and records what that says of the socket. A link that has to go is given up
     // first.
-    fn step<R: Wait, T: CoreTurns>(
+    fn step<R: Wait, T: HeldTurns>(
         &mut self,
         rt: &R,
         turns: &mut CountedTurns<T>,
@@ -416,7 +415,7 @@ impl HostConnection {
     }
 
     // Sends all that waits, then steps the engine once.
-    fn send_and_step<R: Wait, T: CoreTurns>(
+    fn send_and_step<R: Wait, T: HeldTurns>(
         &mut self,
         rt: &R,
         turns: &mut CountedTurns<T>,
@@ -428,12 +427,24 @@ impl HostConnection {
             (own_history T.pass T.seen turns.old.turns)
             (own_history T.pass T.seen turns.new.turns) }
     {
+        turns.hold();
         self.send_all(rt, turns, now)?;
+        if self.may_read() {
+            turns.leave();
+        }
         self.engine.step(rt, turns, now)
     }
 
+    // Whether a read of the link's socket may return something.
+    fn may_read(&self) -> bool {
+        match self.engine.reader() {
+            Some(reader) => reader.may_read(),
+            None => false,
+        }
+    }
+
     // Sends until nothing more can be sent, or `MAX_HOST_STEPS` times.
-    fn send_all<R: Wait, T: CoreTurns>(
+    fn send_all<R: Wait, T: HeldTurns>(
         &mut self,
         rt: &R,
         turns: &mut CountedTurns<T>,
@@ -452,7 +463,7 @@ impl HostConnection {
     }
 
     // Gives up a link that has to go.
-    fn give_up_if_due<R: Wait, T: CoreTurns>(
+    fn give_up_if_due<R: Wait, T: HeldTurns>(
         &mut self,
         rt: &R,
         turns: &mut CountedTurns<T>,
@@ -484,7 +495,7 @@ impl HostConnection {
     }
 
     // Handles an error. A reply that doesn't fit the journal is given up with its link.
-    fn handle_error<R: Wait, T: CoreTurns>(
+    fn handle_error<R: Wait, T: HeldTurns>(
         &mut self,
         rt: &R,
         turns: &mut CountedTurns<T>,
@@ -503,7 +514,7 @@ impl HostConnection {
     }
 
     // Whether the link has to go: waiting parts are given up, or the journal has no room for the reply that comes.
-    fn is_to_be_given_up<R: Wait, T: CoreTurns>(
+    fn is_to_be_given_up<R: Wait, T: HeldTurns>(
         &mut self,
         rt: &R,
         turns: &mut CountedTurns<T>,
@@ -545,7 +556,7 @@ impl HostConnection {
     }
 
     // Gives up the link and the waiting parts: each part is answered by name.
-    fn give_up<R: Wait, T: CoreTurns>(
+    fn give_up<R: Wait, T: HeldTurns>(
         &mut self,
         rt: &R,
         turns: &mut CountedTurns<T>,
@@ -638,7 +649,7 @@ impl HostConnection {
     }
 
     // Records with the engine that the host can't be reached: it answers the waiting parts.
-    fn refuse<R: Wait, T: CoreTurns>(
+    fn refuse<R: Wait, T: HeldTurns>(
         &mut self,
         rt: &R,
         turns: &mut CountedTurns<T>,

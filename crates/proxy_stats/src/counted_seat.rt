@@ -50,6 +50,23 @@ impl<'a> CountedSeat<'a> {
     }
 }
 
+impl<'a> CountedSeat<'a> {
+    /// From here on a turn leaves the pass inside the gate, where the next turn needn't enter
+    /// (`Seated::hold`). The caller should `leave` before it waits for anything.
+    pub fn hold(&mut self)
+        ensures { self.new ≡ self.old }
+    {
+        self.seated.hold();
+    }
+
+    /// Leaves the gate, if the pass is inside. From here on each turn leaves it too.
+    pub fn leave(&mut self)
+        ensures { self.new ≡ self.old }
+    {
+        self.seated.leave();
+    }
+}
+
 impl<'a> Turns for CountedSeat<'a> {
     type Event = Event;
 

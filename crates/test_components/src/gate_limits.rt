@@ -8,7 +8,7 @@ use std::fmt::Display;
 use std::sync::Wait;
 use std::test::Fail;
 use test_total::{AdditionRefusal, RunningTotal};
-use ticket_gate::{Alone, Gate, GateRefusal, Pass, Spare, TurnRefusal, Turns};
+use ticket_gate::{Alone, Gate, GateRefusal, MAX_TURNS_INSIDE, Pass, Seated, Spare, TurnRefusal, Turns};
 
 // An act of two passes, with the expected outcome.
 #[derive(Clone, Copy)]
@@ -144,6 +144,51 @@ fn a_free_gate_answers_at_once(rt: HostRuntime) -> Result<(), Fail> {
         Act::Tries(5, Outcome::Answered(9)),
     ];
     check(&rt, (0, 100), acts, &[(0, 4), (0, 5)])
+}
+
+// What came of a seat that holds the gate, and of another pass beside it: the seat's first turn; the other's while the seat is
+// inside, once it has left, once it has made all its turns inside, and once it was dropped inside.
+fn outcomes_beside<R: Wait>(
+    rt: &R,
+    gate: &Gate<RunningTotal>,
+    one: Pass<RunningTotal>,
+    mut other: Pass<RunningTotal>,
+) -> [Outcome; 5]
+    requires { IsPassOf gate.now one × IsPassOf gate.now other }
+{
+    let mut seat = Seated::new(gate, one);
+    seat.hold();
+    let first = outcome_of(seat.turn(rt, 4));
+    let inside = outcome_of(gate.try_turn(&mut other, 5));
+    seat.leave();
+    let left = outcome_of(gate.try_turn(&mut other, 6));
+    seat.hold();
+    for _ in 0..MAX_TURNS_INSIDE {
+        outcome_of(seat.turn(rt, 1));
+    }
+    let done = outcome_of(gate.try_turn(&mut other, 7));
+    outcome_of(seat.turn(rt, 1));
+    drop(seat);
+    let dropped = outcome_of(gate.try_turn(&mut other, 8));
+    [first, inside, left, done, dropped]
+}
+
+#[test]
+fn a_pass_that_holds_the_gate_keeps_others_out_until_it_leaves(rt: HostRuntime) -> Result<(), Fail> {
+    let (gate, spare) = open(rt.alloc(), RunningTotal::new(rt.alloc(), 1_000))?;
+    let (one, other) = enrol_both(&rt, &gate, spare)?;
+    let outcomes = outcomes_beside(&rt, &gate, one, other);
+    drop(gate);
+    let expected = [
+        Outcome::Answered(4),
+        Outcome::Busy(5),
+        Outcome::Answered(10),
+        // (64 turns of 1 inside)
+        Outcome::Answered(81),
+        Outcome::Answered(90),
+    ];
+    assert!(rt; outcomes == expected);
+    Ok(())
 }
 
 // Enrols 256 passes, and returns the remaining spare place.
