@@ -450,8 +450,7 @@ impl Client {
         self.replies = generation.replies();
         self.engine.writer_mut().lend_buffer(buffer);
         let stepped = self.step_engine(rt, turns, generation, round.reserve);
-        turns.leave();
-        let counts = turns.take_counts();
+        let counts = turns.leave_with_counts();
         self.waits.accepted(round.now, counts.accepted);
         self.waits.answered(round.now, counts.handed, durations);
         self.count(counts, generation);
@@ -569,9 +568,7 @@ impl Client {
             (own_history T.pass T.seen turns.old.turns)
             (own_history T.pass T.seen turns.new.turns) }
     {
-        if self.engine.reader().may_read() {
-            turns.leave();
-        }
+        turns.leave_if(self.engine.reader().may_read());
         self.engine.step(rt, turns)
     }
 

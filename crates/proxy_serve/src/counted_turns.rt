@@ -279,10 +279,13 @@ impl<T: CoreTurns> CountedTurns<T> {
         &self.account.counts
     }
 
-    /// Takes the counts.
-    pub(crate) fn take_counts(&mut self) -> TurnCounts
+    /// Leaves the gate, if the pass is inside, and takes the counts.
+    pub(crate) fn leave_with_counts(&mut self) -> TurnCounts
+    where
+        T: HeldTurns,
         ensures { self.new.turns ≡ self.old.turns }
     {
+        self.turns.leave();
         mem::replace(&mut self.account.counts, TurnCounts::NONE)
     }
 
@@ -293,6 +296,17 @@ impl<T: CoreTurns> CountedTurns<T> {
         ensures { self.new.turns ≡ self.old.turns }
     {
         self.turns.leave();
+    }
+
+    /// The same, if something may take long.
+    pub(crate) fn leave_if(&mut self, takes_long: bool)
+    where
+        T: HeldTurns,
+        ensures { self.new.turns ≡ self.old.turns }
+    {
+        if takes_long {
+            self.turns.leave();
+        }
     }
 
     /// From here on a turn leaves the pass inside the gate.

@@ -232,9 +232,9 @@ impl HostConnection {
         self.parts = generation.parts();
         self.lend_buffer(buffer);
         let stepped = self.step_engine(rt, turns, generation, registry, round);
-        turns.leave();
+        let counts = turns.leave_with_counts();
         self.write_out(buffer);
-        if turns.take_counts().has_replies {
+        if counts.has_replies {
             generation.count_replies();
         }
         self.has_more = self.has_more || stepped.is_err();
@@ -429,9 +429,7 @@ impl HostConnection {
     {
         turns.hold();
         self.send_all(rt, turns, now)?;
-        if self.may_read() {
-            turns.leave();
-        }
+        turns.leave_if(self.may_read());
         self.engine.step(rt, turns, now)
     }
 
