@@ -392,6 +392,11 @@ impl Client {
         self.unanswered > 0
     }
 
+    /// Whether the last round ended before all was done.
+    pub(crate) fn has_more(&self) -> bool {
+        self.has_more
+    }
+
     /// Whether a round can make progress.
     pub(crate) fn may_go(&self, generation: &GenerationState<'_>, now: u64) -> bool {
         if self.has_more {

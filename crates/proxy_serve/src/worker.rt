@@ -135,6 +135,7 @@ impl<'a> WorkerSetup<'a> {
             lacks_memory: false,
             may_have_sockets: true,
             accepted_at: 0,
+            looked_at: 0,
             next: 0,
             is_held_back: false,
             is_draining: false,
@@ -186,6 +187,8 @@ struct Worker<'a> {
     // Whether sockets may wait in the queue, and when that was last looked at.
     may_have_sockets: bool,
     accepted_at: u64,
+    // When all clients were last looked at.
+    looked_at: u64,
     // The client with which the next round begins.
     next: usize,
     // Whether clients wait until other workers have looked at their parts.
@@ -213,6 +216,7 @@ impl Drop for Worker<'_> {
             lacks_memory: _,
             may_have_sockets: _,
             accepted_at: _,
+            looked_at: _,
             next: _,
             is_held_back: _,
             is_draining: _,
@@ -394,7 +398,7 @@ impl<'a> Worker<'a> {
         if self.lacks_memory {
             return NO_MEMORY_MS;
         }
-        if moves && !self.is_held_back {
+        if !self.is_held_back && (moves || self.connections.has_ready()) {
             return 0;
         }
         if let Some(worker) = self.generation.worker(self.index) {
@@ -703,26 +707,62 @@ impl<'a> Worker<'a> {
         }
     }
 
-    // Steps each client, beginning where the last round stopped. In between, hosts take parts where these hold clients back.
+    // Steps each ready client once, beginning where the last round stopped.
     fn step_clients<R: Wait + Net + Eprint>(&mut self, rt: &R, now: u64) -> Result<bool, Stop> {
-        let mut moves = false;
         self.is_held_back = false;
-        let count = self.connections.capacity();
-        for step in 0..count {
-            let key = self.next.saturating_add(step) % count;
+        self.find_ready(now);
+        let begin = self.next;
+        let moves = self.step_ready(rt, begin, usize::MAX, now)?;
+        if self.is_held_back {
+            return Ok(true);
+        }
+        Ok(self.step_ready(rt, 0, begin, now)? || moves)
+    }
+
+    // Makes clients ready that wait for replies, if some came, and all clients each `PAUSE_MS`: some things come by the clock
+    // alone, and no client may depend on a note.
+    fn find_ready(&mut self, now: u64) {
+        self.connections.hear_replies(self.generation);
+        if now.saturating_sub(self.looked_at) >= PAUSE_MS {
+            self.looked_at = now;
+            self.connections.make_all_ready();
+        }
+    }
+
+    // Steps each ready client with a key from one number on and below another. In between, hosts take parts where these hold
+    // clients back.
+    fn step_ready<R: Wait + Net + Eprint>(
+        &mut self,
+        rt: &R,
+        begin: usize,
+        end: usize,
+        now: u64,
+    ) -> Result<bool, Stop> {
+        let mut moves = false;
+        let mut from = begin;
+        for _ in 0..self.connections.capacity() {
+            let Some(key) = self.connections.next_ready(from, end) else {
+                break;
+            };
             if self.generation.must_hold_back() {
                 moves = self.step_hosts(rt, now)? || moves;
                 if self.generation.must_hold_back() {
-                    // (other workers must look at theirs first)
-                    self.generation.wake_behind(self.index);
-                    self.next = key;
-                    self.is_held_back = true;
+                    self.hold_back(key);
                     return Ok(true);
                 }
+                self.connections.hear_replies(self.generation);
             }
             moves = self.step_client(rt, key, now)? || moves;
+            from = key.saturating_add(1);
         }
         Ok(moves)
+    }
+
+    // Holds clients back from this one on: other workers must look at their parts first.
+    fn hold_back(&mut self, key: usize) {
+        self.generation.wake_behind(self.index);
+        self.next = key;
+        self.is_held_back = true;
     }
 
     // Gives the socket to the worker of this index in the newest generation. Without memory it stays for now.

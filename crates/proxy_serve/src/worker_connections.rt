@@ -13,7 +13,7 @@ use proxy_config::Config;
 use proxy_exit_status::Ending;
 use proxy_generations::StepKind;
 use proxy_histogram::Histogram;
-use proxy_serve_core::hosts_of_worker;
+use proxy_serve_core::{ReadyClients, hosts_of_worker};
 use proxy_stats::CountedSeat;
 use slab::Slab;
 use std::alloc::Global;
@@ -55,6 +55,8 @@ pub(crate) struct WorkerConnections<'a> {
     alloc: Global,
     turns: CountedTurns<CountedSeat<'a>>,
     clients: Slab<Client>,
+    // Which of them the next round looks at.
+    ready: ReadyClients,
     hosts: Vec<HostConnection>,
     // Lent to one socket after another for its output.
     buffer: Vec<u8>,
@@ -69,6 +71,7 @@ impl Drop for WorkerConnections<'_> {
             alloc: _,
             turns: _,
             clients: _,
+            ready: _,
             hosts: _,
             buffer: _,
             durations: _,
@@ -115,6 +118,7 @@ impl<'a> WorkerConnections<'a> {
             alloc,
             turns: CountedTurns::new(seat),
             clients: Slab::new(alloc),
+            ready: ReadyClients::new(alloc),
             hosts,
             buffer: Vec::new(alloc),
             durations: Histogram::new(),
@@ -175,7 +179,34 @@ impl<'a> WorkerConnections<'a> {
     pub(crate) fn reserve_slot(&mut self) -> bool
         ensures { MakesRoom self.old self.new }
     {
-        self.clients.reserve(1).is_ok()
+        self.clients.reserve(1).is_ok() && self.ready.reserve(self.clients.capacity()).is_ok()
+    }
+
+    /// The least key of a ready client, from one number on and below another.
+    pub(crate) fn next_ready(&self, from: usize, end: usize) -> Option<usize> {
+        match self.ready.next(from) {
+            Some(key) if key < end => Some(key),
+            _ => None,
+        }
+    }
+
+    /// Whether a client is ready.
+    pub(crate) fn has_ready(&self) -> bool {
+        self.ready.next(0).is_some()
+    }
+
+    /// Makes all clients ready.
+    pub(crate) fn make_all_ready(&mut self)
+        ensures { self.new ≡ self.old }
+    {
+        self.ready.make_all_ready(self.clients.capacity());
+    }
+
+    /// Makes those ready that wait for replies, if the generation's count of replies isn't what it was at the last call.
+    pub(crate) fn hear_replies(&mut self, generation: &GenerationState<'_>)
+        ensures { self.new ≡ self.old }
+    {
+        self.ready.hear_replies(generation.replies());
     }
 
     /// Takes the durations of commands since the last call.
@@ -240,9 +271,10 @@ impl<'a> WorkerConnections<'a> {
         ensures stay { KeepsClients self.old.clients self.new.clients }
     {
         begin_input(&mut client, ends_input);
-        let Ok(_) = self.clients.insert(client) else {
+        let Ok(key) = self.clients.insert(client) else {
             return false;
         };
+        self.ready.make_ready(key);
         true
     }
 
@@ -254,6 +286,7 @@ impl<'a> WorkerConnections<'a> {
             return;
         };
         client.on_readiness(event);
+        self.ready.make_ready(key);
     }
 
     /// Records what the poll reports of a host's socket.
@@ -274,6 +307,7 @@ impl<'a> WorkerConnections<'a> {
             return;
         };
         client.drain();
+        self.ready.make_ready(key);
     }
 
     /// Ends the input of the client with this key behind the bytes that have come.
@@ -284,9 +318,11 @@ impl<'a> WorkerConnections<'a> {
             return;
         };
         client.end_input();
+        self.ready.make_ready(key);
     }
 
-    /// Steps the client with this key. `None`: it can't make progress now, or there is no such client.
+    /// Steps the client with this key. `None`: it can't make progress now, or there is no such client. It is ready again
+    /// only where its round left something to do.
     pub(crate) fn step_client<R: Wait>(
         &mut self,
         rt: &R,
@@ -299,6 +335,7 @@ impl<'a> WorkerConnections<'a> {
             (λ s. IsLast s → IsLeaving self.new.clients key)) }
     {
         let reserve = self.reserve();
+        self.ready.begin(key);
         let Some(client) = self.clients.get_mut(key) else {
             return None;
         };
@@ -315,6 +352,8 @@ impl<'a> WorkerConnections<'a> {
             ClientRound { now, reserve },
         );
         let awaits = client.awaits_reply();
+        let is_ready = client.has_more() || matches!(stepped, Ok(Stepped::Ready));
+        self.ready.end(key, is_ready, awaits);
         Some(ClientResult {
             stepped,
             did_await,
@@ -361,6 +400,7 @@ impl<'a> WorkerConnections<'a> {
         requires { IsLeaving self.old.clients key }
         ensures { RemovesClient key self.old self.new }
     {
+        self.ready.forget(key);
         drop(self.clients.try_remove(key));
     }
 
@@ -375,6 +415,7 @@ impl<'a> WorkerConnections<'a> {
         requires { IsLeaving self.old.clients key }
         ensures { RemovesClient key self.old self.new }
     {
+        self.ready.forget(key);
         match self.clients.try_remove(key) {
             Some(client) => client.carry(registry, generation),
             None => None,
@@ -389,6 +430,7 @@ impl<'a> WorkerConnections<'a> {
         let Some(client) = self.clients.get_mut(key) else {
             return None;
         };
+        self.ready.make_ready(key);
         Some(client.refuse())
     }
 

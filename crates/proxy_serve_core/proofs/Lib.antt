@@ -1,3 +1,4 @@
 mod WriteBufferLemmas
 mod ReadEndLemmas
 mod AssignmentLemmas
+mod KeySetLemmas

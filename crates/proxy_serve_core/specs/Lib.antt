@@ -5,3 +5,5 @@ pub mod Assignment
 pub mod EjectionLog
 pub mod SocketReader
 pub mod SocketWriter
+pub mod KeySet
+pub mod ReadyClients

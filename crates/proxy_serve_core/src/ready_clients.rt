@@ -1,0 +1,131 @@
+//! Which clients a worker's round looks at.
+ghost use Rattle.std.specs.Prelude.{◌≡◌, ◌≤◌, OnOk, IfSome, IfNone};
+ghost use Rattle.std.specs.Bool.{OnTrue, OnFalse};
+ghost use Rattle.proxy_serve_core.specs.KeySet.{AddsKeyIfItFits, AddsKeysBelow, DropsKey, HasNone, IsNext, SameKeys, capacity_of};
+ghost use Rattle.proxy_serve_core.specs.ReadyClients.{HearsReplies};
+
+use crate::key_set::KeySet;
+use std::alloc::{AllocError, Global};
+use std::marker::Model;
+
+/// The keys of the clients that a worker's next round looks at, and of those that wait for replies.
+#[derive(Drop)]
+pub struct ReadyClients {
+    ready: KeySet,
+    awaiting: KeySet,
+    // The count of replies that was last heard.
+    replies: u64,
+}
+
+impl Model for ReadyClients {
+    ghost use Rattle.std.specs.Prelude.{◌≤◌};
+    ghost use Rattle.proxy_serve_core.specs.KeySet.{capacity_of};
+    ghost use Rattle.proxy_serve_core.specs.ReadyClients.{ReadyClientsState};
+
+    ghost Value = { ReadyClientsState };
+
+    ghost view = { λ r. record {
+      ready = r.ready;
+      awaiting = r.awaiting;
+      replies = r.replies;
+    } };
+
+    ghost invariant = { λ r. capacity_of r.awaiting ≤ capacity_of r.ready };
+}
+
+impl ReadyClients {
+    /// No client is ready, none waits, and no reply was heard of.
+    pub fn new(alloc: Global) -> ReadyClients
+        ensures ready { HasNone result.ready 0 }
+        ensures awaiting { HasNone result.awaiting 0 }
+        ensures replies { result.replies ≡ 0 }
+    {
+        ReadyClients {
+            ready: KeySet::new(alloc),
+            awaiting: KeySet::new(alloc),
+            replies: 0,
+        }
+    }
+
+    /// Makes room for the keys below this number. Where memory is refused no key changes.
+    pub fn reserve(&mut self, capacity: usize) -> Result<(), AllocError>
+        ensures room { OnOk result (capacity ≤ capacity_of self.new.awaiting) }
+        ensures ready { SameKeys self.old.ready self.new.ready }
+        ensures awaiting { SameKeys self.old.awaiting self.new.awaiting }
+        ensures replies { self.new.replies ≡ self.old.replies }
+    {
+        self.ready.reserve(capacity)?;
+        self.awaiting.reserve(capacity)
+    }
+
+    /// The next round looks at this client. Ignored if there is no room for its key.
+    pub fn make_ready(&mut self, key: usize)
+        ensures adds { AddsKeyIfItFits key self.old.ready self.new.ready }
+        ensures rest { self.new ≡ record self.old { ready = self.new.ready } }
+    {
+        self.ready.insert(key);
+    }
+
+    /// The next round looks at each client with a key below this number, as far as there is room for its key.
+    pub fn make_all_ready(&mut self, count: usize)
+        ensures adds { AddsKeysBelow count self.old.ready self.new.ready }
+        ensures rest { self.new ≡ record self.old { ready = self.new.ready } }
+    {
+        self.ready.insert_all_below(count);
+    }
+
+    /// The client was looked at: it isn't ready any more.
+    pub fn begin(&mut self, key: usize)
+        ensures drops { DropsKey key self.old.ready self.new.ready }
+        ensures rest { self.new ≡ record self.old { ready = self.new.ready } }
+    {
+        self.ready.remove(key);
+    }
+
+    /// The client's round ended. It is ready again where that left something to do, and waits for replies from here on,
+    /// or doesn't. What there is no room for is ignored.
+    pub fn end(&mut self, key: usize, is_ready: bool, awaits: bool)
+        ensures ready { OnTrue is_ready (AddsKeyIfItFits key self.old.ready self.new.ready) }
+        ensures idle { OnFalse is_ready (self.new.ready ≡ self.old.ready) }
+        ensures awaits { OnTrue awaits (AddsKeyIfItFits key self.old.awaiting self.new.awaiting) }
+        ensures answered { OnFalse awaits (DropsKey key self.old.awaiting self.new.awaiting) }
+        ensures replies { self.new.replies ≡ self.old.replies }
+    {
+        if is_ready {
+            self.make_ready(key);
+        }
+        if awaits {
+            self.awaiting.insert(key);
+        } else {
+            self.awaiting.remove(key);
+        }
+    }
+
+    /// The client is gone: it isn't ready, and doesn't wait.
+    pub fn forget(&mut self, key: usize)
+        ensures ready { DropsKey key self.old.ready self.new.ready }
+        ensures awaiting { DropsKey key self.old.awaiting self.new.awaiting }
+        ensures replies { self.new.replies ≡ self.old.replies }
+    {
+        self.begin(key);
+        self.end(key, false, false);
+    }
+
+    /// So many replies have come to the clients of all workers. If the count has changed, those that wait are ready.
+    pub fn hear_replies(&mut self, count: u64)
+        ensures { HearsReplies count self.old self.new }
+    {
+        if count != self.replies {
+            self.replies = count;
+            self.ready.insert_all_of(&self.awaiting);
+        }
+    }
+
+    /// The ready client with the least key at or after this number. `None`: no client is ready there.
+    pub fn next(&self, from: usize) -> Option<usize>
+        ensures found { IfSome result (IsNext self.now.ready from) }
+        ensures none { IfNone result (HasNone self.now.ready from) }
+    {
+        self.ready.next(from)
+    }
+}
