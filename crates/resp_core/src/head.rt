@@ -263,6 +263,39 @@ pub(crate) fn step(head: Head, byte: u8, most: u64, left: u32) -> Result<Next, R
 
 // What a length of up to three digits announces, and how many bytes it has. `None`: it is read a byte at a time.
 #[inline(always)]
+fn short_sized(sized: Sized, bytes: &[u8], most: u64, left: u32) -> Option<(Found, usize)>
+    requires good { IsGoodSized left sized }
+    ensures inside { IfSome result (λ x. (0 < x.1) × (x.1 ≤ length bytes.now)) }
+    ensures gives { IfSome result
+        (λ x. GoesOn most left (Head.Length sized) (take x.1 bytes.now) (Next.Found x.0)) }
+    ensures good { IfSome result (λ x. IsGoodFound most left x.0) }
+{
+    let (n, len) = short_length(bytes, sized.limit(most))?;
+    Some((sized.found(n), len))
+}
+
+// The same with the type byte before it.
+#[inline(always)]
+fn short_typed(bytes: &[u8], most: u64, left: u32) -> Option<(Found, usize)>
+    ensures inside { IfSome result (λ x. (0 < x.1) × (x.1 ≤ length bytes.now)) }
+    ensures gives { IfSome result
+        (λ x. GoesOn most left Head.Type (take x.1 bytes.now) (Next.Found x.0)) }
+    ensures good { IfSome result (λ x. IsGoodFound most left x.0) }
+{
+    let (first, rest) = bytes.split_first()?;
+    if *first == b'$' {
+        let (found, len) = short_sized(Sized::Bulk, rest, most, left)?;
+        return Some((found, len + 1));
+    }
+    if *first == b'*' && left > 0 {
+        let (found, len) = short_sized(Sized::List, rest, most, left)?;
+        return Some((found, len + 1));
+    }
+    None
+}
+
+// What a whole head with such a length announces, and how many bytes it has.
+#[inline(always)]
 fn short_found(head: Head, bytes: &[u8], most: u64, left: u32) -> Option<(Found, usize)>
     requires good { IsGoodHead most left head }
     ensures inside { IfSome result (λ x. (0 < x.1) × (x.1 ≤ length bytes.now)) }
@@ -270,11 +303,11 @@ fn short_found(head: Head, bytes: &[u8], most: u64, left: u32) -> Option<(Found,
         (λ x. GoesOn most left head (take x.1 bytes.now) (Next.Found x.0)) }
     ensures good { IfSome result (λ x. IsGoodFound most left x.0) }
 {
-    let Head::Length(sized) = head else {
-        return None;
-    };
-    let (n, len) = short_length(bytes, sized.limit(most))?;
-    Some((sized.found(n), len))
+    match head {
+        Head::Type => short_typed(bytes, most, left),
+        Head::Length(sized) => short_sized(sized, bytes, most, left),
+        _ => None,
+    }
 }
 
 // Why a head can't go on: the byte at this place is refused.
