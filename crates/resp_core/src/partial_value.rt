@@ -204,12 +204,27 @@ impl PartialValue {
         ensures none { IfOk result (λ came. came ≡ false → IsShort most self.old) }
         ensures halts { IfErr result (λ e. HaltsIn most self.old e) }
     {
+        match self.go_on_to_found(most)? {
+            Some(found) => self.take_found(alloc, found, most),
+            None => Ok(false),
+        }
+    }
+
+    // What the last head announced, or what the next one announces if its end came.
+    fn go_on_to_found(&mut self, most: u64) -> Result<Option<Found>, Halt>
+        requires good { IsGood most self.old }
+        requires done { self.old.done ≡ None }
+        ensures good { IsGood most self.new }
+        ensures reads { LeadsTo most self.old self.new }
+        ensures falls { IfOk result (λ o. IfSome o (λ _. to_read self.new ≤ to_read self.old)) }
+        ensures next { IfOk result (λ o. IfSome o (λ found. (self.new.done ≡ None)
+            × (self.new.next ≡ Next.Found found))) }
+        ensures none { IfOk result (λ o. IfNone o (IsShort most self.old)) }
+        ensures halts { IfErr result (λ e. HaltsIn most self.old e) }
+    {
         match self.next {
-            Next::Head(head) => match self.go_on_in_head(head, most)? {
-                Some(found) => self.take_found(alloc, found, most),
-                None => Ok(false),
-            },
-            Next::Found(found) => self.take_found(alloc, found, most),
+            Next::Head(head) => self.go_on_in_head(head, most),
+            Next::Found(found) => Ok(Some(found)),
         }
     }
 

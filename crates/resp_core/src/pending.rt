@@ -95,6 +95,7 @@ impl Pending {
     }
 
     /// Takes bytes from the front, and returns the first `len` of them. There has been room for `room` bytes.
+    #[inline(always)]
     pub(crate) fn cut(&mut self, room: usize, len: usize, taken: usize) -> Result<Bytes, AllocError>
         requires inside { (len ≤ taken) × (taken ≤ length self.old.items) }
         ensures front { IfOk result (λ b. b ≡ take len self.old.items) }

@@ -1,6 +1,5 @@
 -- Heads that are read a byte at a time.
-use Rattle.std.proofs.Common.{◌≡◌, ℕ, zero, suc, ◌+◌, ◌-◌, ◌<◌, List, [], ◌∷◌, ◌++◌, length, get_or, take, drop, drop-cons, refl, sym, ap, ◌∙◌, append-nil, append_assoc, Some, arith}
-use Rattle.std.proofs.Math.Seq.{take-add}
+use Rattle.std.proofs.Common.{◌≡◌, ℕ, zero, suc, ◌+◌, ◌-◌, ◌<◌, List, [], ◌∷◌, ◌++◌, length, get_or, take, drop, drop-cons, refl, sym, ap, ◌∙◌, append-nil, Some, arith}
 use Rattle.std.proofs.lemmas.List.{take-append-drop, take_all}
 use Rattle.resp_core.specs.declared.error.Refusal.{Refusal}
 use Rattle.resp_core.specs.declared.head.Head.{Head}
@@ -28,10 +27,6 @@ pub stops_there : (most left : ℕ) (h k : Head) (r : Refusal) (b : List ℕ) (i
 stops_there most left h k r b i lt g s =
     let parts : drop i b ≡ get_or b i 0 ∷ drop (suc i) b = drop-cons b i 0 lt in
     ap (head_at most left h) (sym (take-append-drop i b)) ∙ g (drop i b) ∙ ap (head_at most left k) parts ∙ s (drop (suc i) b) ∙ ap (refused r) (sym parts)
-
--- what stands behind further bytes of a head
-pub goes_further : (most left : ℕ) (h k : Head) (next : Next) (b : List ℕ) (i n : ℕ) → GoesOn most left h (take i b) (nexts.Head k) → GoesOn most left k (take n (drop i b)) next → GoesOn most left h (take (i + n) b) next
-goes_further most left h k next b i n g s = λ y. ap (λ z. head_at most left h (z ++ y)) (take-add i n b) ∙ ap (head_at most left h) (append_assoc (take i b) (take n (drop i b)) y) ∙ g (take n (drop i b) ++ y) ∙ s y
 
 -- what a length announces, where it is read at once
 pub goes_behind_length : (most left : ℕ) (s : Sized) (b : List ℕ) (n : ℕ) → ((y : List ℕ) → count_at (limit_of most s) (b ++ y) ≡ found (Some n) y) → GoesOn most left (heads.Length s) b (nexts.Found (found_of s n))

@@ -10,4 +10,4 @@ short_before most p q (Ok came) along short = λ e held reads. short e held (alo
 short_before most p q (Err halt) along short = tt
 
 pub returns-in-Some-clause-none : goal.returns-in-Some-clause-none
-returns-in-Some-clause-none c = short_before c.args.most c.args.self.now c.go_on_in_head.new.self c.take_found.result c.go_on_in_head.ensures.reads c.take_found.ensures.none
+returns-in-Some-clause-none c = short_before c.args.most c.args.self.now c.go_on_to_found.new.self c.take_found.result c.go_on_to_found.ensures.reads c.take_found.ensures.none

@@ -1,7 +1,7 @@
-use Rattle.std.proofs.Common.{rules, ◌≡◌, ◌∷◌, arith}
+use Rattle.std.proofs.Common.{◌≡◌, ◌∷◌, arith}
 use Rattle.resp_core.specs.declared.head.Next.TheVariants as nexts
 use Rattle.resp_core.proofs.unfinished.HeadLemmas.{behind_bulk_type, behind_list_type}
-use Rattle.resp_core.proofs.head.short_typed.Goals as goal
+use Rattle.resp_core.proofs.head.short_found.Goals as goal
 
 pub returns-then-first-eq36-clause-gives : goal.returns-then-first-eq36-clause-gives
 returns-then-first-eq36-clause-gives c =
