@@ -91,8 +91,9 @@ fn append_values(values: &Values, out: &mut Vec<u8>) -> Result<(), AllocError>
     Ok(())
 }
 
+// Appends the text of a bulk string. Where memory is refused, a part may have been appended.
 #[inline(always)]
-fn append_bulk(payload: &[u8], out: &mut Vec<u8>) -> Result<(), AllocError>
+pub(crate) fn append_bulk(payload: &[u8], out: &mut Vec<u8>) -> Result<(), AllocError>
     ensures ok { OnOk result (out.new.items ≡ out.old.items ++ text (bulk payload.now)) }
     ensures err { OnErr result (Extends out.old.items out.new.items) }
 {
