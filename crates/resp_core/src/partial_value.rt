@@ -313,6 +313,7 @@ impl PartialValue {
         ensures next { self.new.next ≡ self.old.next }
         ensures came { self.new.came ≡ self.old.came }
     {
+        // (`take` would write it anew)
         if self.done.is_none() {
             return Ok(None);
         }

@@ -161,13 +161,14 @@ impl Pending {
         self.bytes = BytesMut::new(*self.bytes.allocator());
     }
 
-    /// Drops what no byte needs that may still be returned.
+    /// Drops the copy of the first bytes. Texts that are parts of it stay.
     pub(crate) fn forget_copies(&mut self)
         ensures { self.new ≡ self.old }
     {
         self.copied = Bytes::new();
     }
 
+    /// The allocator.
     pub(crate) fn alloc(&self) -> Global {
         *self.bytes.allocator()
     }

@@ -20,9 +20,6 @@ use std::alloc::Global;
 // The most bytes of the texts of parts that share a block.
 const MAX_JOINED: usize = 16_384;
 
-// Room for the text of a part with a short key.
-const KEY_TEXT: usize = 64;
-
 /// The one part of a command that goes to the host of its word `key_at`. The value must be the command with these
 /// words; `text_len` is the length of its text.
 pub(crate) fn whole_part<'a>(
@@ -45,10 +42,12 @@ pub(crate) fn whole_part<'a>(
     })
 }
 
-/// A part for each word behind the name: a command of this name and that word, which is the key.
+/// A part for each word behind the name: a command of this name and that word, which is the key. `text_len` is the length
+/// of the text of the command with these words.
 pub(crate) fn key_parts(
     alloc: Global,
     texts: &mut Texts,
+    text_len: u64,
     name: Bytes,
     words: &Values,
 ) -> Result<PartPlans, SplitError>
@@ -58,21 +57,28 @@ pub(crate) fn key_parts(
     ensures err { IfErr result (λ e. e ≡ SplitError.NoMemory) }
 {
     let head = head(alloc, 2, name)?;
-    match joined_texts(alloc, head.as_slice(), words)? {
+    match joined_texts(alloc, text_len, head.as_slice(), words)? {
         Some(joined) => joined_parts(alloc, head.as_slice(), joined, words),
         None => single_parts(alloc, texts, head.as_slice(), words),
     }
 }
 
 // The texts of the parts that begin with `head`, one behind the other. `None` if they have more bytes than may share a block.
-fn joined_texts(alloc: Global, head: &[u8], words: &Values) -> Result<Option<Bytes>, SplitError>
+// Memory is reserved for heads and for `text_len` bytes.
+fn joined_texts(
+    alloc: Global,
+    text_len: u64,
+    head: &[u8],
+    words: &Values,
+) -> Result<Option<Bytes>, SplitError>
     requires { are_words words.now ≡ true }
     ensures texts { IfOk result (λ o. IfSome o
         (λ bytes. bytes ≡ key_texts head.now (drop 1 (map payload_of words.now)))) }
     ensures err { IfErr result (λ e. e ≡ SplitError.NoMemory) }
 {
-    let few = words.0.len().saturating_mul(KEY_TEXT).min(MAX_JOINED);
-    let mut joined = Vec::with_capacity(alloc, few)?;
+    let heads = words.0.len().saturating_mul(head.len());
+    let room = heads.saturating_add(text_len as usize).min(MAX_JOINED);
+    let mut joined = Vec::with_capacity(alloc, room)?;
     for at in 1..words.0.len() {
         joined.extend_from_slice(head)?;
         put_bulk(words.word(at).as_slice(), &mut joined)?;
