@@ -62,7 +62,7 @@ held_of p = p.came + length p.pending.items
 
 -- the same but for the room behind the bytes
 abbrev pub shown_progress : PartialValue → PartialValue
-shown_progress p = record { pending = record { items = p.pending.items; spare = 0 }; room = 0; copies = tt; opens = p.opens; done = p.done; next = p.next; seen = p.seen; came = p.came; needed = p.needed }
+shown_progress p = record { pending = record { items = p.pending.items; spare = 0 }; room = 0; opens = p.opens; done = p.done; next = p.next; seen = p.seen; came = p.came; needed = p.needed }
 
 -- 1 where a head was read to its end
 abbrev pub behind_head : Next → ℕ

@@ -67,6 +67,7 @@ fn digit_of(byte: u8) -> Option<u64>
 // The length of at most three digits that stands at the front with its line end, if it is at most `limit`: the number, and how
 // many bytes it has. Most lengths are such. `None`: it is read a byte at a time.
 #[tactic(auto, unfolding(crate::specs::Reading::digits_at, crate::specs::Reading::count_at, crate::specs::Reading::byte_at))]
+#[inline(always)]
 pub(crate) fn short_length(bytes: &[u8], limit: u64) -> Option<(u64, usize)>
     ensures inside { IfSome result (λ x. (0 < x.1) × (x.1 ≤ length bytes.now) × (x.0 ≤ limit)) }
     ensures reads { IfSome result (λ x. (rest : List ℕ)

@@ -261,18 +261,36 @@ pub(crate) fn step(head: Head, byte: u8, most: u64, left: u32) -> Result<Next, R
     }
 }
 
-// What a length of up to three digits announces, and how many bytes it has. `None`: it is read a byte at a time.
+// What a whole head with a length of up to three digits announces, and how many bytes it has. Most heads are such. `None`: it
+// is read a byte at a time.
 #[inline(always)]
-fn short_found(head: Head, bytes: &[u8], most: u64, left: u32) -> Option<(Found, usize)>
-    requires good { IsGoodHead most left head }
+fn short_found(bytes: &[u8], most: u64, left: u32) -> Option<(Found, usize)>
     ensures inside { IfSome result (λ x. (0 < x.1) × (x.1 ≤ length bytes.now)) }
     ensures gives { IfSome result
-        (λ x. GoesOn most left head (take x.1 bytes.now) (Next.Found x.0)) }
+        (λ x. GoesOn most left Head.Type (take x.1 bytes.now) (Next.Found x.0)) }
     ensures good { IfSome result (λ x. IsGoodFound most left x.0) }
 {
-    let Head::Length(sized) = head else {
-        return None;
-    };
+    let (first, rest) = bytes.split_first()?;
+    if *first == b'$' {
+        let (found, len) = short_sized(Sized::Bulk, rest, most, left)?;
+        return Some((found, len + 1));
+    }
+    if *first == b'*' && left > 0 {
+        let (found, len) = short_sized(Sized::List, rest, most, left)?;
+        return Some((found, len + 1));
+    }
+    None
+}
+
+// The same behind the type byte.
+#[inline(always)]
+fn short_sized(sized: Sized, bytes: &[u8], most: u64, left: u32) -> Option<(Found, usize)>
+    requires good { IsGoodSized left sized }
+    ensures inside { IfSome result (λ x. (0 < x.1) × (x.1 ≤ length bytes.now)) }
+    ensures gives { IfSome result
+        (λ x. GoesOn most left (Head.Length sized) (take x.1 bytes.now) (Next.Found x.0)) }
+    ensures good { IfSome result (λ x. IsGoodFound most left x.0) }
+{
     let (n, len) = short_length(bytes, sized.limit(most))?;
     Some((sized.found(n), len))
 }
@@ -296,11 +314,13 @@ pub(crate) fn read_head(
         × (head_at most left head bytes.now ≡ refused e.0 (drop e.1 bytes.now))) }
     ensures good { IfOk result (λ x. IsGoodNext most left x.0) }
 {
+    if let Head::Type = head {
+        if let Some((found, len)) = short_found(bytes, most, left) {
+            return Ok((Next::Found(found), len));
+        }
+    }
     let mut head = head;
     for i in 0..bytes.len() {
-        if let Some((found, len)) = short_found(head, &bytes[i..], most, left) {
-            return Ok((Next::Found(found), i + len));
-        }
         match step(head, bytes[i], most, left) {
             Ok(Next::Head(next)) => head = next,
             Ok(Next::Found(found)) => return Ok((Next::Found(found), i + 1)),

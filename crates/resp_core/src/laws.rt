@@ -2,7 +2,8 @@
 ghost use Rattle.std.specs.Prelude.{◌≡◌};
 ghost use Rattle.resp_core.specs.Laws.{NoTextBeginsAnother, TextIsRead, SpellingIsShortest, ReadValuesArePlain, CommandsArePlain, OneReading, EachStreamHolds, OneHolding, RefusalStays, OneRefusedByte, OneNumber, OneRefusal, ValuesStay, TextIsReadBack, TextIsReadNext, ValuesGoOn};
 
-use crate::partial_value::{MAX_COPY_BLOCK, MAX_IDLE, MAX_KEPT};
+use crate::partial_value::MAX_IDLE;
+use crate::pending::{MAX_COPY_BLOCK, MAX_KEPT};
 use crate::reader::Limits;
 use crate::texts::MAX_TEXT_BLOCK;
 use limits::{MAX_CLIENT_MEMBERS, MAX_HOST_MEMBERS};

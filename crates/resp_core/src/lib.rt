@@ -14,6 +14,7 @@ mod head;
 mod laws;
 mod parse;
 mod partial_value;
+mod pending;
 mod reader;
 mod text;
 mod text_block;

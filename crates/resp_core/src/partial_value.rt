@@ -10,24 +10,14 @@ use crate::begun::{Begun, put};
 use crate::error::Refusal;
 use crate::head::{Found, Head, Line, Next, RefusedByte, read_head};
 use crate::parse::{Stop, take_payload, take_text};
-use crate::text_block::TextBlock;
+use crate::pending::Pending;
 use crate::value::{Value, Values};
-use bytes::{Bytes, BytesMut};
 use limits::{MAX_DEPTH, MAX_TEXT};
 use std::alloc::{AllocError, Global};
 use std::mem;
 
-// Shorter payloads and texts are copied, and so are those of less than one in `MAX_KEPT` bytes of
-// the buffer. So a shared one keeps at most `MAX_KEPT` times its bytes.
-const MIN_SHARED: usize = 4_096;
-
-// The most bytes of a block for copies of short texts. An idle connection can keep this many.
-pub(crate) const MAX_COPY_BLOCK: usize = 512;
-
 // The most members of a list for which memory is reserved before they come.
-const FEW_MEMBERS: usize = 4;
-
-pub(crate) const MAX_KEPT: usize = 8;
+const MAX_RESERVED: usize = 16;
 
 // The most bytes of a buffer that is kept while no byte is pending.
 pub(crate) const MAX_IDLE: usize = 32_768;
@@ -42,11 +32,9 @@ pub(crate) enum Halt {
 #[derive(Drop)]
 pub(crate) struct PartialValue {
     // Bytes fed and not taken, from the next byte of a head on, or from the first one of a text or a payload.
-    pub(crate) pending: BytesMut,
+    pub(crate) pending: Pending,
     // The most bytes for which there was room since nothing was pending.
     pub(crate) room: usize,
-    // Copies of short payloads and texts.
-    pub(crate) copies: TextBlock,
     // The open lists, the outermost first.
     pub(crate) opens: Vec<Begun>,
     // A complete value that isn't in its list yet.
@@ -58,29 +46,6 @@ pub(crate) struct PartialValue {
     pub(crate) came: usize,
     // Nothing is read while fewer bytes are pending: the length of the payload that is due, 0 if none is known.
     pub(crate) needed: usize,
-}
-
-// Takes bytes from the front, and returns the first `len` of them.
-fn cut(
-    copies: &mut TextBlock,
-    pending: &mut BytesMut,
-    room: usize,
-    len: usize,
-    taken: usize,
-) -> Result<Bytes, AllocError>
-    requires inside { (len ≤ taken) × (taken ≤ length pending.old.items) }
-    ensures front { IfOk result (λ b. b ≡ take len pending.old.items) }
-    ensures rest { OnOk result (pending.new.items ≡ drop taken pending.old.items) }
-    ensures err { OnErr result (pending.new.items ≡ pending.old.items) }
-{
-    if len < MIN_SHARED || len < room / MAX_KEPT {
-        let front = copies.copy_of(&pending.as_slice()[..len])?;
-        pending.advance(taken);
-        return Ok(front);
-    }
-    let front = pending.freeze_to(len)?;
-    pending.advance(taken - len);
-    Ok(front)
 }
 
 // The refusal to report at this place of a value: at the byte that makes the value too long, none with a higher number.
@@ -101,9 +66,8 @@ impl PartialValue {
         ensures reads { (most : ℕ) → Reads most [] result }
     {
         PartialValue {
-            pending: BytesMut::new(alloc),
+            pending: Pending::new(alloc),
             room: 0,
-            copies: TextBlock::new(alloc, MAX_COPY_BLOCK),
             opens: Vec::new(alloc),
             done: None,
             next: Next::Head(Head::Type),
@@ -136,11 +100,7 @@ impl PartialValue {
             → Reads most (held ++ piece.now) self.new) }
         ensures same { OnErr result (shown_progress self.new ≡ shown_progress self.old) }
     {
-        match piece {
-            // (one byte is stored without a call that copies any length)
-            [byte] => self.pending.extend_from_slice(&[*byte]),
-            _ => self.pending.extend_from_slice(piece),
-        }
+        self.pending.feed(piece)
     }
 
     // Notes the room for bytes, before any are taken.
@@ -151,13 +111,17 @@ impl PartialValue {
         self.room = self.room.max(self.pending.capacity());
     }
 
-    // Drops a large buffer if no byte is pending.
-    fn give_back(&mut self, alloc: Global)
+    // Drops what is only kept for further bytes, if no byte is pending: copies, and a large buffer.
+    fn give_back(&mut self)
         ensures good { (most : ℕ) → IsGood most self.old → IsGood most self.new }
         ensures same { shown_progress self.new ≡ shown_progress self.old }
     {
-        if self.room > MAX_IDLE && self.pending.is_empty() {
-            self.pending = BytesMut::new(alloc);
+        if self.pending.len() > 0 {
+            return;
+        }
+        self.pending.forget_copies();
+        if self.room > MAX_IDLE {
+            self.pending.give_back();
             self.room = 0;
         }
     }
@@ -196,7 +160,7 @@ impl PartialValue {
                 Err(Halt::Refused(Refusal::TooLong, MAX_TEXT))
             }
             Ok(None) => {
-                self.give_back(alloc);
+                self.give_back();
                 Ok(None)
             }
             Err(Halt::NoMemory) => Err(Halt::NoMemory),
@@ -230,7 +194,7 @@ impl PartialValue {
         }
     }
 
-    // Reads a head, or what the last head announced. True: it has come completely.
+    // Reads a head and what it announces, or what the last head announced. True: that has come completely.
     fn turn(&mut self, alloc: Global, most: u64) -> Result<bool, Halt>
         requires good { IsGood most self.old }
         requires done { self.old.done ≡ None }
@@ -240,20 +204,40 @@ impl PartialValue {
         ensures none { IfOk result (λ came. came ≡ false → IsShort most self.old) }
         ensures halts { IfErr result (λ e. HaltsIn most self.old e) }
     {
-        match self.next {
-            Next::Head(head) => self.go_on_in_head(head, most),
-            Next::Found(found) => self.take_found(alloc, found, most),
+        match self.go_on_to_found(most)? {
+            Some(found) => self.take_found(alloc, found, most),
+            None => Ok(false),
         }
     }
 
-    // Reads a head to its end, or as far as the bytes go. True: its end came.
-    fn go_on_in_head(&mut self, head: Head, most: u64) -> Result<bool, Halt>
+    // What the last head announced, or what the next one announces if its end came.
+    fn go_on_to_found(&mut self, most: u64) -> Result<Option<Found>, Halt>
+        requires good { IsGood most self.old }
+        requires done { self.old.done ≡ None }
+        ensures good { IsGood most self.new }
+        ensures reads { LeadsTo most self.old self.new }
+        ensures falls { IfOk result (λ o. IfSome o (λ _. to_read self.new ≤ to_read self.old)) }
+        ensures next { IfOk result (λ o. IfSome o (λ found. (self.new.done ≡ None)
+            × (self.new.next ≡ Next.Found found))) }
+        ensures none { IfOk result (λ o. IfNone o (IsShort most self.old)) }
+        ensures halts { IfErr result (λ e. HaltsIn most self.old e) }
+    {
+        match self.next {
+            Next::Head(head) => self.go_on_in_head(head, most),
+            Next::Found(found) => Ok(Some(found)),
+        }
+    }
+
+    // Reads a head to its end, or as far as the bytes go. Returns what it announces if its end came.
+    fn go_on_in_head(&mut self, head: Head, most: u64) -> Result<Option<Found>, Halt>
         requires good { IsGood most self.old }
         requires head { (self.old.done ≡ None) × (self.old.next ≡ Next.Head head) }
         ensures good { IsGood most self.new }
         ensures reads { LeadsTo most self.old self.new }
-        ensures falls { IfOk result (λ came. came ≡ true → to_read self.new < to_read self.old) }
-        ensures none { IfOk result (λ came. came ≡ false → IsShort most self.old) }
+        ensures falls { IfOk result (λ o. IfSome o (λ _. to_read self.new < to_read self.old)) }
+        ensures next { IfOk result (λ o. IfSome o (λ found. (self.new.done ≡ None)
+            × (self.new.next ≡ Next.Found found))) }
+        ensures none { IfOk result (λ o. IfNone o (IsShort most self.old)) }
         ensures halts { IfErr result (λ e. HaltsIn most self.old e) }
     {
         let left = MAX_DEPTH - self.opens.len() as u32;
@@ -265,8 +249,8 @@ impl PartialValue {
                 self.seen = 0;
                 self.next = next;
                 match next {
-                    Next::Head(_) => Ok(false),
-                    Next::Found(_) => Ok(true),
+                    Next::Head(_) => Ok(None),
+                    Next::Found(found) => Ok(Some(found)),
                 }
             }
             Err(RefusedByte(refusal, place)) => Err(Halt::Refused(refusal, self.came + place)),
@@ -329,6 +313,10 @@ impl PartialValue {
         ensures next { self.new.next ≡ self.old.next }
         ensures came { self.new.came ≡ self.old.came }
     {
+        // (`take` would write it anew)
+        if self.done.is_none() {
+            return Ok(None);
+        }
         let Some(value) = self.done.take() else {
             return Ok(None);
         };
@@ -354,7 +342,7 @@ impl PartialValue {
             self.finish(Value::List(Values(Vec::new(alloc))));
             return Ok(());
         }
-        let members = Vec::with_capacity(alloc, FEW_MEMBERS.min(n as usize))?;
+        let members = Vec::with_capacity(alloc, MAX_RESERVED.min(n as usize))?;
         let list = Begun {
             members: Values(members),
             due: n - 1,
@@ -381,8 +369,7 @@ impl PartialValue {
             Ok((payload, rest)) => {
                 let len = payload.len();
                 let taken = visible - rest.len();
-                let Ok(payload) = cut(&mut self.copies, &mut self.pending, self.room, len, taken)
-                else {
+                let Ok(payload) = self.pending.cut(self.room, len, taken) else {
                     return Err(Halt::NoMemory);
                 };
                 self.came += taken;
@@ -416,8 +403,7 @@ impl PartialValue {
             Ok((text, rest)) => {
                 let len = text.len();
                 let taken = visible - rest.len();
-                let Ok(text) = cut(&mut self.copies, &mut self.pending, self.room, len, taken)
-                else {
+                let Ok(text) = self.pending.cut(self.room, len, taken) else {
                     return Err(Halt::NoMemory);
                 };
                 self.came += taken;

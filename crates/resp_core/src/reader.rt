@@ -42,9 +42,9 @@ impl Limits {
 ///
 /// It is fed the bytes of the stream in order, and returns the values one after another. It
 /// continues where it stopped: of an unfinished value it keeps the complete members, and the bytes
-/// of an incomplete text or payload. A payload of at least 4,096 bytes and an eighth of its buffer
-/// is returned as a part of that buffer; any other is copied. While no byte is pending it keeps a
-/// buffer of at most 32,768 bytes.
+/// of an incomplete text or payload. A payload of at least 16,384 bytes and an eighth of its buffer
+/// is returned as a part of that buffer; any other is copied, and short ones are parts of copies of at
+/// most 512 bytes. While no byte is pending it keeps a buffer of at most 32,768 bytes.
 #[derive(Drop)]
 pub struct Reader {
     progress: PartialValue,
@@ -172,7 +172,7 @@ impl Reader {
         if self.progress.is_short() {
             return Ok(None);
         }
-        let alloc = *self.progress.pending.allocator();
+        let alloc = self.progress.pending.alloc();
         match self.progress.next_value(alloc, self.array as u64) {
             Ok(Some((value, len))) => {
                 self.consumed = self.consumed.saturating_add(len as u64);

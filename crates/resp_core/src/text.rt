@@ -91,7 +91,9 @@ fn append_values(values: &Values, out: &mut Vec<u8>) -> Result<(), AllocError>
     Ok(())
 }
 
-fn append_bulk(payload: &[u8], out: &mut Vec<u8>) -> Result<(), AllocError>
+// Appends the text of a bulk string. Where memory is refused, a part may have been appended.
+#[inline(always)]
+pub(crate) fn append_bulk(payload: &[u8], out: &mut Vec<u8>) -> Result<(), AllocError>
     ensures ok { OnOk result (out.new.items ≡ out.old.items ++ text (bulk payload.now)) }
     ensures err { OnErr result (Extends out.old.items out.new.items) }
 {
@@ -101,6 +103,7 @@ fn append_bulk(payload: &[u8], out: &mut Vec<u8>) -> Result<(), AllocError>
 }
 
 // Appends a type byte and a number's line in one copy.
+#[inline(always)]
 fn append_count(kind: u8, count: u64, out: &mut Vec<u8>) -> Result<(), AllocError>
     ensures ok { OnOk result (out.new.items ≡ out.old.items ++ line kind (decimal count)) }
     ensures err { OnErr result (Extends out.old.items out.new.items) }

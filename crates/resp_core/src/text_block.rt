@@ -46,6 +46,7 @@ impl TextBlock {
 
     /// A copy of the text, behind the others or in the next block. A text of more than a quarter of the longest block
     /// has a block of its own.
+    #[inline(always)]
     pub(crate) fn copy_of(&mut self, text: &[u8]) -> Result<Bytes, AllocError>
         ensures { IfOk result (λ bytes. bytes ≡ text.now) }
     {

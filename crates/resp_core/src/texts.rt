@@ -4,7 +4,7 @@ ghost use Rattle.resp_core.specs.Text.{text};
 ghost use Rattle.resp_core.specs.Tree.{bulk, is_plain_tree};
 ghost use Rattle.resp_core.specs.Value.{tree_of};
 
-use crate::text::{append_value, bulk_len, put_bulk};
+use crate::text::{append_bulk, append_value, bulk_len};
 use crate::text_block::TextBlock;
 use crate::value::Value;
 use bytes::Bytes;
@@ -101,13 +101,13 @@ impl Texts {
         if length > MAX_SHORT as u64 {
             let mut text = Vec::with_capacity(self.alloc, length as usize)?;
             append_behind(head, first, &mut text)?;
-            put_bulk(second, &mut text)?;
+            append_bulk(second, &mut text)?;
             return Ok(Bytes::from_vec(text)?);
         }
         self.draft.clear();
         self.draft.reserve(MAX_SHORT)?;
         append_behind(head, first, &mut self.draft)?;
-        put_bulk(second, &mut self.draft)?;
+        append_bulk(second, &mut self.draft)?;
         self.block.copy_of(self.draft.as_slice())
     }
 }
@@ -118,5 +118,5 @@ fn append_behind(head: &[u8], payload: &[u8], out: &mut Vec<u8>) -> Result<(), A
         ≡ out.old.items ++ head.now ++ text (bulk payload.now)) }
 {
     out.extend_from_slice(head)?;
-    put_bulk(payload, out)
+    append_bulk(payload, out)
 }

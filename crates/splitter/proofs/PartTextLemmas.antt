@@ -10,7 +10,7 @@ use Rattle.resp_core.specs.Text.{line, text}
 use Rattle.resp_core.specs.Command.{is_bulk, are_words, payload_of, word}
 use Rattle.splitter.specs.declared.plans.PartPlan.{PartPlan}
 use Rattle.splitter.specs.Split.{Words, pairs, part_at, command_of}
-use Rattle.splitter.specs.Part.{head_of, part_of}
+use Rattle.splitter.specs.Part.{head_of, part_of, key_parts_of}
 
 -- a bulk string is that of its payload, and plain
 bulk_is : (t : Tree) → is_bulk t ≡ true → (bulk (payload_of t) ≡ t) × (is_plain_tree t ≡ true)
@@ -63,6 +63,13 @@ keys_more f ps all p words at l e h =
 -- all are
 pub keys_all : (f : List ℕ → PartPlan) (ps all : List PartPlan) (words : Words) (at : ℕ) → length words ≤ at → ps ++ map f (drop at words) ≡ all → ps ≡ all
 keys_all f ps all words at l h = sym (append-nil ps) ∙ ap (λ z. ps ++ map f z) (sym (drop_all at words l)) ∙ h
+
+-- the parts of keys whose head is that of a command of this name
+pub named_parts : (name head : List ℕ) (keys : Words) → head ≡ head_of 2 name → key_parts_of head keys ≡ map (λ key. part_at 1 (name ∷ key ∷ [])) keys
+named_parts name head [] e = refl
+named_parts name head (key ∷ keys) e =
+    ap (λ z. z ∷ key_parts_of head keys) (ap (λ z. part_of key (z ++ text (bulk key))) e ∙ key_part-is name key)
+    ∙ ap (λ z. part_at 1 (name ∷ key ∷ []) ∷ z) (named_parts name head keys e)
 
 -- one more pair is done
 pub pairs_more : (f : List ℕ × List ℕ → PartPlan) (ps all : List PartPlan) (p : PartPlan) (words : Words) (i : ℕ) → 2 * i + 2 < length words → p ≡ f (word words (2 * i + 1), word words (2 * i + 2)) → ps ++ map f (pairs (drop (2 * i + 1) words)) ≡ all → (ps ++ p ∷ []) ++ map f (pairs (drop (2 * (i + 1) + 1) words)) ≡ all

@@ -1,11 +1,11 @@
 //! The parts of a command, each with its key and the text for its host.
-ghost use Rattle.std.specs.Prelude.{◌≡◌, ◌<◌, ◌++◌, ◌∷◌, [], IfOk, IfErr, OnOk, true, codes, drop, length, map};
+ghost use Rattle.std.specs.Prelude.{◌≡◌, ◌<◌, ◌++◌, ◌∷◌, [], IfOk, IfErr, IfSome, OnOk, true, codes, drop, length, map};
 ghost use Rattle.resp_core.specs.Tree.{bulk, is_plain_tree};
 ghost use Rattle.resp_core.specs.Value.{tree_of};
 ghost use Rattle.resp_core.specs.Text.{text};
 ghost use Rattle.resp_core.specs.Command.{are_words, payload_of, IsArrayOf};
 ghost use Rattle.splitter.specs.Split.{pairs, part_at};
-ghost use Rattle.splitter.specs.Part.{head_of, part_of};
+ghost use Rattle.splitter.specs.Part.{head_of, key_parts_of, key_texts, part_of};
 ghost use Rattle.splitter.specs.Plan.{parts};
 ghost use Rattle.splitter.specs.Planned.{planned_in};
 ghost use Rattle.splitter.specs.declared.plans.Join.TheVariants.{Same};
@@ -14,8 +14,11 @@ use crate::error::SplitError;
 use crate::plans::{PartPlan, PartPlans, Planned};
 use bytes::Bytes;
 use itoa::Buffer;
-use resp_core::{Texts, Value, Values, put_bulk};
+use resp_core::{Texts, Value, Values, bulk_len, put_bulk};
 use std::alloc::Global;
+
+// The most bytes of the texts of parts that share a block.
+const MAX_JOINED: usize = 16_384;
 
 /// The one part of a command that goes to the host of its word `key_at`. The value must be the command with these
 /// words; `text_len` is the length of its text.
@@ -39,10 +42,12 @@ pub(crate) fn whole_part<'a>(
     })
 }
 
-/// A part for each word behind the name: a command of this name and that word, which is the key.
+/// A part for each word behind the name: a command of this name and that word, which is the key. `text_len` is the length
+/// of the text of the command with these words.
 pub(crate) fn key_parts(
     alloc: Global,
     texts: &mut Texts,
+    text_len: u64,
     name: Bytes,
     words: &Values,
 ) -> Result<PartPlans, SplitError>
@@ -52,9 +57,80 @@ pub(crate) fn key_parts(
     ensures err { IfErr result (λ e. e ≡ SplitError.NoMemory) }
 {
     let head = head(alloc, 2, name)?;
+    match joined_texts(alloc, text_len, head.as_slice(), words)? {
+        Some(joined) => joined_parts(alloc, head.as_slice(), joined, words),
+        None => single_parts(alloc, texts, head.as_slice(), words),
+    }
+}
+
+// The texts of the parts that begin with `head`, one behind the other. `None` if they have more bytes than may share a block.
+// Memory is reserved for heads and for `text_len` bytes.
+fn joined_texts(
+    alloc: Global,
+    text_len: u64,
+    head: &[u8],
+    words: &Values,
+) -> Result<Option<Bytes>, SplitError>
+    requires { are_words words.now ≡ true }
+    ensures texts { IfOk result (λ o. IfSome o
+        (λ bytes. bytes ≡ key_texts head.now (drop 1 (map payload_of words.now)))) }
+    ensures err { IfErr result (λ e. e ≡ SplitError.NoMemory) }
+{
+    let heads = words.0.len().saturating_mul(head.len());
+    let room = heads.saturating_add(text_len as usize).min(MAX_JOINED);
+    let mut joined = Vec::with_capacity(alloc, room)?;
+    for at in 1..words.0.len() {
+        joined.extend_from_slice(head)?;
+        put_bulk(words.word(at).as_slice(), &mut joined)?;
+        if joined.len() > MAX_JOINED {
+            return Ok(None);
+        }
+    }
+    Ok(Some(Bytes::from_vec(joined)?))
+}
+
+// The parts whose texts these are, one behind the other.
+fn joined_parts(
+    alloc: Global,
+    head: &[u8],
+    joined: Bytes,
+    words: &Values,
+) -> Result<PartPlans, SplitError>
+    requires words { are_words words.now ≡ true }
+    requires texts { joined ≡ key_texts head.now (drop 1 (map payload_of words.now)) }
+    ensures parts { IfOk result
+        (λ ps. ps ≡ key_parts_of head.now (drop 1 (map payload_of words.now))) }
+    ensures err { IfErr result (λ e. e ≡ SplitError.NoMemory) }
+{
+    let mut rest = joined;
     let mut parts = Vec::with_capacity(alloc, words.0.len() - 1)?;
     for at in 1..words.0.len() {
-        parts.push(key_part(texts, head.as_slice(), words.word(at))?)?;
+        let key = words.word(at);
+        let len = bulk_len(key.len() as u64).saturating_add(head.len() as u64);
+        let text = rest.split_to(len.min(rest.len() as u64) as usize)?;
+        parts.push(PartPlan {
+            key: key.clone()?,
+            text,
+        })?;
+    }
+    Ok(PartPlans(parts))
+}
+
+// The same parts, each with a text of its own.
+fn single_parts(
+    alloc: Global,
+    texts: &mut Texts,
+    head: &[u8],
+    words: &Values,
+) -> Result<PartPlans, SplitError>
+    requires { are_words words.now ≡ true }
+    ensures parts { IfOk result
+        (λ ps. ps ≡ key_parts_of head.now (drop 1 (map payload_of words.now))) }
+    ensures err { IfErr result (λ e. e ≡ SplitError.NoMemory) }
+{
+    let mut parts = Vec::with_capacity(alloc, words.0.len() - 1)?;
+    for at in 1..words.0.len() {
+        parts.push(key_part(texts, head, words.word(at))?)?;
     }
     Ok(PartPlans(parts))
 }

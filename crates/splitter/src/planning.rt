@@ -143,12 +143,12 @@ fn plan_known<'a>(
         Kind::One => return whole_part(texts, command, text_len, words, entry.key_at),
         Kind::SplitGet => (
             Join::Get,
-            key_parts(alloc, texts, Bytes::from_static(b"GET"), words)?,
+            key_parts(alloc, texts, text_len, Bytes::from_static(b"GET"), words)?,
         ),
         Kind::SplitSet => (Join::Set, pair_parts(alloc, texts, words)?),
         Kind::SplitSum => (
             Join::Sum,
-            key_parts(alloc, texts, upper_name(alloc, entry)?, words)?,
+            key_parts(alloc, texts, text_len, upper_name(alloc, entry)?, words)?,
         ),
     };
     Ok(Planned::Other(Plan::Parts { how, list }))

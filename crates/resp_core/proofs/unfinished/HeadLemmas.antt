@@ -1,6 +1,5 @@
 -- Heads that are read a byte at a time.
-use Rattle.std.proofs.Common.{◌≡◌, ℕ, zero, suc, ◌+◌, ◌-◌, ◌<◌, List, [], ◌∷◌, ◌++◌, length, get_or, take, drop, drop-cons, refl, sym, ap, ◌∙◌, append-nil, append_assoc, Some, arith}
-use Rattle.std.proofs.Math.Seq.{take-add}
+use Rattle.std.proofs.Common.{◌≡◌, ℕ, zero, suc, ◌+◌, ◌-◌, ◌<◌, List, [], ◌∷◌, ◌++◌, length, get_or, take, drop, drop-cons, refl, sym, ap, ◌∙◌, append-nil, Some, arith}
 use Rattle.std.proofs.lemmas.List.{take-append-drop, take_all}
 use Rattle.resp_core.specs.declared.error.Refusal.{Refusal}
 use Rattle.resp_core.specs.declared.head.Head.{Head}
@@ -9,7 +8,7 @@ use Rattle.resp_core.specs.declared.head.Sized.TheVariants as sized
 use Rattle.resp_core.specs.declared.head.Next.{Next}
 use Rattle.resp_core.specs.declared.head.Next.TheVariants as nexts
 use Rattle.resp_core.specs.declared.head.Head.TheVariants as heads
-use Rattle.resp_core.specs.Reading.{unfinished, refused, found, and_then, payload_at, members_at, value_at, leaf_at, byte_at, null_end_at, count_at, digits_at, integer_at}
+use Rattle.resp_core.specs.Reading.{unfinished, refused, found, and_then, payload_at, members_at, value_at, leaf_at, bulk_at, list_at, byte_at, null_end_at, count_at, digits_at, integer_at}
 use Rattle.resp_core.specs.ResumedReading.{head_at, next_at, limit_of, found_of, GoesOn}
 
 front_suc : (b : List ℕ) (i : ℕ) (y : List ℕ) → i < length b → take (suc i) b ++ y ≡ take i b ++ get_or b i 0 ∷ y
@@ -29,14 +28,35 @@ stops_there most left h k r b i lt g s =
     let parts : drop i b ≡ get_or b i 0 ∷ drop (suc i) b = drop-cons b i 0 lt in
     ap (head_at most left h) (sym (take-append-drop i b)) ∙ g (drop i b) ∙ ap (head_at most left k) parts ∙ s (drop (suc i) b) ∙ ap (refused r) (sym parts)
 
--- what stands behind further bytes of a head
-pub goes_further : (most left : ℕ) (h k : Head) (next : Next) (b : List ℕ) (i n : ℕ) → GoesOn most left h (take i b) (nexts.Head k) → GoesOn most left k (take n (drop i b)) next → GoesOn most left h (take (i + n) b) next
-goes_further most left h k next b i n g s = λ y. ap (λ z. head_at most left h (z ++ y)) (take-add i n b) ∙ ap (head_at most left h) (append_assoc (take i b) (take n (drop i b)) y) ∙ g (take n (drop i b) ++ y) ∙ s y
-
 -- what a length announces, where it is read at once
 pub goes_behind_length : (most left : ℕ) (s : Sized) (b : List ℕ) (n : ℕ) → ((y : List ℕ) → count_at (limit_of most s) (b ++ y) ≡ found (Some n) y) → GoesOn most left (heads.Length s) b (nexts.Found (found_of s n))
 goes_behind_length most left sized.Bulk b n reads = λ y. ap (λ o. and_then o payload_at) (reads y)
 goes_behind_length most left sized.List b n reads = λ y. ap (λ o. and_then o (members_at (value_at most (left - 1)))) (reads y)
+
+-- the type byte of a bulk string, and of a list
+type_of_bulk : (most left : ℕ) (cs : List ℕ) → head_at most left heads.Type (36 ∷ cs) ≡ head_at most left (heads.Length sized.Bulk) cs
+unfolding value_at leaf_at bulk_at
+type_of_bulk most zero cs = refl
+type_of_bulk most (suc left) cs = refl
+
+type_of_list : (most left : ℕ) (cs : List ℕ) → 0 < left → head_at most left heads.Type (42 ∷ cs) ≡ head_at most left (heads.Length sized.List) cs
+unfolding value_at list_at
+type_of_list most zero cs h = absurd (omega (arith, h))
+type_of_list most (suc left) cs h =
+    let e : left ≡ suc left - 1 = omega arith in
+    ap (λ z. and_then (count_at most cs) (members_at (value_at most z))) e
+
+-- what stands behind a type byte and further bytes of its head
+behind_byte : (most left : ℕ) (s : Sized) (next : Next) (b rest : List ℕ) (c n : ℕ) → b ≡ c ∷ rest → ((cs : List ℕ) → head_at most left heads.Type (c ∷ cs) ≡ head_at most left (heads.Length s) cs) → GoesOn most left (heads.Length s) (take n rest) next → GoesOn most left heads.Type (take (n + 1) b) next
+behind_byte most left s next b rest c n e f g = λ y.
+    let m : n + 1 ≡ suc n = omega arith in
+    ap (λ z. head_at most left heads.Type (take (n + 1) z ++ y)) e ∙ ap (λ z. head_at most left heads.Type (take z (c ∷ rest) ++ y)) m ∙ f (take n rest ++ y) ∙ g y
+
+pub behind_bulk_type : (most left : ℕ) (next : Next) (b rest : List ℕ) (n : ℕ) → b ≡ 36 ∷ rest → GoesOn most left (heads.Length sized.Bulk) (take n rest) next → GoesOn most left heads.Type (take (n + 1) b) next
+behind_bulk_type most left next b rest n e g = behind_byte most left sized.Bulk next b rest 36 n e (type_of_bulk most left) g
+
+pub behind_list_type : (most left : ℕ) (next : Next) (b rest : List ℕ) (n : ℕ) → 0 < left → b ≡ 42 ∷ rest → GoesOn most left (heads.Length sized.List) (take n rest) next → GoesOn most left heads.Type (take (n + 1) b) next
+behind_list_type most left next b rest n h e g = behind_byte most left sized.List next b rest 42 n e (λ cs. type_of_list most left cs h) g
 
 -- a head with nothing behind it
 pub head_at_nil : (most left : ℕ) (h : Head) → head_at most left h [] ≡ unfinished

@@ -1,26 +1,20 @@
-use Rattle.std.proofs.Common.{◌+◌, ◌++◌, ℕ, List, [], ◌∷◌, map, drop, ap, ◌∙◌, arith}
-use Rattle.resp_core.specs.Tree.{bulk}
-use Rattle.resp_core.specs.Text.{text}
+use Rattle.std.proofs.Common.{◌≡◌, ℕ, List, [], ◌∷◌, Result, Ok, Err, IfOk, map, drop, ◌∙◌}
 use Rattle.resp_core.specs.Command.{payload_of}
+use Rattle.splitter.specs.declared.error.SplitError.{SplitError}
 use Rattle.splitter.specs.declared.plans.PartPlan.{PartPlan}
-use Rattle.splitter.specs.Split.{part_at}
-use Rattle.splitter.specs.Part.{part_of}
-use Rattle.splitter.proofs.PartTextLemmas.{words_length, key_part-is, keys_more, keys_all}
+use Rattle.splitter.specs.Split.{Words, part_at}
+use Rattle.splitter.specs.Part.{head_of, key_parts_of}
+use Rattle.splitter.proofs.PartTextLemmas.{named_parts}
 use Rattle.splitter.proofs.parts.key_parts.Goals as goal
 
-pub loop-at-preserved : goal.loop-at-preserved
-loop-at-preserved c =
-    let words = map payload_of c.args.words.now in
-    let f : List ℕ → PartPlan = λ key. part_at 1 (c.args.name ∷ key ∷ []) in
-    let inside = words_length c.words.inside.0.items c.args.words.now c.words.view_is in
-    let key = c.word.result.now in
-    ap (λ z. z ++ map f (drop (c.loop-at.at + 1) words)) c.in_ok-push.ensures.items
-    ∙ keys_more f c.loop-at.parts.items (map f (drop 1 words)) c.in_ok-key_part.field-0 words c.loop-at.at (omega (arith, inside, c.loop-at-test.true, c.len-at-end.ensures, c.words.inside.0.ok.0))
-    (c.in_ok-key_part.ensures.part ∙ ap (λ z. part_of key (z ++ text (bulk key))) (c.as_slice.ensures.value ∙ c.in_ok-head.ensures.text) ∙ key_part-is c.args.name key ∙ ap f c.word.ensures) c.loop-at.invariant
+named : (name head : List ℕ) (keys : Words) (r : Result (List PartPlan) SplitError) → head ≡ head_of 2 name → IfOk r (λ ps. ps ≡ key_parts_of head keys) → IfOk r (λ ps. ps ≡ map (λ key. part_at 1 (name ∷ key ∷ [])) keys)
+named name head keys (Ok ps) e h = h ∙ named_parts name head keys e
+named name head keys (Err error) e h = tt
+
+pub returns-in-Some-clause-parts : goal.returns-in-Some-clause-parts
+returns-in-Some-clause-parts c =
+    named c.args.name c.as_slice-in-Some.result.now (drop 1 (map payload_of c.args.words.now)) c.joined_parts.result (c.as_slice-in-Some.ensures.value ∙ c.in_ok-head.ensures.text) c.joined_parts.ensures.parts
 
 pub returns-clause-parts : goal.returns-clause-parts
 returns-clause-parts c =
-    let words = map payload_of c.args.words.now in
-    let f : List ℕ → PartPlan = λ key. part_at 1 (c.args.name ∷ key ∷ []) in
-    let inside = words_length c.words.inside.0.items c.args.words.now c.words.view_is in
-    keys_all f c.loop-at.parts.items (map f (drop 1 words)) words c.loop-at.at (omega (arith, inside, c.loop-at-test.false, c.len-at-end.ensures, c.words.inside.0.ok.0)) c.loop-at.invariant
+    named c.args.name c.as_slice-in-None.result.now (drop 1 (map payload_of c.args.words.now)) c.single_parts.result (c.as_slice-in-None.ensures.value ∙ c.in_ok-head.ensures.text) c.single_parts.ensures.parts

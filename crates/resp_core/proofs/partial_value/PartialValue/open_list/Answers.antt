@@ -21,7 +21,7 @@ pub returns-clause-reads : goal.returns-clause-reads
 returns-clause-reads c = λ held r.
     let p = c.args.self.now in
     let b : Begun = record { members = map tree_of c.in_ok-members.members.items; due = c.args.n - 1 } in
-    let q : PartialValue = record { pending = p.pending; room = p.room; copies = p.copies; opens = c.push.new.self; done = p.done; next = nexts.Head heads.Type; seen = p.seen; came = p.came; needed = p.needed } in
+    let q : PartialValue = record { pending = p.pending; room = p.room; opens = c.push.new.self; done = p.done; next = nexts.Head heads.Type; seen = p.seen; came = p.came; needed = p.needed } in
     reads_along c.args.most held p q refl refl (opens_along c.args.most c.args.n p q b c.requires.next.0 c.requires.next.1
     (c.push.ensures.items ∙ ap (λ z. if z then p.opens.items ++ b ∷ [] else p.opens.items) c.if-is_err.ensures.negation)
     (omega (arith, c.if-n-eq0.false)) (ap (map tree_of) c.in_ok-members.ensures.items) c.requires.next.0 refl) r

@@ -1,0 +1,8 @@
+use Rattle.std.proofs.Common.{◌≡◌, ◌++◌, drop, map}
+use Rattle.resp_core.specs.Command.{payload_of}
+use Rattle.splitter.specs.Part.{key_texts}
+use Rattle.splitter.proofs.parts.joined_texts.Given as goal
+
+abbrev pub invariant-loop-at : goal.invariant-loop-at
+invariant-loop-at l =
+    l.joined.items ++ key_texts l.fn.head (drop l.at (map payload_of l.words)) ≡ key_texts l.fn.head (drop 1 (map payload_of l.words))
