@@ -12,6 +12,7 @@ use Rattle.resp_core.specs.contracts.value.Value as Value
 use Rattle.resp_core.specs.contracts.value.Values as Values
 use Rattle.resp_core.specs.contracts.begun.Begun as Begun
 use Rattle.resp_core.specs.contracts.text_block.TextBlock as TextBlock
+use Rattle.resp_core.specs.contracts.pending.Pending as Pending
 use Rattle.resp_core.specs.contracts.partial_value.PartialValue as PartialValue
 use Rattle.resp_core.specs.contracts.reader.Reader as Reader
 use Rattle.resp_core.proofs.value.Values.TheLaws.TheKnot as knot
@@ -42,8 +43,11 @@ begun_send = search (values_send, crosses, sendable) depth 20
 text_block_send : IsSend TextBlock.the_row
 text_block_send = search (mutable.the_send, crosses, sendable) depth 20
 
-partial_value_send : IsSend (PartialValue.the_field).row
-partial_value_send = search (value_send, begun_send, text_block_send, mutable.the_send, crosses, sendable) depth 60 fits 20000
+pending_send : IsSend Pending.the_row
+pending_send = search (bytes_send, text_block_send, mutable.the_send, crosses, sendable) depth 40 fits 20000
+
+pub partial_value_send : IsSend (PartialValue.the_field).row
+partial_value_send = search (value_send, begun_send, pending_send, crosses, sendable) depth 60 fits 20000
 
 pub reader_send : IsSend Reader.the_row
 reader_send = search (partial_value_send, crosses, sendable) depth 40 fits 20000
