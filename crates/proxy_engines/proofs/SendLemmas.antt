@@ -46,7 +46,7 @@ text_block_send = search (mutable.the_send, crosses, sendable) depth 20
 pending_send : IsSend Pending.the_row
 pending_send = search (bytes_send, text_block_send, mutable.the_send, crosses, sendable) depth 40 fits 20000
 
-pub partial_value_send : IsSend (PartialValue.the_field).row
+partial_value_send : IsSend (PartialValue.the_field).row
 partial_value_send = search (value_send, begun_send, pending_send, crosses, sendable) depth 60 fits 20000
 
 pub reader_send : IsSend Reader.the_row

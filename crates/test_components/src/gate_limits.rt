@@ -8,7 +8,9 @@ use std::fmt::Display;
 use std::sync::Wait;
 use std::test::Fail;
 use test_total::{AdditionRefusal, RunningTotal};
-use ticket_gate::{Alone, Gate, GateRefusal, MAX_TURNS_INSIDE, Pass, Seated, Spare, TurnRefusal, Turns};
+use ticket_gate::{
+    Alone, Gate, GateRefusal, MAX_TURNS_INSIDE, Pass, Seated, Spare, TurnRefusal, Turns,
+};
 
 // An act of two passes, with the expected outcome.
 #[derive(Clone, Copy)]
@@ -174,7 +176,9 @@ fn outcomes_beside<R: Wait>(
 }
 
 #[test]
-fn a_pass_that_holds_the_gate_keeps_others_out_until_it_leaves(rt: HostRuntime) -> Result<(), Fail> {
+fn a_pass_that_holds_the_gate_keeps_others_out_until_it_leaves(
+    rt: HostRuntime,
+) -> Result<(), Fail> {
     let (gate, spare) = open(rt.alloc(), RunningTotal::new(rt.alloc(), 1_000))?;
     let (one, other) = enrol_both(&rt, &gate, spare)?;
     let outcomes = outcomes_beside(&rt, &gate, one, other);

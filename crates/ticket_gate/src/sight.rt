@@ -19,8 +19,11 @@ impl<S: Recorded> Gate<S> {
         requires holds { (n : ℕ) × IsHolding S.journal S.setting S.legal
             self.now.setting n ticket seat.old }
         ensures gate { seat.new.table_id ≡ seat.old.table_id }
-        ensures left { seat.new.me ≡ (view_of (after_exit seat.old.me.0.own (ticket + 1)
-            (journal_out S.journal seat.old.me.1)), []) }
+        ensures left { seat.new.me ≡ (
+          view_of (after_exit seat.old.me.0.own (ticket + 1)
+              (journal_out S.journal seat.old.me.1)),
+          [],
+        ) }
         ensures sight { result
             ≡ S.sight_of self.now.setting (journal_out S.journal seat.old.me.1) }
     {

@@ -19,9 +19,11 @@ leave-requires-clause-holds g c =
     let k = c.args.seat.now.me.0.own in
     let (_, _, held, out) = c.exchange.ensures in
     let (_, _, _, back) = c.exchange-2.ensures in
-    let same : x ≡ i.state = taken c.args.seat.now.me.1 i.state x c.exchange.result (ap (λ m. m.1) i.me) held c.unwrap-state.ensures in
-    (n, holds_again R.journal R.setting R.legal c.args.self.now.setting n c.args.ticket c.args.seat.now c.exchange-2.new.seat i
-        (put_back c.args.seat.now.me c.exchange.new.seat.me c.exchange-2.new.seat.me k i.state x i.me out back ∙ ap (λ s. (view_of k, (0, Some s) ∷ [])) same ∙ sym i.me))
+    let same : x ≡ i.state = taken c.args.seat.now.me.1 i.state x c.exchange.result (ap (λ m. m.1) i.me) held c.unwrap-state.ensures in (
+      n,
+      holds_again R.journal R.setting R.legal c.args.self.now.setting n c.args.ticket c.args.seat.now c.exchange-2.new.seat i
+          (put_back c.args.seat.now.me c.exchange.new.seat.me c.exchange-2.new.seat.me k i.state x i.me out back ∙ ap (λ s. (view_of k, (0, Some s) ∷ [])) same ∙ sym i.me),
+    )
 
 pub returns-clause-left : goal.returns-clause-left
 returns-clause-left g c =

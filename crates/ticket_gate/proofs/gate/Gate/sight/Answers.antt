@@ -1,3 +1,0 @@
-use Rattle.std.proofs.Common.{rules}
-use Rattle.ticket_gate.proofs.gate.Gate.sight.Goals as goal
-

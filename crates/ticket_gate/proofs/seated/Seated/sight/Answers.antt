@@ -1,3 +1,0 @@
-use Rattle.std.proofs.Common.{rules}
-use Rattle.ticket_gate.proofs.seated.Seated.sight.Goals as goal
-
