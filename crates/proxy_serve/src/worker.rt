@@ -31,6 +31,9 @@ pub(crate) const WAKER: Token = Token(usize::MAX);
 // An idle worker looks again after this many milliseconds at the latest.
 const PAUSE_MS: u64 = 10;
 
+// All clients are looked at again after this many milliseconds at the latest.
+const LOOK_MS: u64 = 100;
+
 // The most rounds before the last sockets of a generation are closed.
 const MAX_LAST_ROUNDS: u32 = 16;
 
@@ -719,11 +722,11 @@ impl<'a> Worker<'a> {
         Ok(self.step_ready(rt, 0, begin, now)? || moves)
     }
 
-    // Makes clients ready that wait for replies, if some came, and all clients each `PAUSE_MS`: some things come by the clock
+    // Makes clients ready that wait for replies, if some came, and all clients each `LOOK_MS`: some things come by the clock
     // alone, and no client may depend on a note.
     fn find_ready(&mut self, now: u64) {
         self.connections.hear_replies(self.generation);
-        if now.saturating_sub(self.looked_at) >= PAUSE_MS {
+        if now.saturating_sub(self.looked_at) >= LOOK_MS {
             self.looked_at = now;
             self.connections.make_all_ready();
         }
