@@ -1,5 +1,5 @@
 -- A turn of the state, seen from the place that makes it, and what that place knows inside and outside.
-use Rattle.std.proofs.Common.{◌≡◌, ℕ, ◌+◌, ◌<◌, ◌^◌, append_assoc, List, [], ◌∷◌, ◌++◌, refl, sym, ap, ◌∙◌, subst, inl, inr, Option, Some, None, Result, Ok, Err}
+use Rattle.std.proofs.Common.{◌≡◌, ℕ, ◌+◌, ◌<◌, ◌^◌, append_assoc, List, [], ◌∷◌, ◌++◌, refl, sym, ap, ◌∙◌, subst, Option, Some, None, Result, Ok, Err}
 use Rattle.std.specs.Prelude.{MatchResult, IfOk, IfErr}
 use Rattle.std.specs.Option.{unwrap_or}
 use Rattle.atomic_table.specs.Table.{rest}
@@ -17,7 +17,7 @@ use Rattle.ticket_gate.specs.Journal.{AddsTurn, AreOf, GrowsByOthers}
 use Rattle.ticket_gate.specs.Turns.{RefusesTurn}
 use Rattle.ticket_gate.specs.declared.refusal.TurnRefusal.{TurnRefusal}
 use Rattle.ticket_gate.specs.declared.refusal.TurnRefusal.TheVariants.{State}
-use Rattle.ticket_gate.specs.Hold.{IsSeated, ComesIn, held_facts, known_outside}
+use Rattle.ticket_gate.specs.Hold.{IsSeated}
 use Rattle.ticket_gate.proofs.JournalLemmas.{append-nil, are_of-append, adds_turn-behind}
 
 module _ {S : Type 0} where

@@ -1,11 +1,10 @@
 -- The pass inside puts the state back and serves the next ticket.
-use Rattle.std.proofs.Common.{◌≡◌, ◌≢◌, ◌⊎◌, ℕ, ◌+◌, ◌<◌, true, List, [], ◌∷◌, ◌++◌, set, refl, sym, ap, ◌∙◌, subst, ⊎_elim, arith, le_refl, Option, Some}
+use Rattle.std.proofs.Common.{◌≡◌, ◌≢◌, ℕ, ◌+◌, true, List, [], ◌∷◌, ◌++◌, set, refl, sym, ap, ◌∙◌, subst, arith, le_refl, Option, Some}
 use Rattle.std.specs.Option.{unwrap_or}
 use mathlib.Core.Option as maybe
 use mathlib.Core.Option.{none, some, some-injective}
 use Rattle.atomic_table.specs.Table.{step, gives, rest as after_first, Allows}
 use Rattle.journal_core.specs.declared.step.Step.{Step as StepOf}
-use Rattle.journal_core.specs.Journal.{step_by}
 use Rattle.ticket_gate.specs.declared.view.Knowledge.{Knowledge}
 use Rattle.ticket_gate.specs.declared.view.View.{View}
 use Rattle.ticket_gate.specs.Journal.{steps_of, PassesBelow, AreOf}

@@ -1,4 +1,4 @@
-use Rattle.std.proofs.Common.{◌≡◌, ◌+◌, [], rules, sym, subst, ap, ◌∙◌}
+use Rattle.std.proofs.Common.{◌+◌, [], sym, subst, ap, ◌∙◌}
 use Rattle.ticket_gate.specs.Rule.{view_of}
 use Rattle.ticket_gate.specs.Steps.{after_exit}
 use Rattle.ticket_gate.specs.Visit.{journal_out}
