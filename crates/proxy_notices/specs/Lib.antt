@@ -1,0 +1,2 @@
+pub mod ClientPlace
+pub mod UnseenParts
