@@ -97,6 +97,12 @@ next_owner [] = []
 next_owner (None ∷ places) = []
 next_owner (Some o ∷ places) = o ∷ []
 
+-- the connection whose reply comes next, if one is to come and it is open
+abbrev pub next_connection : List (Option Owner) → Option ℕ
+next_connection [] = None
+next_connection (None ∷ places) = None
+next_connection (Some o ∷ places) = Some o.conn
+
 -- all are lost
 abbrev pub failed_pipeline : PipelineState → PipelineState
 failed_pipeline p = record { waiting = []; flying = []; epoch = p.epoch + 1; taken = 0 }

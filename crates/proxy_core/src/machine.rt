@@ -1,16 +1,18 @@
 //! The core and its state.
-ghost use Rattle.std.specs.Prelude.{◌≡◌, ◌-◌, ◌≤◌, ◌<◌, ◌⊎◌, Some, [], length, IfOk, IfErr, IsErrOf, IsOk, OnOk, OnErr, MatchOption};
+ghost use Rattle.std.specs.Prelude.{◌≡◌, ◌-◌, ◌≤◌, ◌<◌, ◌⊎◌, ◌↔◌, ◌&&◌, Some, None, [], length, IfOk, IfErr, IsErrOf, IsOk, IsTrue, OnOk, OnErr, MatchOption};
 ghost use Rattle.ejector.specs.Settings.{IsInRange, first_difference, first_fault};
 ghost use Rattle.ejector.specs.Opening.{IsOpening};
 ghost use Rattle.ejector.specs.State.{is_out};
 ghost use Rattle.ejector.specs.UsableHosts.{is_panic};
 ghost use Rattle.proxy_history.specs.Setting.{hosts};
-ghost use Rattle.proxy_history.specs.History.{epoch, openings, times, is_any_closing};
+ghost use Rattle.proxy_history.specs.History.{epoch, openings, times, is_any_closing, is_open};
 ghost use Rattle.proxy_history.specs.Past.{past};
 ghost use Rattle.proxy_history.specs.Waiting.{waiting_parts, flying_count};
+ghost use Rattle.proxy_history.specs.Cause.{is_ready, own_cause};
 ghost use Rattle.proxy_history.specs.Legal.{IsLegal, IsCause};
 ghost use Rattle.proxy_history.specs.Payload.{payload};
 ghost use Rattle.proxy_history.specs.Proxy.{history_in, rules_of, setting_from, setting_of, IsStep};
+ghost use Rattle.proxy_core.specs.Pipelines.{next_connection, pipeline_of};
 ghost use Rattle.proxy_core.specs.Machine.{IsKept};
 ghost use Rattle.proxy_core.specs.Core.{IsMade, IsLeft, IsSettled, IsTurn, IsRun, detector_state, refusal_for};
 ghost use Rattle.journal_core.specs.Journal.{IsFull};
@@ -257,6 +259,27 @@ impl Core {
         ensures { result ≡ flying_count host (past self.now.setting (history_in self.now)) }
     {
         self.machine.pipelines.flying(host)
+    }
+
+    /// The number of the connection to which the host's next reply belongs. `None` if no part flies to it, or if that
+    /// connection is closed.
+    pub fn next_owner(&self, host: usize) -> Option<u64>
+        requires { host < hosts self.now.setting }
+        ensures { result ≡ next_connection
+            (pipeline_of (past self.now.setting (history_in self.now)) host).flying }
+    {
+        self.machine.pipelines.next_connection(host)
+    }
+
+    /// Whether the connection is open and all parts of its oldest command that isn't handed out have their values.
+    /// Exactly then an event `Handed` for it has no cause of its own to be refused.
+    pub fn is_ready(&self, conn: u64) -> bool
+        ensures ready { result ≡ (is_open conn (history_in self.now)
+            && is_ready conn (past self.now.setting (history_in self.now))) }
+        ensures handed { IsTrue result ↔ (own_cause self.now.setting
+            (past self.now.setting (history_in self.now)) (Event.Handed conn) ≡ None) }
+    {
+        self.machine.connections.is_ready(conn)
     }
 
     /// The number of open connections.

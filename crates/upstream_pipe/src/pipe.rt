@@ -1,6 +1,6 @@
 //! The pipe to one host.
 ghost use Rattle.std.specs.Prelude.{◌≡◌, ◌≢◌, ◌⊎◌, ◌<◌, ◌≤◌, ◌+◌, ◌^◌, ◌-◌, ◌↔◌, ◌∷◌, ◌++◌, [], List, ℕ, Option, Some, None, length, map, min, filter, slice_get, IsOk, OnOk, OnErr, IfOk, IfErr, IfSome, IfNone, IsErrOf, IsErrAnd, IsSome};
-ghost use Rattle.std.specs.Option.{option_copied};
+ghost use Rattle.std.specs.Option.{option_copied, option_and_then};
 ghost use Rattle.std.specs.VecDeque.{deque_len, deque_capacity};
 ghost use Rattle.upstream_pipe.specs.declared.part.Owner.{Owner};
 ghost use Rattle.upstream_pipe.specs.Pipe.{HasSent, IsAsBefore, owner_in, is_kept, forgotten_owner};
@@ -92,6 +92,17 @@ impl Pipe {
         ensures { result ≡ length self.now.flying }
     {
         self.flying.len()
+    }
+
+    /// The owner of the part to which the next reply of this epoch belongs: `None` if no part flies, or if that part was
+    /// forgotten. It takes no memory.
+    pub fn next_owner(&self) -> Option<Owner>
+        ensures { result ≡ option_and_then (λ place. place) (slice_get self.now.flying 0) }
+    {
+        match self.flying.front() {
+            Some(place) => *place,
+            None => None,
+        }
     }
 
     /// The part that `take` would return. It takes no memory.

@@ -1,5 +1,5 @@
 //! The connections by their numbers.
-ghost use Rattle.std.specs.Prelude.{◌≡◌, ◌+◌, ◌-◌, ◌^◌, ◌<◌, ◌++◌, ◌∷◌, [], false, Some, None, length, map, IsSome, filter_map, IfOk, IfErr, OnOk, OnErr};
+ghost use Rattle.std.specs.Prelude.{◌≡◌, ◌+◌, ◌-◌, ◌^◌, ◌<◌, ◌++◌, ◌∷◌, [], false, Some, None, length, map, is_some, IsSome, filter_map, IfOk, IfErr, OnOk, OnErr};
 ghost use Rattle.std.specs.Option.{option_copied, option_map};
 ghost use Rattle.resp_core.specs.Value.{tree_of};
 ghost use Rattle.splitter.specs.Join.{MayJoin};
@@ -78,6 +78,16 @@ impl Connections {
         match self.get(conn) {
             Some(connection) => connection.queue.left(),
             None => 0,
+        }
+    }
+
+    /// Whether there is a reply to the oldest command of the connection that isn't handed out; not if it isn't open.
+    pub(crate) fn is_ready(&self, conn: u64) -> bool
+        ensures { result ≡ is_some (reply_in (connection_at conn self.now.numbered)) }
+    {
+        match self.get(conn) {
+            Some(connection) => connection.queue.ready(),
+            None => false,
         }
     }
 

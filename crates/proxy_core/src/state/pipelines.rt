@@ -5,7 +5,7 @@ ghost use Rattle.upstream_pipe.specs.Pipe.{owner_in};
 ghost use Rattle.list_lemmas.specs.Lists.{list_of};
 ghost use Rattle.proxy_core.specs.Places.{one_at};
 ghost use Rattle.proxy_core.specs.Arrivals.{HaveRoom, MayWait, pushed_all, pushed_at, piped_as};
-ghost use Rattle.proxy_core.specs.Pipelines.{HasRooms, answered_by, failed_pipeline, next_owner, no_pipeline, taken_from, with_pipeline, without_connection, pipeline_at};
+ghost use Rattle.proxy_core.specs.Pipelines.{HasRooms, answered_by, failed_pipeline, next_connection, next_owner, no_pipeline, taken_from, with_pipeline, without_connection, pipeline_at};
 
 use crate::state::place::{Place, Placed};
 use proxy_history::Refusal;
@@ -70,6 +70,17 @@ impl Pipelines {
         ensures { result ≡ length (pipeline_at host self.now.states).flying }
     {
         self.by_host[host].flying()
+    }
+
+    /// The connection to which a host's next reply belongs, if a part flies to it and its connection is open.
+    pub(crate) fn next_connection(&self, host: usize) -> Option<u64>
+        requires { host < length self.now.states }
+        ensures { result ≡ next_connection (pipeline_at host self.now.states).flying }
+    {
+        match self.by_host[host].next_owner() {
+            Some(owner) => Some(owner.conn),
+            None => None,
+        }
     }
 
     /// The number of parts taken for a host in its epoch.
