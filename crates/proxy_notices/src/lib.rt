@@ -11,4 +11,4 @@ mod worker_notices;
 pub use client_place::MAX_KEYS;
 pub use notices::Notices;
 pub use unseen_parts::{PartsNews, UnseenParts};
-pub use worker_notices::ReadyWord;
+pub use worker_notices::{MAX_WORDS, ReadyWord};

@@ -1,10 +1,28 @@
 //! What the workers of a generation are to know of turns.
+ghost use Rattle.std.specs.Prelude.{◌≡◌, ◌↔◌, ◌<◌, ◌%◌, ℕ};
+ghost use Rattle.std.specs.Int.{bit_at};
 
 use crate::client_place::{ClientPlace, FREE, MAX_KEYS, SHARED, code_of, place_of};
 use crate::worker_notices::{ReadyWord, WorkerNotices};
 use crossbeam_utils::CachePadded;
+use limits::MAX_HOSTS;
 use std::alloc::{AllocError, Global};
 use std::sync::atomic::{AtomicU64, Ordering};
+
+// The hosts of a worker: bit h stands for host h.
+fn own_hosts(worker: usize, workers: usize) -> u64
+    requires { 0 < workers }
+    ensures { (host : ℕ) → host < 64
+        → (bit_at result host ≡ 1) ↔ (host % workers ≡ worker) }
+{
+    let mut own = 0;
+    for host in 0..MAX_HOSTS {
+        if host % workers == worker {
+            own |= 1 << host;
+        }
+    }
+    own
+}
 
 /// What the workers of a generation are to know of turns.
 ///
@@ -24,8 +42,9 @@ impl Notices {
     /// Nothing to know, for this many workers. Refused where there is no memory.
     pub fn new(alloc: Global, workers: usize) -> Result<Notices, AllocError> {
         let mut all = Vec::with_capacity(alloc, workers)?;
-        for _ in 0..workers {
-            all.push(CachePadded::new(WorkerNotices::new(alloc)?))?;
+        for worker in 0..workers {
+            let own = own_hosts(worker, workers);
+            all.push(CachePadded::new(WorkerNotices::new(alloc, own)?))?;
         }
         let mut clients = Vec::with_capacity(alloc, MAX_KEYS)?;
         for _ in 0..MAX_KEYS {
@@ -114,15 +133,27 @@ impl Notices {
 
     /// Clients must be held back until the host's worker has looked at it.
     pub fn press(&self, host: usize) {
-        if host < 64 {
+        if host < MAX_HOSTS {
             self.pressed.fetch_or(1 << host, Ordering::SeqCst);
         }
     }
 
-    /// The worker has looked at these hosts: bit h stands for host h. True: clients may have been held back for that.
-    pub fn look(&self, hosts: u64) -> bool {
-        self.pressed.load(Ordering::SeqCst) & hosts != 0
-            && self.pressed.fetch_and(!hosts, Ordering::SeqCst) & hosts != 0
+    /// Whether the worker has any of these hosts: bit h stands for host h.
+    pub fn has_any_of(&self, worker: usize, hosts: u64) -> bool {
+        match self.worker(worker) {
+            Some(notices) => notices.own() & hosts != 0,
+            None => false,
+        }
+    }
+
+    /// The worker has looked at those of these hosts that are its own: bit h stands for host h. True: clients may have been
+    /// held back for one of them.
+    pub fn mark_seen(&self, worker: usize, hosts: u64) -> bool {
+        let seen = match self.worker(worker) {
+            Some(notices) => notices.own() & hosts,
+            None => 0,
+        };
+        seen != 0 && self.pressed.fetch_and(!seen, Ordering::SeqCst) & seen != 0
     }
 
     /// The hosts for which clients must be held back: bit h stands for host h.

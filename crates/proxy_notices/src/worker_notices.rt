@@ -1,12 +1,16 @@
 //! What one worker is to know.
 
+use crate::client_place::MAX_KEYS;
+use limits::MAX_HOSTS;
 use std::alloc::{AllocError, Global};
 use std::sync::atomic::{AtomicBool, AtomicU64, Ordering};
 
-use crate::client_place::MAX_KEYS;
 
 // The keys of a word.
 const BITS: usize = 64;
+
+/// The words of all keys.
+pub const MAX_WORDS: usize = MAX_KEYS / BITS;
 
 /// Ready clients whose keys stand in one word of 64.
 #[derive(Clone, Copy, Debug, PartialEq, Eq)]
@@ -20,6 +24,8 @@ pub struct ReadyWord {
 /// What a worker is to know, until it takes it.
 #[derive(Drop)]
 pub(crate) struct WorkerNotices {
+    // Bit h: host h is the worker's.
+    own: u64,
     // Bit h: parts came for host h, for which none waited.
     hosts: AtomicU64,
     // Replies may have come to any client.
@@ -31,18 +37,24 @@ pub(crate) struct WorkerNotices {
 }
 
 impl WorkerNotices {
-    /// Nothing to know. Refused where there is no memory.
-    pub(crate) fn new(alloc: Global) -> Result<WorkerNotices, AllocError> {
-        let mut keys = Vec::with_capacity(alloc, MAX_KEYS / BITS)?;
-        for _ in 0..MAX_KEYS / BITS {
+    /// Nothing to know, for a worker that has these hosts: bit h stands for host h. Refused where there is no memory.
+    pub(crate) fn new(alloc: Global, own: u64) -> Result<WorkerNotices, AllocError> {
+        let mut keys = Vec::with_capacity(alloc, MAX_WORDS)?;
+        for _ in 0..MAX_WORDS {
             keys.push(AtomicU64::new(0))?;
         }
         Ok(WorkerNotices {
+            own,
             hosts: AtomicU64::new(0),
             is_for_all: AtomicBool::new(false),
             words: AtomicU64::new(0),
             keys,
         })
+    }
+
+    /// The worker's hosts: bit h stands for host h.
+    pub(crate) fn own(&self) -> u64 {
+        self.own
     }
 
     /// Whether there is something to know.
@@ -55,7 +67,7 @@ impl WorkerNotices {
 
     /// Parts came for this host.
     pub(crate) fn add_host(&self, host: usize) {
-        if host < BITS {
+        if host < MAX_HOSTS {
             self.hosts.fetch_or(1 << host, Ordering::SeqCst);
         }
     }

@@ -176,8 +176,6 @@ pub(crate) struct Client {
     // The number of commands accepted and not yet answered, and since when they wait.
     unanswered: u64,
     waits: Unanswered,
-    // The generation's count of replies when this client last asked for its own.
-    replies: u64,
     // The last round ended before all was done.
     has_more: bool,
     // Consecutive refusals of memory.
@@ -198,7 +196,6 @@ impl Drop for Client {
             stage: _,
             unanswered: _,
             waits: _,
-            replies: _,
             has_more: _,
             refusals: _,
             is_drained: _,
@@ -251,7 +248,6 @@ impl Client {
             stage: SocketStage::Served,
             unanswered: 0,
             waits: Unanswered::new(alloc),
-            replies: 0,
             has_more: true,
             refusals: Refusals::new(),
             is_drained: false,
@@ -329,7 +325,6 @@ impl Client {
             stage: _,
             unanswered: _,
             waits: _,
-            replies: _,
             has_more: _,
             refusals: _,
             is_drained: _,
@@ -387,6 +382,11 @@ impl Client {
         !matches!(self.stage, SocketStage::Lingering { .. })
     }
 
+    /// The number of its connection.
+    pub(crate) fn conn(&self) -> u64 {
+        self.engine.conn()
+    }
+
     /// Whether it waits for replies.
     pub(crate) fn awaits_reply(&self) -> bool {
         self.unanswered > 0
@@ -397,8 +397,8 @@ impl Client {
         self.has_more
     }
 
-    /// Whether a round can make progress.
-    pub(crate) fn may_go(&self, generation: &GenerationState<'_>, now: u64) -> bool {
+    /// Whether a round may make progress.
+    pub(crate) fn may_go(&self, now: u64) -> bool {
         if self.has_more {
             return true;
         }
@@ -406,9 +406,7 @@ impl Client {
         if let SocketStage::Lingering { until } = self.stage {
             return now >= until || may_read;
         }
-        may_read
-            || self.engine.writer().may_write()
-            || (self.unanswered > 0 && self.replies != generation.replies())
+        may_read || self.engine.writer().may_write() || self.awaits_reply()
     }
 
     /// Steps the engine until it has to wait, and writes what it buffered.
@@ -452,7 +450,6 @@ impl Client {
             (own_history T.pass T.seen turns.old.turns)
             (own_history T.pass T.seen turns.new.turns) }
     {
-        self.replies = generation.replies();
         self.engine.writer_mut().lend_buffer(buffer);
         let stepped = self.step_engine(rt, turns, generation, round.reserve);
         let counts = turns.leave_with_counts();
@@ -682,7 +679,7 @@ impl Client {
         }
     }
 
-    // Counts commands without an answer, and reports parts to the other workers.
+    // Counts commands without an answer, and the bytes of an unfinished one.
     fn count(&mut self, counts: TurnCounts, generation: &GenerationState<'_>)
         ensures { self.new.engine ≡ self.old.engine }
     {
@@ -690,9 +687,6 @@ impl Client {
             .unanswered
             .saturating_add(counts.accepted)
             .saturating_sub(counts.handed);
-        if counts.parts > 0 {
-            generation.count_parts(counts.parts);
-        }
         self.count_unfinished_bytes(generation, counts.accepted > 0);
     }
 

@@ -25,8 +25,6 @@ pub(crate) struct TurnCounts {
     pub(crate) matched: u64,
     /// Hosts' faults recorded.
     pub(crate) faults: u64,
-    /// Replies came for clients, or parts were lost.
-    pub(crate) has_replies: bool,
 }
 
 impl TurnCounts {
@@ -37,7 +35,6 @@ impl TurnCounts {
         parts: 0,
         matched: 0,
         faults: 0,
-        has_replies: false,
     };
 
     // Counts a step of this kind.
@@ -49,14 +46,8 @@ impl TurnCounts {
                 self.parts = self.parts.saturating_add(parts);
             }
             StepKind::Handed => self.handed = self.handed.saturating_add(1),
-            StepKind::Matched => {
-                self.matched = self.matched.saturating_add(1);
-                self.has_replies = true;
-            }
-            StepKind::Lost { .. } => {
-                self.faults = self.faults.saturating_add(1);
-                self.has_replies = true;
-            }
+            StepKind::Matched => self.matched = self.matched.saturating_add(1),
+            StepKind::Lost { .. } => self.faults = self.faults.saturating_add(1),
             _ => {}
         }
     }

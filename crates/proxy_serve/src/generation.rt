@@ -16,12 +16,13 @@ use proxy_core::{Core, Handover, Settings};
 use proxy_engines::{EngineError, Work, run_all};
 use proxy_exit_status::Ending;
 use proxy_generations::{Due, Marks};
+use proxy_notices::Notices;
 use proxy_stats::{Counted, CountedSeat};
 use std::alloc::Global;
 use std::mem;
 use std::net::Net;
 use std::rt::Clock;
-use std::sync::Wait;
+use std::sync::{Arc, Wait};
 use std::thread::Threads;
 use ticket_gate::{Gate, Spare};
 
@@ -93,8 +94,13 @@ fn settings(config: &Config) -> Settings {
     }
 }
 
-// A core that starts from this handover, or a new one.
-fn core(alloc: Global, config: &Config, from: Option<Handover>) -> Result<Counted, Ending>
+// A core that starts from this handover, or a new one. It tells workers by these notices.
+fn core(
+    alloc: Global,
+    config: &Config,
+    from: Option<Handover>,
+    notices: Arc<Notices>,
+) -> Result<Counted, Ending>
     requires { AreRingParts config.now.hosts.items config.now.weights.items }
     ensures { IfOk result (λ core. core.steps ≡ []) }
 {
@@ -108,7 +114,7 @@ fn core(alloc: Global, config: &Config, from: Option<Handover>) -> Result<Counte
     let Ok(core) = made else {
         return Err(Ending::Memory);
     };
-    match Counted::new(alloc, core) {
+    match Counted::new(alloc, core, notices) {
         Ok(core) => Ok(core),
         Err(_) => Err(Ending::Memory),
     }
@@ -173,29 +179,43 @@ struct Polls {
 
 impl Polls {
     // Adds those of one more worker.
-    fn add<R: Net>(&mut self, rt: &R, has_hosts: bool) -> Result<(), Stop> {
+    fn add<R: Net>(&mut self, rt: &R) -> Result<(), Stop> {
         let poll = match Poll::new(rt) {
             Ok(poll) => poll,
             Err(error) => return Err(Stop::socket("cannot make a worker's poll", error)),
         };
-        self.workers.push(CachePadded::new(WorkerStatus::new(waker_of(&poll)?, has_hosts)))?;
+        self.workers.push(CachePadded::new(WorkerStatus::new(waker_of(&poll)?)))?;
         self.wakers.push(waker_of(&poll)?)?;
         self.polls.push(poll)?;
         Ok(())
     }
 }
 
-// A poll with two wakers for each worker. The first workers, one for each host, have hosts.
-fn make_polls<R: Net>(rt: &R, alloc: Global, workers: usize, hosts: usize) -> Result<Polls, Stop> {
+// A poll with two wakers for each worker.
+fn make_polls<R: Net>(rt: &R, alloc: Global, workers: usize) -> Result<Polls, Stop> {
     let mut all = Polls {
         polls: Vec::new(alloc),
         workers: Vec::new(alloc),
         wakers: Vec::new(alloc),
     };
-    for index in 0..workers {
-        all.add(rt, index < hosts)?;
+    for _ in 0..workers {
+        all.add(rt)?;
     }
     Ok(all)
+}
+
+// The notices of a generation's workers, twice: for the workers, and for the core.
+fn make_notices(alloc: Global, workers: usize) -> Result<(Arc<Notices>, Arc<Notices>), Ending> {
+    let Ok(notices) = Notices::new(alloc, workers) else {
+        return Err(Ending::Memory);
+    };
+    let Ok(notices) = Arc::new(alloc, notices) else {
+        return Err(Ending::Memory);
+    };
+    match Arc::try_clone(&notices) {
+        Ok(told) => Ok((notices, told)),
+        Err(_) => Err(Ending::Memory),
+    }
 }
 
 /// What all generations share.
@@ -249,15 +269,16 @@ fn serve_generation<R: ServeRuntime>(
         polls,
         workers,
         wakers,
-    } = make_polls(rt, alloc, server.workers(), config.hosts.len())?;
-    let generation = GenerationState::new(server, number, average, workers);
+    } = make_polls(rt, alloc, server.workers())?;
+    let (notices, told) = make_notices(alloc, server.workers())?;
+    let generation = GenerationState::new(server, number, average, workers, notices);
     let context = ThreadContext {
         alloc,
         generation: &generation,
         config,
         marks,
     };
-    if let Some(core) = work(rt, context, core(alloc, config, from)?, polls, wakers)? {
+    if let Some(core) = work(rt, context, core(alloc, config, from, told)?, polls, wakers)? {
         let steps = core.core().journal().len() as u64;
         server.gone(rt, number, core.counts(), steps);
         drop(core);

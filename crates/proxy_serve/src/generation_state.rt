@@ -5,12 +5,13 @@ use crate::counted_turns::{CountedTurns, HeldTurns};
 use crate::ledger::Ledger;
 use crate::server::Server;
 use crossbeam_utils::CachePadded;
-use limits::{MAX_COMMAND_STEPS, MAX_PARTS_AT_ONCE, MAX_START_MS, MAX_UNFINISHED, MAX_UNSEEN};
+use limits::{MAX_COMMAND_STEPS, MAX_PARTS_AT_ONCE, MAX_START_MS, MAX_UNFINISHED};
 use mio::Waker;
 use proxy_generations::Phase;
+use proxy_notices::Notices;
 use std::rt::Clock;
 use std::sync::atomic::{AtomicBool, AtomicU8, AtomicU64, Ordering};
-use std::sync::{Mutex, Wait};
+use std::sync::{Arc, Mutex, Wait};
 use std::thread;
 use std::time::Duration;
 
@@ -32,20 +33,14 @@ const BEGUN: u8 = 1;
 // It never begins: threads were missing, or had no memory.
 const GIVEN_UP: u8 = 2;
 
-/// How a worker is woken, and what it waits for.
+/// How a worker is woken, and whether it waits.
 #[derive(Drop)]
 pub(crate) struct WorkerStatus {
     waker: Waker,
-    // Whether it has hosts.
-    has_hosts: bool,
-    // Whether its clients wait for replies.
-    awaits: AtomicBool,
-    // Whether it takes in nothing until others have looked at their parts.
+    // Whether it takes in nothing until others have looked at their hosts.
     is_held_back: AtomicBool,
     // Whether it may be asleep.
     is_asleep: AtomicBool,
-    // The generation's count of parts when it last looked at those of its hosts.
-    seen: AtomicU64,
 }
 
 /// What the threads of a generation share. What each round of a worker writes has cache lines of its own, so that no other reads
@@ -54,6 +49,8 @@ pub(crate) struct GenerationState<'a> {
     server: &'a Server,
     number: u64,
     workers: Vec<CachePadded<WorkerStatus>>,
+    // What the core's turns tell the workers.
+    notices: Arc<Notices>,
     // The number of its threads that have come.
     come: AtomicU64,
     // STARTING, BEGUN or GIVEN_UP.
@@ -64,10 +61,6 @@ pub(crate) struct GenerationState<'a> {
     ledger: CachePadded<Mutex<Ledger>>,
     // Whether no further commands are accepted, so that accepted ones can be answered before the journal is full.
     is_full: AtomicBool,
-    // The number of parts queued for hosts.
-    parts: CachePadded<AtomicU64>,
-    // Rises when replies come for clients.
-    replies: CachePadded<AtomicU64>,
     // The bytes of all unfinished commands.
     unfinished: CachePadded<AtomicU64>,
 }
@@ -79,46 +72,29 @@ impl Drop for GenerationState<'_> {
             server: _,
             number: _,
             workers: _,
+            notices: _,
             come: _,
             start: _,
             open: _,
             ledger: _,
             is_full: _,
-            parts: _,
-            replies: _,
             unfinished: _,
         } = self;
     }
 }
 
 impl WorkerStatus {
-    /// A worker that is awake and hasn't looked at any parts.
-    pub(crate) fn new(waker: Waker, has_hosts: bool) -> WorkerStatus {
+    /// A worker that is awake.
+    pub(crate) fn new(waker: Waker) -> WorkerStatus {
         WorkerStatus {
             waker,
-            has_hosts,
-            awaits: AtomicBool::new(false),
             is_held_back: AtomicBool::new(false),
             is_asleep: AtomicBool::new(false),
-            seen: AtomicU64::new(0),
         }
     }
 
-    // Whether clients must be held back for the parts that it hasn't looked at.
-    fn is_behind(&self, parts: u64) -> bool {
-        parts.saturating_sub(self.seen.load(Ordering::SeqCst)) >= MAX_UNSEEN
-    }
-
-    /// The worker has looked at its hosts' parts up to this count. True: others may have waited for that.
-    pub(crate) fn mark_seen(&self, parts: u64) -> bool {
-        let was_behind = self.is_behind(parts);
-        self.seen.store(parts, Ordering::SeqCst);
-        was_behind
-    }
-
     /// The worker may sleep from here on.
-    pub(crate) fn mark_asleep(&self, awaits: bool, is_held_back: bool) {
-        self.awaits.store(awaits, Ordering::SeqCst);
+    pub(crate) fn mark_asleep(&self, is_held_back: bool) {
         self.is_held_back.store(is_held_back, Ordering::SeqCst);
         self.is_asleep.store(true, Ordering::SeqCst);
     }
@@ -130,7 +106,7 @@ impl WorkerStatus {
 
     // Wakes the worker where it may be asleep.
     fn wake(&self) {
-        if self.is_asleep.swap(false, Ordering::SeqCst) {
+        if self.is_asleep.load(Ordering::SeqCst) && self.is_asleep.swap(false, Ordering::SeqCst) {
             let _ = self.waker.wake();
         }
     }
@@ -143,18 +119,18 @@ impl<'a> GenerationState<'a> {
         number: u64,
         average: u64,
         workers: Vec<CachePadded<WorkerStatus>>,
+        notices: Arc<Notices>,
     ) -> GenerationState<'a> {
         GenerationState {
             server,
             number,
             workers,
+            notices,
             come: AtomicU64::new(0),
             start: AtomicU8::new(STARTING),
             open: AtomicU64::new(0),
             ledger: CachePadded::new(Mutex::new(Ledger::new(average))),
             is_full: AtomicBool::new(false),
-            parts: CachePadded::new(AtomicU64::new(0)),
-            replies: CachePadded::new(AtomicU64::new(0)),
             unfinished: CachePadded::new(AtomicU64::new(0)),
         }
     }
@@ -162,6 +138,12 @@ impl<'a> GenerationState<'a> {
     /// The server that it belongs to.
     pub(crate) fn server(&self) -> &'a Server {
         self.server
+    }
+
+    /// What the core's turns tell its workers.
+    #[inline(always)]
+    pub(crate) fn notices(&self) -> &Notices {
+        &self.notices
     }
 
     /// Its number.
@@ -329,21 +311,6 @@ impl<'a> GenerationState<'a> {
         self.open.fetch_sub(1, Ordering::SeqCst);
     }
 
-    /// The number of parts queued for hosts.
-    pub(crate) fn parts(&self) -> u64 {
-        self.parts.load(Ordering::SeqCst)
-    }
-
-    /// The number of times that replies came for clients.
-    pub(crate) fn replies(&self) -> u64 {
-        self.replies.load(Ordering::SeqCst)
-    }
-
-    /// Counts parts queued for hosts.
-    pub(crate) fn count_parts(&self, count: u64) {
-        self.parts.fetch_add(count, Ordering::SeqCst);
-    }
-
     /// Changes the bytes of a connection's unfinished command.
     pub(crate) fn note_unfinished(&self, now: u64, before: u64) {
         if now > before {
@@ -368,22 +335,17 @@ impl<'a> GenerationState<'a> {
         }
     }
 
-    /// Whether clients must be held back until some worker has looked at its parts.
+    /// Whether clients must be held back until some worker has looked at its hosts.
+    #[inline(always)]
     pub(crate) fn must_hold_back(&self) -> bool {
-        let parts = self.parts();
-        self.workers.iter().any(|worker| worker.is_behind(parts))
+        self.notices.pressed() != 0
     }
 
-    /// Counts replies for clients.
-    pub(crate) fn count_replies(&self) {
-        self.replies.fetch_add(1, Ordering::SeqCst);
-    }
-
-    /// Wakes the other workers that are behind with their hosts' parts.
+    /// Wakes the other workers for whose hosts clients are held back.
     pub(crate) fn wake_behind(&self, index: usize) {
-        let parts = self.parts();
+        let pressed = self.notices.pressed();
         for (other, worker) in self.workers.iter().enumerate() {
-            if other != index && worker.is_behind(parts) {
+            if other != index && self.notices.has_any_of(other, pressed) {
                 worker.wake();
             }
         }
@@ -398,12 +360,10 @@ impl<'a> GenerationState<'a> {
         }
     }
 
-    /// Wakes the other workers that new parts or replies may concern.
-    pub(crate) fn wake_for(&self, index: usize, has_parts: bool, has_replies: bool) {
+    /// Wakes the other workers that have something to know.
+    pub(crate) fn wake_concerned(&self, index: usize) {
         for (other, worker) in self.workers.iter().enumerate() {
-            let concerns = (has_parts && worker.has_hosts)
-                || (has_replies && worker.awaits.load(Ordering::SeqCst));
-            if other != index && concerns {
+            if other != index && self.notices.concern(other) {
                 worker.wake();
             }
         }

@@ -96,8 +96,6 @@ pub(crate) struct HostConnection {
     // The most milliseconds that connecting may take.
     reply_ms: u64,
     link: LinkState,
-    // The generation's count of parts when this host was last stepped.
-    parts: u64,
     // When it was last stepped, in milliseconds.
     looked: u64,
     // The last round ended before all was done.
@@ -122,7 +120,6 @@ impl Drop for HostConnection {
             token: _,
             reply_ms: _,
             link: _,
-            parts: _,
             looked: _,
             has_more: _,
             refusals: _,
@@ -152,7 +149,6 @@ impl HostConnection {
             token,
             reply_ms,
             link: LinkState::Down,
-            parts: 0,
             looked: 0,
             has_more: true,
             refusals: Refusals::new(),
@@ -190,10 +186,9 @@ impl HostConnection {
         }
     }
 
-    /// Whether a round can make progress.
-    pub(crate) fn may_go(&self, generation: &GenerationState<'_>, now: u64) -> bool {
+    /// Whether a round can make progress, where no new parts wait.
+    pub(crate) fn may_go(&self, now: u64) -> bool {
         self.has_more
-            || self.parts != generation.parts()
             || now.saturating_sub(self.looked) >= LOOK_MS
             || self.has_event()
     }
@@ -229,14 +224,10 @@ impl HostConnection {
     {
         self.has_more = false;
         self.looked = round.now;
-        self.parts = generation.parts();
         self.lend_buffer(buffer);
         let stepped = self.step_engine(rt, turns, generation, registry, round);
-        let counts = turns.leave_with_counts();
+        let _counts = turns.leave_with_counts();
         self.write_out(buffer);
-        if counts.has_replies {
-            generation.count_replies();
-        }
         self.has_more = self.has_more || stepped.is_err();
         match stepped {
             Ok(true) if self.note_log_due(round.now) => Ok(HostStepped::Unreachable),

@@ -9,7 +9,7 @@ use crate::host_connection::{HostRound, HostStepped};
 use crate::log::Level;
 use crate::server::Server;
 use crate::stop::Stop;
-use crate::worker_connections::{ClientResult, HOSTS, HostResult, WorkerConnections};
+use crate::worker_connections::{HOSTS, HostResult, WorkerConnections};
 use limits::MAX_SOCKETS;
 use mio::event::Event;
 use mio::net::TcpStream;
@@ -144,7 +144,6 @@ impl<'a> WorkerSetup<'a> {
             is_draining: false,
             ends_inputs: false,
             gives_up: false,
-            awaiting: 0,
             reported_at: 0,
         })
     }
@@ -159,22 +158,6 @@ enum OpenResult {
     Closed,
     /// There is none, or it can't be opened for now.
     None,
-}
-
-// The number of waiting clients after the round of one that waited before, or waits now.
-fn awaiting_after(awaiting: usize, did_await: bool, awaits: bool) -> usize {
-    match (did_await, awaits) {
-        (true, false) => awaiting.saturating_sub(1),
-        (false, true) => awaiting.saturating_add(1),
-        (true, true) | (false, false) => awaiting,
-    }
-}
-
-/// A generation's counts of parts for hosts and of replies for clients, at one moment.
-#[derive(Clone, Copy, Drop)]
-struct GenerationCounts {
-    parts: u64,
-    replies: u64,
 }
 
 /// A running worker.
@@ -194,15 +177,13 @@ struct Worker<'a> {
     looked_at: u64,
     // The client with which the next round begins.
     next: usize,
-    // Whether clients wait until other workers have looked at their parts.
+    // Whether clients wait until other workers have looked at their hosts.
     is_held_back: bool,
     is_draining: bool,
     // Whether the server drains: inputs end behind what has come.
     ends_inputs: bool,
     // Whether the hosts' waiting parts are given up.
     gives_up: bool,
-    // The number of clients that wait for replies.
-    awaiting: usize,
     // When durations were last reported, in milliseconds.
     reported_at: u64,
 }
@@ -225,7 +206,6 @@ impl Drop for Worker<'_> {
             is_draining: _,
             ends_inputs: _,
             gives_up: _,
-            awaiting: _,
             reported_at: _,
         } = self;
     }
@@ -258,9 +238,8 @@ impl<'a> Worker<'a> {
             self.wait(&mut events, pause)?;
             self.on_readiness(&events);
             self.end_inputs();
-            let before = self.generation_counts();
             let moves = self.run_once(rt)?;
-            pause = self.pause(moves, before);
+            pause = self.pause(moves);
             self.settle(rt);
         }
         unreachable!()
@@ -302,14 +281,6 @@ impl<'a> Worker<'a> {
             }
         }
         Ok(())
-    }
-
-    // The generation's counts now.
-    fn generation_counts(&self) -> GenerationCounts {
-        GenerationCounts {
-            parts: self.generation.parts(),
-            replies: self.generation.replies(),
-        }
     }
 
     // Reports the worker's turns.
@@ -397,7 +368,7 @@ impl<'a> Worker<'a> {
     }
 
     // The longest wait of the poll, in milliseconds.
-    fn pause(&self, moves: bool, before: GenerationCounts) -> u64 {
+    fn pause(&self, moves: bool) -> u64 {
         if self.lacks_memory {
             return NO_MEMORY_MS;
         }
@@ -405,15 +376,14 @@ impl<'a> Worker<'a> {
             return 0;
         }
         if let Some(worker) = self.generation.worker(self.index) {
-            worker.mark_asleep(self.awaiting > 0, self.is_held_back);
+            worker.mark_asleep(self.is_held_back);
         }
-        if self.has_news(before) { 0 } else { PAUSE_MS }
+        if self.has_news() { 0 } else { PAUSE_MS }
     }
 
-    // Whether parts or replies came since the round began, or clients needn't be held back any more.
-    fn has_news(&self, before: GenerationCounts) -> bool {
-        (self.connections.host_count() > 0 && before.parts != self.generation.parts())
-            || (self.awaiting > 0 && before.replies != self.generation.replies())
+    // Whether there is something to hear, or clients needn't be held back any more.
+    fn has_news(&self) -> bool {
+        self.generation.notices().concern(self.index)
             || (self.is_held_back && !self.generation.must_hold_back())
     }
 
@@ -444,13 +414,12 @@ impl<'a> Worker<'a> {
             self.accepted_at = now;
             self.accept_new(rt)?;
         }
-        let before = self.generation_counts();
         let moves = self.step_all(rt, now)?;
         if now.saturating_sub(self.reported_at) >= PAUSE_MS {
             self.reported_at = now;
             self.report_durations(rt);
         }
-        self.wake_others(before);
+        self.generation.wake_concerned(self.index);
         Ok(moves)
     }
 
@@ -460,15 +429,6 @@ impl<'a> Worker<'a> {
         let clients = self.step_clients(rt, now)?;
         let after = self.step_hosts(rt, now)?;
         Ok(hosts || clients || after)
-    }
-
-    // Wakes the workers that parts and replies since these counts may concern.
-    fn wake_others(&self, before: GenerationCounts) {
-        let has_parts = before.parts != self.generation.parts();
-        let has_replies = before.replies != self.generation.replies();
-        if has_parts || has_replies {
-            self.generation.wake_for(self.index, has_parts, has_replies);
-        }
     }
 
     // Counts a refusal of memory to the first socket in the queue.
@@ -626,7 +586,11 @@ impl<'a> Worker<'a> {
             self.generation.server().count_dropped(rt);
             return Ok(OpenResult::Closed);
         }
-        match self.connections.open(rt, stream, self.ends_inputs) {
+        let notices = self.generation.notices();
+        match self
+            .connections
+            .open(rt, notices, stream, self.ends_inputs)
+        {
             Ok(has_room) => Ok(self.handle_opened(rt, has_room)),
             Err(error) => {
                 self.generation.server().count_dropped(rt);
@@ -638,12 +602,14 @@ impl<'a> Worker<'a> {
 
     // Steps each host that can make progress, and logs those that can't be reached. True: more can be done at once.
     fn step_hosts<R: Wait + Net + Eprint>(&mut self, rt: &R, now: u64) -> Result<bool, Stop> {
-        let parts = self.generation.parts();
+        let notices = self.generation.notices();
+        let pressed = notices.pressed();
+        self.connections.hear(notices);
         let mut moves = false;
         for index in 0..self.connections.host_count() {
             moves = self.step_host(rt, index, now)? || moves;
         }
-        self.mark_parts_seen(parts, now);
+        self.mark_seen(pressed, now);
         Ok(moves)
     }
 
@@ -693,20 +659,14 @@ impl<'a> Worker<'a> {
         }
     }
 
-    // Marks parts as seen, unless a host is connecting: parts for that must hold clients back.
-    fn mark_parts_seen(&self, parts: u64, now: u64) {
-        if self.connections.is_connecting(now) {
+    // Marks those of these hosts as seen that are the worker's, unless one is connecting: parts for that must hold clients
+    // back.
+    fn mark_seen(&self, pressed: u64, now: u64) {
+        if pressed == 0 || self.connections.is_connecting(now) {
             return;
         }
-        if let Some(worker) = self.generation.worker(self.index) {
-            let seen = if self.connections.host_count() == 0 {
-                u64::MAX
-            } else {
-                parts
-            };
-            if worker.mark_seen(seen) {
-                self.generation.wake_held(self.index);
-            }
+        if self.generation.notices().mark_seen(self.index, pressed) {
+            self.generation.wake_held(self.index);
         }
     }
 
@@ -722,10 +682,10 @@ impl<'a> Worker<'a> {
         Ok(self.step_ready(rt, 0, begin, now)? || moves)
     }
 
-    // Makes clients ready that wait for replies, if some came, and all clients each `LOOK_MS`: some things come by the clock
-    // alone, and no client may depend on a note.
+    // Makes clients ready to which replies came, and all clients each `LOOK_MS`: some things come by the clock alone, and no
+    // client may depend on a notice.
     fn find_ready(&mut self, now: u64) {
-        self.connections.hear_replies(self.generation);
+        self.connections.hear(self.generation.notices());
         if now.saturating_sub(self.looked_at) >= LOOK_MS {
             self.looked_at = now;
             self.connections.make_all_ready();
@@ -753,7 +713,7 @@ impl<'a> Worker<'a> {
                     self.hold_back(key);
                     return Ok(true);
                 }
-                self.connections.hear_replies(self.generation);
+                self.connections.hear(self.generation.notices());
             }
             moves = self.step_client(rt, key, now)? || moves;
             from = key.saturating_add(1);
@@ -792,19 +752,10 @@ impl<'a> Worker<'a> {
 
     // Steps a client if it can make progress. True: more can be done at once.
     fn step_client<R: Wait>(&mut self, rt: &R, key: usize, now: u64) -> Result<bool, Stop> {
-        let Some(
-            ClientResult {
-                stepped,
-                did_await,
-                awaits,
-            },
-        ) = self.connections.step_client(rt, self.generation, key, now)
-        else {
-            return Ok(false);
-        };
-        let awaits = awaits && !matches!(stepped, Ok(Stepped::Closed));
-        self.awaiting = awaiting_after(self.awaiting, did_await, awaits);
-        self.handle_stepped(rt, key, stepped)
+        match self.connections.step_client(rt, self.generation, key, now) {
+            Some(stepped) => self.handle_stepped(rt, key, stepped),
+            None => Ok(false),
+        }
     }
 
     // Handles the result of a client's round. True: more can be done at once.
@@ -820,7 +771,7 @@ impl<'a> Worker<'a> {
             Ok(Stepped::Idle) => Ok(false),
             Ok(Stepped::Ready) => Ok(true),
             Ok(Stepped::Closed) => {
-                self.connections.remove(key);
+                self.connections.remove(self.generation.notices(), key);
                 self.generation.count_gone();
                 self.generation.server().count_dropped(rt);
                 Ok(false)

@@ -6,6 +6,7 @@ use crate::client::{CarriedSocket, Client, ClientRound, StepError, Stepped};
 use crate::counted_turns::CountedTurns;
 use crate::generation_state::GenerationState;
 use crate::host_connection::{HostConnection, HostRound, HostStepped};
+use limits::MAX_HOSTS;
 use mio::event::Event;
 use mio::net::TcpStream;
 use mio::{Registry, Token};
@@ -13,6 +14,7 @@ use proxy_config::Config;
 use proxy_exit_status::Ending;
 use proxy_generations::StepKind;
 use proxy_histogram::Histogram;
+use proxy_notices::{MAX_WORDS, Notices};
 use proxy_serve_core::{ReadyClients, hosts_of_worker};
 use proxy_stats::CountedSeat;
 use slab::Slab;
@@ -24,17 +26,6 @@ use std::sync::Wait;
 
 /// Tokens from here on are hosts. The token of a client is its key.
 pub(crate) const HOSTS: usize = 1 << 32;
-
-/// What came of a client's round.
-#[derive(Clone, Copy, Drop)]
-pub(crate) struct ClientResult {
-    /// Its result.
-    pub(crate) stepped: Result<Stepped, StepError>,
-    /// Whether the client waited for replies before.
-    pub(crate) did_await: bool,
-    /// Whether it waits for replies now.
-    pub(crate) awaits: bool,
-}
 
 /// What came of a host's round.
 #[derive(Clone, Copy, Drop)]
@@ -54,10 +45,15 @@ pub(crate) struct HostResult {
 pub(crate) struct WorkerConnections<'a> {
     alloc: Global,
     turns: CountedTurns<CountedSeat<'a>>,
+    // The worker's index, and the number of workers.
+    index: usize,
+    workers: usize,
     clients: Slab<Client>,
     // Which of them the next round looks at.
     ready: ReadyClients,
     hosts: Vec<HostConnection>,
+    // Bit h: parts came for host h since its last round.
+    stirred: u64,
     // Lent to one socket after another for its output.
     buffer: Vec<u8>,
     // The durations of commands since they were last taken.
@@ -70,9 +66,12 @@ impl Drop for WorkerConnections<'_> {
         let WorkerConnections {
             alloc: _,
             turns: _,
+            index: _,
+            workers: _,
             clients: _,
             ready: _,
             hosts: _,
+            stirred: _,
             buffer: _,
             durations: _,
         } = self;
@@ -117,9 +116,12 @@ impl<'a> WorkerConnections<'a> {
         Ok(WorkerConnections {
             alloc,
             turns: CountedTurns::new(seat),
+            index,
+            workers,
             clients: Slab::new(alloc),
             ready: ReadyClients::new(alloc),
             hosts,
+            stirred: 0,
             buffer: Vec::new(alloc),
             durations: Histogram::new(),
         })
@@ -202,11 +204,21 @@ impl<'a> WorkerConnections<'a> {
         self.ready.make_all_ready(self.clients.capacity());
     }
 
-    /// Makes those ready that wait for replies, if the generation's count of replies isn't what it was at the last call.
-    pub(crate) fn hear_replies(&mut self, generation: &GenerationState<'_>)
+    /// Takes what turns told of its clients and hosts: clients to which replies came are ready, and hosts for which parts
+    /// came are stepped in their next round.
+    pub(crate) fn hear(&mut self, notices: &Notices)
         ensures { self.new ≡ self.old }
     {
-        self.ready.hear_replies(generation.replies());
+        self.stirred |= notices.take_hosts(self.index);
+        if notices.take_all(self.index) {
+            self.ready.make_awaiting_ready();
+        }
+        for _ in 0..MAX_WORDS {
+            let Some(word) = notices.take_word(self.index) else {
+                break;
+            };
+            self.ready.make_word_ready(word.index, word.bits);
+        }
     }
 
     /// Takes the durations of commands since the last call.
@@ -221,13 +233,14 @@ impl<'a> WorkerConnections<'a> {
     pub(crate) fn open<R: Wait>(
         &mut self,
         rt: &R,
+        notices: &Notices,
         stream: TcpStream,
         ends_input: bool,
     ) -> Result<bool, StepError>
         ensures { AddsClient self.old self.new }
     {
         match Client::open(rt, self.alloc, &mut self.turns, stream) {
-            Ok(client) => Ok(self.insert(client, ends_input)),
+            Ok(client) => Ok(self.insert(notices, client, ends_input)),
             Err(error) => Err(StepError::from(error)),
         }
     }
@@ -257,23 +270,25 @@ impl<'a> WorkerConnections<'a> {
         match opened {
             Ok(client) => {
                 client.note_carried(generation);
-                Ok(self.insert(client, ends_input))
+                Ok(self.insert(generation.notices(), client, ends_input))
             }
             Err((error, carried)) => Err((StepError::from(error), carried)),
         }
     }
 
     // Gives the client a slot: it has a connection from here on. False: there is no room.
-    fn insert(&mut self, mut client: Client, ends_input: bool) -> bool
+    fn insert(&mut self, notices: &Notices, mut client: Client, ends_input: bool) -> bool
         requires { IsNewcomer client.engine self.old.clients self.old.steps }
         ensures hosts { self.new.hosts ≡ self.old.hosts }
         ensures steps { self.new.steps ≡ self.old.steps }
         ensures stay { KeepsClients self.old.clients self.new.clients }
     {
         begin_input(&mut client, ends_input);
+        let conn = client.conn();
         let Ok(key) = self.clients.insert(client) else {
             return false;
         };
+        notices.add_client(conn, self.index, key);
         self.ready.make_ready(key);
         true
     }
@@ -329,9 +344,9 @@ impl<'a> WorkerConnections<'a> {
         generation: &GenerationState<'_>,
         key: usize,
         now: u64,
-    ) -> Option<ClientResult>
+    ) -> Option<Result<Stepped, StepError>>
         ensures changes { ChangesClient key self.old self.new }
-        ensures leaves { IfSome result (λ r. IfOk r.stepped
+        ensures leaves { IfSome result (λ r. IfOk r
             (λ s. IsLast s → IsLeaving self.new.clients key)) }
     {
         let reserve = self.reserve();
@@ -339,10 +354,9 @@ impl<'a> WorkerConnections<'a> {
         let Some(client) = self.clients.get_mut(key) else {
             return None;
         };
-        if !client.may_go(generation, now) {
+        if !client.may_go(now) {
             return None;
         }
-        let did_await = client.awaits_reply();
         let stepped = client.run_once(
             rt,
             &mut self.turns,
@@ -354,11 +368,25 @@ impl<'a> WorkerConnections<'a> {
         let awaits = client.awaits_reply();
         let is_ready = client.has_more() || matches!(stepped, Ok(Stepped::Ready));
         self.ready.end(key, is_ready, awaits);
-        Some(ClientResult {
-            stepped,
-            did_await,
-            awaits,
-        })
+        Some(stepped)
+    }
+
+    // Takes whether parts came for the host with this index.
+    fn take_stirred(&mut self, index: usize) -> bool
+        ensures { self.new ≡ self.old }
+    {
+        let bit = self.bit_of_host(index);
+        let is_stirred = self.stirred & bit != 0;
+        self.stirred &= !bit;
+        is_stirred
+    }
+
+    // The bit of the host with this index: of host h it is bit h.
+    fn bit_of_host(&self, index: usize) -> u64 {
+        let host = index
+            .saturating_mul(self.workers)
+            .saturating_add(self.index);
+        if host < MAX_HOSTS { 1 << host } else { 0 }
     }
 
     /// Steps the host with this index. `None`: it can't make progress now, or there is no such host.
@@ -372,10 +400,11 @@ impl<'a> WorkerConnections<'a> {
     ) -> Option<HostResult>
         ensures { ChangesHost index self.old self.new }
     {
+        let is_stirred = self.take_stirred(index);
         let Some(host) = self.hosts.get_mut(index) else {
             return None;
         };
-        if !host.may_go(generation, round.now) {
+        if !is_stirred && !host.may_go(round.now) {
             return None;
         }
         let stepped = host.run_once(
@@ -386,7 +415,7 @@ impl<'a> WorkerConnections<'a> {
             &mut self.buffer,
             round,
         );
-        let moves = host.may_go(generation, round.now);
+        let moves = host.may_go(round.now);
         let address = host.address();
         Some(HostResult {
             stepped,
@@ -396,12 +425,15 @@ impl<'a> WorkerConnections<'a> {
     }
 
     /// Drops a client that isn't served any more.
-    pub(crate) fn remove(&mut self, key: usize)
+    pub(crate) fn remove(&mut self, notices: &Notices, key: usize)
         requires { IsLeaving self.old.clients key }
         ensures { RemovesClient key self.old self.new }
     {
         self.ready.forget(key);
-        drop(self.clients.try_remove(key));
+        if let Some(client) = self.clients.try_remove(key) {
+            notices.remove_client(client.conn(), self.index, key);
+            drop(client);
+        }
     }
 
     /// Takes the socket of a client that isn't served any more, with its unused input, for the newest generation.
@@ -417,7 +449,11 @@ impl<'a> WorkerConnections<'a> {
     {
         self.ready.forget(key);
         match self.clients.try_remove(key) {
-            Some(client) => client.carry(registry, generation),
+            Some(client) => {
+                let notices = generation.notices();
+                notices.remove_client(client.conn(), self.index, key);
+                client.carry(registry, generation)
+            }
             None => None,
         }
     }

@@ -31,6 +31,15 @@ pub record AddsKeyIfItFits (key : ℕ) (old new : List ℕ) : Type 0 where
 abbrev pub AddsKeysBelow : ℕ → List ℕ → List ℕ → Type 0
 AddsKeysBelow count old new = (key : ℕ) → Has new key ↔ (Has old key ⊎ ((key < count) × (key < capacity_of old)))
 
+-- the old keys, and those whose bits are set in a word of 64 keys
+abbrev pub AddsKeysOfWord : ℕ → ℕ → List ℕ → List ℕ → Type 0
+AddsKeysOfWord index bits old new = (key : ℕ) → Has new key ↔ (Has old key ⊎ ((key / 64 ≡ index) × (bit_at bits (key % 64) ≡ 1)))
+
+-- the old keys, and those of the word if it has room
+pub record AddsWordIfItFits (index bits : ℕ) (old new : List ℕ) : Type 0 where
+  pub adds : index < length old → AddsKeysOfWord index bits old new
+  pub past : length old ≤ index → new ≡ old
+
 -- the old keys without this one
 abbrev pub DropsKey : ℕ → List ℕ → List ℕ → Type 0
 DropsKey key old new = (other : ℕ) → Has new other ↔ (Has old other × (other ≢ key))

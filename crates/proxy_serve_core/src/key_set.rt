@@ -1,7 +1,7 @@
 //! A set of keys, such as those of a slab.
 ghost use Rattle.std.specs.Prelude.{◌≡◌, ◌↔◌, ◌<◌, ◌≤◌, ◌+◌, ◌*◌, ℕ, length, max, IsTrue, IfSome, IfNone, OnOk, OnErr};
 ghost use Rattle.std.specs.Bool.{OnTrue, OnFalse};
-ghost use Rattle.proxy_serve_core.specs.KeySet.{AddsKey, AddsKeysBelow, DropsKey, Has, HasNone, IsNext, JoinsKeys, SameKeys, capacity_of, whole_words};
+ghost use Rattle.proxy_serve_core.specs.KeySet.{AddsKey, AddsKeysBelow, AddsKeysOfWord, DropsKey, Has, HasNone, IsNext, JoinsKeys, SameKeys, capacity_of, whole_words};
 
 use std::alloc::{AllocError, Global};
 use std::marker::Model;
@@ -75,6 +75,21 @@ impl KeySet {
         if index < self.words.len() {
             self.words[index] &= !(1 << (key % BITS));
         }
+    }
+
+    /// Puts the keys of one word into the set: bit i of `bits` stands for key 64 `index` + i. False: these aren't below the
+    /// capacity, and nothing changes.
+    pub(crate) fn insert_word(&mut self, index: usize, bits: u64) -> bool
+        ensures fits { IsTrue result ↔ (index < length self.old) }
+        ensures adds { OnTrue result (AddsKeysOfWord index bits self.old self.new) }
+        ensures same { OnFalse result (self.new ≡ self.old) }
+        ensures capacity { capacity_of self.new ≡ capacity_of self.old }
+    {
+        if index >= self.words.len() {
+            return false;
+        }
+        self.words[index] |= bits;
+        true
     }
 
     /// Puts all keys of another set into this one. False: its capacity is greater than this one's, and nothing changes.

@@ -1,8 +1,7 @@
 //! Which clients a worker's round looks at.
 ghost use Rattle.std.specs.Prelude.{◌≡◌, ◌≤◌, OnOk, IfSome, IfNone};
 ghost use Rattle.std.specs.Bool.{OnTrue, OnFalse};
-ghost use Rattle.proxy_serve_core.specs.KeySet.{AddsKeyIfItFits, AddsKeysBelow, DropsKey, HasNone, IsNext, SameKeys, capacity_of};
-ghost use Rattle.proxy_serve_core.specs.ReadyClients.{HearsReplies};
+ghost use Rattle.proxy_serve_core.specs.KeySet.{AddsKeyIfItFits, AddsKeysBelow, AddsWordIfItFits, DropsKey, HasNone, IsNext, JoinsKeys, SameKeys, capacity_of};
 
 use crate::key_set::KeySet;
 use std::alloc::{AllocError, Global};
@@ -13,8 +12,6 @@ use std::marker::Model;
 pub struct ReadyClients {
     ready: KeySet,
     awaiting: KeySet,
-    // The count of replies that was last heard.
-    replies: u64,
 }
 
 impl Model for ReadyClients {
@@ -27,23 +24,20 @@ impl Model for ReadyClients {
     ghost view = { λ r. record {
       ready = r.ready;
       awaiting = r.awaiting;
-      replies = r.replies;
     } };
 
     ghost invariant = { λ r. capacity_of r.awaiting ≤ capacity_of r.ready };
 }
 
 impl ReadyClients {
-    /// No client is ready, none waits, and no reply was heard of.
+    /// No client is ready, and none waits.
     pub fn new(alloc: Global) -> ReadyClients
         ensures ready { HasNone result.ready 0 }
         ensures awaiting { HasNone result.awaiting 0 }
-        ensures replies { result.replies ≡ 0 }
     {
         ReadyClients {
             ready: KeySet::new(alloc),
             awaiting: KeySet::new(alloc),
-            replies: 0,
         }
     }
 
@@ -52,7 +46,6 @@ impl ReadyClients {
         ensures room { OnOk result (capacity ≤ capacity_of self.new.awaiting) }
         ensures ready { SameKeys self.old.ready self.new.ready }
         ensures awaiting { SameKeys self.old.awaiting self.new.awaiting }
-        ensures replies { self.new.replies ≡ self.old.replies }
     {
         self.ready.reserve(capacity)?;
         self.awaiting.reserve(capacity)
@@ -89,7 +82,6 @@ impl ReadyClients {
         ensures idle { OnFalse is_ready (self.new.ready ≡ self.old.ready) }
         ensures awaits { OnTrue awaits (AddsKeyIfItFits key self.old.awaiting self.new.awaiting) }
         ensures answered { OnFalse awaits (DropsKey key self.old.awaiting self.new.awaiting) }
-        ensures replies { self.new.replies ≡ self.old.replies }
     {
         if is_ready {
             self.make_ready(key);
@@ -105,20 +97,26 @@ impl ReadyClients {
     pub fn forget(&mut self, key: usize)
         ensures ready { DropsKey key self.old.ready self.new.ready }
         ensures awaiting { DropsKey key self.old.awaiting self.new.awaiting }
-        ensures replies { self.new.replies ≡ self.old.replies }
     {
         self.begin(key);
         self.end(key, false, false);
     }
 
-    /// So many replies have come to the clients of all workers. If the count has changed, those that wait are ready.
-    pub fn hear_replies(&mut self, count: u64)
-        ensures { HearsReplies count self.old self.new }
+    /// The next round looks at the clients of one word of keys: bit i of `bits` stands for key 64 `index` + i. Ignored if
+    /// there is no room for these.
+    pub fn make_word_ready(&mut self, index: usize, bits: u64)
+        ensures adds { AddsWordIfItFits index bits self.old.ready self.new.ready }
+        ensures rest { self.new ≡ record self.old { ready = self.new.ready } }
     {
-        if count != self.replies {
-            self.replies = count;
-            self.ready.insert_all_of(&self.awaiting);
-        }
+        self.ready.insert_word(index, bits);
+    }
+
+    /// The next round looks at all clients that wait for replies.
+    pub fn make_awaiting_ready(&mut self)
+        ensures joins { JoinsKeys self.old.ready self.old.awaiting self.new.ready }
+        ensures rest { self.new ≡ record self.old { ready = self.new.ready } }
+    {
+        self.ready.insert_all_of(&self.awaiting);
     }
 
     /// The ready client with the least key at or after this number. `None`: no client is ready there.

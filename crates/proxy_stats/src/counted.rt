@@ -1,5 +1,5 @@
 //! A core that counts what it does.
-ghost use Rattle.std.specs.Prelude.{◌≡◌, ◌∷◌, [], ◌++◌, List, IfOk};
+ghost use Rattle.std.specs.Prelude.{◌≡◌, ◌∷◌, [], ◌++◌, List, IfOk, IfSome};
 ghost use Rattle.proxy_history.specs.History.{Step as StepOf};
 ghost use Rattle.proxy_stats.specs.Counted.{HasCounted, counts_of};
 ghost use Rattle.proxy_stats.specs.Sums.{AreCounts};
@@ -7,20 +7,24 @@ ghost use Rattle.proxy_stats.specs.Sums.{AreCounts};
 use crate::counting::counts_of;
 use crate::load::{Load, load_of};
 use crate::tally::Counts;
+use crate::telling::{Teller, concern_of};
 use ejector::EjectState;
 use ketama::Ring;
 use proxy_core::{Answer, Core, Event, Handover, Journal, Refusal};
+use proxy_notices::Notices;
 use std::alloc::{AllocError, Global};
 use std::boxed::Box;
 use std::marker::Model;
+use std::sync::Arc;
 use ticket_gate::Recorded;
 
-/// A core with its counts. Contracts see the core.
+/// A core with its counts, which tells workers what its turns brought them. Contracts see the core.
 #[derive(Drop)]
 pub struct Counted {
     core: Core,
     // On the heap, since a gate moves its state in and out at each turn.
     counts: Box<Counts>,
+    teller: Box<Teller>,
 }
 
 /// The sight of a core that counts. All of it is of one moment.
@@ -53,19 +57,28 @@ impl Model for Counted {
 }
 
 impl Counted {
-    /// Counts the steps of the core, those made already and those to come.
+    /// Counts the steps of the core, those made already and those to come, and tells of these by the
+    /// notices.
     ///
     /// Refused where there is no memory for the counts; the core is dropped.
-    pub fn new(alloc: Global, core: Core) -> Result<Counted, AllocError>
+    pub fn new(
+        alloc: Global,
+        core: Core,
+        notices: Arc<Notices>,
+    ) -> Result<Counted, AllocError>
         ensures { IfOk result (λ c. c ≡ core) }
     {
         let counts = counts_of(core.journal());
-        match Box::new(alloc, counts) {
-            Ok(counts) => Ok(Counted { core, counts }),
-            Err(refused) => {
-                drop(refused);
-                Err(AllocError)
-            }
+        let Some(counts) = boxed(alloc, counts) else {
+            return Err(AllocError);
+        };
+        match boxed(alloc, Teller::new(notices)) {
+            Some(teller) => Ok(Counted {
+                core,
+                counts,
+                teller,
+            }),
+            None => Err(AllocError),
         }
     }
 
@@ -121,9 +134,11 @@ impl Recorded for Counted {
 
     #[inline(always)]
     fn turn(&mut self, pass: u64, event: Event) -> Result<Answer, (Refusal, Event)> {
+        let concern = concern_of(&self.core, &event);
         let result = Recorded::turn(&mut self.core, pass, event);
         if let Ok(_) = &result {
             count_last(self.core.journal(), &mut self.counts);
+            self.teller.tell(&self.core, concern);
         }
         result
     }
@@ -131,6 +146,19 @@ impl Recorded for Counted {
     ghost legal_at_first = { legal_at_first };
 
     ghost legal_before = { legal_before };
+}
+
+// The value on the heap. `None`: there is no memory, and it is dropped.
+fn boxed<T: Drop>(alloc: Global, value: T) -> Option<Box<T>>
+    ensures { IfSome result (λ b. b.value ≡ value) }
+{
+    match Box::new(alloc, value) {
+        Ok(boxed) => Some(boxed),
+        Err(refused) => {
+            drop(refused);
+            None
+        }
+    }
 }
 
 // Adds the newest step.

@@ -1,8 +1,9 @@
 //! Counts what a proxy did, by its journal.
 //!
 //! [`counts`] reads the journal of a core once. [`Counted`] is a core that counts as it goes, with
-//! the same result at any time. [`Counts::plus`] joins the counts of one core and the next. It
-//! stands on `proxy_core`. Begin with `tally.rt`, then `counted.rt`.
+//! the same result at any time, and tells workers what its turns brought them. [`Counts::plus`]
+//! joins the counts of one core and the next. It stands on `proxy_core` and `proxy_notices`. Begin
+//! with `tally.rt`, then `counted.rt`.
 #![tactic(auto)]
 
 pub use counted::{Counted, Sight};
@@ -17,3 +18,4 @@ mod counting;
 mod load;
 mod stepping;
 mod tally;
+mod telling;
