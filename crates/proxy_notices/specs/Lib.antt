@@ -1,2 +1,3 @@
 pub mod ClientPlace
+pub mod HostBits
 pub mod UnseenParts

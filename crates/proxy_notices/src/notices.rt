@@ -1,6 +1,6 @@
 //! What the workers of a generation are to know of turns.
-ghost use Rattle.std.specs.Prelude.{◌≡◌, ◌↔◌, ◌<◌, ◌%◌, ℕ};
-ghost use Rattle.std.specs.Int.{bit_at};
+ghost use Rattle.std.specs.Prelude.{◌<◌};
+ghost use Rattle.proxy_notices.specs.HostBits.{AreHostsOf};
 
 use crate::client_place::{ClientPlace, FREE, MAX_KEYS, SHARED, code_of, place_of};
 use crate::worker_notices::{ReadyWord, WorkerNotices};
@@ -12,8 +12,7 @@ use std::sync::atomic::{AtomicU64, Ordering};
 // The hosts of a worker: bit h stands for host h.
 fn own_hosts(worker: usize, workers: usize) -> u64
     requires { 0 < workers }
-    ensures { (host : ℕ) → host < 64
-        → (bit_at result host ≡ 1) ↔ (host % workers ≡ worker) }
+    ensures { AreHostsOf result worker workers }
 {
     let mut own = 0;
     for host in 0..MAX_HOSTS {

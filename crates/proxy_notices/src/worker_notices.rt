@@ -75,9 +75,12 @@ impl WorkerNotices {
     /// The client with this key is ready.
     #[inline(always)]
     pub(crate) fn add_key(&self, key: usize) {
+        if key >= MAX_KEYS {
+            self.add_all();
+            return;
+        }
         let index = key / BITS;
         let Some(word) = self.keys.get(index) else {
-            self.add_all();
             return;
         };
         let bit = 1 << (key % BITS);

@@ -6,7 +6,7 @@ use Rattle.std.proofs.lemmas.Bool.{cases_eq, cases_lt}
 use Rattle.std.proofs.lemmas.List.{get_or_past}
 use Rattle.std.proofs.lemmas.Nat.{shr-shr}
 use Rattle.std.proofs.lemmas.Nat.Bits.{bit_at-zero, bit_at-lt, bit_at_or, bit_at_above, bit_at-trailing_zeros, bit_at_set_same, bit_at_set_other, bit_at_clear_same, bit_at_clear_other}
-use Rattle.proxy_serve_core.specs.KeySet.{AddsKey, DropsKey, Has, HasNone, IsNext, JoinsKeys}
+use Rattle.proxy_serve_core.specs.KeySet.{AddsKey, AddsKeysOfWord, DropsKey, Has, HasNone, IsNext, JoinsKeys}
 
 -- the bit of a key
 abbrev bit_of : List ℕ → ℕ → ℕ
@@ -83,6 +83,27 @@ module _ (one two both : List ℕ) (joined : (j : ℕ) → j < length two → ge
         | inr past ↦
             let is : bit_of both key ≡ bit_of one key = ap (λ n. bit_at n (key % 64)) (rest (key / 64) past) in
             (λ has. inl (sym is ∙ has), λ h. elim h [ inl has ↦ is ∙ has | inr has ↦ absurd (none_past two key past has) ])
+      ]
+
+module _ (words : List ℕ) (index bits : ℕ) (within : index < length words) where
+  pub adds_word : AddsKeysOfWord index bits words (set words index (bit_or (get_or words index 0) bits))
+  adds_word key =
+      elim (cases_eq (key / 64) index) [
+        | inl same ↦
+            let is : bit_of (set words index (bit_or (get_or words index 0) bits)) key ≡ max (bit_of words key) (bit_at bits (key % 64)) =
+            rw (same, get_or-set_same words index (bit_or (get_or words index 0) bits) 0 within) (bit_at_or (get_or words index 0) bits (key % 64)) in
+            let cases = one_of (bit_of words key) (bit_at bits (key % 64)) (bit_at-lt (get_or words (key / 64) 0) (key % 64)) (bit_at-lt bits (key % 64)) in
+            (
+              λ has. elim (cases.0 (sym is ∙ has)) [ inl old ↦ inl old | inr new ↦ inr (same, new) ],
+              λ h. is ∙ cases.1 (elim h [ inl old ↦ inl old | inr new ↦ inr new.1 ]),
+            )
+        | inr apart ↦
+            let is : bit_of (set words index (bit_or (get_or words index 0) bits)) key ≡ bit_of words key =
+            ap (λ n. bit_at n (key % 64)) (get_or-set_other words index (key / 64) (bit_or (get_or words index 0) bits) 0 apart) in
+            (
+              λ has. inl (sym is ∙ has),
+              λ h. elim h [ inl old ↦ is ∙ old | inr new ↦ absurd (apart new.0) ],
+            )
       ]
 
 -- THE NEXT KEY
