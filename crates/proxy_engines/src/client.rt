@@ -61,7 +61,6 @@ pub enum Stage {
 ///
 /// Contracts see the connection's number, both ends, the waiting request, and the numbers of accepted requests and
 /// handed out replies. They also see the stage, whether the engine is drained, and whether reading stopped for that.
-#[derive(Drop)]
 pub struct ClientEngine<R: ReadTally, W: WriteTally> {
     conn: u64,
     inbox: Inbox<R>,
@@ -74,6 +73,23 @@ pub struct ClientEngine<R: ReadTally, W: WriteTally> {
     is_drained: bool,
     // Reading stopped for that, before the input ended or a request finished the connection.
     is_halted: bool,
+}
+
+// Written out so that a drop is one call: each function that holds one is proved sooner.
+impl<R: ReadTally + Drop, W: WriteTally + Drop> Drop for ClientEngine<R, W> {
+    fn drop(self) {
+        let ClientEngine {
+            conn: _,
+            inbox: _,
+            outbox: _,
+            next: _,
+            accepted: _,
+            handed: _,
+            stage: _,
+            is_drained: _,
+            is_halted: _,
+        } = self;
+    }
 }
 
 impl<R: ReadTally, W: WriteTally> Model for ClientEngine<R, W> {

@@ -27,12 +27,23 @@ use std::sync::Wait;
 /// A host's engine: takes and writes waiting parts, and turns input into replies.
 ///
 /// Contracts see its outbox, its link, if there is one, and a fault that isn't recorded yet.
-#[derive(Drop)]
 pub struct HostEngine<R: ReadTally, W: WriteTally> {
     alloc: Global,
     outbox: HostOutbox,
     link: Option<Link<R, W>>,
     fault: Option<Kind>,
+}
+
+// Written out so that a drop is one call: each function that holds one is proved sooner.
+impl<R: ReadTally + Drop, W: WriteTally + Drop> Drop for HostEngine<R, W> {
+    fn drop(self) {
+        let HostEngine {
+            alloc: _,
+            outbox: _,
+            link: _,
+            fault: _,
+        } = self;
+    }
 }
 
 // The result of a step that recorded an earlier fault first.

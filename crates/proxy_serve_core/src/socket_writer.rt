@@ -19,7 +19,6 @@ use std::marker::Model;
 /// The writing half of a socket, for an engine.
 ///
 /// What it takes from its engine is buffered, and goes out in order. It counts writes that failed or paused.
-#[derive(Drop)]
 pub struct SocketWriter<S: Write> {
     output: WriteBuffer<S>,
     // The last write took less than it was given.
@@ -27,6 +26,18 @@ pub struct SocketWriter<S: Write> {
     // The socket has had room since then.
     is_writable_again: bool,
     counter: Counter,
+}
+
+// Written out so that a drop is one call: each function that holds one is proved sooner.
+impl<S: Write + Drop> Drop for SocketWriter<S> {
+    fn drop(self) {
+        let SocketWriter {
+            output: _,
+            is_short: _,
+            is_writable_again: _,
+            counter: _,
+        } = self;
+    }
 }
 
 impl<S: Write> Model for SocketWriter<S> {
