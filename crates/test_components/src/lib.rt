@@ -27,6 +27,8 @@ mod laws;
 #[cfg(test)]
 mod link_tests;
 #[cfg(test)]
+mod next_replies;
+#[cfg(test)]
 mod refusal_tests;
 #[cfg(test)]
 mod rig;
