@@ -705,7 +705,12 @@ impl<R: ReadTally + Drop, W: WriteTally + Drop> ClientEngine<R, W> {
             inbox,
             outbox,
             next,
-            ..
+            conn: _,
+            accepted: _,
+            handed: _,
+            stage: _,
+            is_drained: _,
+            is_halted: _,
         } = self;
         let (reader, rest) = inbox.into_rest(next);
         Some((reader, outbox.into_writer(), rest))
@@ -720,7 +725,12 @@ impl<R: ReadTally + Drop, W: WriteTally + Drop> ClientEngine<R, W> {
             inbox,
             outbox,
             next,
-            ..
+            conn: _,
+            accepted: _,
+            handed: _,
+            stage: _,
+            is_drained: _,
+            is_halted: _,
         } = self;
         drop(inbox);
         drop(next);

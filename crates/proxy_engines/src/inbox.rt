@@ -41,6 +41,7 @@ fn fitting_size(length: usize, last: usize) -> usize
 /// A client's unused input: the waiting request, an unfinished command, and bytes not looked at.
 ///
 /// Contracts see the request, the bytes not looked at, and the reader of values, which has refused nothing.
+#[derive(Drop)]
 pub struct Rest {
     next: Option<Request>,
     alloc: Global,
@@ -48,20 +49,6 @@ pub struct Rest {
     fresh: usize,
     last: usize,
     values: Reader,
-}
-
-// Written out so that a drop is one call: each function that holds one is proved sooner.
-impl Drop for Rest {
-    fn drop(self) {
-        let Rest {
-            next: _,
-            alloc: _,
-            buffer: _,
-            fresh: _,
-            last: _,
-            values: _,
-        } = self;
-    }
 }
 
 impl Model for Rest {

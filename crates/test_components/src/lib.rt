@@ -27,7 +27,11 @@ mod laws;
 #[cfg(test)]
 mod link_tests;
 #[cfg(test)]
+<<<<<<< HEAD
 mod notices;
+=======
+mod next_replies;
+>>>>>>> queries
 #[cfg(test)]
 mod refusal_tests;
 #[cfg(test)]

@@ -1,6 +1,6 @@
 -- What the connections say that a history determines.
 use Rattle.std.proofs.Common.{◌≡◌, ℕ, ◌+◌, ◌-◌, ◌≤◌, Bool, true, false, not, nat_lt, nat_le, [], ◌∷◌, length, Some, None, is_some, refl, ap, ◌∙◌, inl, inr, arith, if◌then◌else◌}
-use Rattle.std.specs.Prelude.{slice_get}
+use Rattle.std.specs.Prelude.{◌↔◌, ◌&&◌, IsTrue, slice_get}
 use Rattle.std.specs.Option.{option_and_then, unwrap_or}
 use Rattle.std.proofs.lemmas.Bool.{cases_Bool, ltb-true, ltb-false}
 use Rattle.std.proofs.lemmas.List.{length-drop}
@@ -23,7 +23,7 @@ use Rattle.proxy_history.specs.Legal.{IsLegal}
 use Rattle.proxy_history.specs.declared.event.Event.TheVariants.{Opened, Arrived, Finished, Handed, Closed}
 use Rattle.proxy_history.specs.declared.refusal.Refusal.TheVariants as refusal
 use Rattle.proxy_history.proofs.CallerLemmas.{length-requests}
-use Rattle.proxy_core.specs.Connections.{queue_of, connection_of, connections_of, connection_at}
+use Rattle.proxy_core.specs.Connections.{queue_of, connection_of, connections_of, connection_at, reply_in}
 use Rattle.proxy_core.specs.Memory.{memory_of}
 use Rattle.proxy_core.specs.Machine.{own_cause_in, text_in, payload_in}
 use Rattle.proxy_core.specs.declared.state.connection.Connection.{Connection}
@@ -91,6 +91,23 @@ ready_is x c = elim (cases_Bool (nat_lt 0 (commands_left c x))) [
       let l : commands_left c x ≤ 0 = ltb-false 0 (commands_left c x) f in
       rw (f, no_outcome x c (handed_count c x.steps) (omega (arith, l))) refl
 ]
+
+-- whether there is a reply in front
+pub is_some-reply_in : (x : Past) (c : ℕ) → is_some (reply_in (connection_at c (connections_of x))) ≡ (is_open c x.steps && is_ready c x)
+is_some-reply_in x c = elim (cases_Bool (is_open c x.steps)) [
+  | inl t ↦ rw (connection_at-open x c t, t, front_reply-queue_of x c) (ready_is x c)
+  | inr f ↦ rw (connection_at-not_open x c f, f) refl
+]
+
+handed_by : (opened ready : Bool) (n : ℕ)
+    → IsTrue (opened && ready) ↔ ((if not opened then Some refusal.NoSuchConnection else (if not ready then Some (refusal.NotReady n) else None)) ≡ None)
+handed_by true true n = (λ _. refl, λ _. refl)
+handed_by true false n = (λ e. absurd cc, λ e. absurd cc)
+handed_by false ready n = (λ e. absurd cc, λ e. absurd cc)
+
+-- a reply can be handed out exactly where the connection is open and the reply has come
+pub own_cause-handed : (S : Setting) (x : Past) (c : ℕ) → IsTrue (is_open c x.steps && is_ready c x) ↔ (own_cause S x (Handed c) ≡ None)
+own_cause-handed S x c = handed_by (is_open c x.steps) (is_ready c x) (commands_left c x)
 
 pub cause_in-opened : (S : Setting) (H : History) → own_cause_in S (memory_of S H) Opened ≡ own_cause S (past S H) Opened
 cause_in-opened S H =

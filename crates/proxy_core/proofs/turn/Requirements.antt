@@ -1,6 +1,6 @@
 -- What the turns of a machine ask for holds where its history determines what it keeps.
 use Rattle.std.proofs.Common.{◌≡◌, ℕ, suc, ◌+◌, ◌-◌, ◌≤◌, ◌<◌, true, false, nat_lt, nat_le, ◌==◌, List, [], ◌∷◌, length, Option, Some, None, refl, sym, ap, ◌∙◌, subst, inl, inr, arith}
-use Rattle.std.specs.Prelude.{IfSome, IsTrue}
+use Rattle.std.specs.Prelude.{◌&&◌, is_some, IfSome, IsTrue}
 use Rattle.std.proofs.lemmas.Bool.{cases_Bool, ltb-true, leb-true, leb-false, lt-leb, and_parts, eq-eqb, eqb-true}
 use Rattle.list_lemmas.proofs.CallerLemmas.{slice_get-past_range}
 use Rattle.resp_core.specs.Tree.{Tree, is_plain_tree}
@@ -15,18 +15,18 @@ use Rattle.proxy_history.specs.Waiting.{waiting_parts, flying_count}
 use Rattle.proxy_history.specs.Value.{upstream_failure}
 use Rattle.proxy_history.specs.Outcome.{outcome}
 use Rattle.proxy_history.specs.Payload.{payload, payload_of}
-use Rattle.proxy_history.specs.Cause.{own_cause}
+use Rattle.proxy_history.specs.Cause.{own_cause, is_ready}
 use Rattle.proxy_history.specs.Legal.{IsLegal}
 use Rattle.proxy_history.specs.declared.event.Event.TheVariants.{Answered}
 use Rattle.proxy_history.proofs.CallerLemmas.{times-length, IsPlainIfAny, IsPlainIfAny-outcome as outcome_is_plain}
 use Rattle.proxy_core.specs.Connections.{AreAwaited, connections_of, connection_at, reply_in}
-use Rattle.proxy_core.specs.Pipelines.{PipelineState, pipeline_of, pipelines_of, next_owner, lost_owners, pipeline_at, no_pipeline}
+use Rattle.proxy_core.specs.Pipelines.{PipelineState, pipeline_of, pipelines_of, next_connection, next_owner, lost_owners, pipeline_at, no_pipeline}
 use Rattle.proxy_core.specs.Core.{detector_state}
 use Rattle.proxy_core.specs.Machine.{setting_in, memory_in, history_in, IsKept}
 use Rattle.proxy_core.specs.Memory.{Memory}
 use Rattle.proxy_core.specs.declared.state.connection.Connection.{Connection}
 use Rattle.proxy_core.specs.declared.machine.Machine.{Machine}
-use Rattle.proxy_core.proofs.connections.ConnectionsOfLemmas.{length-connections_of, connection_at-open, connection_at-not_open, front_reply-queue_of}
+use Rattle.proxy_core.proofs.connections.ConnectionsOfLemmas.{length-connections_of, connection_at-open, connection_at-not_open, front_reply-queue_of, is_some-reply_in}
 use Rattle.proxy_core.proofs.connections.NextOwnerLemmas.{answered-awaited}
 use Rattle.proxy_core.proofs.connections.LostOwnersLemmas.{failed-awaited}
 use Rattle.proxy_core.proofs.pipelines.PipelinesOfLemmas.{length-pipelines_of, pipeline_at-pipelines_of, length-pipeline_waiting, length-pipeline_flying, sent_to-at_most, epoch-at_most}
@@ -156,6 +156,22 @@ pub flying_is : (m : Machine) (h : ℕ) → IsKept m → h < hosts (setting_in m
     → length (pipeline_at h m.pipelines.states).flying ≡ flying_count h (past (setting_in m) (history_in m))
 flying_is m h kept l =
     ap (λ (q : PipelineState). length q.flying) (at_host m h kept l) ∙ length-pipeline_flying (past (setting_in m) (history_in m)) h
+
+-- the connection of its next reply is that of the history
+pub next_connection_is : (m : Machine) (h : ℕ) → IsKept m → h < hosts (setting_in m)
+    → next_connection (pipeline_at h m.pipelines.states).flying ≡ next_connection (pipeline_of (past (setting_in m) (history_in m)) h).flying
+next_connection_is m h kept l = ap (λ (q : PipelineState). next_connection q.flying) (at_host m h kept l)
+
+-- ONE CONNECTION
+
+-- it has a reply in front where the history has its next reply
+pub reply_is : (m : Machine) (c : ℕ) → IsKept m
+    → is_some (reply_in (connection_at c m.connections.numbered)) ≡ (is_open c (history_in m) && is_ready c (past (setting_in m) (history_in m)))
+reply_is m c kept =
+    ap (λ (z : List (Option Connection)). is_some (reply_in (connection_at c z))) (kept_connections m kept)
+    ∙ is_some-reply_in (past (setting_in m) (history_in m)) c
+
+-- ALL CONNECTIONS
 
 -- as many connections are open as the history has open
 pub open_is : (m : Machine) → IsKept m
