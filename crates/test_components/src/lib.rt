@@ -27,16 +27,13 @@ mod laws;
 #[cfg(test)]
 mod link_tests;
 #[cfg(test)]
-<<<<<<< HEAD
 mod notices;
-=======
+#[cfg(test)]
 mod next_replies;
->>>>>>> queries
 #[cfg(test)]
 mod refusal_tests;
 #[cfg(test)]
 mod rig;
-#[cfg(test)]
 #[cfg(test)]
 mod stage;
 #[cfg(test)]
