@@ -3,6 +3,3 @@ use Rattle.proxy_stats.proofs.counted.Counted.new.Goals as goal
 
 pub invariant_of-result : goal.invariant_of-result
 invariant_of-result c = search rules
-
-pub returns-in-Ok : goal.returns-in-Ok
-returns-in-Ok c = search rules
