@@ -210,15 +210,7 @@ impl<'a> WorkerConnections<'a> {
         ensures { self.new ≡ self.old }
     {
         self.stirred |= notices.take_hosts(self.index);
-        if notices.take_all(self.index) {
-            self.ready.make_awaiting_ready();
-        }
-        for _ in 0..MAX_WORDS {
-            let Some(word) = notices.take_word(self.index) else {
-                break;
-            };
-            self.ready.make_word_ready(word.index, word.bits);
-        }
+        make_told_ready(&mut self.ready, notices, self.index);
     }
 
     /// Takes the durations of commands since the last call.
@@ -489,6 +481,19 @@ impl<'a> WorkerConnections<'a> {
     {
         carried.shut_down(&mut self.buffer);
         drop(carried);
+    }
+}
+
+// Makes the clients of a worker ready to which replies came.
+fn make_told_ready(ready: &mut ReadyClients, notices: &Notices, worker: usize) {
+    if notices.take_all(worker) {
+        ready.make_awaiting_ready();
+    }
+    for _ in 0..MAX_WORDS {
+        let Some(word) = notices.take_word(worker) else {
+            return;
+        };
+        ready.make_word_ready(word.index, word.bits);
     }
 }
 
