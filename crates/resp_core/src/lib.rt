@@ -16,6 +16,7 @@ mod parse;
 mod partial_value;
 mod pending;
 mod reader;
+mod sink;
 mod text;
 mod text_block;
 mod texts;

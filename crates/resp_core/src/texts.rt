@@ -4,6 +4,7 @@ ghost use Rattle.resp_core.specs.Text.{text};
 ghost use Rattle.resp_core.specs.Tree.{bulk, is_plain_tree};
 ghost use Rattle.resp_core.specs.Value.{tree_of};
 
+use crate::sink::Sink;
 use crate::text::{append_bulk, append_value, bulk_len};
 use crate::text_block::TextBlock;
 use crate::value::Value;
@@ -24,8 +25,6 @@ const MAX_SHORT: usize = 1_024;
 #[derive(Drop)]
 pub struct Texts {
     alloc: Global,
-    // A text while it is written.
-    draft: Vec<u8>,
     block: TextBlock,
 }
 
@@ -42,7 +41,6 @@ impl Texts {
     pub fn new(alloc: Global) -> Texts {
         Texts {
             alloc,
-            draft: Vec::new(alloc),
             block: TextBlock::new(alloc, MAX_TEXT_BLOCK),
         }
     }
@@ -60,10 +58,10 @@ impl Texts {
             append_value(value, &mut text)?;
             return Ok(Bytes::from_vec(text)?);
         }
-        self.draft.clear();
-        self.draft.reserve(MAX_SHORT)?;
-        append_value(value, &mut self.draft)?;
-        self.block.copy_of(self.draft.as_slice())
+        let len = text_len as usize;
+        self.block.begin(len)?;
+        append_value(value, &mut self.block)?;
+        self.block.finish(len)
     }
 
     /// The text that begins with `head` and ends with a bulk string of this payload.
@@ -78,10 +76,10 @@ impl Texts {
             append_behind(head, payload, &mut text)?;
             return Ok(Bytes::from_vec(text)?);
         }
-        self.draft.clear();
-        self.draft.reserve(MAX_SHORT)?;
-        append_behind(head, payload, &mut self.draft)?;
-        self.block.copy_of(self.draft.as_slice())
+        let len = length as usize;
+        self.block.begin(len)?;
+        append_behind(head, payload, &mut self.block)?;
+        self.block.finish(len)
     }
 
     /// The text that begins with `head` and ends with bulk strings of these two payloads.
@@ -104,19 +102,20 @@ impl Texts {
             append_bulk(second, &mut text)?;
             return Ok(Bytes::from_vec(text)?);
         }
-        self.draft.clear();
-        self.draft.reserve(MAX_SHORT)?;
-        append_behind(head, first, &mut self.draft)?;
-        append_bulk(second, &mut self.draft)?;
-        self.block.copy_of(self.draft.as_slice())
+        let len = length as usize;
+        self.block.begin(len)?;
+        append_behind(head, first, &mut self.block)?;
+        append_bulk(second, &mut self.block)?;
+        self.block.finish(len)
     }
 }
 
 // Appends these bytes, and a bulk string behind them.
-fn append_behind(head: &[u8], payload: &[u8], out: &mut Vec<u8>) -> Result<(), AllocError>
-    ensures { OnOk result (out.new.items
-        ≡ out.old.items ++ head.now ++ text (bulk payload.now)) }
+fn append_behind<S: Sink>(head: &[u8], payload: &[u8], out: &mut S) -> Result<(), AllocError>
+    ensures { OnOk result (S.written out.new
+        ≡ S.written out.old ++ head.now ++ text (bulk payload.now)) }
 {
-    out.extend_from_slice(head)?;
+    out.reserve(head.len())?;
+    out.put_reserved(head);
     append_bulk(payload, out)
 }
