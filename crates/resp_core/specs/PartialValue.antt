@@ -64,6 +64,10 @@ held_of p = p.came + length p.pending.items
 abbrev pub shown_progress : PartialValue → PartialValue
 shown_progress p = record { pending = record { items = p.pending.items; spare = 0 }; room = 0; opens = p.opens; done = p.done; next = p.next; seen = p.seen; came = p.came; needed = p.needed }
 
+-- the same with this complete value
+abbrev pub with_done : Value → PartialValue → PartialValue
+with_done v p = record { pending = p.pending; room = p.room; opens = p.opens; done = Some v; next = p.next; seen = p.seen; came = p.came; needed = p.needed }
+
 -- 1 where a head was read to its end
 abbrev pub behind_head : Next → ℕ
 behind_head (nexts.Head h) = 0

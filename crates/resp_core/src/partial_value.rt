@@ -1,6 +1,7 @@
 //! The state of a reader within an unfinished value.
 ghost use Rattle.std.specs.Prelude.{true, false, ◌≡◌, ◌≢◌, ◌⊎◌, ◌≤◌, ◌<◌, ◌-◌, ◌+◌, ◌++◌, List, ℕ, [], length, take, drop, Some, None, IfOk, IfErr, IfSome, IfNone, OnOk, OnErr, IsOk};
-ghost use Rattle.resp_core.specs.PartialValue.{Reads, IsGood, IsFresh, LeadsTo, LeadsToValue, IsShort, HaltsIn, Gave, HasStopped, shown_progress, to_read};
+ghost use Rattle.resp_core.specs.PartialValue.{Reads, IsGood, IsFresh, LeadsTo, LeadsToValue, IsShort, HaltsIn, Gave, HasStopped, shown_progress, to_read, with_done};
+ghost use Rattle.resp_core.specs.Word.{IfLast, IfMember, IfMissing};
 ghost use Rattle.resp_core.specs.FirstValue.{IsUnfinished};
 ghost use Rattle.resp_core.specs.Value.{tree_of};
 ghost use Rattle.resp_core.specs.Grammar.{max_text};
@@ -8,10 +9,11 @@ ghost use Rattle.resp_core.specs.declared.error.Refusal.TheVariants.{TooLong, To
 
 use crate::begun::{Begun, put};
 use crate::error::Refusal;
-use crate::head::{Found, Head, Line, Next, RefusedByte, read_head};
+use crate::head::{Found, Head, Line, Next, RefusedByte, read_head, short_bulk};
 use crate::parse::{Stop, take_payload, take_text};
 use crate::pending::Pending;
 use crate::value::{Value, Values};
+use bytes::Bytes;
 use limits::{MAX_DEPTH, MAX_TEXT};
 use std::alloc::{AllocError, Global};
 use std::mem;
@@ -27,6 +29,15 @@ pub(crate) const MAX_IDLE: usize = 32_768;
 pub(crate) enum Halt {
     NoMemory,
     Refused(Refusal, usize),
+}
+
+// What came of a bulk string that was looked for: it is the outermost value or its last member; there is more to read; or it isn't
+// there, and nothing has changed.
+#[derive(Drop)]
+enum Word {
+    Last(Value),
+    Member,
+    Missing,
 }
 
 #[derive(Drop)]
@@ -188,8 +199,81 @@ impl PartialValue {
                 Ok(None) => {}
                 Err(_) => return Err(Halt::NoMemory),
             }
+            match self.read_word(most) {
+                Ok(Word::Last(value)) => return Ok(Some(value)),
+                Ok(Word::Member) => continue,
+                Ok(Word::Missing) => {}
+                Err(_) => return Err(Halt::NoMemory),
+            }
             if !self.turn(alloc, most)? {
                 return Ok(None);
+            }
+        }
+    }
+
+    // Reads a bulk string with a short head and puts it into its list, if it comes next and has come completely. Most words of
+    // commands are such.
+    fn read_word(&mut self, most: u64) -> Result<Word, AllocError>
+        requires good { IsGood most self.old }
+        requires done { self.old.done ≡ None }
+        ensures good { IsGood most self.new }
+        ensures last { IfOk result (λ w. IfLast w (λ v. IsFresh self.new
+            × LeadsToValue most self.old self.new (tree_of v))) }
+        ensures member { IfOk result (λ w. IfMember w (LeadsTo most self.old self.new
+            × (to_read self.new < to_read self.old))) }
+        ensures missing { IfOk result (λ w. IfMissing w (self.new ≡ self.old)) }
+        ensures err { OnErr result (LeadsTo most self.old self.new) }
+    {
+        let Some(word) = self.take_word(most)? else {
+            return Ok(Word::Missing);
+        };
+        match self.put_value(Value::Bulk(word))? {
+            Some(value) => Ok(Word::Last(value)),
+            None => Ok(Word::Member),
+        }
+    }
+
+    // Takes a bulk string with a short head, if it comes next and has come completely. `None`: nothing has changed.
+    #[inline(always)]
+    fn take_word(&mut self, most: u64) -> Result<Option<Bytes>, AllocError>
+        requires good { IsGood most self.old }
+        requires done { self.old.done ≡ None }
+        ensures good { IsGood most self.new }
+        ensures done { self.new.done ≡ None }
+        ensures word { IfOk result (λ o. IfSome o (λ word.
+            LeadsTo most self.old (with_done (Value.Bulk word) self.new)
+            × (self.new.next ≡ Next.Head Head.Type)
+            × (to_read self.new < to_read self.old))) }
+        ensures missing { IfOk result (λ o. IfNone o (self.new ≡ self.old)) }
+        ensures err { OnErr result (LeadsTo most self.old self.new) }
+    {
+        let Next::Head(due) = self.next else {
+            return Ok(None);
+        };
+        let Head::Type = due else {
+            return Ok(None);
+        };
+        let left = MAX_DEPTH - self.opens.len() as u32;
+        let visible = self.pending.len().min(MAX_TEXT + 1 - self.came);
+        let bytes = &self.pending.as_slice()[..visible];
+        let Some((n, head)) = short_bulk(bytes, most, left) else {
+            return Ok(None);
+        };
+        let Ok((payload, rest)) = take_payload(&bytes[head..], n) else {
+            return Ok(None);
+        };
+        let (len, taken) = (payload.len(), visible - head - rest.len());
+        self.pending.advance(head);
+        self.came += head;
+        self.seen = 0;
+        match self.pending.cut(self.room, len, taken) {
+            Ok(word) => {
+                self.came += taken;
+                Ok(Some(word))
+            }
+            Err(_) => {
+                self.next = Next::Found(Found::Payload(n));
+                Err(AllocError)
             }
         }
     }
@@ -320,6 +404,30 @@ impl PartialValue {
         let Some(value) = self.done.take() else {
             return Ok(None);
         };
+        self.put_value(value)
+    }
+
+    // The same for this value, where no other is complete.
+    #[inline(always)]
+    fn put_value(&mut self, value: Value) -> Result<Option<Value>, AllocError>
+        requires done { self.old.done ≡ None }
+        ensures good { (most : ℕ) → IsGood most (with_done value self.old)
+            → IsGood most self.new }
+        ensures fresh { (most : ℕ) → IsGood most (with_done value self.old)
+            → IfOk result (λ o. IfSome o (λ _. IsFresh self.new)) }
+        ensures value { (most : ℕ) → IsGood most (with_done value self.old)
+            → IfOk result (λ o. IfSome o (λ v.
+            LeadsToValue most (with_done value self.old) self.new (tree_of v))) }
+        ensures reads { (most : ℕ) → IsGood most (with_done value self.old)
+            → IfOk result (λ o. IfNone o
+            (LeadsTo most (with_done value self.old) self.new)) }
+        ensures err { (most : ℕ) → IsGood most (with_done value self.old)
+            → OnErr result (LeadsTo most (with_done value self.old) self.new) }
+        ensures none { OnOk result (self.new.done ≡ None) }
+        ensures pending { self.new.pending ≡ self.old.pending }
+        ensures next { self.new.next ≡ self.old.next }
+        ensures came { self.new.came ≡ self.old.came }
+    {
         match put(&mut self.opens, value) {
             Ok(done) => Ok(done),
             Err(failed) => {

@@ -40,6 +40,7 @@ pub fn put_text(_alloc: Global, value: &Value, out: &mut Vec<u8>) -> Result<(), 
 /// Appends the text of a bulk string with this payload, or nothing.
 ///
 /// Memory is reserved once. Refused only where there is none.
+#[inline(always)]
 pub fn put_bulk(payload: &[u8], out: &mut Vec<u8>) -> Result<(), AllocError>
     ensures ok { OnOk result (out.new.items ≡ out.old.items ++ text (bulk payload.now)) }
     ensures err { OnErr result (out.new.items ≡ out.old.items) }
