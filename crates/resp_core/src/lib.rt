@@ -30,6 +30,6 @@ pub use laws::{
     values_stay,
 };
 pub use reader::{Limits, Reader};
-pub use text::{bulk_len, put_bulk, put_text};
+pub use text::{bulk_len, put_bulk, put_bulk_behind, put_text};
 pub use texts::Texts;
 pub use value::{Value, Values};

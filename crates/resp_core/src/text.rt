@@ -54,6 +54,39 @@ pub fn put_bulk(payload: &[u8], out: &mut Vec<u8>) -> Result<(), AllocError>
     Ok(())
 }
 
+/// Appends these bytes, and the text of a bulk string with this payload behind them; or nothing.
+///
+/// Refused only where there is no memory.
+#[inline(always)]
+pub fn put_bulk_behind(head: &[u8], payload: &[u8], out: &mut Vec<u8>) -> Result<(), AllocError>
+    ensures ok { OnOk result
+        (out.new.items ≡ out.old.items ++ head.now ++ text (bulk payload.now)) }
+    ensures err { OnErr result (out.new.items ≡ out.old.items) }
+{
+    let before = out.len();
+    if append_behind(head, payload, out).is_err() {
+        out.truncate(before);
+        return Err(AllocError);
+    }
+    Ok(())
+}
+
+// Appends these bytes, and a bulk string behind them. Where memory is refused, a part may have been appended.
+#[inline(always)]
+pub(crate) fn append_behind<S: Sink>(
+    head: &[u8],
+    payload: &[u8],
+    out: &mut S,
+) -> Result<(), AllocError>
+    ensures ok { OnOk result (S.written out.new
+        ≡ S.written out.old ++ head.now ++ text (bulk payload.now)) }
+    ensures err { OnErr result (Extends (S.written out.old) (S.written out.new)) }
+{
+    out.reserve(head.len())?;
+    out.put_reserved(head);
+    append_bulk(payload, out)
+}
+
 /// Appends the one spelling of the value. Where memory is refused, a part may have been appended.
 #[cycle(text)]
 pub(crate) fn append_value<S: Sink>(value: &Value, out: &mut S) -> Result<(), AllocError>

@@ -1,11 +1,10 @@
 //! Texts in blocks that they share.
-ghost use Rattle.std.specs.Prelude.{◌≡◌, ◌++◌, IfOk, IsTrue, OnOk};
+ghost use Rattle.std.specs.Prelude.{◌≡◌, ◌++◌, IfOk, IsTrue};
 ghost use Rattle.resp_core.specs.Text.{text};
 ghost use Rattle.resp_core.specs.Tree.{bulk, is_plain_tree};
 ghost use Rattle.resp_core.specs.Value.{tree_of};
 
-use crate::sink::Sink;
-use crate::text::{append_bulk, append_value, bulk_len};
+use crate::text::{append_behind, append_bulk, append_value, bulk_len};
 use crate::text_block::TextBlock;
 use crate::value::Value;
 use bytes::Bytes;
@@ -108,14 +107,4 @@ impl Texts {
         append_bulk(second, &mut self.block)?;
         self.block.finish(len)
     }
-}
-
-// Appends these bytes, and a bulk string behind them.
-fn append_behind<S: Sink>(head: &[u8], payload: &[u8], out: &mut S) -> Result<(), AllocError>
-    ensures { OnOk result (S.written out.new
-        ≡ S.written out.old ++ head.now ++ text (bulk payload.now)) }
-{
-    out.reserve(head.len())?;
-    out.put_reserved(head);
-    append_bulk(payload, out)
 }
