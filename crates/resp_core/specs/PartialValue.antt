@@ -77,6 +77,15 @@ behind_head (nexts.Found f) = 1
 abbrev pub to_read : PartialValue → ℕ
 to_read p = length p.pending.items * 2 + behind_head p.next
 
+-- 1 where a complete value isn't in its list yet
+abbrev pub undone : Option Value → ℕ
+undone None = 0
+undone (Some v) = 1
+
+-- a number that falls with each value that is put into its list, too
+abbrev pub to_do : PartialValue → ℕ
+to_do p = to_read p * 2 + undone p.done
+
 -- nothing is read, and no list is open
 pub record IsFresh (p : PartialValue) : Type 0 where
   pub opens : p.opens.items ≡ []

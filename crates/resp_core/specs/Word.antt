@@ -1,9 +1,9 @@
--- What came of a bulk string that was looked for.
+-- What came of the next complete value.
 use Rattle.resp_core.specs.declared.value.Value.{Value}
 use Rattle.resp_core.specs.declared.partial_value.Word.{Word}
 use Rattle.resp_core.specs.declared.partial_value.Word.TheVariants as words
 
--- this of the outermost value, if it completed that
+-- this of the outermost value, if that is complete
 abbrev pub IfLast : Word → (Value → Type 0) → Type 0
 IfLast (words.Last v) holds = holds v
 IfLast words.Member holds = Unit {0}

@@ -1,6 +1,6 @@
 //! The state of a reader within an unfinished value.
 ghost use Rattle.std.specs.Prelude.{true, false, ◌≡◌, ◌≢◌, ◌⊎◌, ◌≤◌, ◌<◌, ◌-◌, ◌+◌, ◌++◌, List, ℕ, [], length, take, drop, Some, None, IfOk, IfErr, IfSome, IfNone, OnOk, OnErr, IsOk};
-ghost use Rattle.resp_core.specs.PartialValue.{Reads, IsGood, IsFresh, LeadsTo, LeadsToValue, IsShort, HaltsIn, Gave, HasStopped, shown_progress, to_read, with_done};
+ghost use Rattle.resp_core.specs.PartialValue.{Reads, IsGood, IsFresh, LeadsTo, LeadsToValue, IsShort, HaltsIn, Gave, HasStopped, shown_progress, to_do, to_read, with_done};
 ghost use Rattle.resp_core.specs.Word.{IfLast, IfMember, IfMissing};
 ghost use Rattle.resp_core.specs.FirstValue.{IsUnfinished};
 ghost use Rattle.resp_core.specs.Value.{tree_of};
@@ -31,8 +31,8 @@ pub(crate) enum Halt {
     Refused(Refusal, usize),
 }
 
-// What came of a bulk string that was looked for: it is the outermost value or its last member; there is more to read; or it isn't
-// there, and nothing has changed.
+// What came of the next complete value: it is the outermost one or its last member; there is more to read; or there is none, and
+// nothing has changed.
 #[derive(Drop)]
 enum Word {
     Last(Value),
@@ -194,12 +194,7 @@ impl PartialValue {
     {
         self.note_room();
         loop {
-            match self.put_done() {
-                Ok(Some(value)) => return Ok(Some(value)),
-                Ok(None) => {}
-                Err(_) => return Err(Halt::NoMemory),
-            }
-            match self.read_word(most) {
+            match self.put_next(most) {
                 Ok(Word::Last(value)) => return Ok(Some(value)),
                 Ok(Word::Member) => continue,
                 Ok(Word::Missing) => {}
@@ -211,25 +206,48 @@ impl PartialValue {
         }
     }
 
-    // Reads a bulk string with a short head and puts it into its list, if it comes next and has come completely. Most words of
-    // commands are such.
-    fn read_word(&mut self, most: u64) -> Result<Word, AllocError>
+    // Puts the next complete value into its list, and closes the lists that it completes.
+    #[inline(always)]
+    fn put_next(&mut self, most: u64) -> Result<Word, AllocError>
         requires good { IsGood most self.old }
-        requires done { self.old.done ≡ None }
         ensures good { IsGood most self.new }
         ensures last { IfOk result (λ w. IfLast w (λ v. IsFresh self.new
             × LeadsToValue most self.old self.new (tree_of v))) }
         ensures member { IfOk result (λ w. IfMember w (LeadsTo most self.old self.new
-            × (to_read self.new < to_read self.old))) }
-        ensures missing { IfOk result (λ w. IfMissing w (self.new ≡ self.old)) }
+            × (to_do self.new < to_do self.old))) }
+        ensures missing { IfOk result (λ w. IfMissing w ((self.new ≡ self.old)
+            × (self.old.done ≡ None))) }
         ensures err { OnErr result (LeadsTo most self.old self.new) }
     {
-        let Some(word) = self.take_word(most)? else {
+        let Some(value) = self.take_value(most)? else {
             return Ok(Word::Missing);
         };
-        match self.put_value(Value::Bulk(word))? {
+        match self.put_value(value)? {
             Some(value) => Ok(Word::Last(value)),
             None => Ok(Word::Member),
+        }
+    }
+
+    // Takes the complete value that isn't in its list yet, or else a bulk string with a short head that comes next. Most words
+    // of commands are such. `None`: nothing has changed.
+    #[inline(always)]
+    fn take_value(&mut self, most: u64) -> Result<Option<Value>, AllocError>
+        requires good { IsGood most self.old }
+        ensures good { IsGood most self.new }
+        ensures done { self.new.done ≡ None }
+        ensures value { IfOk result (λ o. IfSome o (λ v.
+            LeadsTo most self.old (with_done v self.new)
+            × IsGood most (with_done v self.new)
+            × (to_do self.new < to_do self.old))) }
+        ensures missing { IfOk result (λ o. IfNone o (self.new ≡ self.old)) }
+        ensures err { OnErr result (LeadsTo most self.old self.new) }
+    {
+        if let Some(value) = self.done.take() {
+            return Ok(Some(value));
+        }
+        match self.take_word(most)? {
+            Some(word) => Ok(Some(Value::Bulk(word))),
+            None => Ok(None),
         }
     }
 
@@ -381,33 +399,6 @@ impl PartialValue {
 
     // Puts a complete value into its list, and closes the lists that it completes. Returns the
     // outermost value if it is complete.
-    fn put_done(&mut self) -> Result<Option<Value>, AllocError>
-        ensures good { (most : ℕ) → IsGood most self.old → IsGood most self.new }
-        ensures fresh { (most : ℕ) → IsGood most self.old
-            → IfOk result (λ o. IfSome o (λ _. IsFresh self.new)) }
-        ensures value { (most : ℕ) → IsGood most self.old
-            → IfOk result (λ o. IfSome o (λ v.
-            LeadsToValue most self.old self.new (tree_of v))) }
-        ensures reads { (most : ℕ) → IsGood most self.old
-            → IfOk result (λ o. IfNone o (LeadsTo most self.old self.new)) }
-        ensures err { (most : ℕ) → IsGood most self.old
-            → OnErr result (LeadsTo most self.old self.new) }
-        ensures none { OnOk result (self.new.done ≡ None) }
-        ensures pending { self.new.pending ≡ self.old.pending }
-        ensures next { self.new.next ≡ self.old.next }
-        ensures came { self.new.came ≡ self.old.came }
-    {
-        // (`take` would write it anew)
-        if self.done.is_none() {
-            return Ok(None);
-        }
-        let Some(value) = self.done.take() else {
-            return Ok(None);
-        };
-        self.put_value(value)
-    }
-
-    // The same for this value, where no other is complete.
     #[inline(always)]
     fn put_value(&mut self, value: Value) -> Result<Option<Value>, AllocError>
         requires done { self.old.done ≡ None }
