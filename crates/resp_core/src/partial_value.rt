@@ -242,8 +242,9 @@ impl PartialValue {
         ensures missing { IfOk result (λ o. IfNone o (self.new ≡ self.old)) }
         ensures err { OnErr result (LeadsTo most self.old self.new) }
     {
-        if let Some(value) = self.done.take() {
-            return Ok(Some(value));
+        // (`take` would write it anew)
+        if self.done.is_some() {
+            return Ok(self.done.take());
         }
         match self.take_word(most)? {
             Some(word) => Ok(Some(Value::Bulk(word))),

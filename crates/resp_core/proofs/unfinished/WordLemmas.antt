@@ -6,7 +6,7 @@ use Rattle.resp_core.specs.Value.{tree_of}
 use Rattle.resp_core.specs.Grammar.{max_depth}
 use Rattle.resp_core.specs.Reading.{payload_at, found}
 use Rattle.resp_core.specs.ResumedReading.{GoesOn}
-use Rattle.resp_core.specs.PartialValue.{Reads, IsGood, with_done}
+use Rattle.resp_core.specs.PartialValue.{Reads}
 use Rattle.resp_core.specs.declared.value.Value.{Value}
 use Rattle.resp_core.specs.declared.head.Next.TheVariants as nexts
 use Rattle.resp_core.specs.declared.head.Head.TheVariants as heads
@@ -48,14 +48,6 @@ word_read most n v head k held b p q rest s w done next inside few g b_is e k_is
     reads_on most held between q k (omega (arith, k_is, length-drop head p.pending.items, inside, few)) items came
     (bulk_along most n k between q b rest s w refl refl opens done' t e (all ∙ cut.all))
     (head_read most n v head held p between done next inside few g refl refl refl refl refl r)
-
--- a complete value that is set again
-pub done_again : (p : PartialValue) (v : Value) → p.done ≡ Some v → with_done v p ≡ p
-done_again p v e = ap (λ d. record { pending = p.pending; room = p.room; opens = p.opens; done = d; next = p.next; seen = p.seen; came = p.came; needed = p.needed }) (sym e)
-
--- a value is complete before a type byte
-pub good_with_done : (most : ℕ) (p : PartialValue) (v : Value) → p.next ≡ nexts.Head heads.Type → IsGood most p → IsGood most (with_done v p)
-good_with_done most p v e g = record { few = g.few; next = g.next; seen = g.seen; came = g.came; done = e; needed = g.needed }
 
 -- what is the same has come as far
 pub same_reads : (most : ℕ) (held : List ℕ) (p q : PartialValue) → q ≡ p → Reads most held p → Reads most held q
