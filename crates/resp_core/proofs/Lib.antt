@@ -3,6 +3,7 @@ pub mod streams
 pub mod TreeLemmas
 pub mod RoundTripLemmas
 pub mod SpellingLemmas
+pub mod OneSpellingLemmas
 pub mod CommandLemmas
 pub mod refusals
 pub mod SpellingLengthLemmas

@@ -13,14 +13,14 @@ use Rattle.resp_core.specs.Laws.{SpellingIsShortest, ReadValuesArePlain}
 use Rattle.resp_core.proofs.RoundTripLemmas.{own}
 
 -- the one spelling of a number has no more digits than another
-length_decimal-le : (ds : List ℕ) (n : ℕ) → AllByRecursion IsDigit ds → 0 < length ds → number_after 0 ds ≡ n → n < 2 ^ 64 → length (decimal n) ≤ length ds
+pub length_decimal-le : (ds : List ℕ) (n : ℕ) → AllByRecursion IsDigit ds → 0 < length ds → number_after 0 ds ≡ n → n < 2 ^ 64 → length (decimal n) ≤ length ds
 length_decimal-le ds n all some value small =
     length-decimal-le (length ds) n some (subst (λ (z : ℕ). z < 10 ^ length ds) value (digits_value_short own ds (length ds) all (omega arith))) small
 
 length_line-le : (kind : ℕ) (xs ys : List ℕ) → length xs ≤ length ys → length (line kind xs) ≤ length (line kind ys)
 length_line-le kind xs ys l = omega (arith, l, length-append (kind ∷ xs) line_end, length-append (kind ∷ ys) line_end)
 
-length_number-le : (limit : ℕ) (ds : List ℕ) (n : ℕ) → IsLength limit ds n → length (decimal n) ≤ length ds
+pub length_number-le : (limit : ℕ) (ds : List ℕ) (n : ℕ) → IsLength limit ds n → length (decimal n) ≤ length ds
 length_number-le limit ds n g =
     length_decimal-le ds n g.each g.some g.value (omega (arith, g.value, digits_value_short own ds 10 g.each g.few))
 
@@ -51,7 +51,7 @@ mutual
   spelling_is_shortest most zero b null_list g = absurd g
   spelling_is_shortest most (suc left) b null_list g = omega (arith, ap length g)
 
-  spellings_are_shortest : (most left : ℕ) (b : List ℕ) (ts : Trees) → AreTexts most left b ts → length (texts ts) ≤ length b
+  pub spellings_are_shortest : (most left : ℕ) (b : List ℕ) (ts : Trees) → AreTexts most left b ts → length (texts ts) ≤ length b
   spellings_are_shortest most left b no_trees g = omega arith
   spellings_are_shortest most left b (tree t ts) (front, back, split, t_text, others) =
       omega (arith, ap length split, length-append front back, length-append (text t) (texts ts), spelling_is_shortest most left front t t_text, spellings_are_shortest most left back ts others)

@@ -20,6 +20,11 @@ pub decimal_two : (n : ℕ) → 10 ≤ n → n < 100 → decimal n ≡ (48 + n /
 decimal_two n low high =
     decimal_step n low (omega arith) ∙ ap (λ ds. ds ++ (48 + n % 10) ∷ []) (decimal_digit (n / 10) (omega arith))
 
+-- a number of three digits
+pub decimal_three : (n : ℕ) → 100 ≤ n → n < 1000 → decimal n ≡ (48 + n / 10 / 10) ∷ (48 + n / 10 % 10) ∷ (48 + n % 10) ∷ []
+decimal_three n low high =
+    decimal_step n (omega arith) (omega arith) ∙ ap (λ ds. ds ++ (48 + n % 10) ∷ []) (decimal_two (n / 10) (omega arith) (omega arith))
+
 pub length_line : (kind : ℕ) (bytes : List ℕ) → length (line kind bytes) ≡ length bytes + 3
 length_line kind bytes = omega (arith, length-append (kind ∷ bytes) line_end)
 

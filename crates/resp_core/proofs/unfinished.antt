@@ -5,3 +5,4 @@ pub mod ResumedReadingLemmas
 pub mod PartialValueLemmas
 pub mod LineLemmas
 pub mod SeenBytesLemmas
+pub mod WordLemmas

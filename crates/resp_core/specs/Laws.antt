@@ -20,6 +20,10 @@ TextIsRead = (most left : ℕ) (t : Tree) → most < 2 ^ 32 → IsWithin most le
 abbrev pub SpellingIsShortest : Type 0
 SpellingIsShortest = (most left : ℕ) (b : List ℕ) (t : Tree) → IsText most left b t → length (text t) ≤ length b
 
+-- A text of a value that is as long as its one spelling is that spelling.
+abbrev pub ShortestTextIsSpelling : Type 0
+ShortestTextIsSpelling = (most left : ℕ) (b : List ℕ) (t : Tree) → IsText most left b t → length b ≡ length (text t) → b ≡ text t
+
 -- A value that has a text is plain and within the limits.
 abbrev pub ReadValuesArePlain : Type 0
 ReadValuesArePlain = (most left : ℕ) (b : List ℕ) (t : Tree) → IsText most left b t → (is_plain_tree t ≡ true) × IsWithin most left t

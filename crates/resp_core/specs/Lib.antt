@@ -10,6 +10,7 @@ pub mod ResumedReading
 pub mod OpenLists
 pub mod SeenBytes
 pub mod PartialValue
+pub mod Word
 pub mod ReaderState
 pub mod Offset
 pub mod Refusals

@@ -64,6 +64,10 @@ held_of p = p.came + length p.pending.items
 abbrev pub shown_progress : PartialValue → PartialValue
 shown_progress p = record { pending = record { items = p.pending.items; spare = 0 }; room = 0; opens = p.opens; done = p.done; next = p.next; seen = p.seen; came = p.came; needed = p.needed }
 
+-- the same with this complete value
+abbrev pub with_done : Value → PartialValue → PartialValue
+with_done v p = record { pending = p.pending; room = p.room; opens = p.opens; done = Some v; next = p.next; seen = p.seen; came = p.came; needed = p.needed }
+
 -- 1 where a head was read to its end
 abbrev pub behind_head : Next → ℕ
 behind_head (nexts.Head h) = 0
@@ -72,6 +76,15 @@ behind_head (nexts.Found f) = 1
 -- a number that falls with each head that is read, and with what each is found to be
 abbrev pub to_read : PartialValue → ℕ
 to_read p = length p.pending.items * 2 + behind_head p.next
+
+-- 1 where a complete value isn't in its list yet
+abbrev pub undone : Option Value → ℕ
+undone None = 0
+undone (Some v) = 1
+
+-- a number that falls with each value that is put into its list, too
+abbrev pub to_do : PartialValue → ℕ
+to_do p = to_read p * 2 + undone p.done
 
 -- nothing is read, and no list is open
 pub record IsFresh (p : PartialValue) : Type 0 where

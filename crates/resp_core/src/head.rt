@@ -272,14 +272,33 @@ fn short_found(bytes: &[u8], most: u64, left: u32) -> Option<(Found, usize)>
 {
     let (first, rest) = bytes.split_first()?;
     if *first == b'$' {
-        let (found, len) = short_sized(Sized::Bulk, rest, most, left)?;
-        return Some((found, len + 1));
+        let (n, len) = short_bulk(bytes, most, left)?;
+        return Some((Found::Payload(n), len));
     }
     if *first == b'*' && left > 0 {
         let (found, len) = short_sized(Sized::List, rest, most, left)?;
         return Some((found, len + 1));
     }
     None
+}
+
+// The length of a payload of which such a head stands at the front, and how many bytes that has.
+#[inline(always)]
+pub(crate) fn short_bulk(bytes: &[u8], most: u64, left: u32) -> Option<(u64, usize)>
+    ensures inside { IfSome result (λ x. (0 < x.1) × (x.1 ≤ length bytes.now)) }
+    ensures gives { IfSome result
+        (λ x. GoesOn most left Head.Type (take x.1 bytes.now) (Next.Found (Found.Payload x.0))) }
+    ensures good { IfSome result (λ x. IsGoodFound most left (Found.Payload x.0)) }
+{
+    let (first, rest) = bytes.split_first()?;
+    if *first != b'$' {
+        return None;
+    }
+    let (found, len) = short_sized(Sized::Bulk, rest, most, left)?;
+    match found {
+        Found::Payload(n) => Some((n, len + 1)),
+        _ => None,
+    }
 }
 
 // The same behind the type byte.

@@ -1,6 +1,6 @@
 //! Laws of texts and streams. Each is the contract of a function that does nothing; its users call it.
 ghost use Rattle.std.specs.Prelude.{◌≡◌};
-ghost use Rattle.resp_core.specs.Laws.{NoTextBeginsAnother, TextIsRead, SpellingIsShortest, ReadValuesArePlain, CommandsArePlain, OneReading, EachStreamHolds, OneHolding, RefusalStays, OneRefusedByte, OneNumber, OneRefusal, ValuesStay, TextIsReadBack, TextIsReadNext, ValuesGoOn};
+ghost use Rattle.resp_core.specs.Laws.{NoTextBeginsAnother, TextIsRead, SpellingIsShortest, ShortestTextIsSpelling, ReadValuesArePlain, CommandsArePlain, OneReading, EachStreamHolds, OneHolding, RefusalStays, OneRefusedByte, OneNumber, OneRefusal, ValuesStay, TextIsReadBack, TextIsReadNext, ValuesGoOn};
 
 use crate::partial_value::MAX_IDLE;
 use crate::pending::{MAX_COPY_BLOCK, MAX_KEPT};
@@ -21,6 +21,11 @@ pub fn text_is_read()
 /// No text of a value is shorter than its one spelling, so a value that is written again is no longer than it came.
 pub fn spelling_is_shortest()
     ensures { SpellingIsShortest }
+{}
+
+/// A text of a value that is as long as its one spelling is that spelling, so such a value can be sent on as it came.
+pub fn shortest_text_is_spelling()
+    ensures { ShortestTextIsSpelling }
 {}
 
 /// A value that was read is plain and within the limits.

@@ -16,6 +16,7 @@ mod parse;
 mod partial_value;
 mod pending;
 mod reader;
+mod sink;
 mod text;
 mod text_block;
 mod texts;
@@ -25,10 +26,10 @@ pub use error::RespError;
 pub use laws::{
     commands_are_plain, each_stream_holds, kept_memory_is_limited, members_are_limited,
     no_text_begins_another, one_holding, one_reading, one_refusal, read_values_are_plain,
-    refusal_stays, spelling_is_shortest, text_is_read, text_is_read_back, values_go_on,
-    values_stay,
+    refusal_stays, shortest_text_is_spelling, spelling_is_shortest, text_is_read,
+    text_is_read_back, values_go_on, values_stay,
 };
 pub use reader::{Limits, Reader};
-pub use text::{bulk_len, put_bulk, put_text};
+pub use text::{bulk_len, put_bulk, put_bulk_behind, put_text};
 pub use texts::Texts;
 pub use value::{Value, Values};

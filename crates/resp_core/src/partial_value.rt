@@ -1,6 +1,7 @@
 //! The state of a reader within an unfinished value.
 ghost use Rattle.std.specs.Prelude.{true, false, ◌≡◌, ◌≢◌, ◌⊎◌, ◌≤◌, ◌<◌, ◌-◌, ◌+◌, ◌++◌, List, ℕ, [], length, take, drop, Some, None, IfOk, IfErr, IfSome, IfNone, OnOk, OnErr, IsOk};
-ghost use Rattle.resp_core.specs.PartialValue.{Reads, IsGood, IsFresh, LeadsTo, LeadsToValue, IsShort, HaltsIn, Gave, HasStopped, shown_progress, to_read};
+ghost use Rattle.resp_core.specs.PartialValue.{Reads, IsGood, IsFresh, LeadsTo, LeadsToValue, IsShort, HaltsIn, Gave, HasStopped, shown_progress, to_do, to_read, with_done};
+ghost use Rattle.resp_core.specs.Word.{IfLast, IfMember, IfMissing};
 ghost use Rattle.resp_core.specs.FirstValue.{IsUnfinished};
 ghost use Rattle.resp_core.specs.Value.{tree_of};
 ghost use Rattle.resp_core.specs.Grammar.{max_text};
@@ -8,10 +9,11 @@ ghost use Rattle.resp_core.specs.declared.error.Refusal.TheVariants.{TooLong, To
 
 use crate::begun::{Begun, put};
 use crate::error::Refusal;
-use crate::head::{Found, Head, Line, Next, RefusedByte, read_head};
+use crate::head::{Found, Head, Line, Next, RefusedByte, read_head, short_bulk};
 use crate::parse::{Stop, take_payload, take_text};
 use crate::pending::Pending;
 use crate::value::{Value, Values};
+use bytes::Bytes;
 use limits::{MAX_DEPTH, MAX_TEXT};
 use std::alloc::{AllocError, Global};
 use std::mem;
@@ -27,6 +29,15 @@ pub(crate) const MAX_IDLE: usize = 32_768;
 pub(crate) enum Halt {
     NoMemory,
     Refused(Refusal, usize),
+}
+
+// What came of the next complete value: it is the outermost one or its last member; there is more to read; or there is none, and
+// nothing has changed.
+#[derive(Drop)]
+enum Word {
+    Last(Value),
+    Member,
+    Missing,
 }
 
 #[derive(Drop)]
@@ -183,13 +194,105 @@ impl PartialValue {
     {
         self.note_room();
         loop {
-            match self.put_done() {
-                Ok(Some(value)) => return Ok(Some(value)),
-                Ok(None) => {}
+            match self.put_next(most) {
+                Ok(Word::Last(value)) => return Ok(Some(value)),
+                Ok(Word::Member) => continue,
+                Ok(Word::Missing) => {}
                 Err(_) => return Err(Halt::NoMemory),
             }
             if !self.turn(alloc, most)? {
                 return Ok(None);
+            }
+        }
+    }
+
+    // Puts the next complete value into its list, and closes the lists that it completes.
+    #[inline(always)]
+    fn put_next(&mut self, most: u64) -> Result<Word, AllocError>
+        requires good { IsGood most self.old }
+        ensures good { IsGood most self.new }
+        ensures last { IfOk result (λ w. IfLast w (λ v. IsFresh self.new
+            × LeadsToValue most self.old self.new (tree_of v))) }
+        ensures member { IfOk result (λ w. IfMember w (LeadsTo most self.old self.new
+            × (to_do self.new < to_do self.old))) }
+        ensures missing { IfOk result (λ w. IfMissing w ((self.new ≡ self.old)
+            × (self.old.done ≡ None))) }
+        ensures err { OnErr result (LeadsTo most self.old self.new) }
+    {
+        let Some(value) = self.take_value(most)? else {
+            return Ok(Word::Missing);
+        };
+        match self.put_value(value)? {
+            Some(value) => Ok(Word::Last(value)),
+            None => Ok(Word::Member),
+        }
+    }
+
+    // Takes the complete value that isn't in its list yet, or else a bulk string with a short head that comes next. Most words
+    // of commands are such. `None`: nothing has changed.
+    #[inline(always)]
+    fn take_value(&mut self, most: u64) -> Result<Option<Value>, AllocError>
+        requires good { IsGood most self.old }
+        ensures good { IsGood most self.new }
+        ensures done { self.new.done ≡ None }
+        ensures value { IfOk result (λ o. IfSome o (λ v.
+            LeadsTo most self.old (with_done v self.new)
+            × IsGood most (with_done v self.new)
+            × (to_do self.new < to_do self.old))) }
+        ensures missing { IfOk result (λ o. IfNone o (self.new ≡ self.old)) }
+        ensures err { OnErr result (LeadsTo most self.old self.new) }
+    {
+        // (`take` would write it anew)
+        if self.done.is_some() {
+            return Ok(self.done.take());
+        }
+        match self.take_word(most)? {
+            Some(word) => Ok(Some(Value::Bulk(word))),
+            None => Ok(None),
+        }
+    }
+
+    // Takes a bulk string with a short head, if it comes next and has come completely. `None`: nothing has changed.
+    #[inline(always)]
+    fn take_word(&mut self, most: u64) -> Result<Option<Bytes>, AllocError>
+        requires good { IsGood most self.old }
+        requires done { self.old.done ≡ None }
+        ensures good { IsGood most self.new }
+        ensures done { self.new.done ≡ None }
+        ensures word { IfOk result (λ o. IfSome o (λ word.
+            LeadsTo most self.old (with_done (Value.Bulk word) self.new)
+            × (self.new.next ≡ Next.Head Head.Type)
+            × (to_read self.new < to_read self.old))) }
+        ensures missing { IfOk result (λ o. IfNone o (self.new ≡ self.old)) }
+        ensures err { OnErr result (LeadsTo most self.old self.new) }
+    {
+        let Next::Head(due) = self.next else {
+            return Ok(None);
+        };
+        let Head::Type = due else {
+            return Ok(None);
+        };
+        let left = MAX_DEPTH - self.opens.len() as u32;
+        let visible = self.pending.len().min(MAX_TEXT + 1 - self.came);
+        let bytes = &self.pending.as_slice()[..visible];
+        let Some((n, head)) = short_bulk(bytes, most, left) else {
+            return Ok(None);
+        };
+        let Ok((payload, rest)) = take_payload(&bytes[head..], n) else {
+            return Ok(None);
+        };
+        let (len, taken) = (payload.len(), visible - head - rest.len());
+        self.pending.advance(head);
+        self.came += head;
+        self.seen = 0;
+        match self.pending.cut(self.room, len, taken) {
+            Ok(word) => {
+                self.came += taken;
+                Ok(Some(word))
+            }
+            Err(_) => {
+                self.next = Next::Found(Found::Payload(n));
+                Err(AllocError)
             }
         }
     }
@@ -297,29 +400,26 @@ impl PartialValue {
 
     // Puts a complete value into its list, and closes the lists that it completes. Returns the
     // outermost value if it is complete.
-    fn put_done(&mut self) -> Result<Option<Value>, AllocError>
-        ensures good { (most : ℕ) → IsGood most self.old → IsGood most self.new }
-        ensures fresh { (most : ℕ) → IsGood most self.old
+    #[inline(always)]
+    fn put_value(&mut self, value: Value) -> Result<Option<Value>, AllocError>
+        requires done { self.old.done ≡ None }
+        ensures good { (most : ℕ) → IsGood most (with_done value self.old)
+            → IsGood most self.new }
+        ensures fresh { (most : ℕ) → IsGood most (with_done value self.old)
             → IfOk result (λ o. IfSome o (λ _. IsFresh self.new)) }
-        ensures value { (most : ℕ) → IsGood most self.old
+        ensures value { (most : ℕ) → IsGood most (with_done value self.old)
             → IfOk result (λ o. IfSome o (λ v.
-            LeadsToValue most self.old self.new (tree_of v))) }
-        ensures reads { (most : ℕ) → IsGood most self.old
-            → IfOk result (λ o. IfNone o (LeadsTo most self.old self.new)) }
-        ensures err { (most : ℕ) → IsGood most self.old
-            → OnErr result (LeadsTo most self.old self.new) }
+            LeadsToValue most (with_done value self.old) self.new (tree_of v))) }
+        ensures reads { (most : ℕ) → IsGood most (with_done value self.old)
+            → IfOk result (λ o. IfNone o
+            (LeadsTo most (with_done value self.old) self.new)) }
+        ensures err { (most : ℕ) → IsGood most (with_done value self.old)
+            → OnErr result (LeadsTo most (with_done value self.old) self.new) }
         ensures none { OnOk result (self.new.done ≡ None) }
         ensures pending { self.new.pending ≡ self.old.pending }
         ensures next { self.new.next ≡ self.old.next }
         ensures came { self.new.came ≡ self.old.came }
     {
-        // (`take` would write it anew)
-        if self.done.is_none() {
-            return Ok(None);
-        }
-        let Some(value) = self.done.take() else {
-            return Ok(None);
-        };
         match put(&mut self.opens, value) {
             Ok(done) => Ok(done),
             Err(failed) => {

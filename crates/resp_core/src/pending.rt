@@ -174,7 +174,8 @@ impl Pending {
     }
 }
 
-// Sees to it that the copy of the first bytes has `len` of them, or all.
+// Sees to it that the copy of the first bytes has `len` of them.
+#[inline(always)]
 fn cover(
     copies: &mut TextBlock,
     copied: &mut Bytes,
@@ -187,8 +188,25 @@ fn cover(
     ensures long { OnOk result (len ≤ length copied.new) }
 {
     if copied.len() < len {
-        *copied = copies.copy_of(&bytes[..bytes.len().min(MAX_COPY_BLOCK)])?;
+        return copy_anew(copies, copied, bytes, len);
     }
+    Ok(())
+}
+
+// Copies the first bytes, at least `len` of them.
+#[inline(never)]
+fn copy_anew(
+    copies: &mut TextBlock,
+    copied: &mut Bytes,
+    bytes: &[u8],
+    len: usize,
+) -> Result<(), AllocError>
+    requires inside { (len ≤ MAX_COPY_BLOCK) × (len ≤ length bytes.now) }
+    requires first { copied.old ≡ take (length copied.old) bytes.now }
+    ensures first { copied.new ≡ take (length copied.new) bytes.now }
+    ensures long { OnOk result (len ≤ length copied.new) }
+{
+    *copied = copies.copy_of(&bytes[..bytes.len().min(MAX_COPY_BLOCK)])?;
     Ok(())
 }
 

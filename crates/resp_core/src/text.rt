@@ -1,5 +1,5 @@
 //! The one spelling of a value.
-ghost use Rattle.std.specs.Prelude.{◌≡◌, ◌+◌, ◌++◌, ◌∷◌, [], length, OnOk, OnErr, IsTrue, IsErrOf};
+ghost use Rattle.std.specs.Prelude.{◌≡◌, ◌≤◌, ◌^◌, ◌+◌, ◌++◌, ◌∷◌, [], length, OnOk, OnErr, IsTrue, IsErrOf};
 ghost use Rattle.std.specs.Fmt.{decimal, signed_decimal};
 ghost use Rattle.resp_core.specs.Tree.{bulk, list, is_plain_tree, trees_of};
 ghost use Rattle.resp_core.specs.Stream.{told_offset};
@@ -7,6 +7,7 @@ ghost use Rattle.resp_core.specs.Text.{text, texts, line, line_end, Extends};
 ghost use Rattle.resp_core.specs.Value.{tree_of};
 
 use crate::error::RespError;
+use crate::sink::Sink;
 use crate::value::{Value, Values};
 use itoa::{Buffer, write_digits};
 use std::alloc::{AllocError, Global};
@@ -39,6 +40,7 @@ pub fn put_text(_alloc: Global, value: &Value, out: &mut Vec<u8>) -> Result<(), 
 /// Appends the text of a bulk string with this payload, or nothing.
 ///
 /// Memory is reserved once. Refused only where there is none.
+#[inline(always)]
 pub fn put_bulk(payload: &[u8], out: &mut Vec<u8>) -> Result<(), AllocError>
     ensures ok { OnOk result (out.new.items ≡ out.old.items ++ text (bulk payload.now)) }
     ensures err { OnErr result (out.new.items ≡ out.old.items) }
@@ -52,11 +54,44 @@ pub fn put_bulk(payload: &[u8], out: &mut Vec<u8>) -> Result<(), AllocError>
     Ok(())
 }
 
+/// Appends these bytes, and the text of a bulk string with this payload behind them; or nothing.
+///
+/// Refused only where there is no memory.
+#[inline(always)]
+pub fn put_bulk_behind(head: &[u8], payload: &[u8], out: &mut Vec<u8>) -> Result<(), AllocError>
+    ensures ok { OnOk result
+        (out.new.items ≡ out.old.items ++ head.now ++ text (bulk payload.now)) }
+    ensures err { OnErr result (out.new.items ≡ out.old.items) }
+{
+    let before = out.len();
+    if append_behind(head, payload, out).is_err() {
+        out.truncate(before);
+        return Err(AllocError);
+    }
+    Ok(())
+}
+
+// Appends these bytes, and a bulk string behind them. Where memory is refused, a part may have been appended.
+#[inline(always)]
+pub(crate) fn append_behind<S: Sink>(
+    head: &[u8],
+    payload: &[u8],
+    out: &mut S,
+) -> Result<(), AllocError>
+    ensures ok { OnOk result (S.written out.new
+        ≡ S.written out.old ++ head.now ++ text (bulk payload.now)) }
+    ensures err { OnErr result (Extends (S.written out.old) (S.written out.new)) }
+{
+    out.reserve(head.len())?;
+    out.put_reserved(head);
+    append_bulk(payload, out)
+}
+
 /// Appends the one spelling of the value. Where memory is refused, a part may have been appended.
 #[cycle(text)]
-pub(crate) fn append_value(value: &Value, out: &mut Vec<u8>) -> Result<(), AllocError>
-    ensures ok { OnOk result (out.new.items ≡ out.old.items ++ text (tree_of value.now)) }
-    ensures err { OnErr result (Extends out.old.items out.new.items) }
+pub(crate) fn append_value<S: Sink>(value: &Value, out: &mut S) -> Result<(), AllocError>
+    ensures ok { OnOk result (S.written out.new ≡ S.written out.old ++ text (tree_of value.now)) }
+    ensures err { OnErr result (Extends (S.written out.old) (S.written out.new)) }
 {
     match value {
         Value::Simple(text) => append_line(b'+', text.as_slice(), out),
@@ -71,64 +106,104 @@ pub(crate) fn append_value(value: &Value, out: &mut Vec<u8>) -> Result<(), Alloc
 
 #[cycle(text)]
 #[tactic(auto, using(crate::proofs::TreeLemmas::length_members))]
-fn append_list(values: &Values, out: &mut Vec<u8>) -> Result<(), AllocError>
-    ensures ok { OnOk result (out.new.items ≡ out.old.items ++ text (list (trees_of values.now))) }
-    ensures err { OnErr result (Extends out.old.items out.new.items) }
+fn append_list<S: Sink>(values: &Values, out: &mut S) -> Result<(), AllocError>
+    ensures ok { OnOk result
+        (S.written out.new ≡ S.written out.old ++ text (list (trees_of values.now))) }
+    ensures err { OnErr result (Extends (S.written out.old) (S.written out.new)) }
 {
-    append_count(b'*', values.0.len() as u64, out)?;
+    append_count(b'*', values.0.len() as u64, 0, out)?;
     append_values(values, out)?;
     Ok(())
 }
 
 #[cycle(text)]
-fn append_values(values: &Values, out: &mut Vec<u8>) -> Result<(), AllocError>
-    ensures ok { OnOk result (out.new.items ≡ out.old.items ++ texts (trees_of values.now)) }
-    ensures err { OnErr result (Extends out.old.items out.new.items) }
+fn append_values<S: Sink>(values: &Values, out: &mut S) -> Result<(), AllocError>
+    ensures ok { OnOk result
+        (S.written out.new ≡ S.written out.old ++ texts (trees_of values.now)) }
+    ensures err { OnErr result (Extends (S.written out.old) (S.written out.new)) }
 {
     for value in &values.0 {
-        append_value(value, out)?;
+        // (most members are bulk strings)
+        match value {
+            Value::Bulk(payload) => append_bulk(payload.as_slice(), out)?,
+            _ => append_value(value, out)?,
+        }
     }
     Ok(())
 }
 
-// Appends the text of a bulk string. Where memory is refused, a part may have been appended.
+// Appends the text of a bulk string, or nothing.
 #[inline(always)]
-pub(crate) fn append_bulk(payload: &[u8], out: &mut Vec<u8>) -> Result<(), AllocError>
-    ensures ok { OnOk result (out.new.items ≡ out.old.items ++ text (bulk payload.now)) }
-    ensures err { OnErr result (Extends out.old.items out.new.items) }
+pub(crate) fn append_bulk<S: Sink>(payload: &[u8], out: &mut S) -> Result<(), AllocError>
+    ensures ok { OnOk result
+        (S.written out.new ≡ S.written out.old ++ text (bulk payload.now)) }
+    ensures err { OnErr result (S.written out.new ≡ S.written out.old) }
 {
-    append_count(b'$', payload.len() as u64, out)?;
-    out.extend_from_slice(payload)?;
-    out.extend_from_slice(b"\r\n")
+    append_count(b'$', payload.len() as u64, payload.len() + 2, out)?;
+    out.put_reserved(payload);
+    out.put_reserved(b"\r\n");
+    Ok(())
 }
 
-// Appends a type byte and a number's line in one copy.
+// Appends a type byte and a number's line in one copy, or nothing. There is room for `more` bytes behind it.
 #[inline(always)]
-fn append_count(kind: u8, count: u64, out: &mut Vec<u8>) -> Result<(), AllocError>
-    ensures ok { OnOk result (out.new.items ≡ out.old.items ++ line kind (decimal count)) }
-    ensures err { OnErr result (Extends out.old.items out.new.items) }
+fn append_count<S: Sink>(kind: u8, count: u64, more: usize, out: &mut S) -> Result<(), AllocError>
+    requires more { more ≤ 2 ^ 63 + 1 }
+    ensures ok { OnOk result
+        (S.written out.new ≡ S.written out.old ++ line kind (decimal count)) }
+    ensures room { OnOk result (more ≤ S.room out.new) }
+    ensures err { OnErr result (S.written out.new ≡ S.written out.old) }
 {
-    // (most numbers have one or two digits)
+    // (most numbers have at most three digits)
     if count < 10 {
-        return out.extend_from_slice(&[kind, b'0' + count as u8, b'\r', b'\n']);
+        return append_head(&[kind, b'0' + count as u8, b'\r', b'\n'], more, out);
     }
     if count < 100 {
         let (tens, ones) = ((count / 10) as u8, (count % 10) as u8);
-        return out.extend_from_slice(&[kind, b'0' + tens, b'0' + ones, b'\r', b'\n']);
+        return append_head(&[kind, b'0' + tens, b'0' + ones, b'\r', b'\n'], more, out);
+    }
+    if count < 1_000 {
+        let (tens, ones) = (count / 10, (count % 10) as u8);
+        let (hundreds, tens) = ((tens / 10) as u8, (tens % 10) as u8);
+        let head = [
+            kind,
+            b'0' + hundreds,
+            b'0' + tens,
+            b'0' + ones,
+            b'\r',
+            b'\n',
+        ];
+        return append_head(&head, more, out);
     }
     let mut head = EMPTY_HEAD;
     let digits = write_digits(count, &mut head, MAX_DIGITS + 1);
     head[digits - 1] = kind;
-    out.extend_from_slice(&head[digits - 1..])
+    append_head(&head[digits - 1..], more, out)
 }
 
-fn append_line(kind: u8, bytes: &[u8], out: &mut Vec<u8>) -> Result<(), AllocError>
-    ensures ok { OnOk result (out.new.items ≡ out.old.items ++ line kind bytes.now) }
-    ensures err { OnErr result (Extends out.old.items out.new.items) }
+// Appends a line with this type byte, or nothing.
+fn append_line<S: Sink>(kind: u8, bytes: &[u8], out: &mut S) -> Result<(), AllocError>
+    ensures ok { OnOk result (S.written out.new ≡ S.written out.old ++ line kind bytes.now) }
+    ensures err { OnErr result (S.written out.new ≡ S.written out.old) }
 {
-    out.push(kind)?;
-    out.extend_from_slice(bytes)?;
-    out.extend_from_slice(b"\r\n")
+    append_head(&[kind], bytes.len() + 2, out)?;
+    out.put_reserved(bytes);
+    out.put_reserved(b"\r\n");
+    Ok(())
+}
+
+// Appends a head, or nothing. There is room for `more` bytes behind it.
+#[inline(always)]
+fn append_head<S: Sink>(head: &[u8], more: usize, out: &mut S) -> Result<(), AllocError>
+    requires short { length head.now ≤ 23 }
+    requires more { more ≤ 2 ^ 63 + 1 }
+    ensures ok { OnOk result (S.written out.new ≡ S.written out.old ++ head.now) }
+    ensures room { OnOk result (more ≤ S.room out.new) }
+    ensures err { OnErr result (S.written out.new ≡ S.written out.old) }
+{
+    out.reserve(head.len() + more)?;
+    out.put_reserved(head);
+    Ok(())
 }
 
 impl Value {
@@ -162,7 +237,12 @@ fn members_len(values: &Values) -> u64
 {
     let mut total: u64 = 0;
     for value in &values.0 {
-        total = total.saturating_add(value.text_len());
+        // (most members are bulk strings)
+        let len = match value {
+            Value::Bulk(payload) => bulk_len(payload.len() as u64),
+            _ => value.text_len(),
+        };
+        total = total.saturating_add(len);
     }
     total
 }

@@ -1,6 +1,7 @@
 //! Short texts in blocks that they share.
-ghost use Rattle.std.specs.Prelude.{◌≡◌, IfOk};
+ghost use Rattle.std.specs.Prelude.{◌≡◌, ◌≤◌, [], IfOk, OnOk};
 
+use crate::sink::Sink;
 use bytes::{Bytes, BytesMut};
 use std::alloc::{AllocError, Global};
 use std::marker::Model;
@@ -11,9 +12,9 @@ const MIN_TEXTS: usize = 4;
 // The first block is this fraction of the longest.
 const FIRST_BLOCK: usize = 8;
 
-/// The free rest of a block of texts.
+/// The free rest of a block of texts, with the text that is being written at its front.
 ///
-/// Where a text lies doesn't change it, so all blocks look alike to contracts.
+/// Where a text lies doesn't change it, so contracts see the text and the room behind it.
 #[derive(Drop)]
 pub(crate) struct TextBlock {
     alloc: Global,
@@ -24,13 +25,29 @@ pub(crate) struct TextBlock {
 }
 
 impl Model for TextBlock {
-    ghost use Rattle.std.specs.Prelude.{◌≡◌, [], ⊤};
+    ghost use Rattle.bytes.specs.Filled.{Filled, filled_code};
 
-    ghost Value = { ⊤ };
+    ghost Value = { Filled };
 
-    ghost view = { λ _. tt };
+    ghost coded = { filled_code };
 
-    ghost invariant = { λ r. r.left.items ≡ [] };
+    ghost view = { λ b. b.left };
+}
+
+impl Sink for TextBlock {
+    ghost written = { λ b. b.items };
+
+    ghost room = { λ b. b.spare };
+
+    #[inline(always)]
+    fn reserve(&mut self, more: usize) -> Result<(), AllocError> {
+        self.left.reserve(more)
+    }
+
+    #[inline(always)]
+    fn put_reserved(&mut self, bytes: &[u8]) {
+        self.left.extend_reserved(bytes);
+    }
 }
 
 impl TextBlock {
@@ -44,6 +61,33 @@ impl TextBlock {
         }
     }
 
+    /// Begins a text of at most `len` bytes, behind the finished ones or in the next block. A text that was begun and
+    /// not finished is dropped.
+    #[inline(always)]
+    pub(crate) fn begin(&mut self, len: usize) -> Result<(), AllocError>
+        ensures empty { OnOk result (self.new.items ≡ []) }
+        ensures room { OnOk result (len ≤ self.new.spare) }
+    {
+        self.left.clear();
+        if self.left.capacity() < len {
+            self.begin_block(len)?;
+        }
+        Ok(())
+    }
+
+    /// Finishes the text, which was begun with this length. If it is longer, it keeps its block to itself.
+    #[inline(always)]
+    pub(crate) fn finish(&mut self, len: usize) -> Result<Bytes, AllocError>
+        ensures { IfOk result (λ bytes. bytes ≡ self.old.items) }
+    {
+        let text_len = self.left.len();
+        let text = self.left.freeze_to(text_len)?;
+        if text_len > len {
+            self.left = BytesMut::new(self.alloc);
+        }
+        Ok(text)
+    }
+
     /// A copy of the text, behind the others or in the next block. A text of more than a quarter of the longest block
     /// has a block of its own.
     #[inline(always)]
@@ -53,17 +97,16 @@ impl TextBlock {
         if text.len() > self.longest / MIN_TEXTS {
             return Bytes::copy_from_slice(self.alloc, text);
         }
-        if self.left.capacity() < text.len() {
-            self.begin_block(text.len())?;
-        }
-        self.left.extend_from_slice(text)?;
-        let copied = self.left.freeze_to(text.len());
-        self.left.clear();
-        copied
+        self.begin(text.len())?;
+        self.left.extend_reserved(text);
+        self.finish(text.len())
     }
 
     // Begins a block: twice as long as the last one, or as long as its first text if that is longer.
-    fn begin_block(&mut self, text_len: usize) -> Result<(), AllocError> {
+    fn begin_block(&mut self, text_len: usize) -> Result<(), AllocError>
+        ensures empty { OnOk result (self.new.items ≡ []) }
+        ensures room { OnOk result (text_len ≤ self.new.spare) }
+    {
         let block_len = self
             .block_len
             .saturating_mul(2)

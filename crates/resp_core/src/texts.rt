@@ -1,10 +1,10 @@
 //! Texts in blocks that they share.
-ghost use Rattle.std.specs.Prelude.{◌≡◌, ◌++◌, IfOk, IsTrue, OnOk};
+ghost use Rattle.std.specs.Prelude.{◌≡◌, ◌++◌, IfOk, IsTrue};
 ghost use Rattle.resp_core.specs.Text.{text};
 ghost use Rattle.resp_core.specs.Tree.{bulk, is_plain_tree};
 ghost use Rattle.resp_core.specs.Value.{tree_of};
 
-use crate::text::{append_bulk, append_value, bulk_len};
+use crate::text::{append_behind, append_bulk, append_value, bulk_len};
 use crate::text_block::TextBlock;
 use crate::value::Value;
 use bytes::Bytes;
@@ -24,8 +24,6 @@ const MAX_SHORT: usize = 1_024;
 #[derive(Drop)]
 pub struct Texts {
     alloc: Global,
-    // A text while it is written.
-    draft: Vec<u8>,
     block: TextBlock,
 }
 
@@ -42,7 +40,6 @@ impl Texts {
     pub fn new(alloc: Global) -> Texts {
         Texts {
             alloc,
-            draft: Vec::new(alloc),
             block: TextBlock::new(alloc, MAX_TEXT_BLOCK),
         }
     }
@@ -60,10 +57,10 @@ impl Texts {
             append_value(value, &mut text)?;
             return Ok(Bytes::from_vec(text)?);
         }
-        self.draft.clear();
-        self.draft.reserve(MAX_SHORT)?;
-        append_value(value, &mut self.draft)?;
-        self.block.copy_of(self.draft.as_slice())
+        let len = text_len as usize;
+        self.block.begin(len)?;
+        append_value(value, &mut self.block)?;
+        self.block.finish(len)
     }
 
     /// The text that begins with `head` and ends with a bulk string of this payload.
@@ -78,10 +75,10 @@ impl Texts {
             append_behind(head, payload, &mut text)?;
             return Ok(Bytes::from_vec(text)?);
         }
-        self.draft.clear();
-        self.draft.reserve(MAX_SHORT)?;
-        append_behind(head, payload, &mut self.draft)?;
-        self.block.copy_of(self.draft.as_slice())
+        let len = length as usize;
+        self.block.begin(len)?;
+        append_behind(head, payload, &mut self.block)?;
+        self.block.finish(len)
     }
 
     /// The text that begins with `head` and ends with bulk strings of these two payloads.
@@ -104,19 +101,10 @@ impl Texts {
             append_bulk(second, &mut text)?;
             return Ok(Bytes::from_vec(text)?);
         }
-        self.draft.clear();
-        self.draft.reserve(MAX_SHORT)?;
-        append_behind(head, first, &mut self.draft)?;
-        append_bulk(second, &mut self.draft)?;
-        self.block.copy_of(self.draft.as_slice())
+        let len = length as usize;
+        self.block.begin(len)?;
+        append_behind(head, first, &mut self.block)?;
+        append_bulk(second, &mut self.block)?;
+        self.block.finish(len)
     }
-}
-
-// Appends these bytes, and a bulk string behind them.
-fn append_behind(head: &[u8], payload: &[u8], out: &mut Vec<u8>) -> Result<(), AllocError>
-    ensures { OnOk result (out.new.items
-        ≡ out.old.items ++ head.now ++ text (bulk payload.now)) }
-{
-    out.extend_from_slice(head)?;
-    append_bulk(payload, out)
 }

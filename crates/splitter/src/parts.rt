@@ -14,11 +14,14 @@ use crate::error::SplitError;
 use crate::plans::{PartPlan, PartPlans, Planned};
 use bytes::Bytes;
 use itoa::Buffer;
-use resp_core::{Texts, Value, Values, bulk_len, put_bulk};
+use resp_core::{Texts, Value, Values, bulk_len, put_bulk, put_bulk_behind};
 use std::alloc::Global;
 
 // The most bytes of the texts of parts that share a block.
 const MAX_JOINED: usize = 16_384;
+
+// The bytes for which memory is reserved for the head of a part's text; most are shorter.
+const MAX_HEAD: usize = 32;
 
 /// The one part of a command that goes to the host of its word `key_at`. The value must be the command with these
 /// words; `text_len` is the length of its text.
@@ -80,8 +83,7 @@ fn joined_texts(
     let room = heads.saturating_add(text_len as usize).min(MAX_JOINED);
     let mut joined = Vec::with_capacity(alloc, room)?;
     for at in 1..words.0.len() {
-        joined.extend_from_slice(head)?;
-        put_bulk(words.word(at).as_slice(), &mut joined)?;
+        put_bulk_behind(head, words.word(at).as_slice(), &mut joined)?;
         if joined.len() > MAX_JOINED {
             return Ok(None);
         }
@@ -162,7 +164,7 @@ fn head(alloc: Global, words: usize, name: Bytes) -> Result<Vec<u8>, SplitError>
     ensures text { IfOk result (λ head. head.items ≡ head_of words name) }
     ensures err { IfErr result (λ e. e ≡ SplitError.NoMemory) }
 {
-    let mut head = Vec::new(alloc);
+    let mut head = Vec::with_capacity(alloc, MAX_HEAD)?;
     head.push(b'*')?;
     head.extend_from_slice(Buffer::new().format(words).as_bytes())?;
     head.extend_from_slice(b"\r\n")?;

@@ -1,5 +1,5 @@
 use Rattle.std.proofs.Common.{ℕ, List}
-use Rattle.resp_core.specs.PartialValue.{Reads, IsGood, to_read}
+use Rattle.resp_core.specs.PartialValue.{Reads, IsGood, to_do}
 use Rattle.resp_core.proofs.partial_value.PartialValue.go_on.Given as goal
 
 abbrev pub invariant-loop-value : goal.invariant-loop-value
@@ -9,4 +9,4 @@ invariant-loop-value l = record {
 }
 
 abbrev pub decreases-loop-value : goal.decreases-loop-value
-decreases-loop-value l = to_read l.self
+decreases-loop-value l = to_do l.self
