@@ -6,7 +6,8 @@ pub const MAX_UNFINISHED: u64 = 67_108_864;
 /// Connections with a smaller unfinished command are never closed for the sum of all.
 pub const MAX_SPARED: u64 = 16_384;
 
-/// Take in no further commands once some worker hasn't looked at this many parts. A host can queue `MAX_WAITING`.
+/// Take in no further commands once this many parts came for a host since its worker took one, until it has looked. A host can
+/// queue `MAX_WAITING`.
 pub const MAX_UNSEEN: u64 = 256;
 
 /// The most parts that all workers together may queue between two checks of that.
