@@ -363,16 +363,6 @@ impl<'a> WorkerConnections<'a> {
         Some(stepped)
     }
 
-    // Takes whether parts came for the host with this index.
-    fn take_stirred(&mut self, index: usize) -> bool
-        ensures { self.new ≡ self.old }
-    {
-        let bit = self.bit_of_host(index);
-        let is_stirred = self.stirred & bit != 0;
-        self.stirred &= !bit;
-        is_stirred
-    }
-
     // The bit of the host with this index: of host h it is bit h.
     fn bit_of_host(&self, index: usize) -> u64 {
         let host = index
@@ -392,13 +382,15 @@ impl<'a> WorkerConnections<'a> {
     ) -> Option<HostResult>
         ensures { ChangesHost index self.old self.new }
     {
-        let is_stirred = self.take_stirred(index);
+        let bit = self.bit_of_host(index);
+        let is_stirred = self.stirred & bit != 0;
         let Some(host) = self.hosts.get_mut(index) else {
             return None;
         };
         if !is_stirred && !host.may_go(round.now) {
             return None;
         }
+        self.stirred &= !bit;
         let stepped = host.run_once(
             rt,
             &mut self.turns,
