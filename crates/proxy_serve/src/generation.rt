@@ -184,7 +184,8 @@ impl Polls {
             Ok(poll) => poll,
             Err(error) => return Err(Stop::socket("cannot make a worker's poll", error)),
         };
-        self.workers.push(CachePadded::new(WorkerStatus::new(waker_of(&poll)?)))?;
+        self.workers
+            .push(CachePadded::new(WorkerStatus::new(waker_of(&poll)?)))?;
         self.wakers.push(waker_of(&poll)?)?;
         self.polls.push(poll)?;
         Ok(())

@@ -188,9 +188,7 @@ impl HostConnection {
 
     /// Whether a round can make progress, where no new parts wait.
     pub(crate) fn may_go(&self, now: u64) -> bool {
-        self.has_more
-            || now.saturating_sub(self.looked) >= LOOK_MS
-            || self.has_event()
+        self.has_more || now.saturating_sub(self.looked) >= LOOK_MS || self.has_event()
     }
 
     // Whether the poll reported something of the link that isn't handled yet.

@@ -587,10 +587,7 @@ impl<'a> Worker<'a> {
             return Ok(OpenResult::Closed);
         }
         let notices = self.generation.notices();
-        match self
-            .connections
-            .open(rt, notices, stream, self.ends_inputs)
-        {
+        match self.connections.open(rt, notices, stream, self.ends_inputs) {
             Ok(has_room) => Ok(self.handle_opened(rt, has_room)),
             Err(error) => {
                 self.generation.server().count_dropped(rt);
