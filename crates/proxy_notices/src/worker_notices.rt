@@ -5,7 +5,6 @@ use limits::MAX_HOSTS;
 use std::alloc::{AllocError, Global};
 use std::sync::atomic::{AtomicBool, AtomicU64, Ordering};
 
-
 // The keys of a word.
 const BITS: usize = 64;
 
@@ -84,7 +83,8 @@ impl WorkerNotices {
             return;
         };
         let bit = 1 << (key % BITS);
-        if word.load(Ordering::SeqCst) & bit == 0 && word.fetch_or(bit, Ordering::SeqCst) & bit == 0
+        if word.load(Ordering::SeqCst) & bit == 0
+            && word.fetch_or(bit, Ordering::SeqCst) & bit == 0
         {
             self.words.fetch_or(1 << index, Ordering::SeqCst);
         }

@@ -92,15 +92,13 @@ module _ (words : List ℕ) (index bits : ℕ) (within : index < length words) w
         | inl same ↦
             let is : bit_of (set words index (bit_or (get_or words index 0) bits)) key ≡ max (bit_of words key) (bit_at bits (key % 64)) =
             rw (same, get_or-set_same words index (bit_or (get_or words index 0) bits) 0 within) (bit_at_or (get_or words index 0) bits (key % 64)) in
-            let cases = one_of (bit_of words key) (bit_at bits (key % 64)) (bit_at-lt (get_or words (key / 64) 0) (key % 64)) (bit_at-lt bits (key % 64)) in
-            (
+            let cases = one_of (bit_of words key) (bit_at bits (key % 64)) (bit_at-lt (get_or words (key / 64) 0) (key % 64)) (bit_at-lt bits (key % 64)) in (
               λ has. elim (cases.0 (sym is ∙ has)) [ inl old ↦ inl old | inr new ↦ inr (same, new) ],
               λ h. is ∙ cases.1 (elim h [ inl old ↦ inl old | inr new ↦ inr new.1 ]),
             )
         | inr apart ↦
             let is : bit_of (set words index (bit_or (get_or words index 0) bits)) key ≡ bit_of words key =
-            ap (λ n. bit_at n (key % 64)) (get_or-set_other words index (key / 64) (bit_or (get_or words index 0) bits) 0 apart) in
-            (
+            ap (λ n. bit_at n (key % 64)) (get_or-set_other words index (key / 64) (bit_or (get_or words index 0) bits) 0 apart) in (
               λ has. inl (sym is ∙ has),
               λ h. elim h [ inl old ↦ is ∙ old | inr new ↦ absurd (apart new.0) ],
             )

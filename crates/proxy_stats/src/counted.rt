@@ -61,11 +61,7 @@ impl Counted {
     /// notices.
     ///
     /// Refused where there is no memory for the counts; the core is dropped.
-    pub fn new(
-        alloc: Global,
-        core: Core,
-        notices: Arc<Notices>,
-    ) -> Result<Counted, AllocError>
+    pub fn new(alloc: Global, core: Core, notices: Arc<Notices>) -> Result<Counted, AllocError>
         ensures { IfOk result (λ c. c ≡ core) }
     {
         let counts = counts_of(core.journal());

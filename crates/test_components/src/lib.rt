@@ -27,9 +27,9 @@ mod laws;
 #[cfg(test)]
 mod link_tests;
 #[cfg(test)]
-mod notices;
-#[cfg(test)]
 mod next_replies;
+#[cfg(test)]
+mod notices;
 #[cfg(test)]
 mod refusal_tests;
 #[cfg(test)]

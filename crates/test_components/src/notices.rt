@@ -17,7 +17,13 @@ fn a_reply_is_told_to_its_client_alone_and_once(rt: HostRuntime) -> Result<(), F
     notices.reply_came(7);
     assert!(rt; notices.concern(1));
     assert!(rt; !notices.concern(0) && !notices.concern(2));
-    assert_eq!(rt; notices.take_word(1), Some(ReadyWord { index: 1, bits: 1 << 6 }));
+    assert_eq!(rt;
+        notices.take_word(1),
+        Some(ReadyWord {
+            index: 1,
+            bits: 1 << 6
+        })
+    );
     assert_eq!(rt; notices.take_word(1), None);
     assert!(rt; !notices.take_all(1));
     assert!(rt; !notices.concern(1));
@@ -79,12 +85,16 @@ fn parts_are_told_to_the_worker_of_their_host(rt: HostRuntime) -> Result<(), Fai
 }
 
 #[test]
-fn clients_are_held_back_until_the_host_s_own_worker_has_looked(rt: HostRuntime) -> Result<(), Fail> {
+fn clients_are_held_back_until_the_host_s_own_worker_has_looked(
+    rt: HostRuntime,
+) -> Result<(), Fail> {
     let notices = Notices::new(rt.alloc(), 3)?;
     notices.press(4);
     notices.press(5);
     assert_eq!(rt; notices.pressed(), 1 << 4 | 1 << 5);
-    assert!(rt; notices.has_any_of(1, notices.pressed()) && notices.has_any_of(2, notices.pressed()));
+    assert!(rt;
+        notices.has_any_of(1, notices.pressed()) && notices.has_any_of(2, notices.pressed())
+    );
     assert!(rt; !notices.has_any_of(0, notices.pressed()));
     assert!(rt; !notices.mark_seen(0, u64::MAX));
     assert_eq!(rt; notices.pressed(), 1 << 4 | 1 << 5);
