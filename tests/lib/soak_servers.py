@@ -130,8 +130,8 @@ class Liar:
                 link.shutdown(socket.SHUT_RDWR)
 
     def serve(self, link):
-        """Answers the requests of a connection until it ends."""
-        with contextlib.suppress(OSError), link, link.makefile("rb") as file:
+        """Answers the requests of a connection until it ends, perhaps within one: its length is then no number."""
+        with contextlib.suppress(OSError, ValueError), link, link.makefile("rb") as file:
             link.settimeout(60)
             while True:
                 head = file.readline()
