@@ -1,4 +1,4 @@
-use Rattle.std.proofs.Common.{rules, arith, ◌<◌}
+use Rattle.std.proofs.Common.{arith, ◌<◌}
 use Rattle.proxy_notices.proofs.HostBitLemmas.{with_host, without_host}
 use Rattle.proxy_notices.proofs.notices.own_hosts.Goals as goal
 use Rattle.proxy_notices.proofs.notices.own_hosts.Goals.{then-host-workers, else-host-workers}
