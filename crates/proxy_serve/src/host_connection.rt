@@ -224,6 +224,7 @@ impl HostConnection {
         self.looked = round.now;
         self.lend_buffer(buffer);
         let stepped = self.step_engine(rt, turns, generation, registry, round);
+        // (the next round counts anew)
         let _counts = turns.leave_with_counts();
         self.write_out(buffer);
         self.has_more = self.has_more || stepped.is_err();
