@@ -1,5 +1,5 @@
 //! The tests of library crates that can't be rows. It stands on the core, its parts, the engines, the gate, `sweeper`,
-//! `stub_server`, `proxy_notices` and `test_total`.
+//! `stub_server`, `proxy_notices`, `proxy_stats` and `test_total`.
 //!
 //! They test the ticket gate, in one thread and in several, around a running total and around the core. They test
 //! sweeps on a core, and the engines over refused turns and over devices that stop short, pause, fail and lie. Last
@@ -40,6 +40,8 @@ mod stage;
 mod sweeps;
 #[cfg(test)]
 mod texts;
+#[cfg(test)]
+mod told_turns;
 #[cfg(test)]
 mod turns;
 #[cfg(test)]

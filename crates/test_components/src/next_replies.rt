@@ -9,7 +9,7 @@ use std::test::Fail;
 
 // What happens: to a connection by its number, or to the only host.
 #[derive(Clone, Copy)]
-enum Move {
+pub(crate) enum Move {
     Opens,
     Gets(u64),
     Pings(u64),
@@ -60,7 +60,7 @@ fn request(alloc: Global, words: &[&[u8]]) -> Result<Request, Fail> {
     Ok(Request::Read(Value::List(Values(members))))
 }
 
-fn event(alloc: Global, it: Move) -> Result<Event, Fail> {
+pub(crate) fn event(alloc: Global, it: Move) -> Result<Event, Fail> {
     let (host, epoch, t) = (0, 0, 0);
     Ok(match it {
         Move::Opens => Event::Opened,

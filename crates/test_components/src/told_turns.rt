@@ -1,0 +1,138 @@
+//! What the turns of a core that counts tell its workers: who must hear of a turn does, and nobody else.
+
+use crate::core_at_gate::core;
+use crate::next_replies::{Move, event};
+use limits::MAX_UNSEEN;
+use proxy_core::Event;
+use proxy_notices::{Notices, ReadyWord};
+use proxy_stats::Counted;
+use std::alloc::Global;
+use std::sync::Arc;
+use std::test::Fail;
+use ticket_gate::Recorded;
+
+// The keys of the clients of connections 0 and 1: the first is worker 1's, the second worker 0's.
+const KEYS: [usize; 2] = [3, 69];
+
+// What the two workers hear of a turn. The only host is worker 0's.
+#[derive(Clone, Copy, PartialEq, Eq)]
+enum Heard {
+    Nothing,
+    // Worker 0 hears that parts wait.
+    Parts,
+    // The connection's worker hears that its client is ready.
+    Reply(usize),
+    // Both hear that any client may be ready.
+    Replies,
+    // Something else.
+    Other,
+}
+
+const MOVES: &[(Move, Heard)] = &[
+    (Move::Opens, Heard::Nothing),
+    (Move::Opens, Heard::Nothing),
+    (Move::Gets(1), Heard::Parts),
+    // Parts waited already.
+    (Move::Gets(0), Heard::Nothing),
+    (Move::Gets(0), Heard::Nothing),
+    (Move::IsSent, Heard::Nothing),
+    (Move::IsSent, Heard::Nothing),
+    (Move::IsAnswered, Heard::Reply(1)),
+    (Move::Hands(1), Heard::Nothing),
+    (Move::IsAnswered, Heard::Reply(0)),
+    (Move::IsSent, Heard::Nothing),
+    // The queue was empty before.
+    (Move::Gets(1), Heard::Parts),
+    // The client that asked sees its own reply.
+    (Move::Pings(1), Heard::Nothing),
+    (Move::IsSent, Heard::Nothing),
+    (Move::Closes(0), Heard::Nothing),
+    // A reply to nobody.
+    (Move::IsAnswered, Heard::Nothing),
+    // A command that can't be accepted any more.
+    (Move::Gets(0), Heard::Nothing),
+    (Move::Fails, Heard::Replies),
+    (Move::Gets(1), Heard::Parts),
+    // A fault empties the queue.
+    (Move::Fails, Heard::Replies),
+    (Move::Gets(1), Heard::Parts),
+];
+
+// A core with one host, whose turns tell two workers.
+fn counted(alloc: Global) -> Result<(Counted, Arc<Notices>), Fail> {
+    let notices = Arc::new(alloc, Notices::new(alloc, 2)?)?;
+    notices.add_client(0, 1, KEYS[0]);
+    notices.add_client(1, 0, KEYS[1]);
+    let counted = Counted::new(alloc, core(alloc)?, notices.clone())?;
+    Ok((counted, notices))
+}
+
+fn turn(counted: &mut Counted, event: Event) {
+    drop(Recorded::turn(counted, 0, event));
+}
+
+// The word of the connection's key.
+fn word_of(conn: usize) -> Option<ReadyWord> {
+    Some(ReadyWord {
+        index: KEYS[conn] / 64,
+        bits: 1 << (KEYS[conn] % 64),
+    })
+}
+
+// Takes what the workers are to know.
+fn heard(notices: &Notices) -> Heard {
+    let hosts = [notices.take_hosts(0), notices.take_hosts(1)];
+    let all = [notices.take_all(0), notices.take_all(1)];
+    let words = [notices.take_word(0), notices.take_word(1)];
+    match (hosts, all, words) {
+        ([0, 0], [false, false], [None, None]) => Heard::Nothing,
+        ([1, 0], [false, false], [None, None]) => Heard::Parts,
+        ([0, 0], [true, true], [None, None]) => Heard::Replies,
+        ([0, 0], [false, false], words) if words == [None, word_of(0)] => Heard::Reply(0),
+        ([0, 0], [false, false], words) if words == [word_of(1), None] => Heard::Reply(1),
+        _ => Heard::Other,
+    }
+}
+
+// A failure names the index of the move.
+#[test]
+fn turns_tell_whom_they_concern(rt: HostRuntime) -> Result<(), Fail> {
+    let (mut counted, notices) = counted(rt.alloc())?;
+    for (place, (it, expected)) in MOVES.iter().enumerate() {
+        let event = event(rt.alloc(), *it)?;
+        turn(&mut counted, event);
+        if heard(&notices) != *expected {
+            return Err(place.into());
+        }
+    }
+    drop(counted);
+    Ok(())
+}
+
+#[test]
+fn a_host_is_pressed_by_parts_that_its_worker_has_not_seen(
+    rt: HostRuntime,
+) -> Result<(), Fail> {
+    let (mut counted, notices) = counted(rt.alloc())?;
+    turn(&mut counted, Event::Opened);
+    for _ in 0..2 {
+        for place in 1..=MAX_UNSEEN {
+            assert_eq!(rt; notices.pressed(), 0);
+            let event = event(rt.alloc(), Move::Gets(0))?;
+            turn(&mut counted, event);
+            assert_eq!(rt; (place, notices.pressed()), (place, u64::from(place == MAX_UNSEEN)));
+        }
+        assert!(rt; notices.mark_seen(0, notices.pressed()));
+    }
+    // A part that its worker takes shows that it looks.
+    for _ in 1..MAX_UNSEEN {
+        let event = event(rt.alloc(), Move::Gets(0))?;
+        turn(&mut counted, event);
+    }
+    turn(&mut counted, Event::Taken { host: 0 });
+    let event = event(rt.alloc(), Move::Gets(0))?;
+    turn(&mut counted, event);
+    assert_eq!(rt; notices.pressed(), 0);
+    drop(counted);
+    Ok(())
+}
