@@ -49,13 +49,14 @@ const MOVES: &[(Move, Heard)] = &[
     (Move::Closes(0), Heard::Nothing),
     // A reply to nobody.
     (Move::IsAnswered, Heard::Nothing),
-    // A command that can't be accepted any more.
+    // A command that isn't accepted.
     (Move::Gets(0), Heard::Nothing),
-    (Move::Fails, Heard::Replies),
     (Move::Gets(1), Heard::Parts),
-    // A fault empties the queue.
     (Move::Fails, Heard::Replies),
+    // The fault emptied the queue.
     (Move::Gets(1), Heard::Parts),
+    // A fault of a link before this one.
+    (Move::Fails, Heard::Nothing),
 ];
 
 // A core with one host, whose turns tell two workers.
@@ -63,7 +64,7 @@ fn counted(alloc: Global) -> Result<(Counted, Arc<Notices>), Fail> {
     let notices = Arc::new(alloc, Notices::new(alloc, 2)?)?;
     notices.add_client(0, 1, KEYS[0]);
     notices.add_client(1, 0, KEYS[1]);
-    let counted = Counted::new(alloc, core(alloc)?, notices.clone())?;
+    let counted = Counted::new(alloc, core(alloc)?, notices.clone()?)?;
     Ok((counted, notices))
 }
 
@@ -80,7 +81,7 @@ fn word_of(conn: usize) -> Option<ReadyWord> {
 }
 
 // Takes what the workers are to know.
-fn heard(notices: &Notices) -> Heard {
+fn take_news(notices: &Notices) -> Heard {
     let hosts = [notices.take_hosts(0), notices.take_hosts(1)];
     let all = [notices.take_all(0), notices.take_all(1)];
     let words = [notices.take_word(0), notices.take_word(1)];
@@ -101,7 +102,7 @@ fn turns_tell_whom_they_concern(rt: HostRuntime) -> Result<(), Fail> {
     for (place, (it, expected)) in MOVES.iter().enumerate() {
         let event = event(rt.alloc(), *it)?;
         turn(&mut counted, event);
-        if heard(&notices) != *expected {
+        if take_news(&notices) != *expected {
             return Err(place.into());
         }
     }
@@ -110,9 +111,7 @@ fn turns_tell_whom_they_concern(rt: HostRuntime) -> Result<(), Fail> {
 }
 
 #[test]
-fn a_host_is_pressed_by_parts_that_its_worker_has_not_seen(
-    rt: HostRuntime,
-) -> Result<(), Fail> {
+fn a_host_is_pressed_by_parts_that_its_worker_has_not_seen(rt: HostRuntime) -> Result<(), Fail> {
     let (mut counted, notices) = counted(rt.alloc())?;
     turn(&mut counted, Event::Opened);
     for _ in 0..2 {
@@ -120,7 +119,10 @@ fn a_host_is_pressed_by_parts_that_its_worker_has_not_seen(
             assert_eq!(rt; notices.pressed(), 0);
             let event = event(rt.alloc(), Move::Gets(0))?;
             turn(&mut counted, event);
-            assert_eq!(rt; (place, notices.pressed()), (place, u64::from(place == MAX_UNSEEN)));
+            assert_eq!(rt;
+                (place, notices.pressed()),
+                (place, u64::from(place == MAX_UNSEEN))
+            );
         }
         assert!(rt; notices.mark_seen(0, notices.pressed()));
     }
