@@ -84,7 +84,11 @@ impl Teller {
             ≡ length (waiting_parts host (past core.now.setting (history_in core.now))) }
     {
         for host in 0..core.hosts() {
-            let news = self.parts[host].wait(core.waiting(host) as u64);
+            let waiting = core.waiting(host) as u64;
+            if waiting == self.parts[host].waiting {
+                continue;
+            }
+            let news = self.parts[host].wait(waiting);
             if news.begins {
                 self.notices.parts_came(host);
             }

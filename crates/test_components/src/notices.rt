@@ -4,9 +4,12 @@ use proxy_notices::{MAX_KEYS, MAX_WORDS, Notices, ReadyWord};
 use std::sync::Wait;
 use std::test::Fail;
 use std::thread;
+use std::time::Duration;
 
-// The looks after which a taker gives up.
+// The looks after which a taker gives up, and after how many it sleeps for a millisecond.
 const MAX_LOOKS: u32 = 10_000_000;
+
+const LOOKS: u32 = 1_000;
 
 #[test]
 fn a_reply_is_told_to_its_client_alone_and_once(rt: HostRuntime) -> Result<(), Fail> {
@@ -108,9 +111,9 @@ fn clients_are_held_back_until_the_host_s_own_worker_has_looked(
 }
 
 // Takes until each key was taken. False: it gave up before.
-fn takes_all_keys(notices: &Notices) -> bool {
+fn takes_all_keys<R: Wait>(rt: &R, notices: &Notices) -> bool {
     let mut missing = MAX_KEYS as u32;
-    for _ in 0..MAX_LOOKS {
+    for look in 0..MAX_LOOKS {
         if missing == 0 {
             return true;
         }
@@ -118,7 +121,19 @@ fn takes_all_keys(notices: &Notices) -> bool {
             Some(word) if word.index < MAX_WORDS => {
                 missing = missing.saturating_sub(word.bits.count_ones());
             }
+            _ if look % LOOKS == 0 => thread::sleep(rt, Duration::from_millis(1)),
             _ => thread::yield_now(),
+        }
+    }
+    false
+}
+
+// Whether no key is left to be taken. A word can still be marked whose keys were taken before it was.
+fn are_all_taken(notices: &Notices) -> bool {
+    for _ in 0..=MAX_WORDS {
+        match notices.take_word(0) {
+            Some(word) if word.bits == 0 => {}
+            left => return left.is_none(),
         }
     }
     false
@@ -138,10 +153,10 @@ fn no_reply_is_lost_between_two_threads(rt: HostRuntime) -> Result<(), Fail> {
                     notices.reply_came(conn as u64);
                 }
             },
-            || takes_all_keys(&notices),
+            || takes_all_keys(&rt, &notices),
         );
         assert!(rt; takes_all);
-        assert!(rt; !notices.concern(0));
+        assert!(rt; are_all_taken(&notices));
     }
     Ok(())
 }

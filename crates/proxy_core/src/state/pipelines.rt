@@ -120,6 +120,9 @@ impl Pipelines {
         ensures refused { IfErr result (λ r. r ≡ Refusal.NoMemory) }
         ensures same { self.new.states ≡ self.old.states }
     {
+        if parts == 0 {
+            return Ok(());
+        }
         match self.by_host[host].room(parts) {
             Ok(()) => Ok(()),
             Err(_) => Err(Refusal::NoMemory),
