@@ -5,8 +5,8 @@ use Rattle.limits.specs.declared.journals.TheConstants.{MAX_BYTES}
 use Rattle.limits.specs.declared.journals.TheConstants.{MAX_REPLY_BYTES}
 use Rattle.proxy_generations.specs.declared.payload.TheConstants.{MAX_READ_BYTES, MAX_ERROR_BYTES, FAR_BYTES, FAR_STEPS, FIRST_STEPS}
 
--- bytes of payload in the journal, bytes of hosts' replies that came, bytes handed out to clients, the steps that have payload,
--- and the average of the generation before
+-- bytes of payload in the journal, bytes of replies that came, with those of the proxy itself, bytes handed out to clients, the
+-- steps that have payload, and the average of the generation before
 pub record PayloadState : Type 0 where
   pub used : ℕ
   pub came : ℕ

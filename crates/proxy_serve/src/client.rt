@@ -392,6 +392,13 @@ impl Client {
         self.unanswered > 0
     }
 
+    /// Whether it waits for replies, and all that was handed out to it is written.
+    pub(crate) fn may_be_answered(&self) -> bool {
+        self.awaits_reply()
+            && matches!(self.stage, SocketStage::Served)
+            && !self.engine.writer().has_buffered()
+    }
+
     /// Whether the last round ended before all was done.
     pub(crate) fn has_more(&self) -> bool {
         self.has_more

@@ -2,7 +2,7 @@
 ghost use Rattle.std.specs.Prelude.{◌≡◌};
 
 use crate::ledger::Ledger;
-use proxy_core::{Answer, CoreTurns, Event, Refusal};
+use proxy_core::{Answer, CoreTurns, Event, Local, Refusal};
 use proxy_generations::{FAR_BYTES, FAR_STEPS, Loan, Payload, StepKind};
 use proxy_stats::CountedSeat;
 use std::mem;
@@ -11,6 +11,20 @@ use ticket_gate::{TurnRefusal, Turns};
 
 // The steps of a command of one part. Payload is averaged over replies, so that failed parts don't lower the average.
 const STEPS_A_REPLY: u64 = 4;
+
+// The most bytes of the proxy's own answers: of PONG and OK, and of an error for a whole command.
+const MAX_OWN_WORD: u64 = 8;
+
+const MAX_OWN_ERROR: u64 = 96;
+
+// The most bytes of the proxy's own answer to a command of this many bytes.
+fn own_answer_bytes(local: Local, command: u64) -> u64 {
+    match local {
+        Local::Echoed => command,
+        Local::Pong | Local::Bye => MAX_OWN_WORD,
+        Local::Invalid | Local::Unsupported | Local::WrongNumber | Local::Broken => MAX_OWN_ERROR,
+    }
+}
 
 /// What happened since the counts were last taken.
 #[derive(Clone, Copy, Drop)]
@@ -53,8 +67,8 @@ impl TurnCounts {
     }
 }
 
-/// Payload bytes of some steps: bytes kept in all, of hosts' replies, and handed out to clients; and the number of
-/// steps that the average is taken over.
+/// Payload bytes of some steps: bytes kept in all, of replies that came and answers of the proxy's own, and handed out to
+/// clients; and the number of steps that the average is taken over.
 #[derive(Clone, Copy, Drop)]
 struct PayloadCounts {
     kept: u64,
@@ -76,6 +90,12 @@ impl PayloadCounts {
     #[inline(always)]
     fn keep(&mut self, count: u64) {
         self.kept = self.kept.saturating_add(count);
+    }
+
+    // Adds to the bytes of replies.
+    #[inline(always)]
+    fn come(&mut self, count: u64) {
+        self.came = self.came.saturating_add(count);
     }
 
     // Adds them to the payload.
@@ -142,6 +162,7 @@ impl Account {
     fn note(&mut self, brought: u64, answer: &Answer) {
         match answer {
             Answer::Accepted {
+                local,
                 parts,
                 no_host,
                 busy,
@@ -150,6 +171,9 @@ impl Account {
                 let parts = parts.saturating_sub(*no_host).saturating_sub(*busy);
                 self.step(StepKind::Accepted { parts });
                 self.bytes.keep(brought);
+                if let Some(local) = local {
+                    self.bytes.come(own_answer_bytes(*local, brought));
+                }
             }
             Answer::Sent { text, .. } => {
                 self.step(StepKind::Sent);
@@ -158,7 +182,7 @@ impl Account {
             Answer::Matched { .. } => {
                 self.step(StepKind::Matched);
                 self.bytes.keep(brought);
-                self.bytes.came = self.bytes.came.saturating_add(brought);
+                self.bytes.come(brought);
                 self.bytes.steps = self.bytes.steps.saturating_add(STEPS_A_REPLY);
             }
             Answer::Bytes { text } => {

@@ -34,8 +34,10 @@ const PAUSE_MS: u64 = 10;
 // All clients are looked at again after this many milliseconds at the latest.
 const LOOK_MS: u64 = 100;
 
-// The most rounds before the last sockets of a generation are closed.
-const MAX_LAST_ROUNDS: u32 = 16;
+// The most rounds before the last sockets of a generation are closed, and the most milliseconds between two of them.
+const MAX_LAST_ROUNDS: u32 = 128;
+
+const LAST_PAUSE_MS: u64 = 1;
 
 // The milliseconds until the next try after one without memory.
 const NO_MEMORY_MS: u64 = 1;
@@ -233,7 +235,7 @@ impl<'a> Worker<'a> {
         self.settle(rt);
         for _ in rt.forever() {
             if !self.follow_phase() {
-                return self.finish(rt);
+                return self.finish(rt, &mut events);
             }
             self.wait(&mut events, pause)?;
             self.on_readiness(&events);
@@ -271,14 +273,26 @@ impl<'a> Worker<'a> {
         }
     }
 
-    // Answers what it still can, and hands sockets over, before it closes the others.
-    fn finish<R: Wait + Net + Clock + Eprint>(&mut self, rt: &R) -> Result<(), Stop> {
+    // Answers what it still can, and hands sockets over, before it closes the others. It makes rounds while a client may be
+    // answered: other workers give up their hosts' parts at the same time.
+    fn finish<R: Wait + Net + Clock + Eprint>(
+        &mut self,
+        rt: &R,
+        events: &mut Events,
+    ) -> Result<(), Stop> {
         self.drain();
         self.gives_up = true;
         for _ in 0..MAX_LAST_ROUNDS {
-            if !self.generation.server().runs() || !self.run_once(rt)? {
+            if !self.generation.server().runs() {
                 break;
             }
+            let moves = self.run_once(rt)?;
+            if !moves && !self.connections.may_be_answered() {
+                break;
+            }
+            let pause = self.pause(moves).min(LAST_PAUSE_MS);
+            self.wait(events, pause)?;
+            self.on_readiness(events);
         }
         Ok(())
     }
@@ -384,7 +398,7 @@ impl<'a> Worker<'a> {
     // Whether there is something to hear, or clients needn't be held back any more.
     fn has_news(&self) -> bool {
         self.generation.notices().concern(self.index)
-            || (self.is_held_back && !self.generation.must_hold_back())
+            || (self.is_held_back && !self.must_hold_back())
     }
 
     // Gives each event of the poll to its host or client.
@@ -704,9 +718,9 @@ impl<'a> Worker<'a> {
             let Some(key) = self.connections.next_ready(from, end) else {
                 break;
             };
-            if self.generation.must_hold_back() {
+            if self.must_hold_back() {
                 moves = self.step_hosts(rt, now)? || moves;
-                if self.generation.must_hold_back() {
+                if self.must_hold_back() {
                     self.hold_back(key);
                     return Ok(true);
                 }
@@ -716,6 +730,11 @@ impl<'a> Worker<'a> {
             from = key.saturating_add(1);
         }
         Ok(moves)
+    }
+
+    // Whether clients must wait until other workers have looked at their hosts. Those that take nothing in needn't.
+    fn must_hold_back(&self) -> bool {
+        !self.is_draining && self.generation.must_hold_back()
     }
 
     // Holds clients back from this one on: other workers must look at their parts first.

@@ -197,6 +197,11 @@ impl<'a> WorkerConnections<'a> {
         self.ready.next(0).is_some()
     }
 
+    /// Whether a client waits for replies, and all that was handed out to it is written.
+    pub(crate) fn may_be_answered(&self) -> bool {
+        may_any_be_answered(&self.clients)
+    }
+
     /// Makes all clients ready.
     pub(crate) fn make_all_ready(&mut self)
         ensures { self.new ≡ self.old }
@@ -387,7 +392,7 @@ impl<'a> WorkerConnections<'a> {
         let Some(host) = self.hosts.get_mut(index) else {
             return None;
         };
-        if !is_stirred && !host.may_go(round.now) {
+        if !is_stirred && !round.gives_up && !host.may_go(round.now) {
             return None;
         }
         self.stirred &= !bit;
@@ -474,6 +479,18 @@ impl<'a> WorkerConnections<'a> {
         carried.shut_down(&mut self.buffer);
         drop(carried);
     }
+}
+
+// Whether one of these clients waits for replies, and all that was handed out to it is written.
+fn may_any_be_answered(clients: &Slab<Client>) -> bool {
+    for key in 0..clients.capacity() {
+        if let Some(client) = clients.get(key) {
+            if client.may_be_answered() {
+                return true;
+            }
+        }
+    }
+    false
 }
 
 // Makes the clients of a worker ready to which replies came.

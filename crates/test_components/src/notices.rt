@@ -1,6 +1,7 @@
 //! What turns tell workers: each worker hears of its own hosts and clients, and of nothing twice or never.
 
 use proxy_notices::{MAX_KEYS, MAX_WORDS, Notices, ReadyWord};
+use std::rt::Clock;
 use std::sync::Wait;
 use std::test::Fail;
 use std::thread;
@@ -111,7 +112,7 @@ fn clients_are_held_back_until_the_host_s_own_worker_has_looked(
 }
 
 // Takes until each key was taken. False: it gave up before.
-fn takes_all_keys<R: Wait>(rt: &R, notices: &Notices) -> bool {
+fn takes_all_keys<R: Wait + Clock>(rt: &R, notices: &Notices) -> bool {
     let mut missing = MAX_KEYS as u32;
     for look in 0..MAX_LOOKS {
         if missing == 0 {

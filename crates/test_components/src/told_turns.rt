@@ -74,9 +74,10 @@ fn turn(counted: &mut Counted, event: Event) {
 
 // The word of the connection's key.
 fn word_of(conn: usize) -> Option<ReadyWord> {
+    let key = *KEYS.get(conn)?;
     Some(ReadyWord {
-        index: KEYS[conn] / 64,
-        bits: 1 << (KEYS[conn] % 64),
+        index: key / 64,
+        bits: 1 << (key % 64),
     })
 }
 
