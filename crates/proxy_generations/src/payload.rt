@@ -70,7 +70,8 @@ impl Payload {
     }
 
     /// Adds a worker's report since its last one: payload bytes in the journal, bytes of replies that came, with those
-    /// of the proxy itself, bytes handed out to clients, and the steps of the average. Each sum stays at the greatest `u64` where it would pass it.
+    /// of the proxy itself, bytes handed out to clients, and the steps of the average. Each sum stays at the greatest
+    /// `u64` where it would pass it.
     pub fn note(&mut self, used: u64, came: u64, handed: u64, steps: u64)
         ensures used { self.new.used ≡ capped (self.old.used + used) }
         ensures came { self.new.came ≡ capped (self.old.came + came) }

@@ -396,7 +396,7 @@ impl Client {
     pub(crate) fn may_be_answered(&self) -> bool {
         self.awaits_reply()
             && matches!(self.stage, SocketStage::Served)
-            && !self.engine.writer().has_buffered()
+            && !self.engine.writer().is_behind()
     }
 
     /// Whether the last round ended before all was done.

@@ -111,6 +111,14 @@ impl<S: Write> SocketWriter<S> {
         !self.output.is_empty()
     }
 
+    /// Whether bytes are buffered, or the rest of a text that the socket took in part waits.
+    pub fn is_behind(&self) -> bool
+        ensures { result ≡ (self.now.is_short
+            || not (length self.now.output.buffered == 0)) }
+    {
+        self.is_short || self.has_buffered()
+    }
+
     /// Whether the socket may take buffered bytes, or the rest of a text that it took in part.
     pub fn may_write(&self) -> bool
         ensures { result ≡ (self.now.is_writable_again || may_write self.now.output) }
