@@ -81,8 +81,9 @@ class Dropped(Redis):
     def __init__(self, seed):
         """Makes the namespaces, the wire and the server."""
         self.keeper = start_apart(["sleep", "infinity"], stdin=subprocess.DEVNULL)
-        self.wire = start_apart([sys.executable, os.path.join(TOP, "tests", "lib", "soak_drops.py"), str(seed)], stdin=subprocess.PIPE,
-                                stdout=subprocess.PIPE, text=True)
+        # (a wire waits for no processor, however many programs want one)
+        words = ["nice", "-n", "-20", sys.executable, os.path.join(TOP, "tests", "lib", "soak_drops.py"), str(seed)]
+        self.wire = start_apart(words, stdin=subprocess.PIPE, stdout=subprocess.PIPE, text=True)
         self.connect()
         assert self.wire.stdout.readline() == "passes\n", "the wire passes nothing on"
         super().__init__(PORT)
