@@ -1,6 +1,5 @@
 //! The speed of reading values from a stream.
 
-use crate::timing::micros;
 use anyhow::Result;
 use resp_core::{Limits, Reader, RespError};
 use std::alloc::Global;
@@ -168,4 +167,12 @@ fn time_copied<R: Clock>(rt: &R, alloc: Global, bytes: &[u8], piece: usize) -> R
 
 fn bytes_a_second(bytes: usize, elapsed: Duration) -> u64 {
     (bytes as u64).saturating_mul(1_000_000) / micros(elapsed).max(1)
+}
+
+// The microseconds of a duration.
+fn micros(elapsed: Duration) -> u64 {
+    elapsed
+        .as_secs()
+        .saturating_mul(1_000_000)
+        .saturating_add(u64::from(elapsed.subsec_micros()))
 }

@@ -1,10 +1,12 @@
 //! What turns tell workers: each worker hears of its own hosts and clients, and of nothing twice or never.
 
 use proxy_notices::{MAX_KEYS, MAX_WORDS, Notices, ReadyWord};
+use std::alloc::Global;
 use std::rt::Clock;
 use std::sync::Wait;
 use std::test::Fail;
 use std::thread;
+use std::thread::Threads;
 use std::time::Duration;
 
 // The looks after which a taker gives up, and after how many it sleeps for a millisecond.
@@ -12,103 +14,175 @@ const MAX_LOOKS: u32 = 10_000_000;
 
 const LOOKS: u32 = 1_000;
 
+// What is told, and what a worker then takes or asks, with the answer that is due.
+#[derive(Clone, Copy)]
+enum Act {
+    // The connection has a client of this worker, under this key.
+    Adds(u64, usize, usize),
+    Removes(u64, usize, usize),
+    // A reply came for the connection.
+    Replies(u64),
+    // Parts came for the host.
+    Parts(usize),
+    Presses(usize),
+    // The worker takes all that it is told of replies: of any client, or the word of this index with these bits.
+    TakesAll(usize, bool),
+    TakesWord(usize, Option<(usize, u64)>),
+    // The worker takes the hosts for which parts came.
+    TakesHosts(usize, u64),
+    // Whether the worker has anything to take.
+    Concerns(usize, bool),
+    // The hosts that are pressed, and whether any of them is the worker's.
+    Pressed(u64),
+    HasPressed(usize, bool),
+    // The worker has seen these hosts. Whether a pressed one is among them.
+    Sees(usize, u64, bool),
+}
+
+const TOLD_ONCE: &[Act] = &[
+    Act::Adds(7, 1, 70),
+    Act::Concerns(1, false),
+    Act::Replies(7),
+    Act::Replies(7),
+    Act::Concerns(1, true),
+    Act::Concerns(0, false),
+    Act::Concerns(2, false),
+    Act::TakesWord(1, Some((1, 1 << 6))),
+    Act::TakesWord(1, None),
+    Act::TakesAll(1, false),
+    Act::Concerns(1, false),
+];
+
+const SHARED_SLOT: &[Act] = &[
+    Act::Adds(5, 0, 1),
+    Act::Adds(5 + MAX_KEYS as u64, 1, 2),
+    Act::Replies(5),
+    Act::TakesAll(0, true),
+    Act::TakesAll(1, true),
+    Act::TakesAll(0, false),
+    Act::Concerns(1, false),
+    // The slot is another's still, so it doesn't become free.
+    Act::Removes(5, 0, 1),
+    Act::Replies(5 + MAX_KEYS as u64),
+    Act::TakesAll(1, true),
+];
+
+const FREE_SLOT: &[Act] = &[
+    Act::Adds(5, 0, 1),
+    Act::Removes(5, 0, 1),
+    Act::Adds(5 + MAX_KEYS as u64, 1, 64),
+    Act::Replies(5 + MAX_KEYS as u64),
+    Act::Concerns(0, false),
+    Act::TakesWord(1, Some((1, 1))),
+];
+
+const WITHOUT_CODE: &[Act] = &[
+    Act::Adds(1, 0, MAX_KEYS),
+    Act::Replies(1),
+    Act::TakesAll(0, true),
+    Act::TakesAll(1, true),
+    Act::Replies(2),
+    Act::TakesAll(0, true),
+    Act::TakesAll(1, true),
+    Act::Adds(3, 9, 1),
+    Act::Replies(3),
+    Act::TakesAll(0, true),
+    Act::TakesAll(1, true),
+];
+
+const HOSTS_OF_WORKERS: &[Act] = &[
+    Act::Parts(0),
+    Act::Parts(4),
+    Act::Parts(5),
+    Act::Parts(63),
+    Act::TakesHosts(0, 1 | 1 << 63),
+    Act::TakesHosts(1, 1 << 4),
+    Act::TakesHosts(2, 1 << 5),
+    Act::TakesHosts(0, 0),
+];
+
+const HELD_BACK: &[Act] = &[
+    Act::Presses(4),
+    Act::Presses(5),
+    Act::Pressed(1 << 4 | 1 << 5),
+    Act::HasPressed(1, true),
+    Act::HasPressed(2, true),
+    Act::HasPressed(0, false),
+    Act::Sees(0, u64::MAX, false),
+    Act::Pressed(1 << 4 | 1 << 5),
+    Act::Sees(1, u64::MAX, true),
+    Act::Sees(1, u64::MAX, false),
+    Act::Pressed(1 << 5),
+    // A host that was pressed after the worker looked stays so.
+    Act::Sees(2, 1 << 4, false),
+    Act::Pressed(1 << 5),
+];
+
+// Makes an act. False: another answer was due.
+fn is_right(notices: &Notices, act: Act) -> bool {
+    match act {
+        Act::Adds(conn, worker, key) => notices.add_client(conn, worker, key),
+        Act::Removes(conn, worker, key) => notices.remove_client(conn, worker, key),
+        Act::Replies(conn) => notices.reply_came(conn),
+        Act::Parts(host) => notices.parts_came(host),
+        Act::Presses(host) => notices.press(host),
+        Act::TakesAll(worker, due) => return notices.take_all(worker) == due,
+        Act::TakesWord(worker, due) => {
+            let due = due.map(|(index, bits)| ReadyWord { index, bits });
+            return notices.take_word(worker) == due;
+        }
+        Act::TakesHosts(worker, due) => return notices.take_hosts(worker) == due,
+        Act::Concerns(worker, due) => return notices.concern(worker) == due,
+        Act::Pressed(due) => return notices.pressed() == due,
+        Act::HasPressed(worker, due) => {
+            return notices.has_any_of(worker, notices.pressed()) == due;
+        }
+        Act::Sees(worker, hosts, due) => return notices.mark_seen(worker, hosts) == due,
+    }
+    true
+}
+
+// Plays the acts for this many workers. A failure names the index of the act.
+fn play(alloc: Global, workers: usize, acts: &[Act]) -> Result<(), Fail> {
+    let notices = Notices::new(alloc, workers)?;
+    for (place, act) in acts.iter().enumerate() {
+        if !is_right(&notices, *act) {
+            return Err(place.into());
+        }
+    }
+    Ok(())
+}
+
 #[test]
 fn a_reply_is_told_to_its_client_alone_and_once(rt: HostRuntime) -> Result<(), Fail> {
-    let notices = Notices::new(rt.alloc(), 3)?;
-    notices.add_client(7, 1, 70);
-    assert!(rt; !notices.concern(1));
-    notices.reply_came(7);
-    notices.reply_came(7);
-    assert!(rt; notices.concern(1));
-    assert!(rt; !notices.concern(0) && !notices.concern(2));
-    assert_eq!(rt;
-        notices.take_word(1),
-        Some(ReadyWord {
-            index: 1,
-            bits: 1 << 6
-        })
-    );
-    assert_eq!(rt; notices.take_word(1), None);
-    assert!(rt; !notices.take_all(1));
-    assert!(rt; !notices.concern(1));
-    Ok(())
+    play(rt.alloc(), 3, TOLD_ONCE)
 }
 
 #[test]
 fn connections_that_share_a_slot_are_told_to_all(rt: HostRuntime) -> Result<(), Fail> {
-    let notices = Notices::new(rt.alloc(), 2)?;
-    notices.add_client(5, 0, 1);
-    notices.add_client(5 + MAX_KEYS as u64, 1, 2);
-    notices.reply_came(5);
-    assert!(rt; notices.take_all(0) && notices.take_all(1));
-    assert!(rt; !notices.take_all(0) && !notices.concern(1));
-    // The slot is another's still, so it doesn't become free.
-    notices.remove_client(5, 0, 1);
-    notices.reply_came(5 + MAX_KEYS as u64);
-    assert!(rt; notices.take_all(1));
-    Ok(())
+    play(rt.alloc(), 2, SHARED_SLOT)
 }
 
 #[test]
 fn a_slot_is_free_once_its_client_is_gone(rt: HostRuntime) -> Result<(), Fail> {
-    let notices = Notices::new(rt.alloc(), 2)?;
-    notices.add_client(5, 0, 1);
-    notices.remove_client(5, 0, 1);
-    notices.add_client(5 + MAX_KEYS as u64, 1, 64);
-    notices.reply_came(5 + MAX_KEYS as u64);
-    assert!(rt; !notices.concern(0));
-    assert_eq!(rt; notices.take_word(1), Some(ReadyWord { index: 1, bits: 1 }));
-    Ok(())
+    play(rt.alloc(), 2, FREE_SLOT)
 }
 
 #[test]
 fn a_key_or_connection_without_a_code_is_told_to_all(rt: HostRuntime) -> Result<(), Fail> {
-    let notices = Notices::new(rt.alloc(), 2)?;
-    notices.add_client(1, 0, MAX_KEYS);
-    notices.reply_came(1);
-    assert!(rt; notices.take_all(0) && notices.take_all(1));
-    notices.reply_came(2);
-    assert!(rt; notices.take_all(0) && notices.take_all(1));
-    notices.add_client(3, 9, 1);
-    notices.reply_came(3);
-    assert!(rt; notices.take_all(0) && notices.take_all(1));
-    Ok(())
+    play(rt.alloc(), 2, WITHOUT_CODE)
 }
 
 #[test]
 fn parts_are_told_to_the_worker_of_their_host(rt: HostRuntime) -> Result<(), Fail> {
-    let notices = Notices::new(rt.alloc(), 3)?;
-    for host in [0, 4, 5, 63] {
-        notices.parts_came(host);
-    }
-    assert_eq!(rt; notices.take_hosts(0), 1 | 1 << 63);
-    assert_eq!(rt; notices.take_hosts(1), 1 << 4);
-    assert_eq!(rt; notices.take_hosts(2), 1 << 5);
-    assert_eq!(rt; notices.take_hosts(0), 0);
-    Ok(())
+    play(rt.alloc(), 3, HOSTS_OF_WORKERS)
 }
 
 #[test]
 fn clients_are_held_back_until_the_host_s_own_worker_has_looked(
     rt: HostRuntime,
 ) -> Result<(), Fail> {
-    let notices = Notices::new(rt.alloc(), 3)?;
-    notices.press(4);
-    notices.press(5);
-    assert_eq!(rt; notices.pressed(), 1 << 4 | 1 << 5);
-    assert!(rt;
-        notices.has_any_of(1, notices.pressed()) && notices.has_any_of(2, notices.pressed())
-    );
-    assert!(rt; !notices.has_any_of(0, notices.pressed()));
-    assert!(rt; !notices.mark_seen(0, u64::MAX));
-    assert_eq!(rt; notices.pressed(), 1 << 4 | 1 << 5);
-    assert!(rt; notices.mark_seen(1, u64::MAX));
-    assert!(rt; !notices.mark_seen(1, u64::MAX));
-    assert_eq!(rt; notices.pressed(), 1 << 5);
-    // A host that was pressed after the worker looked stays so.
-    assert!(rt; !notices.mark_seen(2, 1 << 4));
-    assert_eq!(rt; notices.pressed(), 1 << 5);
-    Ok(())
+    play(rt.alloc(), 3, HELD_BACK)
 }
 
 // Takes until each key was taken. False: it gave up before.
@@ -140,24 +214,30 @@ fn are_all_taken(notices: &Notices) -> bool {
     false
 }
 
+// Replies for all keys come in one thread while another takes them. Whether each was taken, and none is left.
+fn are_taken_beside<R: Threads + Wait + Clock + Sync>(rt: &R, notices: &Notices) -> bool {
+    let ((), takes_all) = thread::join(
+        rt,
+        || {
+            for conn in 0..MAX_KEYS {
+                notices.reply_came(conn as u64);
+            }
+        },
+        || takes_all_keys(rt, notices),
+    );
+    takes_all && are_all_taken(notices)
+}
+
 #[test]
 fn no_reply_is_lost_between_two_threads(rt: HostRuntime) -> Result<(), Fail> {
     let notices = Notices::new(rt.alloc(), 1)?;
     for key in 0..MAX_KEYS {
         notices.add_client(key as u64, 0, key);
     }
-    for _ in 0..20 {
-        let ((), takes_all) = thread::join(
-            &rt,
-            || {
-                for conn in 0..MAX_KEYS {
-                    notices.reply_came(conn as u64);
-                }
-            },
-            || takes_all_keys(&rt, &notices),
-        );
-        assert!(rt; takes_all);
-        assert!(rt; are_all_taken(&notices));
+    for time in 0..20usize {
+        if !are_taken_beside(&rt, &notices) {
+            return Err(time.into());
+        }
     }
     Ok(())
 }

@@ -111,31 +111,45 @@ fn turns_tell_whom_they_concern(rt: HostRuntime) -> Result<(), Fail> {
     Ok(())
 }
 
+// The client of connection 0 asks this many times. Then these hosts are pressed.
+fn pressed_after(
+    alloc: Global,
+    counted: &mut Counted,
+    notices: &Notices,
+    times: u64,
+) -> Result<u64, Fail> {
+    for _ in 0..times {
+        let event = event(alloc, Move::Gets(0))?;
+        turn(counted, event);
+    }
+    Ok(notices.pressed())
+}
+
+// The hosts that are pressed one part before its worker has too many of the only host unseen, and at that part; and
+// whether the worker's look is the one that ends this.
+fn pressed_once(
+    alloc: Global,
+    counted: &mut Counted,
+    notices: &Notices,
+) -> Result<(u64, u64, bool), Fail> {
+    let before = pressed_after(alloc, counted, notices, MAX_UNSEEN - 1)?;
+    let at = pressed_after(alloc, counted, notices, 1)?;
+    Ok((before, at, notices.mark_seen(0, at)))
+}
+
 #[test]
 fn a_host_is_pressed_by_parts_that_its_worker_has_not_seen(rt: HostRuntime) -> Result<(), Fail> {
-    let (mut counted, notices) = counted(rt.alloc())?;
+    let alloc = rt.alloc();
+    let (mut counted, notices) = counted(alloc)?;
     turn(&mut counted, Event::Opened);
-    for _ in 0..2 {
-        for place in 1..=MAX_UNSEEN {
-            assert_eq!(rt; notices.pressed(), 0);
-            let event = event(rt.alloc(), Move::Gets(0))?;
-            turn(&mut counted, event);
-            assert_eq!(rt;
-                (place, notices.pressed()),
-                (place, u64::from(place == MAX_UNSEEN))
-            );
-        }
-        assert!(rt; notices.mark_seen(0, notices.pressed()));
-    }
+    let first = pressed_once(alloc, &mut counted, &notices)?;
+    let second = pressed_once(alloc, &mut counted, &notices)?;
+    pressed_after(alloc, &mut counted, &notices, MAX_UNSEEN - 1)?;
     // A part that its worker takes shows that it looks.
-    for _ in 1..MAX_UNSEEN {
-        let event = event(rt.alloc(), Move::Gets(0))?;
-        turn(&mut counted, event);
-    }
     turn(&mut counted, Event::Taken { host: 0 });
-    let event = event(rt.alloc(), Move::Gets(0))?;
-    turn(&mut counted, event);
-    assert_eq!(rt; notices.pressed(), 0);
+    let after = pressed_after(alloc, &mut counted, &notices, 1)?;
     drop(counted);
+    drop(notices);
+    assert!(rt; (first, second, after) == ((0, 1, true), (0, 1, true), 0));
     Ok(())
 }
