@@ -17,9 +17,17 @@ const LOOKS: u32 = 1_000;
 // What is told, and what a worker then takes or asks, with the answer that is due.
 #[derive(Clone, Copy)]
 enum Act {
-    // The connection has a client of this worker, under this key.
-    Adds(u64, usize, usize),
-    Removes(u64, usize, usize),
+    // The connection's client is this worker's, under this key.
+    Adds {
+        conn: u64,
+        worker: usize,
+        key: usize,
+    },
+    Removes {
+        conn: u64,
+        worker: usize,
+        key: usize,
+    },
     // A reply came for the connection.
     Replies(u64),
     // Parts came for the host.
@@ -35,12 +43,20 @@ enum Act {
     // The hosts that are pressed, and whether any of them is the worker's.
     Pressed(u64),
     HasPressed(usize, bool),
-    // The worker has seen these hosts. Whether a pressed one is among them.
-    Sees(usize, u64, bool),
+    // The worker has seen these hosts. Whether a pressed one of its own is among them.
+    Sees {
+        worker: usize,
+        hosts: u64,
+        any: bool,
+    },
 }
 
 const TOLD_ONCE: &[Act] = &[
-    Act::Adds(7, 1, 70),
+    Act::Adds {
+        conn: 7,
+        worker: 1,
+        key: 70,
+    },
     Act::Concerns(1, false),
     Act::Replies(7),
     Act::Replies(7),
@@ -54,37 +70,69 @@ const TOLD_ONCE: &[Act] = &[
 ];
 
 const SHARED_SLOT: &[Act] = &[
-    Act::Adds(5, 0, 1),
-    Act::Adds(5 + MAX_KEYS as u64, 1, 2),
+    Act::Adds {
+        conn: 5,
+        worker: 0,
+        key: 1,
+    },
+    Act::Adds {
+        conn: 5 + MAX_KEYS as u64,
+        worker: 1,
+        key: 2,
+    },
     Act::Replies(5),
     Act::TakesAll(0, true),
     Act::TakesAll(1, true),
     Act::TakesAll(0, false),
     Act::Concerns(1, false),
     // The slot is another's still, so it doesn't become free.
-    Act::Removes(5, 0, 1),
+    Act::Removes {
+        conn: 5,
+        worker: 0,
+        key: 1,
+    },
     Act::Replies(5 + MAX_KEYS as u64),
     Act::TakesAll(1, true),
 ];
 
 const FREE_SLOT: &[Act] = &[
-    Act::Adds(5, 0, 1),
-    Act::Removes(5, 0, 1),
-    Act::Adds(5 + MAX_KEYS as u64, 1, 64),
+    Act::Adds {
+        conn: 5,
+        worker: 0,
+        key: 1,
+    },
+    Act::Removes {
+        conn: 5,
+        worker: 0,
+        key: 1,
+    },
+    Act::Adds {
+        conn: 5 + MAX_KEYS as u64,
+        worker: 1,
+        key: 64,
+    },
     Act::Replies(5 + MAX_KEYS as u64),
     Act::Concerns(0, false),
     Act::TakesWord(1, Some((1, 1))),
 ];
 
 const WITHOUT_CODE: &[Act] = &[
-    Act::Adds(1, 0, MAX_KEYS),
+    Act::Adds {
+        conn: 1,
+        worker: 0,
+        key: MAX_KEYS,
+    },
     Act::Replies(1),
     Act::TakesAll(0, true),
     Act::TakesAll(1, true),
     Act::Replies(2),
     Act::TakesAll(0, true),
     Act::TakesAll(1, true),
-    Act::Adds(3, 9, 1),
+    Act::Adds {
+        conn: 3,
+        worker: 9,
+        key: 1,
+    },
     Act::Replies(3),
     Act::TakesAll(0, true),
     Act::TakesAll(1, true),
@@ -108,21 +156,37 @@ const HELD_BACK: &[Act] = &[
     Act::HasPressed(1, true),
     Act::HasPressed(2, true),
     Act::HasPressed(0, false),
-    Act::Sees(0, u64::MAX, false),
+    Act::Sees {
+        worker: 0,
+        hosts: u64::MAX,
+        any: false,
+    },
     Act::Pressed(1 << 4 | 1 << 5),
-    Act::Sees(1, u64::MAX, true),
-    Act::Sees(1, u64::MAX, false),
+    Act::Sees {
+        worker: 1,
+        hosts: u64::MAX,
+        any: true,
+    },
+    Act::Sees {
+        worker: 1,
+        hosts: u64::MAX,
+        any: false,
+    },
     Act::Pressed(1 << 5),
     // A host that was pressed after the worker looked stays so.
-    Act::Sees(2, 1 << 4, false),
+    Act::Sees {
+        worker: 2,
+        hosts: 1 << 4,
+        any: false,
+    },
     Act::Pressed(1 << 5),
 ];
 
 // Makes an act. False: another answer was due.
 fn is_right(notices: &Notices, act: Act) -> bool {
     match act {
-        Act::Adds(conn, worker, key) => notices.add_client(conn, worker, key),
-        Act::Removes(conn, worker, key) => notices.remove_client(conn, worker, key),
+        Act::Adds { conn, worker, key } => notices.add_client(conn, worker, key),
+        Act::Removes { conn, worker, key } => notices.remove_client(conn, worker, key),
         Act::Replies(conn) => notices.reply_came(conn),
         Act::Parts(host) => notices.parts_came(host),
         Act::Presses(host) => notices.press(host),
@@ -137,7 +201,7 @@ fn is_right(notices: &Notices, act: Act) -> bool {
         Act::HasPressed(worker, due) => {
             return notices.has_any_of(worker, notices.pressed()) == due;
         }
-        Act::Sees(worker, hosts, due) => return notices.mark_seen(worker, hosts) == due,
+        Act::Sees { worker, hosts, any } => return notices.mark_seen(worker, hosts) == any,
     }
     true
 }

@@ -125,16 +125,32 @@ fn pressed_after(
     Ok(notices.pressed())
 }
 
-// The hosts that are pressed one part before its worker has too many of the only host unseen, and at that part; and
-// whether the worker's look is the one that ends this.
-fn pressed_once(
-    alloc: Global,
-    counted: &mut Counted,
-    notices: &Notices,
-) -> Result<(u64, u64, bool), Fail> {
+// The hosts that are pressed.
+#[derive(Clone, Copy, PartialEq, Eq, Drop)]
+struct Pressed {
+    // One part before the host's worker has too many unseen, and at that part.
+    before: u64,
+    at: u64,
+    // Whether the worker's look changes it.
+    until_seen: bool,
+}
+
+const PRESSED: Pressed = Pressed {
+    before: 0,
+    at: 1,
+    until_seen: true,
+};
+
+// The client of connection 0 asks until the only host is pressed, and its worker looks.
+fn pressed_once(alloc: Global, counted: &mut Counted, notices: &Notices) -> Result<Pressed, Fail> {
     let before = pressed_after(alloc, counted, notices, MAX_UNSEEN - 1)?;
     let at = pressed_after(alloc, counted, notices, 1)?;
-    Ok((before, at, notices.mark_seen(0, at)))
+    let until_seen = notices.mark_seen(0, at);
+    Ok(Pressed {
+        before,
+        at,
+        until_seen,
+    })
 }
 
 #[test]
@@ -150,6 +166,7 @@ fn a_host_is_pressed_by_parts_that_its_worker_has_not_seen(rt: HostRuntime) -> R
     let after = pressed_after(alloc, &mut counted, &notices, 1)?;
     drop(counted);
     drop(notices);
-    assert!(rt; (first, second, after) == ((0, 1, true), (0, 1, true), 0));
+    assert!(rt; [first, second] == [PRESSED; 2]);
+    assert!(rt; after == 0);
     Ok(())
 }
