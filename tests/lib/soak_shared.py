@@ -61,6 +61,8 @@ class Program:
     def __init__(self, run, name, *words, python=sys.executable):
         """Starts a script of this folder."""
         self.run, self.name, self.reports, self.changed = run, name, {}, threading.Condition()
+        # The last word that it goes by, and whether it may tell more.
+        self.word, self.tells = None, True
         with STARTING:
             self.process = subprocess.Popen([python, os.path.join(TOP, "tests", "lib", name), *map(str, words)], text=True,
                                             stdin=subprocess.PIPE, stdout=subprocess.PIPE)
@@ -73,17 +75,27 @@ class Program:
             told = json.loads(line)
             if "wrong" in told:
                 self.run.tell_wrong(f"{self.name}: {told['wrong']}")
-            else:
-                with self.changed:
+                continue
+            with self.changed:
+                if "goes_by" in told:
+                    self.word = told["goes_by"]
+                else:
                     self.reports[told["at"]] = Counter(told["counts"])
-                    self.changed.notify_all()
+                self.changed.notify_all()
+        with self.changed:
+            self.tells = False
+            self.changed.notify_all()
 
     def say(self, word):
-        """Gives it a word."""
+        """Gives it a word, and waits until it goes by that: what follows may be right by this word alone."""
         try:
             print(word, file=self.process.stdin, flush=True)
         except BrokenPipeError:
             self.run.tell_wrong(f"{self.name} ended with status {self.process.wait()}")
+            return
+        with self.changed:
+            if not self.changed.wait_for(lambda: self.word == word or not self.tells, WAIT):
+                self.run.tell_wrong(f"{self.name} doesn't go by '{word}' within {WAIT} s")
 
     def counts_at(self, word):
         """Its counts at a word."""
@@ -115,6 +127,7 @@ class Led:
         for line in sys.stdin:
             with self.changed:
                 self.word = line.strip()
+                print(json.dumps({"goes_by": self.word}), flush=True)
                 self.changed.notify_all()
         os._exit(1)
 
