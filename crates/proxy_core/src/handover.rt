@@ -10,11 +10,21 @@ use std::marker::Model;
 /// journal's length.
 ///
 /// Only `Core::hand_over` makes one.
-#[derive(Drop)]
 pub struct Handover {
     detection: EjectState,
     steps: u64,
     bytes: u64,
+}
+
+// Written out so that a drop is one call: each function that holds one is proved sooner.
+impl Drop for Handover {
+    fn drop(self) {
+        let Handover {
+            detection: _,
+            steps: _,
+            bytes: _,
+        } = self;
+    }
 }
 
 impl Model for Handover {
@@ -71,6 +81,11 @@ impl Handover {
     pub(crate) fn into_detection(self) -> EjectState
         ensures { result ≡ self.detection }
     {
-        self.detection
+        let Handover {
+            detection,
+            steps: _,
+            bytes: _,
+        } = self;
+        detection
     }
 }

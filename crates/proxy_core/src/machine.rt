@@ -36,10 +36,16 @@ use ticket_gate::Recorded;
 /// The core of a proxy: it takes one event after another.
 ///
 /// Contracts see its setting, and its steps, which are a legal history.
-#[derive(Drop)]
 pub struct Core {
     // On the heap, since a gate moves its state in and out at each turn.
     machine: Box<Machine>,
+}
+
+// Written out so that a drop is one call: each function that holds one is proved sooner.
+impl Drop for Core {
+    fn drop(self) {
+        let Core { machine: _ } = self;
+    }
 }
 
 impl Model for Core {

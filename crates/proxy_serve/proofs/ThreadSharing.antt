@@ -10,7 +10,6 @@ use Rattle.proxy_stats.proofs.CallerLemmas.{counts_send}
 use Rattle.proxy_pages.proofs.CallerLemmas.{histogram_send, look_send}
 use Rattle.proxy_generations.specs.contracts.lifecycle.Due as Due
 use Rattle.proxy_generations.specs.contracts.lifecycle.Generations as Generations
-use Rattle.proxy_serve.specs.contracts.admin.AdminListener as AdminListener
 use Rattle.proxy_serve.specs.contracts.board.Board as Board
 use Rattle.proxy_serve.specs.contracts.client.CarriedSocket as CarriedSocket
 use Rattle.proxy_serve.specs.contracts.server.AcceptQueue as AcceptQueue
@@ -73,9 +72,6 @@ worker_sync = search (crosses, sendable) depth 40 fits 20000
 
 pub generation_sync : (κ : NamedLft) → IsSync (GenerationState.the_row κ)
 generation_sync κ = search (server_sync, worker_sync, ledger_send, crosses, sendable) depth 40 fits 20000
-
-pub admin_send : IsSend AdminListener.the_row
-admin_send = search (crosses, sendable) depth 60 fits 20000
 
 pub config_sync : IsSync Config.the_row
 config_sync = search (crosses, sendable) depth 40 fits 20000

@@ -135,6 +135,35 @@ fn seat<'a, R: Wait>(
     }
 }
 
+// A worker's task, with a place at the gate.
+fn work_task<'a, R: Wait>(
+    rt: &R,
+    context: ThreadContext<'a>,
+    gate: &'a Gate<Counted>,
+    spare: Spare<Counted>,
+    index: usize,
+    poll: Poll,
+) -> Result<Task<'a>, Ending>
+    requires { IsSpareOf gate.now spare }
+{
+    let seat = seat(rt, gate, spare)?;
+    Ok(Task::Work(WorkerSetup::new(context, index, poll, seat)))
+}
+
+// The task that sweeps and opens the generation, with a place at the gate.
+fn sweep_task<'a, R: Wait>(
+    rt: &R,
+    context: ThreadContext<'a>,
+    gate: &'a Gate<Counted>,
+    spare: Spare<Counted>,
+    wakers: Vec<Waker>,
+) -> Result<Task<'a>, Ending>
+    requires { IsSpareOf gate.now spare }
+{
+    let seat = seat(rt, gate, spare)?;
+    Ok(Task::Sweep(SweepThread::new(context, seat, wakers)))
+}
+
 // A worker's task for each poll, and the task that sweeps and opens the generation.
 fn tasks<'a, R: Wait>(
     rt: &R,
@@ -152,12 +181,10 @@ fn tasks<'a, R: Wait>(
     for poll in polls {
         let (one, rest) = gate.split(spare);
         spare = rest;
-        let seat = seat(rt, gate, one)?;
-        tasks.push(Task::Work(WorkerSetup::new(context, index, poll, seat)))?;
+        tasks.push(work_task(rt, context, gate, one, index, poll)?)?;
         index = index.saturating_add(1);
     }
-    let seat = seat(rt, gate, spare)?;
-    tasks.push(Task::Sweep(SweepThread::new(context, seat, wakers)))?;
+    tasks.push(sweep_task(rt, context, gate, spare, wakers)?)?;
     Ok(tasks)
 }
 
@@ -166,6 +193,14 @@ fn waker_of(poll: &Poll) -> Result<Waker, Stop> {
     match Waker::new(poll.registry(), WAKER) {
         Ok(waker) => Ok(waker),
         Err(error) => Err(Stop::socket("cannot make a worker's waker", error)),
+    }
+}
+
+// A worker's poll.
+fn make_poll<R: Net>(rt: &R) -> Result<Poll, Stop> {
+    match Poll::new(rt) {
+        Ok(poll) => Ok(poll),
+        Err(error) => Err(Stop::socket("cannot make a worker's poll", error)),
     }
 }
 
@@ -180,14 +215,17 @@ struct Polls {
 impl Polls {
     // Adds those of one more worker.
     fn add<R: Net>(&mut self, rt: &R) -> Result<(), Stop> {
-        let poll = match Poll::new(rt) {
-            Ok(poll) => poll,
-            Err(error) => return Err(Stop::socket("cannot make a worker's poll", error)),
-        };
-        self.workers
-            .push(CachePadded::new(WorkerStatus::new(waker_of(&poll)?)))?;
-        self.wakers.push(waker_of(&poll)?)?;
+        let poll = make_poll(rt)?;
+        self.add_wakers(&poll)?;
         self.polls.push(poll)?;
+        Ok(())
+    }
+
+    // Adds both wakers of the worker that waits at this poll.
+    fn add_wakers(&mut self, poll: &Poll) -> Result<(), Stop> {
+        let status = WorkerStatus::new(waker_of(poll)?);
+        self.workers.push(CachePadded::new(status))?;
+        self.wakers.push(waker_of(poll)?)?;
         Ok(())
     }
 }
@@ -272,6 +310,7 @@ fn serve_generation<R: ServeRuntime>(
         wakers,
     } = make_polls(rt, alloc, server.workers())?;
     let (notices, told) = make_notices(alloc, server.workers())?;
+    let core = core(alloc, config, from, told)?;
     let generation = GenerationState::new(server, number, average, workers, notices);
     let context = ThreadContext {
         alloc,
@@ -279,22 +318,18 @@ fn serve_generation<R: ServeRuntime>(
         config,
         marks,
     };
-    if let Some(core) = work(rt, context, core(alloc, config, from, told)?, polls, wakers)? {
-        let steps = core.core().journal().len() as u64;
-        server.gone(rt, number, core.counts(), steps);
-        drop(core);
-    }
-    Ok(())
+    work(rt, context, core, polls, wakers)
 }
 
-// Lets the threads make turns, and returns the core once all have ended; `None` if a ticket was left.
+// Lets the threads make turns at a gate of their own. Once all have ended it reports what the core counted, unless a ticket
+// was left.
 fn work<R: ServeRuntime>(
     rt: &R,
     context: ThreadContext<'_>,
     core: Counted,
     polls: Vec<Poll>,
     wakers: Vec<Waker>,
-) -> Result<Option<Counted>, Stop>
+) -> Result<(), Stop>
     requires { core.steps ≡ [] }
 {
     let Ok((gate, spare)) = Gate::new(context.alloc, core) else {
@@ -304,9 +339,36 @@ fn work<R: ServeRuntime>(
     let Ok(pass) = gate.enrol(rt, own) else {
         return Err(Stop::from(Ending::Spent));
     };
-    let tasks = tasks(rt, context, &gate, spare, polls, wakers)?;
+    run_threads(rt, context, &gate, spare, polls, wakers)?;
+    if let Some(core) = gate.close(pass) {
+        report_end(rt, context.generation, core);
+    }
+    Ok(())
+}
+
+// Runs the threads until all have ended.
+fn run_threads<'a, R: ServeRuntime>(
+    rt: &R,
+    context: ThreadContext<'a>,
+    gate: &'a Gate<Counted>,
+    spare: Spare<Counted>,
+    polls: Vec<Poll>,
+    wakers: Vec<Waker>,
+) -> Result<(), Stop>
+    requires { IsSpareOf gate.now spare }
+{
+    let tasks = tasks(rt, context, gate, spare, polls, wakers)?;
     if run_all(rt, context.alloc, tasks).is_err() || !context.generation.has_begun() {
         return Err(Stop::from(Ending::Memory));
     }
-    Ok(gate.close(pass))
+    Ok(())
+}
+
+// Reports that the generation is gone, with its core's counts and steps.
+fn report_end<R: Wait>(rt: &R, generation: &GenerationState<'_>, core: Counted) {
+    let steps = core.core().journal().len() as u64;
+    generation
+        .server()
+        .gone(rt, generation.number(), core.counts(), steps);
+    drop(core);
 }

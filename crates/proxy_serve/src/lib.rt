@@ -11,7 +11,6 @@
 //! `serve` in `serving.rt`, then `Worker::run_once` in `worker.rt`.
 #![tactic(auto)]
 
-mod admin;
 mod board;
 mod client;
 mod counted_turns;
@@ -20,6 +19,7 @@ mod generation_state;
 mod host_connection;
 mod ledger;
 mod log;
+mod operating;
 mod server;
 mod serving;
 mod socket;
@@ -29,9 +29,9 @@ mod sweeping;
 mod worker;
 mod worker_connections;
 
-pub use admin::Admin;
 pub use generation::ServeRuntime;
 pub use log::{Level, Log};
+pub use proxy_admin::Admin;
 pub use proxy_generations::Marks;
 pub use serving::{Options, serve, serve_run};
 pub use stop::{Failure, Stop};

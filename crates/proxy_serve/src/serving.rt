@@ -2,7 +2,6 @@
 ghost use Rattle.std.specs.Prelude.{◌≤◌, length};
 ghost use Rattle.proxy_config.specs.RingParts.{AreRingParts};
 
-use crate::admin::{Admin, AdminListener};
 use crate::generation::{ServeRuntime, ServerContext, run_generation};
 use crate::log::{Level, Log};
 use crate::server::Server;
@@ -11,6 +10,7 @@ use crate::worker::now;
 use limits::SIGNAL_MS;
 use mio::net::TcpListener;
 use mio::{Events, Interest, Poll, Token, Waker};
+use proxy_admin::{Admin, AdminListener};
 use proxy_config::Config;
 use proxy_exit_status::Ending;
 use proxy_generations::Marks;
@@ -46,54 +46,53 @@ const PAUSE_MS: u64 = 10;
 const NO_ROOM: [i32; 4] = [12, 23, 24, 105];
 
 /// The accepting thread's state.
-struct Acceptor<'a> {
+struct Acceptor {
     poll: Poll,
     // None once no further client is accepted.
     listener: Option<TcpListener>,
     // The listener's address.
     address: SocketAddr,
-    server: &'a Server,
     // The worker that gets the next socket.
     round_robin: RoundRobin,
     signals: Signals,
 }
 
 // Written out so that a drop is one call: each function that holds one is proved sooner.
-impl Drop for Acceptor<'_> {
+impl Drop for Acceptor {
     fn drop(self) {
         let Acceptor {
             poll: _,
             listener: _,
             address: _,
-            server: _,
             round_robin: _,
             signals: _,
         } = self;
     }
 }
 
-impl<'a> Acceptor<'a> {
-    // `address` stands in where the system doesn't return the listener's.
-    fn new(
-        poll: Poll,
-        listener: TcpListener,
-        address: SocketAddr,
-        server: &'a Server,
+impl Acceptor {
+    // Makes a poll for the listener, and a waker of the thread that waits at it. The address of the settings stands in where
+    // the system doesn't return the listener's.
+    fn open<R: Net>(
+        rt: &R,
+        mut listener: TcpListener,
+        config: &Config,
         status: Option<File>,
-    ) -> Acceptor<'a> {
-        Acceptor {
+    ) -> Result<(Acceptor, Waker), Stop> {
+        let (poll, waker) = open_poll(rt, &mut listener)?;
+        let acceptor = Acceptor {
             poll,
-            address: listener.local_addr().unwrap_or(address),
+            address: listener.local_addr().unwrap_or(config.listen),
             listener: Some(listener),
-            server,
-            round_robin: RoundRobin::new(server.workers()),
+            round_robin: RoundRobin::new(config.workers as usize),
             signals: Signals { status, looked: 0 },
-        }
+        };
+        Ok((acceptor, waker))
     }
 
     // Logs the start. What SIGTERM does depends on how the program was started.
-    fn log_start<R: Eprint>(&mut self, rt: &R, config: &Config) {
-        let tag = self.server.log().tag(Level::Info);
+    fn log_start<R: Eprint>(&mut self, rt: &R, log: Log, config: &Config) {
+        let tag = log.tag(Level::Info);
         let (address, hosts, workers) = (self.address, config.hosts.len(), config.workers);
         let ends = if self.signals.is_term_orderly() {
             "drains"
@@ -120,16 +119,17 @@ impl<'a> Acceptor<'a> {
     fn run_once<R: Wait + Clock + Eprint>(
         &mut self,
         rt: &R,
+        server: &Server,
         events: &mut Events,
     ) -> Result<(), Stop> {
         self.wait(events)?;
-        self.accept_all(rt)?;
+        self.accept_all(rt, server)?;
         match self.signals.asked(now(rt)) {
             Asked::Nothing => {}
-            Asked::Drain => self.server.drain(rt),
-            Asked::Quit => self.server.quit(),
+            Asked::Drain => server.drain(rt),
+            Asked::Quit => server.quit(),
         }
-        if self.server.is_draining() {
+        if server.is_draining() {
             // (the system refuses clients from here on)
             self.listener = None;
         }
@@ -137,15 +137,15 @@ impl<'a> Acceptor<'a> {
     }
 
     // Accepts new connections, and gives them to the workers in turn. One without room is closed.
-    fn accept_all<R: Wait>(&mut self, rt: &R) -> Result<(), Stop> {
+    fn accept_all<R: Wait>(&mut self, rt: &R, server: &Server) -> Result<(), Stop> {
         let Some(listener) = &self.listener else {
             return Ok(());
         };
         for _ in 0..MAX_TAKEN {
             match listener.accept() {
                 Ok((stream, _)) => {
-                    if self.server.accept(rt) {
-                        self.server.push(rt, self.round_robin.take(), stream);
+                    if server.accept(rt) {
+                        server.push(rt, self.round_robin.take(), stream);
                     }
                 }
                 Err(error) => {
@@ -219,7 +219,7 @@ impl Signals {
 }
 
 // Opens the poll of the accepting thread, with its waker.
-fn open<R: Net>(rt: &R, listener: &mut TcpListener) -> Result<(Poll, Waker), Stop> {
+fn open_poll<R: Net>(rt: &R, listener: &mut TcpListener) -> Result<(Poll, Waker), Stop> {
     let poll = match Poll::new(rt) {
         Ok(poll) => poll,
         Err(error) => return Err(Stop::socket("cannot make a poll", error)),
@@ -278,11 +278,23 @@ pub fn serve<R: ServeRuntime, W: Write>(
     served
 }
 
+// Opens the operator's end, if an address is given.
+fn open_admin<R: Net>(
+    rt: &R,
+    alloc: Global,
+    admin: Option<Admin>,
+) -> Result<Option<AdminListener>, Stop> {
+    match admin {
+        None => Ok(None),
+        Some(admin) => Ok(Some(AdminListener::open(rt, alloc, admin)?)),
+    }
+}
+
 // Serves by settings that outlive all threads; `serve` drops them.
 fn serve_with<R: ServeRuntime, W: Write>(
     rt: &R,
     alloc: Global,
-    mut listener: TcpListener,
+    listener: TcpListener,
     config: &Config,
     options: Options,
     output: &mut W,
@@ -296,11 +308,10 @@ fn serve_with<R: ServeRuntime, W: Write>(
         marks,
         log,
     } = options;
-    let (poll, waker) = open(rt, &mut listener)?;
+    let admin = open_admin(rt, alloc, admin)?;
+    let (mut acceptor, waker) = Acceptor::open(rt, listener, config, status)?;
     let server = Server::new(alloc, config, waker, connections, log)?;
-    let admin = AdminListener::open(rt, alloc, admin)?;
-    let mut acceptor = Acceptor::new(poll, listener, config.listen, &server, status);
-    acceptor.log_start(rt, config);
+    acceptor.log_start(rt, log, config);
     let context = ServerContext {
         server: &server,
         config,
@@ -335,11 +346,16 @@ pub fn serve_run<R: ServeRuntime, W: Write>(
     }
 }
 
+// Answers the operator until the server ends.
+fn run_admin<R: ServeRuntime>(rt: &R, admin: AdminListener, context: ServerContext<'_>) {
+    admin.run(rt, context.server, context.config.hosts.as_slice());
+}
+
 // Runs one generation after another until the server ends.
 fn serve_on<R: ServeRuntime>(
     rt: &R,
     alloc: Global,
-    mut acceptor: Acceptor<'_>,
+    mut acceptor: Acceptor,
     admin: Option<AdminListener>,
     context: ServerContext<'_>,
 ) -> Result<(), Stop>
@@ -356,7 +372,7 @@ fn serve_on<R: ServeRuntime>(
         {
             let mut threads = GenerationThreads::new();
             if let Some(admin) = admin {
-                if scope.spawn(move || admin.run(rt, context)).is_err() {
+                if scope.spawn(move || run_admin(rt, admin, context)).is_err() {
                     server.end(rt, Stop::from(Ending::Memory));
                 }
             }
@@ -378,7 +394,7 @@ fn serve_on<R: ServeRuntime>(
                         Err(_) => server.fail(rt, number, Stop::from(Ending::Memory)),
                     }
                 }
-                if let Err(stop) = acceptor.run_once(rt, &mut events) {
+                if let Err(stop) = acceptor.run_once(rt, server, &mut events) {
                     server.end(rt, stop);
                 }
             }

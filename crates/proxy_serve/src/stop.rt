@@ -1,5 +1,6 @@
 //! Why the server ended before it was done.
 
+use proxy_admin::OpenError;
 use proxy_exit_status::Ending;
 use std::alloc::{AllocError, AllocFailed};
 use std::fmt::{self, Display, Formatter};
@@ -78,6 +79,15 @@ impl From<Ending> for Stop {
         Stop {
             ending,
             failure: None,
+        }
+    }
+}
+
+impl From<OpenError> for Stop {
+    fn from(error: OpenError) -> Stop {
+        match error {
+            OpenError::NoPoll(error) => Stop::socket("cannot make a poll", error),
+            OpenError::NotPolled(error) => Stop::socket("cannot poll the listener", error),
         }
     }
 }

@@ -106,27 +106,38 @@ impl<'a> SweepThread<'a> {
 
     // Sweeps when due, and looks at the core, until the generation is drained or the server ends.
     fn sweep_on<R: Wait + Clock + Eprint>(&mut self, rt: &R) -> Result<(), Stop> {
-        let (server, number) = (self.generation.server(), self.generation.number());
         for _ in rt.forever() {
-            if !server.runs() {
+            if self.ends(rt) {
                 return Ok(());
             }
-            if self.generation.is_drained() {
-                server.drained(rt, number);
-                return Ok(());
-            }
-            let phase = server.phase(number);
+            let phase = self.generation.server().phase(self.generation.number());
             let moment = now(rt);
-            if phase != Phase::Stopped
-                && server.is_sweep_due(rt, number, moment)
-                && self.sweep(rt, moment)?
-            {
-                server.swept(rt, number, moment);
+            if phase != Phase::Stopped {
+                self.sweep_if_due(rt, moment)?;
             }
             self.look(rt, phase, moment)?;
             thread::sleep(rt, Duration::from_millis(PAUSE_MS));
         }
         unreachable!()
+    }
+
+    // Whether the server ends, or the generation is drained, which is reported.
+    fn ends<R: Wait>(&self, rt: &R) -> bool {
+        let server = self.generation.server();
+        if server.runs() && self.generation.is_drained() {
+            server.drained(rt, self.generation.number());
+            return true;
+        }
+        !server.runs()
+    }
+
+    // Sweeps if the generation has to at this moment.
+    fn sweep_if_due<R: Wait>(&mut self, rt: &R, moment: u64) -> Result<(), Stop> {
+        let (server, number) = (self.generation.server(), self.generation.number());
+        if server.is_sweep_due(rt, number, moment) && self.sweep(rt, moment)? {
+            server.swept(rt, number, moment);
+        }
+        Ok(())
     }
 
     // Sweeps once, if the journal has a step to spare. False: it has to be made again.

@@ -238,13 +238,18 @@ impl<'a> Worker<'a> {
                 return self.finish(rt, &mut events);
             }
             self.wait(&mut events, pause)?;
-            self.on_readiness(&events);
-            self.end_inputs();
-            let moves = self.run_once(rt)?;
-            pause = self.pause(moves);
-            self.settle(rt);
+            pause = self.serve_once(rt)?;
         }
         unreachable!()
+    }
+
+    // Makes a round and reports its turns. The longest wait before the next one, in milliseconds.
+    fn serve_once<R: Wait + Net + Clock + Eprint>(&mut self, rt: &R) -> Result<u64, Stop> {
+        self.end_inputs();
+        let moves = self.run_once(rt)?;
+        let pause = self.pause(moves);
+        self.settle(rt);
+        Ok(pause)
     }
 
     // Drains and gives up with the generation. False: its last sockets are to be closed.
@@ -261,16 +266,19 @@ impl<'a> Worker<'a> {
         true
     }
 
-    // Waits at most this many milliseconds for the poll's events.
+    // Waits at most this many milliseconds for the poll's events, and gives each to its host or client.
     fn wait(&mut self, events: &mut Events, pause: u64) -> Result<(), Stop> {
         let polled = self.poll.poll(events, Some(Duration::from_millis(pause)));
         if let Some(worker) = self.generation.worker(self.index) {
             worker.mark_awake();
         }
-        match polled {
-            Ok(()) => Ok(()),
-            Err(error) => Err(Stop::socket("cannot poll", error)),
+        if let Err(error) = polled {
+            return Err(Stop::socket("cannot poll", error));
         }
+        for event in &*events {
+            self.on_event(event);
+        }
+        Ok(())
     }
 
     // Answers what it still can, and hands sockets over, before it closes the others. It makes rounds while a client may be
@@ -292,7 +300,6 @@ impl<'a> Worker<'a> {
             }
             let pause = self.pause(moves).min(LAST_PAUSE_MS);
             self.wait(events, pause)?;
-            self.on_readiness(events);
         }
         Ok(())
     }
@@ -399,13 +406,6 @@ impl<'a> Worker<'a> {
     fn has_news(&self) -> bool {
         self.generation.notices().concern(self.index)
             || (self.is_held_back && !self.must_hold_back())
-    }
-
-    // Gives each event of the poll to its host or client.
-    fn on_readiness(&mut self, events: &Events) {
-        for event in events {
-            self.on_event(event);
-        }
     }
 
     // Gives an event of the poll to its host or client.
@@ -718,13 +718,8 @@ impl<'a> Worker<'a> {
             let Some(key) = self.connections.next_ready(from, end) else {
                 break;
             };
-            if self.must_hold_back() {
-                moves = self.step_hosts(rt, now)? || moves;
-                if self.must_hold_back() {
-                    self.hold_back(key);
-                    return Ok(true);
-                }
-                self.connections.hear(self.generation.notices());
+            if self.must_hold_back() && self.is_still_held(rt, key, now)? {
+                return Ok(true);
             }
             moves = self.step_client(rt, key, now)? || moves;
             from = key.saturating_add(1);
@@ -735,6 +730,23 @@ impl<'a> Worker<'a> {
     // Whether clients must wait until other workers have looked at their hosts. Those that take nothing in needn't.
     fn must_hold_back(&self) -> bool {
         !self.is_draining && self.generation.must_hold_back()
+    }
+
+    // Steps the hosts, for whose parts clients are held back. True: clients must wait from this one on. (What hosts can do at
+    // once isn't lost: they are stepped again behind the clients.)
+    fn is_still_held<R: Wait + Net + Eprint>(
+        &mut self,
+        rt: &R,
+        key: usize,
+        now: u64,
+    ) -> Result<bool, Stop> {
+        self.step_hosts(rt, now)?;
+        if self.must_hold_back() {
+            self.hold_back(key);
+            return Ok(true);
+        }
+        self.connections.hear(self.generation.notices());
+        Ok(false)
     }
 
     // Holds clients back from this one on: other workers must look at their parts first.

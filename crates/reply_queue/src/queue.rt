@@ -18,11 +18,21 @@ use std::marker::Model;
 /// The commands of one connection that are accepted and not popped, the oldest first.
 ///
 /// Contracts see the number popped, and of each command how its values are joined and which have come.
-#[derive(Drop)]
 pub struct Queue {
     alloc: Global,
     popped: u64,
     commands: VecDeque<Command>,
+}
+
+// Written out so that a drop is one call: each function that holds one is proved sooner.
+impl Drop for Queue {
+    fn drop(self) {
+        let Queue {
+            alloc: _,
+            popped: _,
+            commands: _,
+        } = self;
+    }
 }
 
 impl Model for Queue {

@@ -4,7 +4,7 @@ use Rattle.ticket_gate.below.atomic_table.proofs.shared.Seat.TheSendSync as seat
 use Rattle.proxy_core.proofs.CallerLemmas.{gate_sync}
 use Rattle.proxy_stats.proofs.CallerLemmas.{counted_send}
 use Rattle.proxy_serve.proofs.ThreadSharing.{config_sync, generation_sync}
-use Rattle.proxy_serve.proofs.generation.work.Goals as goal
+use Rattle.proxy_serve.proofs.generation.run_threads.Goals as goal
 
 pub run_all-requires-send-K : goal.run_all-requires-send-K
 run_all-requires-send-K g c κs within =

@@ -1,0 +1,24 @@
+//! The server that the operator sees.
+
+use proxy_pages::{Order, Snapshot};
+use std::io::Error;
+use std::rt::Clock;
+use std::sync::Wait;
+
+/// A running server, as its operator sees it.
+pub trait Operated {
+    /// Whether it goes on.
+    fn runs(&self) -> bool;
+
+    /// The clock's milliseconds.
+    fn moment<R: Clock>(&self, rt: &R) -> u64;
+
+    /// Its numbers now.
+    fn snapshot<R: Wait>(&self, rt: &R) -> Snapshot;
+
+    /// Carries out an order.
+    fn obey<R: Wait + Eprint>(&self, rt: &R, order: Order);
+
+    /// The operator's poll failed: nothing is answered at its address any more.
+    fn log_silence<R: Eprint>(&self, rt: &R, error: Error);
+}

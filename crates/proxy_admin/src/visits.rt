@@ -1,0 +1,177 @@
+//! The operator's listener and its visitors.
+
+use crate::admin::Admin;
+use crate::operated::Operated;
+use crate::visitor::Visitor;
+use limits::MAX_VISITORS;
+use mio::net::TcpStream;
+use mio::{Events, Interest, Poll, Token};
+use proxy_config::Host;
+use proxy_pages::{About, Admin as Answers, Order, Snapshot};
+use slab::Slab;
+use std::alloc::{AllocError, Global};
+use std::rt::Clock;
+use std::sync::Wait;
+use std::time::Duration;
+
+/// The token of the operator's listener; a visitor's is its key in the slab.
+pub(crate) const LISTENER: Token = Token(usize::MAX);
+
+// The most events taken from the poll at once.
+const MAX_EVENTS: usize = 64;
+
+// The thread looks again after this many milliseconds at the latest.
+const PAUSE_MS: u64 = 50;
+
+/// The listener and its visitors.
+pub(crate) struct Visits {
+    alloc: Global,
+    admin: Admin,
+    poll: Poll,
+    visitors: Slab<Visitor>,
+}
+
+// Written out so that a drop is one call: each function that holds one is proved sooner.
+impl Drop for Visits {
+    fn drop(self) {
+        let Visits {
+            alloc: _,
+            admin: _,
+            poll: _,
+            visitors: _,
+        } = self;
+    }
+}
+
+impl Visits {
+    /// The listener without visitors.
+    pub(crate) fn new(alloc: Global, admin: Admin, poll: Poll) -> Visits {
+        Visits {
+            alloc,
+            admin,
+            poll,
+            visitors: Slab::new(alloc),
+        }
+    }
+
+    /// Accepts and answers visitors until the server ends or the poll fails.
+    pub(crate) fn serve<R: Wait + Clock + Eprint, S: Operated>(
+        &mut self,
+        rt: &R,
+        server: &S,
+        hosts: &[Host],
+    ) {
+        let Ok(mut events) = Events::with_capacity(self.alloc, MAX_EVENTS) else {
+            return;
+        };
+        for _ in rt.forever() {
+            if !server.runs() {
+                return;
+            }
+            if let Err(error) = self
+                .poll
+                .poll(&mut events, Some(Duration::from_millis(PAUSE_MS)))
+            {
+                return server.log_silence(rt, error);
+            }
+            let moment = server.moment(rt);
+            self.accept_visitors(moment);
+            self.serve_visitors(rt, server, hosts, moment);
+        }
+        unreachable!()
+    }
+
+    // Accepts the visitors that wait. Where too many are there, the one idle longest has to go.
+    fn accept_visitors(&mut self, moment: u64) {
+        for _ in 0..MAX_VISITORS {
+            let Ok((stream, _)) = self.admin.listener.accept() else {
+                return;
+            };
+            if self.visitors.len() >= MAX_VISITORS {
+                self.let_oldest_go();
+            }
+            let _ = self.open(stream, moment);
+        }
+    }
+
+    // The visitor that has been idle longest.
+    fn oldest(&self) -> Option<usize> {
+        let (mut oldest, mut least) = (None, u64::MAX);
+        for key in 0..self.visitors.capacity() {
+            if let Some(visitor) = self.visitors.get(key) {
+                if visitor.moved() <= least {
+                    oldest = Some(key);
+                    least = visitor.moved();
+                }
+            }
+        }
+        oldest
+    }
+
+    // Drops the visitor that has been idle longest.
+    fn let_oldest_go(&mut self) {
+        if let Some(key) = self.oldest() {
+            drop(self.visitors.try_remove(key));
+        }
+    }
+
+    // Registers the next visitor's socket with the poll.
+    fn register(&self, stream: &mut TcpStream) -> bool {
+        let token = Token(self.visitors.vacant_key());
+        let interests = Interest::READABLE | Interest::WRITABLE;
+        self.poll
+            .registry()
+            .register(stream, token, interests)
+            .is_ok()
+    }
+
+    // Takes in a visitor. Its socket is dropped where the poll refuses it or there is no memory.
+    fn open(&mut self, mut stream: TcpStream, moment: u64) -> Result<(), AllocError> {
+        self.visitors.reserve(1)?;
+        if self.register(&mut stream) {
+            let visitor = Visitor::new(self.alloc, self.admin.keys, stream, moment);
+            drop(self.visitors.insert(visitor));
+        }
+        Ok(())
+    }
+
+    // Steps every visitor: they are few.
+    fn serve_visitors<R: Wait + Eprint, S: Operated>(
+        &mut self,
+        rt: &R,
+        server: &S,
+        hosts: &[Host],
+        moment: u64,
+    ) {
+        if self.visitors.is_empty() {
+            return;
+        }
+        let snapshot = server.snapshot(rt);
+        let about = About {
+            version: self.admin.version,
+            kit: self.admin.kit,
+            hosts,
+        };
+        for key in 0..self.visitors.capacity() {
+            if let Some(order) = self.serve_visitor(key, &about, &snapshot, moment) {
+                server.obey(rt, order);
+            }
+        }
+    }
+
+    // Steps one visitor, and returns its order.
+    fn serve_visitor(
+        &mut self,
+        key: usize,
+        about: &About<'_>,
+        snapshot: &Snapshot,
+        moment: u64,
+    ) -> Option<Order> {
+        let visitor = self.visitors.get_mut(key)?;
+        let round = visitor.answer(Answers::new(self.alloc, about, snapshot), moment);
+        if round.is_over {
+            drop(self.visitors.try_remove(key));
+        }
+        round.order
+    }
+}

@@ -1,0 +1,38 @@
+//! The server, as its operator sees it.
+
+use crate::log::Level;
+use crate::server::Server;
+use crate::worker::now;
+use proxy_admin::Operated;
+use proxy_pages::{Order, Snapshot};
+use std::io::Error;
+use std::rt::Clock;
+use std::sync::Wait;
+
+impl Operated for Server {
+    fn runs(&self) -> bool {
+        Server::runs(self)
+    }
+
+    fn moment<R: Clock>(&self, rt: &R) -> u64 {
+        now(rt)
+    }
+
+    fn snapshot<R: Wait>(&self, rt: &R) -> Snapshot {
+        Server::snapshot(self, rt)
+    }
+
+    fn obey<R: Wait + Eprint>(&self, rt: &R, order: Order) {
+        match order {
+            Order::Drain => self.drain(rt),
+            Order::Quit => self.quit(),
+        }
+    }
+
+    fn log_silence<R: Eprint>(&self, rt: &R, error: Error) {
+        let tag = self.log().tag(Level::Error);
+        let _ = eprintln!(rt;
+            "{tag}redproxy: nothing is answered at the operator's address any more: {error}"
+        );
+    }
+}
