@@ -11,6 +11,7 @@ use Rattle.bytes.specs.contracts.shared.Bytes as Bytes
 use Rattle.bytes.proofs.shared.Bytes.TheSendSync as bytes
 use Rattle.bytes.proofs.unique.BytesMut.TheSendSync as mutable
 use Rattle.resp_core.specs.contracts.value.Value as Value
+use Rattle.resp_core.specs.contracts.spelled_command.SpelledCommand as SpelledCommand
 use Rattle.resp_core.specs.contracts.value.Values as Values
 use Rattle.resp_core.specs.contracts.text_block.TextBlock as TextBlock
 use Rattle.resp_core.specs.contracts.texts.Texts as Texts
@@ -57,8 +58,11 @@ ejector_send = search (crosses, sendable) depth 20
 answer_send : IsSend Answer.the_row
 answer_send = search (bytes_send, crosses, sendable) depth 20
 
+spelled_send : IsSend SpelledCommand.the_row
+spelled_send = search (bytes_send, crosses, sendable) depth 20
+
 event_send : IsSend Event.the_row
-event_send = search (value_field_send, crosses, sendable) depth 20
+event_send = search (value_field_send, spelled_send, crosses, sendable) depth 20
 
 pipe_send : IsSend Pipe.the_row
 pipe_send = search (bytes_send, crosses, sendable) depth 20

@@ -8,10 +8,11 @@ use Rattle.resp_core.proofs.CallerLemmas.{splits_fed}
 use Rattle.resp_core.specs.declared.error.RespError.{RespError}
 use Rattle.limits.specs.declared.messages.TheConstants.{MAX_CLIENT_MEMBERS}
 use Rattle.splitter.specs.Request.{Request as Asked, read, broken}
+use Rattle.splitter.specs.declared.request.Request.{Request as Request'}
 use Rattle.splitter.specs.Requests.{AreRequests as Asks}
 use Rattle.splitter.proofs.CallerLemmas as splits
 use Rattle.proxy_devices.specs.Device.{Counts}
-use Rattle.proxy_engines.specs.Ends.{InboxState, RestState, Holds, HoldsBehind, HasGivenAll, AreRequests, IsCut, KeepsReader, end_with}
+use Rattle.proxy_engines.specs.Ends.{InboxState, RestState, GivesNext, Holds, HoldsBehind, HasGivenAll, AreRequests, IsCut, KeepsReader, end_with}
 
 -- two moves after one another that leave the reader as it was
 pub kept_then : (i j k : InboxState) → KeepsReader i j → KeepsReader j k → KeepsReader i k
@@ -64,6 +65,11 @@ holds-refused i j e b rs d d' n n' f h = record {
   requests = rw n' (ap (λ z. z ++ broken ∷ []) ((rw (n, append-nil (map read h.given)) at h.requests)));
   after = after-none j d';
 }
+
+-- what is given after a move that gives nothing
+pub gives_after : (i j k : InboxState) (next : Option Request') → ((b : List ℕ) (rs : List Asked) → Holds i b rs → Holds j b rs) → GivesNext j k next → GivesNext i k next
+gives_after i j k None kept g = record { some = tt; none = λ b rs h. g.none b rs (kept b rs h); all = g.all; whole = g.whole; told = g.told }
+gives_after i j k (Some r) kept g = record { some = λ b rs h. g.some b rs (kept b rs h); none = tt; all = tt; whole = g.whole; told = g.told }
 
 -- what holds where a call was answered
 pub fed_ok : (P : Type 0) (r : Result ⊤ RespError) → is_err r ≡ false → OnOk r P → P

@@ -15,6 +15,7 @@ use Rattle.resp_core.specs.contracts.text_block.TextBlock as TextBlock
 use Rattle.resp_core.specs.contracts.pending.Pending as Pending
 use Rattle.resp_core.specs.contracts.partial_value.PartialValue as PartialValue
 use Rattle.resp_core.specs.contracts.reader.Reader as Reader
+use Rattle.resp_core.specs.contracts.spelled_command.SpelledCommand as SpelledCommand
 use Rattle.resp_core.proofs.value.Values.TheLaws.TheKnot as knot
 use Rattle.splitter.specs.contracts.request.Request as Request
 use Rattle.proxy_engines.specs.contracts.inbox.Rest as Rest
@@ -31,8 +32,11 @@ values_send = knot.send-Values Vec-send bytes_row_send (search sendable)
 value_field_send : IsSend (Value.the_field).row
 value_field_send = knot.send-Value bytes_send (search sendable) values_send
 
+spelled_send : IsSend SpelledCommand.the_row
+spelled_send = search (bytes_send, crosses, sendable) depth 20
+
 pub request_send : IsSend Request.the_row
-request_send = search (value_field_send, crosses, sendable) depth 20
+request_send = search (value_field_send, spelled_send, crosses, sendable) depth 20
 
 value_send : IsSend Value.the_row
 value_send = as_row_send Value.the_field value_field_send

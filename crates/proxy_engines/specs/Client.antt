@@ -37,6 +37,7 @@ pub record Client : Type 0 where
 abbrev pub IsWhole : Stage → Option Request' → Option RespError → Type 0
 IsWhole Stage.Open None refusal = refusal ≡ None
 IsWhole Stage.Open (Some (Request'.Read v)) refusal = refusal ≡ None
+IsWhole Stage.Open (Some (Request'.Spelled words)) refusal = refusal ≡ None
 IsWhole stage next refusal = ⊤
 
 -- where reading stopped for a drain, no request is taken any more, and the reader has refused nothing

@@ -2,11 +2,12 @@
 ghost use Rattle.std.specs.Prelude.{true, ◌≡◌, ◌≢◌, ◌≤◌, ◌↔◌, ◌++◌, ◌∷◌, ℕ, List, [], length, Some, None, IfOk, IfErr, IfSome, IfNone, OnErr, OnOk};
 ghost use Rattle.std.specs.Borrow.{sem};
 ghost use Rattle.proxy_devices.specs.Device.{reader_state};
+ghost use Rattle.resp_core.specs.Command.{command_of};
 ghost use Rattle.resp_core.specs.declared.error.RespError.{RespError};
-ghost use Rattle.splitter.specs.Request.{Request as Asked, request_of};
+ghost use Rattle.splitter.specs.Request.{Request as Asked, IsNotSpelled, read, request_of};
 
 use proxy_devices::{IoOutcome, ReadTally};
-use resp_core::{Limits, Reader, RespError};
+use resp_core::{Limits, Reader, RespError, SpelledCommand};
 use splitter::Request;
 use std::alloc::{AllocError, Global};
 use std::marker::Model;
@@ -271,12 +272,55 @@ impl<R: ReadTally> Inbox<R> {
         Ok(())
     }
 
+    // The next command, if it is read as its text alone. Nothing may have been refused before.
+    fn next_spelled(&mut self) -> Result<Option<SpelledCommand>, AllocError>
+        requires { self.old.values.refusal ≡ None }
+        ensures some { IfOk result (λ o. IfSome o (λ c. (b : List ℕ) (rs : List Asked)
+            → Holds self.old b rs → Holds self.new b (rs ++ read (command_of c) ∷ []))) }
+        ensures none { IfOk result (λ o. IfNone o ((b : List ℕ) (rs : List Asked)
+            → Holds self.old b rs → Holds self.new b rs)) }
+        ensures err { OnErr result ((b : List ℕ) (rs : List Asked) → Holds self.old b rs
+            → Holds self.new b rs) }
+        ensures whole { self.new.values.refusal ≡ None }
+        ensures keeps { KeepsReader self.old self.new
+            × (self.new.values.most ≡ self.old.values.most) }
+    {
+        self.feed()?;
+        self.has_given_all = false;
+        // (each exit has its clause)
+        let Some(command) = self.values.next_spelled()? else {
+            return Ok(None);
+        };
+        Ok(Some(command))
+    }
+
     /// The next complete request; a refused byte is one too. Nothing may have been refused before.
     ///
     /// Refused where there is no memory; nothing is lost.
     pub(crate) fn next_request(&mut self) -> Result<Option<Request>, AllocError>
         requires { self.old.values.refusal ≡ None }
         ensures next { IfOk result (λ o. GivesNext self.old self.new o) }
+        ensures err { OnErr result (((b : List ℕ) (rs : List Asked) → Holds self.old b rs
+            → Holds self.new b rs) × (self.new.values.refusal ≡ None)) }
+        ensures keeps { KeepsReader self.old self.new
+            × (self.new.values.most ≡ self.old.values.most) }
+    {
+        if self.has_given_all && self.fresh == 0 {
+            return Ok(None);
+        }
+        match self.next_spelled()? {
+            Some(command) => Ok(Some(Request::Spelled(command))),
+            None => self.next_read(),
+        }
+    }
+
+    /// The same, read as a value.
+    ///
+    /// Refused where there is no memory; nothing is lost.
+    pub(crate) fn next_read(&mut self) -> Result<Option<Request>, AllocError>
+        requires { self.old.values.refusal ≡ None }
+        ensures next { IfOk result (λ o. GivesNext self.old self.new o) }
+        ensures read { IfOk result (λ o. IfSome o IsNotSpelled) }
         ensures err { OnErr result (((b : List ℕ) (rs : List Asked) → Holds self.old b rs
             → Holds self.new b rs) × (self.new.values.refusal ≡ None)) }
         ensures keeps { KeepsReader self.old self.new

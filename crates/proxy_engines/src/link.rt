@@ -190,11 +190,15 @@ impl<R: ReadTally, W: WriteTally> Link<R, W> {
         if self.next.is_some() {
             return Ok(NextValue::Value);
         }
-        // A host's values are read as requests are.
-        match self.inbox.next_request() {
+        // A host's values are read as requests are, but for commands.
+        match self.inbox.next_read() {
             Ok(Some(Request::Read(value))) => {
                 drop(self.next.replace(value));
                 Ok(NextValue::Value)
+            }
+            Ok(Some(Request::Spelled(command))) => {
+                drop(command);
+                unreachable!()
             }
             Ok(Some(Request::Broken)) => Ok(NextValue::Garbled),
             Ok(None) => Ok(NextValue::Idle),

@@ -13,3 +13,5 @@ pub use Rattle.resp_core.proofs.streams.SplitsLemmas.{splits_fed}
 pub use Rattle.resp_core.proofs.streams.StreamLawLemmas.{splits_then}
 -- the laws of streams
 pub use Rattle.resp_core.proofs.streams.StreamLawLemmas.{each_stream_holds, one_holding, refusal_stays, values_stay, values_go_on, text_is_read_back}
+-- the words of a command of these words
+pub use Rattle.resp_core.proofs.SpelledCommandLemmas.{words_of_command, command_of_is_command, payloads}

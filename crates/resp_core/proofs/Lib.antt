@@ -7,5 +7,6 @@ pub mod OneSpellingLemmas
 pub mod CommandLemmas
 pub mod refusals
 pub mod SpellingLengthLemmas
+mod SpelledCommandLemmas
 pub mod CallerLemmas
 pub mod unfinished

@@ -27,7 +27,7 @@ one_decimal : (ds : List ℕ) (n : ℕ) → AllByRecursion IsDigit ds → number
 one_decimal ds n all value small l =
     (same_digits 0 0 ds (decimal n) all (digits_decimal own n small) l (value ∙ sym (digits_value-decimal own n small))).1
 
-one_length : (limit : ℕ) (ds : List ℕ) (n : ℕ) → IsLength limit ds n → n < 2 ^ 64 → length ds ≡ length (decimal n) → ds ≡ decimal n
+pub one_length : (limit : ℕ) (ds : List ℕ) (n : ℕ) → IsLength limit ds n → n < 2 ^ 64 → length ds ≡ length (decimal n) → ds ≡ decimal n
 one_length limit ds n g small l = one_decimal ds n g.each g.value small l
 
 length_line : (kind : ℕ) (xs : List ℕ) → length (line kind xs) ≡ length xs + 3

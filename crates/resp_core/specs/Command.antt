@@ -54,3 +54,7 @@ word words at = slice_index_or words at []
 -- the value is an array of these members
 abbrev pub IsArrayOf : List Tree → Tree → Type 0
 IsArrayOf ts t = t ≡ list (trees_of ts)
+
+-- the command of these words
+abbrev pub command_of : List (List ℕ) → Tree
+command_of words = list (trees_of (map bulk words))

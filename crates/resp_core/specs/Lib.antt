@@ -20,3 +20,4 @@ pub mod ValueLimits
 pub mod Command
 pub mod Laws
 pub mod Readable
+pub mod SpelledCommand

@@ -17,6 +17,7 @@ mod partial_value;
 mod pending;
 mod reader;
 mod sink;
+mod spelled_command;
 mod text;
 mod text_block;
 mod texts;
@@ -30,6 +31,7 @@ pub use laws::{
     text_is_read_back, values_go_on, values_stay,
 };
 pub use reader::{Limits, Reader};
+pub use spelled_command::SpelledCommand;
 pub use text::{bulk_len, put_bulk, put_bulk_behind, put_text};
 pub use texts::Texts;
 pub use value::{Value, Values};

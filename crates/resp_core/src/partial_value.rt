@@ -1,10 +1,12 @@
 //! The state of a reader within an unfinished value.
-ghost use Rattle.std.specs.Prelude.{true, false, ◌≡◌, ◌≢◌, ◌⊎◌, ◌≤◌, ◌<◌, ◌-◌, ◌+◌, ◌++◌, List, ℕ, [], length, take, drop, Some, None, IfOk, IfErr, IfSome, IfNone, OnOk, OnErr, IsOk};
+ghost use Rattle.std.specs.Prelude.{true, false, ◌≡◌, ◌≢◌, ◌⊎◌, ◌≤◌, ◌<◌, ◌-◌, ◌+◌, ◌++◌, ◌^◌, List, ℕ, [], length, take, drop, Some, None, IfOk, IfErr, IfSome, IfNone, OnOk, OnErr, IsOk};
 ghost use Rattle.resp_core.specs.PartialValue.{Reads, IsGood, IsFresh, LeadsTo, LeadsToValue, IsShort, HaltsIn, Gave, HasStopped, shown_progress, to_do, to_read, with_done};
 ghost use Rattle.resp_core.specs.Word.{IfLast, IfMember, IfMissing};
 ghost use Rattle.resp_core.specs.FirstValue.{IsUnfinished};
 ghost use Rattle.resp_core.specs.Value.{tree_of};
 ghost use Rattle.resp_core.specs.Grammar.{max_text};
+ghost use Rattle.resp_core.specs.Command.{command_of};
+ghost use Rattle.resp_core.specs.SpelledCommand.{max_words};
 ghost use Rattle.resp_core.specs.declared.error.Refusal.TheVariants.{TooLong, TooDeep};
 
 use crate::begun::{Begun, put};
@@ -12,6 +14,7 @@ use crate::error::Refusal;
 use crate::head::{Found, Head, Line, Next, RefusedByte, read_head, short_bulk};
 use crate::parse::{Stop, take_payload, take_text};
 use crate::pending::Pending;
+use crate::spelled_command::{SpelledCommand, spelled_len};
 use crate::value::{Value, Values};
 use bytes::Bytes;
 use limits::{MAX_DEPTH, MAX_TEXT};
@@ -179,6 +182,44 @@ impl PartialValue {
                 Err(Halt::Refused(told_at(refusal, place), place))
             }
         }
+    }
+
+    // The outermost value and the length of its text, if no byte of it was taken and it is a short command in its one
+    // spelling that has come completely. `None`: nothing has changed.
+    pub(crate) fn next_spelled(
+        &mut self,
+        most: u64,
+    ) -> Result<Option<(SpelledCommand, usize)>, AllocError>
+        requires good { IsGood most self.old }
+        requires most { (max_words ≤ most) × (most < 2 ^ 32) }
+        ensures good { IsGood most self.new }
+        ensures value { IfOk result (λ o. IfSome o (λ x. (held : List ℕ) → Reads most held self.old
+            → Gave most held (command_of x.0) x.1 self.new)) }
+        ensures none { IfOk result (λ o. IfNone o (self.new ≡ self.old)) }
+        ensures err { OnErr result (shown_progress self.new ≡ shown_progress self.old) }
+    {
+        if !self.is_fresh() {
+            return Ok(None);
+        }
+        let Some(len) = spelled_len(self.pending.as_slice()) else {
+            return Ok(None);
+        };
+        let text = self.pending.cut(self.room, len, len)?;
+        self.seen = 0;
+        Ok(Some((SpelledCommand::from_text(text), len)))
+    }
+
+    // Whether no byte of the value was taken.
+    fn is_fresh(&self) -> bool
+        ensures { result ≡ true → IsFresh self.now × (self.now.came ≡ 0) }
+    {
+        let Next::Head(head) = self.next else {
+            return false;
+        };
+        let Head::Type = head else {
+            return false;
+        };
+        self.came == 0 && self.done.is_none() && self.opens.is_empty()
     }
 
     // Reads to the end of the outermost value, or as far as the bytes go.

@@ -7,12 +7,14 @@ ghost use Rattle.resp_core.specs.Readable.{IsReadable};
 ghost use Rattle.resp_core.specs.Offset.{offset_of, number_of};
 ghost use Rattle.resp_core.specs.Value.{tree_of};
 ghost use Rattle.resp_core.specs.Grammar.{max_text};
+ghost use Rattle.resp_core.specs.Command.{command_of};
 
 use crate::error::RespError;
 use crate::partial_value::{Halt, PartialValue};
+use crate::spelled_command::{MAX_WORDS, SpelledCommand};
 use crate::value::Value;
 use limits::{MAX_CLIENT_MEMBERS, MAX_HOST_MEMBERS};
-use std::alloc::Global;
+use std::alloc::{AllocError, Global};
 use std::marker::Model;
 
 /// The most members of an array.
@@ -45,13 +47,24 @@ impl Limits {
 /// of an incomplete text or payload. A payload of at least 16,384 bytes and an eighth of its buffer
 /// is returned as a part of that buffer; any other is copied, and short ones are parts of copies of at
 /// most 512 bytes. While no byte is pending it keeps a buffer of at most 32,768 bytes.
-#[derive(Drop)]
 pub struct Reader {
     progress: PartialValue,
     // The bytes of the stream before the unfinished value, at most the greatest `u64`.
     consumed: u64,
     array: u32,
     refusal: Option<RespError>,
+}
+
+// Written out so that a drop is one call: each function that holds one is proved sooner.
+impl Drop for Reader {
+    fn drop(self) {
+        let Reader {
+            progress: _,
+            consumed: _,
+            array: _,
+            refusal: _,
+        } = self;
+    }
 }
 
 impl Model for Reader {
@@ -134,6 +147,39 @@ impl Reader {
         }
         self.progress.feed(piece)?;
         Ok(())
+    }
+
+    /// The next value as its text, if it is a short command in its one spelling that has come completely: at most nine
+    /// words, each of less than 1,000 bytes, in at most 512 bytes.
+    ///
+    /// `None`: it isn't known to be such a command, nothing has changed, and `next_value` reads on. Refused only for want of
+    /// memory: nothing has changed.
+    pub fn next_spelled(&mut self) -> Result<Option<SpelledCommand>, AllocError>
+        ensures value { IfOk result (λ o. IfSome o (λ c. (b : List ℕ) (ts : List Tree)
+            → Stands self.old b ts
+            → Stands self.new b (ts ++ command_of c ∷ []))) }
+        ensures given { IfOk result
+            (λ o. IfSome o (λ c. IsReadable self.old.most (command_of c))) }
+        ensures falls { IfOk result (λ o. IfSome o
+            (λ _. unread_bytes self.new < unread_bytes self.old)) }
+        ensures none { IfOk result (λ o. IfNone o (self.new ≡ self.old)) }
+        ensures err { OnErr result (self.new ≡ self.old) }
+        ensures refusal { self.new.refusal ≡ self.old.refusal }
+        ensures most { self.new.most ≡ self.old.most }
+    {
+        if let Some(_) = self.refusal {
+            return Ok(None);
+        }
+        if (self.array as u64) < MAX_WORDS {
+            return Ok(None);
+        }
+        match self.progress.next_spelled(self.array as u64)? {
+            Some((command, len)) => {
+                self.consumed = self.consumed.saturating_add(len as u64);
+                Ok(Some(command))
+            }
+            None => Ok(None),
+        }
     }
 
     /// The next complete value, or `None` if it hasn't come completely.

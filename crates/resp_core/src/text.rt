@@ -272,7 +272,7 @@ fn signed_digits(n: i64) -> u64
 }
 
 // The number of digits.
-fn digits(n: u64) -> u64
+pub(crate) fn digits(n: u64) -> u64
     ensures { result ≡ length (decimal n) }
 {
     if n < 10 {

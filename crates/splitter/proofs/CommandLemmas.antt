@@ -8,7 +8,7 @@ use Rattle.resp_core.specs.Tree.{Tree}
 use Rattle.resp_core.specs.Text.{text}
 use Rattle.resp_core.specs.Grammar.{max_depth}
 use Rattle.resp_core.specs.ValueLimits.{IsWithin}
-use Rattle.resp_core.specs.Command.{is_command, words_of, word}
+use Rattle.resp_core.specs.Command.{is_command, words_of, word, command_of}
 use Rattle.command_table.specs.Table.{Row, rows, row_named}
 use Rattle.command_table.specs.declared.Kind.{Kind}
 use Rattle.command_table.specs.declared.Kind.TheVariants.{Ping, Echo, Quit, One, SplitGet, SplitSet, SplitSum}
@@ -18,7 +18,7 @@ use Rattle.splitter.specs.declared.plans.Join.{Join}
 use Rattle.splitter.specs.declared.plans.PartPlan.{PartPlan}
 use Rattle.splitter.specs.Request.{read, broken}
 use Rattle.splitter.specs.Plan.{parts, takes, plan_by, plan_by_row}
-use Rattle.splitter.specs.Split.{Words, pairs, split, split_by, command_of, part_at}
+use Rattle.splitter.specs.Split.{Words, pairs, split, split_by, part_at}
 use Rattle.splitter.specs.Commands.{commands_by_row}
 use Rattle.splitter.specs.Laws.{PartsAreOfCommands, CommandsKeepLimits}
 use Rattle.splitter.proofs.RowLemmas.{get_row, set_row}

@@ -12,7 +12,7 @@ use Rattle.resp_core.specs.Text.{line, line_end, text, texts}
 use Rattle.resp_core.specs.Grammar.{max_bulk, max_text, max_depth}
 use Rattle.resp_core.specs.ValueLimits.{IsWithin, AreWithin}
 use Rattle.resp_core.specs.Laws.{Holds}
-use Rattle.resp_core.specs.Command.{is_bulk, is_command, payload_of, words_of, word}
+use Rattle.resp_core.specs.Command.{is_bulk, is_command, payload_of, words_of, word, command_of}
 use Rattle.resp_core.proofs.CallerLemmas.{length_members, trees_of-members, text_is_read_back, is_command-list}
 use Rattle.command_table.specs.Table.{Row, rows, row_named}
 use Rattle.command_table.specs.declared.Kind.{Kind}
@@ -24,7 +24,7 @@ use Rattle.splitter.specs.declared.plans.Join.TheVariants.{Same, Get, Set, Sum}
 use Rattle.splitter.specs.declared.plans.PartPlan.{PartPlan}
 use Rattle.splitter.specs.Request.{read}
 use Rattle.splitter.specs.Plan.{parts, takes, plan_by, plan_by_row, plan_of}
-use Rattle.splitter.specs.Split.{Words, pairs, command_of, part_at}
+use Rattle.splitter.specs.Split.{Words, pairs, part_at}
 use Rattle.splitter.specs.Join.{MayJoin}
 use Rattle.splitter.specs.Laws.{IsPart, PartsAreCommands, PartsKeepLimits, IsReadFirst, PartsAreReadBack}
 use Rattle.splitter.proofs.RowLemmas.{one_row, get_row, set_row, sum_row}

@@ -7,9 +7,9 @@ use Rattle.resp_core.specs.Tree.{Tree, simple, fault, whole, bulk, null_bulk, li
 use Rattle.resp_core.specs.Value.{tree_of}
 use Rattle.resp_core.specs.declared.value.Value.{Value}
 use Rattle.resp_core.specs.Text.{line, text}
-use Rattle.resp_core.specs.Command.{is_bulk, are_words, payload_of, word}
+use Rattle.resp_core.specs.Command.{is_bulk, are_words, payload_of, word, command_of}
 use Rattle.splitter.specs.declared.plans.PartPlan.{PartPlan}
-use Rattle.splitter.specs.Split.{Words, pairs, part_at, command_of}
+use Rattle.splitter.specs.Split.{Words, pairs, part_at}
 use Rattle.splitter.specs.Part.{head_of, part_of, key_parts_of}
 
 -- a bulk string is that of its payload, and plain

@@ -1,16 +1,21 @@
 -- The plan of a command of the table, by its kind.
-use Rattle.std.proofs.Common.{◌≡◌, ◌<◌, ℕ, true, Contains, List, [], ◌∷◌, map, drop, codes, refl, sym, ap, ◌∙◌, subst, arith}
+use Rattle.std.proofs.Common.{◌≡◌, ◌<◌, ℕ, true, Contains, List, [], ◌∷◌, map, drop, length, codes, refl, sym, ap, ap₂, ◌∙◌, subst, arith}
 use Rattle.std.specs.Str.{str_to_ascii_uppercase}
 use Rattle.std.proofs.lemmas.Bool.{eqb-true, leb-true}
-use Rattle.resp_core.specs.Tree.{Tree}
-use Rattle.resp_core.specs.Command.{payload_of, is_command, words_of, word, IsArrayOf}
-use Rattle.resp_core.proofs.CallerLemmas.{words_of-list}
+use Rattle.resp_core.specs.Tree.{Tree, bulk}
+use Rattle.resp_core.specs.Text.{text}
+use Rattle.resp_core.specs.Command.{command_of, payload_of, is_command, words_of, word, IsArrayOf}
+use Rattle.resp_core.proofs.CallerLemmas.{words_of-list, command_of_is_command, payloads}
+use Rattle.command_table.specs.Entry.{row_of}
+use Rattle.command_table.specs.declared.Entry.{Entry}
 use Rattle.command_table.specs.Table.{Row, rows, row_named}
 use Rattle.command_table.specs.declared.Kind.{Kind}
 use Rattle.command_table.specs.declared.Kind.TheVariants.{Echo, One, SplitGet, SplitSet, SplitSum}
 use Rattle.splitter.specs.declared.plans.PartPlan.{PartPlan}
 use Rattle.splitter.specs.declared.plans.Join.TheVariants.{Same, Get, Set, Sum}
 use Rattle.splitter.specs.Request.{read}
+use Rattle.splitter.specs.Part.{part_of}
+use Rattle.splitter.specs.Planned.{IsWholeBy}
 use Rattle.splitter.specs.Plan.{Plan, parts, plan_of, plan_by, plan_by_row, takes}
 use Rattle.splitter.specs.Split.{Words, pairs, part_at}
 use Rattle.splitter.proofs.RowLemmas.{echo_row, one_row}
@@ -51,3 +56,16 @@ set_is r words ps k at e =
 pub sum_is : (r : Row) (words : Words) (ps : List PartPlan) → r.kind ≡ SplitSum → r.key_at ≡ 1 → ps ≡ map (λ key. part_at 1 (str_to_ascii_uppercase r.name ∷ key ∷ [])) (drop 1 words) → parts Sum ps ≡ plan_by r.kind r words
 sum_is r words ps k at e =
     rw (k, at) (ap (parts Sum) (e ∙ sym (map_twice (part_at 1) (λ key. str_to_ascii_uppercase r.name ∷ key ∷ []) (drop 1 words))))
+
+-- a command that stays whole is its one part
+pub whole_inside : (entry : Entry) (words : Words) → IsWholeBy entry words → entry.key_at < length words
+whole_inside entry words w = one_inside (row_of entry) (length words) w.takes w.kind w.known
+
+pub whole_is : (entry : Entry) (words : Words) (key bytes : List ℕ) → IsWholeBy entry words → key ≡ word words entry.key_at → bytes ≡ text (command_of words) → parts Same (part_of key bytes ∷ []) ≡ plan_of (read (command_of words))
+whole_is entry words key bytes w key_is bytes_is =
+    let r = row_of entry in
+    let some : 0 < length words = omega (arith, whole_inside entry words w) in
+    let whole : parts Same (part_of key bytes ∷ []) ≡ parts Same (part_at r.key_at words ∷ []) = ap₂ (λ k b. parts Same (part_of k b ∷ [])) key_is bytes_is in
+    let by_row : plan_by_row (row_named (word words 0)) words ≡ plan_by r.kind r words = rw (w.row, w.takes) refl in
+    let by_words = plan_of-command (command_of words) (map bulk words) (command_of_is_command words some) refl ∙ ap (λ z. plan_by_row (row_named (word z 0)) z) (payloads words) in
+    one_is r words (parts Same (part_of key bytes ∷ [])) w.kind whole ∙ sym (by_words ∙ by_row)

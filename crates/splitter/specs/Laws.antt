@@ -5,14 +5,14 @@ use Rattle.resp_core.specs.Tree.{Tree, is_plain_tree}
 use Rattle.resp_core.specs.Text.{text}
 use Rattle.resp_core.specs.Grammar.{max_text, max_depth}
 use Rattle.resp_core.specs.ValueLimits.{IsWithin}
-use Rattle.resp_core.specs.Command.{is_command}
+use Rattle.resp_core.specs.Command.{is_command, command_of}
 use Rattle.resp_core.specs.Laws.{Holds}
 use Rattle.limits.specs.declared.messages.TheConstants.{MAX_CLIENT_MEMBERS}
 use Rattle.splitter.specs.declared.plans.Join.{Join}
 use Rattle.splitter.specs.declared.plans.PartPlan.{PartPlan}
 use Rattle.splitter.specs.Request.{Request, read}
 use Rattle.splitter.specs.Plan.{Plan, here, leave, parts, plan_of}
-use Rattle.splitter.specs.Split.{Words, command_of, part_at}
+use Rattle.splitter.specs.Split.{Words, part_at}
 use Rattle.splitter.specs.Commands.{commands_of}
 use Rattle.splitter.specs.Join.{MayJoin, join_of}
 use Rattle.resp_core.specs.Stream.{Splits}

@@ -1,8 +1,14 @@
 -- What a plan says.
-use Rattle.std.specs.Prelude.{[], ◌∷◌}
+use Rattle.std.specs.Prelude.{◌≡◌, [], ◌∷◌, true, Some, Contains, length}
 use Rattle.resp_core.specs.Value.{tree_of}
+use Rattle.resp_core.specs.Command.{word}
+use Rattle.command_table.specs.Entry.{row_of}
+use Rattle.command_table.specs.Table.{rows, row_named}
+use Rattle.command_table.specs.declared.Entry.{Entry}
+use Rattle.command_table.specs.declared.Kind.TheVariants.{One}
+use Rattle.splitter.specs.Split.{Words}
 use Rattle.splitter.specs.Part.{part_of}
-use Rattle.splitter.specs.Plan.{Plan, here, leave, parts}
+use Rattle.splitter.specs.Plan.{Plan, here, leave, parts, takes}
 use Rattle.splitter.specs.declared.plans.Join.TheVariants.{Same}
 use Rattle.splitter.specs.declared.plans.Plan.{Plan as Plan'}
 use Rattle.splitter.specs.declared.plans.Plan.TheVariants as plans
@@ -19,3 +25,10 @@ plan_in (plans.Parts how list) = parts how list
 abbrev pub planned_in : Planned → Plan
 planned_in (planned.Whole key bytes) = parts Same (part_of key.now bytes ∷ [])
 planned_in (planned.Other plan) = plan_in plan
+
+-- the table has the command of these words in this row, by which it goes whole to one host
+pub record IsWholeBy (entry : Entry) (words : Words) : Type 0 where
+  pub row : row_named (word words 0) ≡ Some (row_of entry)
+  pub known : Contains rows (row_of entry)
+  pub kind : entry.kind ≡ One
+  pub takes : takes entry.kind entry.least (length words) ≡ true

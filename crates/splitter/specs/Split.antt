@@ -1,9 +1,8 @@
 -- The commands that a command is split into, each with the words of one part.
 use Rattle.std.specs.Prelude.{ℕ, List, [], ◌∷◌, map, drop, codes}
 use Rattle.std.specs.Str.{str_to_ascii_uppercase}
-use Rattle.resp_core.specs.Tree.{Tree, bulk, list, trees_of}
 use Rattle.resp_core.specs.Text.{text}
-use Rattle.resp_core.specs.Command.{word}
+use Rattle.resp_core.specs.Command.{command_of, word}
 use Rattle.command_table.specs.Table.{Row}
 use Rattle.command_table.specs.declared.Kind.{Kind}
 use Rattle.command_table.specs.declared.Kind.TheVariants.{Ping, Echo, Quit, One, SplitGet, SplitSet, SplitSum}
@@ -45,10 +44,6 @@ join_by One = Same
 join_by SplitGet = Get
 join_by SplitSet = Set
 join_by SplitSum = Sum
-
--- a command of these words
-abbrev pub command_of : Words → Tree
-command_of words = list (trees_of (map bulk words))
 
 -- the part of a command of these words, its key being the word of this number
 abbrev pub part_at : ℕ → Words → PartPlan

@@ -40,7 +40,7 @@ pub(crate) fn whole_part<'a>(
     ensures err { IfErr result (λ e. e ≡ SplitError.NoMemory) }
 {
     Ok(Planned::Whole {
-        key: words.word(key_at),
+        key: words.word(key_at).as_slice(),
         text: texts.text_of(command, text_len)?,
     })
 }

@@ -1,13 +1,13 @@
 //! Plans requests.
-ghost use Rattle.std.specs.Prelude.{◌≡◌, IfOk, IfErr, Contains, true, length, map};
+ghost use Rattle.std.specs.Prelude.{◌≡◌, IfOk, IfErr, IfSome, Contains, true, length, map};
 ghost use Rattle.std.specs.Str.{str_to_ascii_uppercase};
 ghost use Rattle.resp_core.specs.Value.{tree_of};
-ghost use Rattle.resp_core.specs.Command.{are_words, payload_of, word, IsArrayOf};
+ghost use Rattle.resp_core.specs.Command.{are_words, command_of, payload_of, word, IsArrayOf};
 ghost use Rattle.command_table.specs.Entry.{row_of};
 ghost use Rattle.command_table.specs.Table.{rows, row_named};
-ghost use Rattle.splitter.specs.Request.{request_of};
+ghost use Rattle.splitter.specs.Request.{read, request_of};
 ghost use Rattle.splitter.specs.Plan.{plan_of, plan_by, plan_by_row, takes};
-ghost use Rattle.splitter.specs.Planned.{plan_in, planned_in};
+ghost use Rattle.splitter.specs.Planned.{IsWholeBy, plan_in, planned_in};
 
 use crate::error::SplitError;
 use crate::local::{unsupported, wrong_number};
@@ -16,21 +16,32 @@ use crate::plans::{Join, Local, PartPlan, PartPlans, Plan, Planned};
 use crate::request::Request;
 use bytes::Bytes;
 use command_table::{Entry, Kind, look};
-use resp_core::{Texts, Value, Values};
+use resp_core::{SpelledCommand, Texts, Value, Values};
 use std::alloc::Global;
 
 /// The plan of a request, by the table of commands.
 ///
-/// It depends on the request alone. Keys, and the reply of ECHO, share their bytes with the request. Refused 701 (no
-/// memory).
+/// It depends on the request alone. The keys of a command that is split, and the reply of ECHO, share their bytes with the
+/// request. Refused 701 (no memory).
 pub fn plan(alloc: Global, request: &Request) -> Result<Plan, SplitError>
     ensures plan { IfOk result (λ p. plan_in p ≡ plan_of (request_of request.now)) }
     ensures err { IfErr result (λ e. e ≡ SplitError.NoMemory) }
 {
-    match plan_with(alloc, &mut Texts::new(alloc), request, request.text_len())? {
+    owned(
+        alloc,
+        plan_with(alloc, &mut Texts::new(alloc), request, request.text_len())?,
+    )
+}
+
+// The same plan, which lends nothing.
+fn owned(alloc: Global, planned: Planned<'_>) -> Result<Plan, SplitError>
+    ensures plan { IfOk result (λ p. plan_in p ≡ planned_in planned.entry) }
+    ensures err { IfErr result (λ e. e ≡ SplitError.NoMemory) }
+{
+    match planned {
         Planned::Whole { key, text } => {
             let part = PartPlan {
-                key: key.clone()?,
+                key: Bytes::copy_from_slice(alloc, key)?,
                 text,
             };
             Ok(Plan::Parts {
@@ -58,13 +69,60 @@ pub fn plan_with<'a>(
             Local::Broken,
             Value::Fault(Bytes::from_static(b"downstream protocol error")),
         ))),
-        Request::Read(value) => match value.words() {
-            Some(words) => plan_command(alloc, texts, value, text_len, words),
-            None => Ok(Planned::Other(Plan::Here(
-                Local::Invalid,
-                Value::Fault(Bytes::from_static(b"invalid request")),
-            ))),
-        },
+        Request::Read(value) => plan_value(alloc, texts, value, text_len),
+        Request::Spelled(command) => plan_spelled(alloc, texts, command),
+    }
+}
+
+// The plan of a value.
+fn plan_value<'a>(
+    alloc: Global,
+    texts: &mut Texts,
+    value: &'a Value,
+    text_len: u64,
+) -> Result<Planned<'a>, SplitError>
+    ensures plan { IfOk result (λ p. planned_in p ≡ plan_of (read (tree_of value.now))) }
+    ensures err { IfErr result (λ e. e ≡ SplitError.NoMemory) }
+{
+    match value.words() {
+        Some(words) => plan_command(alloc, texts, value, text_len, words),
+        None => Ok(Planned::Other(Plan::Here(
+            Local::Invalid,
+            Value::Fault(Bytes::from_static(b"invalid request")),
+        ))),
+    }
+}
+
+// The plan of a command that is its text: what goes whole to one host is passed on as it came.
+fn plan_spelled<'a>(
+    alloc: Global,
+    texts: &mut Texts,
+    command: &'a SpelledCommand,
+) -> Result<Planned<'a>, SplitError>
+    ensures plan { IfOk result
+        (λ p. planned_in p ≡ plan_of (read (command_of command.now))) }
+    ensures err { IfErr result (λ e. e ≡ SplitError.NoMemory) }
+{
+    if let Some(entry) = whole_entry(command) {
+        return Ok(Planned::Whole {
+            key: command.word(entry.key_at),
+            text: command.text().clone()?,
+        });
+    }
+    let value = command.value(alloc)?;
+    let planned = plan_value(alloc, texts, &value, command.text().len() as u64)?;
+    Ok(Planned::Other(owned(alloc, planned)?))
+}
+
+// The table's entry of a command that goes whole to one host and has a right number of words.
+fn whole_entry(command: &SpelledCommand) -> Option<Entry>
+    ensures { IfSome result (λ entry. IsWholeBy entry command.now) }
+{
+    let count = command.count();
+    let entry = look(command.word(0))?;
+    match entry.kind {
+        Kind::One if takes(entry, count) => Some(entry),
+        _ => None,
     }
 }
 

@@ -84,7 +84,7 @@ pub enum Planned<'a> {
     /// One host answers the whole command, and its reply is the reply.
     Whole {
         /// The key, by which the host is chosen: a word of the request.
-        key: &'a Bytes,
+        key: &'a [u8],
         /// The command's text: its words as an array of bulk strings, in the one spelling.
         text: Bytes,
     },

@@ -2,13 +2,15 @@
 ghost use Rattle.std.specs.Prelude.{◌≡◌};
 ghost use Rattle.resp_core.specs.Stream.{told_offset};
 
-use resp_core::Value;
+use resp_core::{SpelledCommand, Value};
 
 /// A request of a client's stream: a value, or bytes that are no text of one.
 #[derive(Drop)]
 pub enum Request {
     /// A value, which may be a command.
     Read(Value),
+    /// A short command in its one spelling, which is its text.
+    Spelled(SpelledCommand),
     /// The reader refused the input.
     Broken,
 }
@@ -22,6 +24,7 @@ impl Request {
     {
         match self {
             Request::Read(value) => value.text_len(),
+            Request::Spelled(command) => command.text().len() as u64,
             Request::Broken => 0,
         }
     }

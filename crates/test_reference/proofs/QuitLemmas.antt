@@ -4,8 +4,9 @@ use Rattle.std.specs.List.{list_all}
 use Rattle.std.proofs.lemmas.Bool.{cases_Bool, and_parts, eqb-true, leb-false, ltb-true}
 use Rattle.std.proofs.lemmas.List.{length-map}
 use Rattle.list_lemmas.proofs.CallerLemmas.{list_all-get_or}
-use Rattle.resp_core.specs.Tree.{Tree}
-use Rattle.resp_core.specs.Command.{is_bulk, is_command, are_words, payload_of, word, IsArrayOf}
+use Rattle.resp_core.specs.Tree.{Tree, bulk}
+use Rattle.resp_core.specs.Command.{is_bulk, is_command, are_words, command_of, payload_of, word, IsArrayOf}
+use Rattle.resp_core.proofs.CallerLemmas.{command_of_is_command, is_command-list, payloads}
 use Rattle.command_table.specs.Names.{one_key_names}
 use Rattle.command_table.specs.Table.{Row, rows, row_named}
 use Rattle.command_table.proofs.CallerLemmas.{found_stands_in_table}
@@ -70,3 +71,9 @@ pub command_leaves : (t : Tree) (ts : List Tree) → is_command t ≡ true → a
 command_leaves t ts c w is =
     let some : 0 < length (map payload_of ts) = omega (arith, length-map ts payload_of, ltb-true 0 (length ts) (and_parts (nat_lt 0 (length ts)) (list_all is_bulk ts) w).0) in
     last_by_row (row_named (word (map payload_of ts) 0)) (map payload_of ts) refl some ∙ ap is_last (sym (plan_of-command t ts c is))
+
+pub text_leaves : (words : Words) → 0 < length words → is_quit_row (row_named (word words 0)) ≡ is_last (plan_of (read (command_of words)))
+text_leaves words some =
+    let command = command_of_is_command words some in
+    ap (λ z. is_quit_row (row_named (word z 0))) (sym (payloads words))
+    ∙ command_leaves (command_of words) (map bulk words) command (sym (is_command-list (map bulk words)) ∙ command) refl

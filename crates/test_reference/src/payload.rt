@@ -53,6 +53,7 @@ fn length_of_request(request: &Request) -> u64
 {
     match request {
         Request::Read(value) => value.text_len(),
+        Request::Spelled(command) => command.text().len() as u64,
         Request::Broken => 0,
     }
 }

@@ -4,7 +4,8 @@ ghost use Rattle.std.specs.Option.{option_map, option_copied};
 ghost use Rattle.resp_core.specs.Value.{tree_of};
 ghost use Rattle.std.specs.Prelude.{slice_get, min, ◌^◌, ◌-◌};
 ghost use Rattle.splitter.specs.Plan.{is_last, plan_of};
-ghost use Rattle.splitter.specs.Request.{request_of};
+ghost use Rattle.resp_core.specs.Command.{command_of};
+ghost use Rattle.splitter.specs.Request.{read, request_of};
 ghost use Rattle.proxy_history.specs.History.{times, has, requests, request_by, plan_for};
 ghost use Rattle.proxy_history.specs.Replies.{replies_from, reply_by};
 ghost use Rattle.test_reference.specs.Scan.{is_wanted, is_quit_row, history_of};
@@ -14,7 +15,7 @@ ghost use Rattle.command_table.specs.Table.{row_named};
 use command_table::{Kind, look};
 use journal_core::Step;
 use proxy_history::{Answer, Event};
-use resp_core::Value;
+use resp_core::{SpelledCommand, Value};
 use splitter::Request;
 
 /// A step of the proxy.
@@ -80,7 +81,19 @@ fn is_leaving(request: &Request) -> bool
             Some(words) => is_quit(words.word(0).as_slice()),
             None => false,
         },
+        Request::Spelled(command) => is_leaving_text(command),
     }
+}
+
+// Whether the connection finishes with a command that is its text.
+fn is_leaving_text(command: &SpelledCommand) -> bool
+    ensures { result ≡ is_last (plan_of (read (command_of command.now))) }
+{
+    // (there is always a first word)
+    if command.count() == 0 {
+        return false;
+    }
+    is_quit(command.word(0))
 }
 
 // Whether the name is that of QUIT.

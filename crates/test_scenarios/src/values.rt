@@ -4,7 +4,7 @@ use crate::text::{first_word, number, unescaped, word_bytes};
 use anyhow::{Result, bail};
 use bytes::Bytes;
 use proxy_core::Request;
-use resp_core::{Limits, Reader, Value, Values};
+use resp_core::{Limits, Reader, SpelledCommand, Value, Values, put_text};
 use std::alloc::Global;
 
 // A request of a given length has this many members. All but the first are written in 65,536 bytes each.
@@ -66,8 +66,29 @@ pub(crate) fn request_of(alloc: Global, words: &str) -> Result<Request> {
         "value" => Ok(Request::Read(value_of(alloc, rest)?)),
         "many" => many(alloc, rest),
         "bytes" => big(alloc, number(rest)?),
-        _ => Ok(Request::Read(command(alloc, words)?)),
+        _ => as_read(alloc, command(alloc, words)?),
     }
+}
+
+/// The request of a command, as it is read: a short command is its text.
+pub(crate) fn as_read(alloc: Global, command: Value) -> Result<Request> {
+    match as_text(alloc, &command)? {
+        Some(text) => {
+            drop(command);
+            Ok(Request::Spelled(text))
+        }
+        None => Ok(Request::Read(command)),
+    }
+}
+
+/// The same command as its text, if it is short.
+pub(crate) fn as_text(alloc: Global, command: &Value) -> Result<Option<SpelledCommand>> {
+    if !command.is_plain() {
+        return Ok(None);
+    }
+    let mut text = Vec::new(alloc);
+    put_text(alloc, command, &mut text)?;
+    Ok(SpelledCommand::of(Bytes::from_vec(text)?))
 }
 
 /// The command of these words.

@@ -5,7 +5,7 @@ use Rattle.std.proofs.lemmas.List.{length-append, length-map}
 use Rattle.resp_core.specs.Tree.{Tree, Trees, simple, fault, whole, bulk, null_bulk, list, null_list, no_trees, tree, members}
 use Rattle.resp_core.specs.Text.{text, texts, line}
 use Rattle.resp_core.specs.Value.{tree_of}
-use Rattle.resp_core.specs.Command.{is_command, words_of, word, payload_of}
+use Rattle.resp_core.specs.Command.{command_of, is_command, words_of, word, payload_of}
 use Rattle.command_table.specs.Table.{Row, row_named}
 use Rattle.command_table.specs.declared.Kind.{Kind}
 use Rattle.command_table.specs.declared.Kind.TheVariants.{Ping, Echo, Quit, One, SplitGet, SplitSet, SplitSum}
@@ -14,7 +14,8 @@ use Rattle.splitter.specs.declared.plans.PartPlan.{PartPlan}
 use Rattle.splitter.specs.declared.request.Request.{Request}
 use Rattle.splitter.specs.declared.request.Request.TheVariants as requests
 use Rattle.splitter.specs.Split.{Words, split, part_at}
-use Rattle.splitter.specs.Plan.{parts, plan_by, plan_by_row, takes}
+use Rattle.splitter.specs.Plan.{parts, plan_by, plan_by_row, plan_of, takes}
+use Rattle.splitter.specs.Request.{read}
 use Rattle.splitter.proofs.CallerLemmas.{length-split_by}
 use Rattle.proxy_history.specs.History.{plan_for}
 use Rattle.proxy_history.specs.Payload.{length_of_request}
@@ -65,11 +66,15 @@ few_by_row (Some r) words how plans e = elim (cases_Bool (takes r.kind r.least (
   | inr f ↦ let g = rw f at e in absurd (cc g)
 ]
 
+few_of : (t : Tree) (how : Join) (plans : List PartPlan) → plan_of (read t) ≡ parts how plans → length plans ≤ length (text t)
+few_of t how plans e = elim (cases_Bool (is_command t)) [
+  | inl is ↦
+      let g = rw is at e in
+      omega (arith, few_words t, few_by_row (row_named (word (words_of t) 0)) (words_of t) how plans g)
+  | inr is_none ↦ let g = rw is_none at e in absurd (cc g)
+]
+
 pub few_parts : (request : Request) (how : Join) (plans : List PartPlan) → plan_for request ≡ parts how plans → length plans ≤ length_of_request request
 few_parts requests.Broken how plans e = absurd (cc e)
-few_parts (requests.Read v) how plans e = elim (cases_Bool (is_command (tree_of v))) [
-  | inl t ↦
-      let g = rw t at e in
-      omega (arith, few_words (tree_of v), few_by_row (row_named (word (words_of (tree_of v)) 0)) (words_of (tree_of v)) how plans g)
-  | inr f ↦ let g = rw f at e in absurd (cc g)
-]
+few_parts (requests.Read v) how plans e = few_of (tree_of v) how plans e
+few_parts (requests.Spelled words) how plans e = few_of (command_of words) how plans e

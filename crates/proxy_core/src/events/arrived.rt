@@ -163,7 +163,7 @@ impl Machine {
     }
 
     // Accepts a command that goes whole to the host of its key.
-    fn accept_whole(&mut self, conn: u64, key: &Bytes, text: Bytes) -> Result<Accepted, Refusal>
+    fn accept_whole(&mut self, conn: u64, key: &[u8], text: Bytes) -> Result<Accepted, Refusal>
         requires pipelines { length self.old.pipelines.states ≡ hosts (setting_in self.old) }
         requires hosts { self.old.ejector.rules.hosts ≡ self.old.ring.hosts }
         requires open { MayAccept (connection_at conn self.old.connections.numbered) }
@@ -211,7 +211,7 @@ impl Machine {
     }
 
     // Places a command's only part, and counts it for its host if it is to wait there.
-    fn place_whole(&self, counts: &mut [u16], key: &Bytes, text: Bytes) -> Placed
+    fn place_whole(&self, counts: &mut [u16], key: &[u8], text: Bytes) -> Placed
         requires pipelines { length self.now.pipelines.states ≡ hosts (setting_in self.now) }
         requires hosts { self.now.ejector.rules.hosts ≡ self.now.ring.hosts }
         requires counts { counts.old ≡ replicate (length self.now.pipelines.states) 0 }
@@ -321,15 +321,15 @@ impl Machine {
             (point_of plan.key self.now.ejector.rules.settings.tags) usable.now)
             (λ h. h < length self.now.pipelines.states) }
     {
-        let point = self.point_of(&plan.key);
+        let point = self.point_of(plan.key.as_slice());
         self.place_at(usable, counts, number, point, plan.text)
     }
 
     // The point of a key on the ring.
-    fn point_of(&self, key: &Bytes) -> u32
+    fn point_of(&self, key: &[u8]) -> u32
         ensures { result ≡ point_of key.now self.now.ejector.rules.settings.tags }
     {
-        point_of_key(key.as_slice(), self.ejector.rules().settings.tags)
+        point_of_key(key, self.ejector.rules().settings.tags)
     }
 
     // Places the next part, whose key has this point.

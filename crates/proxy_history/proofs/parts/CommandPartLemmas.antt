@@ -6,6 +6,7 @@ use Rattle.std.proofs.lemmas.List.{append-nil, append_assoc, length-append, leng
 use Rattle.std.proofs.lemmas.List.Elements.{filter-append}
 use Rattle.resp_core.specs.Tree.{Tree}
 use Rattle.resp_core.specs.Value.{tree_of}
+use Rattle.resp_core.specs.Command.{command_of}
 use Rattle.resp_core.specs.declared.value.Value.{Value}
 use Rattle.splitter.specs.Plan.{Plan, here, leave, parts}
 use Rattle.splitter.specs.Join.{MayJoin}
@@ -193,6 +194,7 @@ commands_have_their_parts S H c i request e =
 
 pub plan_may_join : (r : Request) (how : Join) (list : List PartPlan) → plan_for r ≡ parts how list → MayJoin how (length list)
 plan_may_join (requests'.Read v) how list e = (parts_are_commands (tree_of v) how list e).0
+plan_may_join (requests'.Spelled words) how list e = (parts_are_commands (command_of words) how list e).0
 plan_may_join requests'.Broken how list e = absurd (cc e)
 
 length-values_of : (x : Past) (ps : List Part) (ts : List Tree) → values_of x ps ≡ Some ts → length ts ≡ length ps

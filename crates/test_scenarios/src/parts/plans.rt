@@ -6,7 +6,7 @@ use super::spelling::{spelled, spelling, values_of};
 use crate::again::again;
 use crate::shown::shown;
 use crate::text::{first_word, put_escaped, unknown};
-use crate::values::{bulk, put_copies, request_of};
+use crate::values::{as_text, bulk, put_copies, request_of};
 use anyhow::{Result, bail};
 use resp_core::{Value, Values};
 use splitter::{Join, Local, PartPlan, Plan, Request, join, plan};
@@ -31,10 +31,30 @@ fn told(alloc: Global, line: &str) -> Result<String> {
     }
 }
 
+// The plan of a request, and of the same one as its text if it is a short command. Both must be the same.
 fn planned(alloc: Global, request: Request) -> Result<String> {
-    let plan = plan(alloc, &request);
+    let by_value = planned_as(alloc, &request);
+    let short = match &request {
+        Request::Read(value) => as_text(alloc, value),
+        _ => Ok(None),
+    };
     drop(request);
-    let plan = plan?;
+    let by_value = by_value?;
+    let Some(short) = short? else {
+        return Ok(by_value);
+    };
+    let by_text = planned_as(alloc, &Request::Spelled(short))?;
+    if by_text.as_str() == by_value.as_str() {
+        return Ok(by_value);
+    }
+    shown(
+        alloc,
+        format_args!("{by_value}, DIFFERS as a text: {by_text}"),
+    )
+}
+
+fn planned_as(alloc: Global, request: &Request) -> Result<String> {
+    let plan = plan(alloc, request)?;
     let text = plan_text(alloc, &plan);
     drop(plan);
     text

@@ -73,25 +73,33 @@ impl ReaderSubject {
         }
     }
 
-    // Reads a stream whole, in pieces of several lengths, and a short one also cut in two at each place. All must give
-    // the same.
+    // Reads a stream whole, in pieces of several lengths, and a short one also cut in two at each place; and once more with
+    // short commands as their texts. All must give the same.
     fn read(&self, alloc: Global, words: &str) -> Result<String> {
         let stream = stream_of(alloc, words)?;
         let stream = stream.as_slice();
-        let told = self.read_in_pieces(alloc, stream, stream.len())?;
-        if let Some(length) = self.differing_length(alloc, stream, told.as_str())? {
-            return shown(alloc, format_args!("{told}, DIFFERS in pieces of {length}"));
-        }
-        if let Some(place) = self.differing_place(alloc, stream, told.as_str())? {
-            return shown(alloc, format_args!("{told}, DIFFERS cut at {place}"));
+        let told = self.read_in_pieces(alloc, stream, stream.len(), false)?;
+        for as_texts in [false, true] {
+            if let Some(length) = self.differing_length(alloc, stream, told.as_str(), as_texts)? {
+                return shown(alloc, format_args!("{told}, DIFFERS in pieces of {length}"));
+            }
+            if let Some(place) = self.differing_place(alloc, stream, told.as_str(), as_texts)? {
+                return shown(alloc, format_args!("{told}, DIFFERS cut at {place}"));
+            }
         }
         Ok(told)
     }
 
     // A piece length for which the stream reads differently.
-    fn differing_length(&self, alloc: Global, stream: &[u8], told: &str) -> Result<Option<usize>> {
+    fn differing_length(
+        &self,
+        alloc: Global,
+        stream: &[u8],
+        told: &str,
+        as_texts: bool,
+    ) -> Result<Option<usize>> {
         for length in piece_lengths(stream.len()) {
-            let text = self.read_in_pieces(alloc, stream, *length)?;
+            let text = self.read_in_pieces(alloc, stream, *length, as_texts)?;
             if text.as_str() != told {
                 return Ok(Some(*length));
             }
@@ -100,9 +108,15 @@ impl ReaderSubject {
     }
 
     // A place such that the stream, cut in two there, reads differently.
-    fn differing_place(&self, alloc: Global, stream: &[u8], told: &str) -> Result<Option<usize>> {
+    fn differing_place(
+        &self,
+        alloc: Global,
+        stream: &[u8],
+        told: &str,
+        as_texts: bool,
+    ) -> Result<Option<usize>> {
         for place in 0..places(stream.len()) {
-            let text = self.read_cut_at(alloc, stream, place)?;
+            let text = self.read_cut_at(alloc, stream, place, as_texts)?;
             if text.as_str() != told {
                 return Ok(Some(place));
             }
@@ -110,15 +124,27 @@ impl ReaderSubject {
         Ok(None)
     }
 
-    fn read_in_pieces(&self, alloc: Global, stream: &[u8], length: usize) -> Result<String> {
-        let mut reading = Reading::new(alloc, self.limits);
+    fn read_in_pieces(
+        &self,
+        alloc: Global,
+        stream: &[u8],
+        length: usize,
+        as_texts: bool,
+    ) -> Result<String> {
+        let mut reading = Reading::new(alloc, self.limits, as_texts);
         let text = reading.of_pieces(alloc, stream, length);
         drop(reading);
         text
     }
 
-    fn read_cut_at(&self, alloc: Global, stream: &[u8], place: usize) -> Result<String> {
-        let mut reading = Reading::new(alloc, self.limits);
+    fn read_cut_at(
+        &self,
+        alloc: Global,
+        stream: &[u8],
+        place: usize,
+        as_texts: bool,
+    ) -> Result<String> {
+        let mut reading = Reading::new(alloc, self.limits, as_texts);
         let text = reading.of_two(alloc, stream, place);
         drop(reading);
         text
@@ -143,15 +169,18 @@ fn places(bytes: usize) -> usize {
 #[derive(Drop)]
 struct Reading {
     reader: Reader,
+    // Whether short commands are read as their texts.
+    as_texts: bool,
     written: Vec<u8>,
     refusal: Option<RespError>,
 }
 
 impl Reading {
     // Before any bytes.
-    fn new(alloc: Global, limits: Limits) -> Reading {
+    fn new(alloc: Global, limits: Limits, as_texts: bool) -> Reading {
         Reading {
             reader: Reader::new(alloc, limits),
+            as_texts,
             written: Vec::new(alloc),
             refusal: None,
         }
@@ -184,6 +213,9 @@ impl Reading {
     // Takes the values that have come: at most one more than the piece has bytes.
     fn take_values(&mut self, alloc: Global, most: usize) -> Result<()> {
         for _ in 0..=most {
+            if self.as_texts && self.take_text()? {
+                continue;
+            }
             match again!(self.reader.next_value()) {
                 Ok(Some(value)) => self.write(alloc, value)?,
                 Ok(None) => break,
@@ -194,6 +226,17 @@ impl Reading {
             }
         }
         Ok(())
+    }
+
+    // Takes the next value if it is read as its text. True: it was.
+    fn take_text(&mut self) -> Result<bool> {
+        let Some(command) = again!(self.reader.next_spelled())? else {
+            return Ok(false);
+        };
+        let put = self.written.extend_from_slice(command.text().as_slice());
+        drop(command);
+        put?;
+        Ok(true)
     }
 
     // Writes a value that shares its bytes with the reader's.

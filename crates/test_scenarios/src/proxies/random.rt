@@ -1,6 +1,6 @@
 //! Random events for the core and the plain program, whose answers must be equal.
 
-use crate::values::{command, value_of};
+use crate::values::{as_read, command, value_of};
 use anyhow::Result;
 use proxy_core::{Event, Kind, Request, Settings};
 use resp_core::Value;
@@ -72,7 +72,13 @@ impl Numbers {
         if self.chance(40) {
             return Ok(Request::Broken);
         }
-        Ok(Request::Read(command(alloc, self.one_of(&COMMANDS))?))
+        let command = command(alloc, self.one_of(&COMMANDS))?;
+        // (the state's last bit, so that no number is drawn for it)
+        if self.0 % 2 == 0 {
+            Ok(Request::Read(command))
+        } else {
+            as_read(alloc, command)
+        }
     }
 
     // The host's epoch, and now and then the next one.

@@ -1,4 +1,4 @@
-use Rattle.std.proofs.Common.{◌≡◌, [], ◌∷◌, ap, sym, true, subst}
+use Rattle.std.proofs.Common.{◌≡◌, ◌∙◌, [], ◌∷◌, ap, sym, true, subst}
 use Rattle.resp_core.specs.Tree.{Tree, is_plain_tree}
 use Rattle.resp_core.specs.Value.{tree_of}
 use Rattle.splitter.specs.Plan.{parts}
@@ -13,4 +13,4 @@ text_of-requires c =
 pub returns-clause-parts : goal.returns-clause-parts
 returns-clause-parts c =
     ap (λ z. parts Same (z ∷ []))
-    (whole_part-is (tree_of c.args.command.now) c.args.words.now c.word.result.now c.in_ok-text_of.field-0 c.args.key_at c.requires.words c.requires.array c.word.ensures c.in_ok-text_of.ensures)
+    (whole_part-is (tree_of c.args.command.now) c.args.words.now c.as_slice.result.now c.in_ok-text_of.field-0 c.args.key_at c.requires.words c.requires.array (c.as_slice.ensures ∙ c.word.ensures) c.in_ok-text_of.ensures)

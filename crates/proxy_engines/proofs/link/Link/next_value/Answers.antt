@@ -14,8 +14,8 @@ returns-in-Ok-Some-Read-clause-goes g c =
     let whole = rw (c.in-Ok-Some-Read.field-0-is, c.in-Ok-Some-Read.field-0-0-is) at c.in-Ok-Some-Read.ensures.next.whole in
     let unrefused = whole (λ e. absurd cc) in
     rw (c.replace.ensures.after, ← c.self.view_is)
-    (sought_on l _ c.next_request.new.self (Some c.in-Ok-Some-Read.value) H m none (rw (← c.self.view_is) at c.requires.whole) c.next_request.ensures.keeps.0 c.next_request.ensures.keeps.1
-    (λ b rs h. with_refusal c.next_request.new.self b rs (waiting_requests (Some c.in-Ok-Some-Read.value)) None unrefused (next b rs h)))
+    (sought_on l _ c.next_read.new.self (Some c.in-Ok-Some-Read.value) H m none (rw (← c.self.view_is) at c.requires.whole) c.next_read.ensures.keeps.0 c.next_read.ensures.keeps.1
+    (λ b rs h. with_refusal c.next_read.new.self b rs (waiting_requests (Some c.in-Ok-Some-Read.value)) None unrefused (next b rs h)))
 
 pub returns-in-Ok-Some-Broken-clause-goes : goal.returns-in-Ok-Some-Broken-clause-goes
 returns-in-Ok-Some-Broken-clause-goes g c =
@@ -24,8 +24,8 @@ returns-in-Ok-Some-Broken-clause-goes g c =
     let next = rw (c.in-Ok-Some-Broken.field-0-is, c.in-Ok-Some-Broken.field-0-0-is) at c.in-Ok-Some-Broken.ensures.next.some in
     let told = rw (c.in-Ok-Some-Broken.field-0-is, c.in-Ok-Some-Broken.field-0-0-is) at c.in-Ok-Some-Broken.ensures.next.told in
     rw (← c.self.view_is)
-    (sought_none l _ c.next_request.new.self H m none (rw (← c.self.view_is) at c.requires.whole) c.next_request.ensures.keeps.0 c.next_request.ensures.keeps.1
-    (λ b rs h. rw (refused_is c.next_request.new.self.values.refusal (told refl)) (next b rs h)))
+    (sought_none l _ c.next_read.new.self H m none (rw (← c.self.view_is) at c.requires.whole) c.next_read.ensures.keeps.0 c.next_read.ensures.keeps.1
+    (λ b rs h. rw (refused_is c.next_read.new.self.values.refusal (told refl)) (next b rs h)))
 
 pub returns-in-Ok-None-clause-goes : goal.returns-in-Ok-None-clause-goes
 returns-in-Ok-None-clause-goes g c =
@@ -34,16 +34,16 @@ returns-in-Ok-None-clause-goes g c =
     let unrefused = (rw c.in-Ok-None.field-0-is at c.in-Ok-None.ensures.next.whole) (λ e. absurd cc) in
     let kept = rw c.in-Ok-None.field-0-is at c.in-Ok-None.ensures.next.none in
     rw (← c.self.view_is)
-    (sought_none l _ c.next_request.new.self H m none (rw (← c.self.view_is) at c.requires.whole) c.next_request.ensures.keeps.0 c.next_request.ensures.keeps.1
-    (λ b rs h. with_refusal c.next_request.new.self b rs [] None unrefused (rw (append-nil rs) (kept b rs h))))
+    (sought_none l _ c.next_read.new.self H m none (rw (← c.self.view_is) at c.requires.whole) c.next_read.ensures.keeps.0 c.next_read.ensures.keeps.1
+    (λ b rs h. with_refusal c.next_read.new.self b rs [] None unrefused (rw (append-nil rs) (kept b rs h))))
 
 pub returns-in-Err-clause-goes : goal.returns-in-Err-clause-goes
 returns-in-Err-clause-goes g c =
     λ l H m.
     let none = none_is c.self.inside.next (sym c.is_some.ensures ∙ c.if-is_some.false) in
     rw (← c.self.view_is)
-    (sought_none l _ c.next_request.new.self H m none (rw (← c.self.view_is) at c.requires.whole) c.next_request.ensures.keeps.0 c.next_request.ensures.keeps.1
-    (λ b rs h. with_refusal c.next_request.new.self b rs [] None c.in-Err.ensures.err.1 (rw (append-nil rs) (c.in-Err.ensures.err.0 b rs h))))
+    (sought_none l _ c.next_read.new.self H m none (rw (← c.self.view_is) at c.requires.whole) c.next_read.ensures.keeps.0 c.next_read.ensures.keeps.1
+    (λ b rs h. with_refusal c.next_read.new.self b rs [] None c.in-Err.ensures.err.1 (rw (append-nil rs) (c.in-Err.ensures.err.0 b rs h))))
 
 pub returns-then-is_some-clause-looks : goal.returns-then-is_some-clause-looks
 returns-then-is_some-clause-looks g c =
@@ -67,7 +67,7 @@ returns-in-Ok-Some-Read-clause-looks g c =
         garbled = λ garbled. absurd cc;
       };
       err = tt;
-      counts = ((c.next_request.ensures.keeps.0.0 ∙ ap (λ (k : LinkState). k.inbox.left) c.self.view_is, c.next_request.ensures.keeps.0.1 ∙ ap (λ (k : LinkState). k.inbox.told) c.self.view_is, c.next_request.ensures.keeps.0.2 ∙ ap (λ (k : LinkState). k.inbox.counts) c.self.view_is), ap (λ (k : LinkState). k.counts) c.self.view_is);
+      counts = ((c.next_read.ensures.keeps.0.0 ∙ ap (λ (k : LinkState). k.inbox.left) c.self.view_is, c.next_read.ensures.keeps.0.1 ∙ ap (λ (k : LinkState). k.inbox.told) c.self.view_is, c.next_read.ensures.keeps.0.2 ∙ ap (λ (k : LinkState). k.inbox.counts) c.self.view_is), ap (λ (k : LinkState). k.counts) c.self.view_is);
     }
 
 pub returns-in-Ok-Some-Broken-clause-looks : goal.returns-in-Ok-Some-Broken-clause-looks
@@ -80,7 +80,7 @@ returns-in-Ok-Some-Broken-clause-looks g c =
             λ _. told refl;
       };
       err = tt;
-      counts = ((c.next_request.ensures.keeps.0.0 ∙ ap (λ (k : LinkState). k.inbox.left) c.self.view_is, c.next_request.ensures.keeps.0.1 ∙ ap (λ (k : LinkState). k.inbox.told) c.self.view_is, c.next_request.ensures.keeps.0.2 ∙ ap (λ (k : LinkState). k.inbox.counts) c.self.view_is), ap (λ (k : LinkState). k.counts) c.self.view_is);
+      counts = ((c.next_read.ensures.keeps.0.0 ∙ ap (λ (k : LinkState). k.inbox.left) c.self.view_is, c.next_read.ensures.keeps.0.1 ∙ ap (λ (k : LinkState). k.inbox.told) c.self.view_is, c.next_read.ensures.keeps.0.2 ∙ ap (λ (k : LinkState). k.inbox.counts) c.self.view_is), ap (λ (k : LinkState). k.counts) c.self.view_is);
     }
 
 pub returns-in-Ok-None-clause-looks : goal.returns-in-Ok-None-clause-looks
@@ -93,7 +93,7 @@ returns-in-Ok-None-clause-looks g c =
         garbled = λ garbled. absurd cc;
       };
       err = tt;
-      counts = ((c.next_request.ensures.keeps.0.0 ∙ ap (λ (k : LinkState). k.inbox.left) c.self.view_is, c.next_request.ensures.keeps.0.1 ∙ ap (λ (k : LinkState). k.inbox.told) c.self.view_is, c.next_request.ensures.keeps.0.2 ∙ ap (λ (k : LinkState). k.inbox.counts) c.self.view_is), ap (λ (k : LinkState). k.counts) c.self.view_is);
+      counts = ((c.next_read.ensures.keeps.0.0 ∙ ap (λ (k : LinkState). k.inbox.left) c.self.view_is, c.next_read.ensures.keeps.0.1 ∙ ap (λ (k : LinkState). k.inbox.told) c.self.view_is, c.next_read.ensures.keeps.0.2 ∙ ap (λ (k : LinkState). k.inbox.counts) c.self.view_is), ap (λ (k : LinkState). k.counts) c.self.view_is);
     }
 
 pub returns-in-Err-clause-looks : goal.returns-in-Err-clause-looks
@@ -101,5 +101,5 @@ returns-in-Err-clause-looks g c =
     record {
       found = tt;
       err = (refl, c.in-Err.ensures.err.1);
-      counts = ((c.next_request.ensures.keeps.0.0 ∙ ap (λ (k : LinkState). k.inbox.left) c.self.view_is, c.next_request.ensures.keeps.0.1 ∙ ap (λ (k : LinkState). k.inbox.told) c.self.view_is, c.next_request.ensures.keeps.0.2 ∙ ap (λ (k : LinkState). k.inbox.counts) c.self.view_is), ap (λ (k : LinkState). k.counts) c.self.view_is);
+      counts = ((c.next_read.ensures.keeps.0.0 ∙ ap (λ (k : LinkState). k.inbox.left) c.self.view_is, c.next_read.ensures.keeps.0.1 ∙ ap (λ (k : LinkState). k.inbox.told) c.self.view_is, c.next_read.ensures.keeps.0.2 ∙ ap (λ (k : LinkState). k.inbox.counts) c.self.view_is), ap (λ (k : LinkState). k.counts) c.self.view_is);
     }

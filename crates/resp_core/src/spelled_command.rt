@@ -1,0 +1,236 @@
+//! Commands that are their text.
+ghost use Rattle.std.specs.Prelude.{◌≡◌, ◌<◌, ◌≤◌, ◌++◌, ℕ, List, length, map, take, IfOk, IfSome};
+ghost use Rattle.std.specs.Fmt.{decimal};
+ghost use Rattle.resp_core.specs.Tree.{bulk, trees_of};
+ghost use Rattle.resp_core.specs.Text.{line, text, texts};
+ghost use Rattle.resp_core.specs.Text.{text as spelling};
+ghost use Rattle.resp_core.specs.Grammar.{max_bulk};
+ghost use Rattle.resp_core.specs.Command.{word, command_of};
+ghost use Rattle.resp_core.specs.Value.{tree_of};
+ghost use Rattle.resp_core.specs.SpelledCommand.{IsPlace, IsSpelled};
+
+use crate::digits::short_length;
+use crate::head::{Found, Head, Next, RefusedByte, read_head};
+use crate::parse::take_payload;
+use crate::pending::MAX_COPY_BLOCK;
+use crate::text::digits;
+use crate::value::{Value, Values};
+use bytes::Bytes;
+use limits::MAX_BULK;
+use std::alloc::{AllocError, Global};
+use std::marker::Model;
+
+// The length of the line with the number of words.
+const HEAD_LEN: usize = 4;
+
+// The most words of such a command.
+pub(crate) const MAX_WORDS: u64 = 9;
+
+/// A command as it was read, where that is the one spelling of at most nine words in at most 512 bytes.
+///
+/// It is its text alone. Contracts see its words.
+#[derive(Drop)]
+pub struct SpelledCommand {
+    text: Bytes,
+}
+
+impl Model for SpelledCommand {
+    ghost use Rattle.std.specs.Prelude.{List, ℕ};
+    ghost use Rattle.resp_core.specs.SpelledCommand.{IsSpelled, words_in};
+
+    ghost Value = { List (List ℕ) };
+
+    ghost view = { λ c. words_in c.text };
+
+    ghost invariant = { λ c. IsSpelled c.text (words_in c.text) };
+}
+
+// The number on the line behind this type byte, where it has at most three digits and no leading zeros, and the bytes behind.
+fn short_line(bytes: &[u8], kind: u8, limit: u64) -> Option<(u64, &[u8])>
+    ensures line { IfSome result (λ x. bytes.now ≡ line kind (decimal x.0) ++ x.1.now) }
+    ensures limit { IfSome result (λ x. x.0 ≤ limit) }
+{
+    let (first, rest) = bytes.split_first()?;
+    if *first != kind {
+        return None;
+    }
+    let (n, len) = short_length(rest, limit)?;
+    if len as u64 != digits(n).saturating_add(2) {
+        return None;
+    }
+    Some((n, &rest[len..]))
+}
+
+// The bytes behind the bulk string at the front, if that is whole, in its one spelling, and short.
+fn behind_bulk(bytes: &[u8]) -> Option<&[u8]>
+    ensures { IfSome result (λ rest. (s : List ℕ) × (bytes.now ≡ text (bulk s) ++ rest.now)) }
+{
+    let (len, rest) = short_line(bytes, b'$', MAX_BULK)?;
+    match take_payload(rest, len) {
+        Ok((_, rest)) => Some(rest),
+        Err(_) => None,
+    }
+}
+
+/// The length of the command at the front, if it is whole, in its one spelling, and short.
+pub(crate) fn spelled_len(bytes: &[u8]) -> Option<usize>
+    ensures inside { IfSome result (λ len. (0 < len) × (len ≤ length bytes.now)) }
+    ensures spelled { IfSome result
+        (λ len. (ws : List (List ℕ)) × IsSpelled (take len bytes.now) ws) }
+{
+    let (count, behind) = short_line(bytes, b'*', MAX_WORDS)?;
+    if count == 0 {
+        return None;
+    }
+    let mut rest = behind;
+    for _ in 0..count {
+        rest = behind_bulk(rest)?;
+    }
+    let len = bytes.len() - rest.len();
+    if len <= MAX_COPY_BLOCK {
+        Some(len)
+    } else {
+        None
+    }
+}
+
+// Where a bulk string's payload stands: behind so many bytes of its head, and how many bytes it has.
+#[derive(Clone, Copy, Drop)]
+pub(crate) struct Place {
+    pub(crate) head: usize,
+    pub(crate) len: usize,
+}
+
+// Where the payload of the bulk string at the front stands.
+fn place_of(bytes: &[u8]) -> Place
+    requires { (s rest : List ℕ) × (bytes.now ≡ text (bulk s) ++ rest) × (length s ≤ max_bulk) }
+    ensures { (s rest : List ℕ) → bytes.now ≡ text (bulk s) ++ rest → length s ≤ max_bulk
+        → IsPlace result.head result.len s rest bytes.now }
+{
+    let (next, head) = match read_head(Head::Type, bytes, 0, 0) {
+        Ok(read) => read,
+        Err(RefusedByte(_, _)) => unreachable!(),
+    };
+    let Next::Found(found) = next else {
+        unreachable!()
+    };
+    let Found::Payload(n) = found else {
+        unreachable!()
+    };
+    Place {
+        head,
+        len: n as usize,
+    }
+}
+
+// The payload of the bulk string at the front, and the bytes behind it.
+fn split_bulk(bytes: &[u8]) -> (&[u8], &[u8])
+    requires { (s rest : List ℕ) × (bytes.now ≡ text (bulk s) ++ rest) × (length s ≤ max_bulk) }
+    ensures { (s rest : List ℕ) → bytes.now ≡ text (bulk s) ++ rest → length s ≤ max_bulk
+        → (result.0.now ≡ s) × (result.1.now ≡ rest) }
+{
+    let Place { head, len } = place_of(bytes);
+    let (word, behind) = bytes[head..].split_at(len);
+    (word, &behind[2..])
+}
+
+// Takes the bulk string at the front, and returns its payload, which shares its bytes. Refused only for want of memory.
+fn take_bulk(bytes: &mut Bytes) -> Result<Bytes, AllocError>
+    requires { (s rest : List ℕ) × (bytes.old ≡ text (bulk s) ++ rest) × (length s ≤ max_bulk) }
+    ensures { IfOk result (λ word. (s rest : List ℕ) → bytes.old ≡ text (bulk s) ++ rest
+        → length s ≤ max_bulk → (word ≡ s) × (bytes.new ≡ rest)) }
+{
+    let Place { head, len } = place_of(bytes.as_slice());
+    bytes.advance(head);
+    let word = bytes.split_to(len)?;
+    bytes.advance(2);
+    Ok(word)
+}
+
+impl SpelledCommand {
+    /// Its text.
+    pub fn text(&self) -> &Bytes
+        ensures { result.now ≡ text (command_of self.now) }
+    {
+        &self.text
+    }
+
+    /// The number of its words, from 1 to 9.
+    pub fn count(&self) -> usize
+        ensures count { result ≡ length self.now }
+        ensures some { 0 < result }
+    {
+        (self.text.as_slice()[1] - b'0') as usize
+    }
+
+    // The texts of its words, one behind the other. No word is too long.
+    fn words(&self) -> &[u8]
+        ensures texts { result.now ≡ texts (trees_of (map bulk self.now)) }
+        ensures few { (at : ℕ) → at < length self.now → length (word self.now at) ≤ max_bulk }
+    {
+        self.text.as_slice().split_at(HEAD_LEN).1
+    }
+
+    /// The bytes of word `at`; word 0 is the command's name. `at` must be below the number of words.
+    pub fn word(&self, at: usize) -> &[u8]
+        requires { at < length self.now }
+        ensures { result.now ≡ word self.now at }
+    {
+        let mut rest = self.words();
+        for _ in 0..at {
+            rest = split_bulk(rest).1;
+        }
+        split_bulk(rest).0
+    }
+
+    // The command of this text.
+    pub(crate) fn from_text(text: Bytes) -> SpelledCommand
+        requires { (ws : List (List ℕ)) × IsSpelled text ws }
+        ensures { (ws : List (List ℕ)) → IsSpelled text ws → result ≡ ws }
+    {
+        SpelledCommand { text }
+    }
+
+    /// The command that these bytes are the text of, if they are one in its one spelling, of at most nine words in at most
+    /// 512 bytes. Words of 1,000 bytes or more aren't.
+    pub fn of(text: Bytes) -> Option<SpelledCommand>
+        ensures { IfSome result (λ c. text ≡ spelling (command_of c)) }
+    {
+        match spelled_len(text.as_slice()) {
+            Some(len) if len == text.len() => Some(SpelledCommand::from_text(text)),
+            _ => None,
+        }
+    }
+
+    /// The same command, which shares its text with this one. Refused only for want of memory.
+    pub fn share(&self) -> Result<SpelledCommand, AllocError>
+        ensures { IfOk result (λ c. c ≡ self.now) }
+    {
+        Ok(SpelledCommand {
+            text: self.text.clone()?,
+        })
+    }
+
+    // The texts of its words, one behind the other, which share the bytes of its text. No word is too long.
+    fn shared_words(&self) -> Result<Bytes, AllocError>
+        ensures texts { IfOk result (λ b. b ≡ texts (trees_of (map bulk self.now))) }
+        ensures few { (at : ℕ) → at < length self.now → length (word self.now at) ≤ max_bulk }
+    {
+        let mut words = self.text.clone()?;
+        words.advance(HEAD_LEN);
+        Ok(words)
+    }
+
+    /// The same command as a value. Its words share their bytes with the text. Refused only for want of memory.
+    pub fn value(&self, alloc: Global) -> Result<Value, AllocError>
+        ensures { IfOk result (λ v. tree_of v ≡ command_of self.now) }
+    {
+        let count = self.count();
+        let mut words = Vec::with_capacity(alloc, count)?;
+        let mut rest = self.shared_words()?;
+        for _ in 0..count {
+            words.push(Value::Bulk(take_bulk(&mut rest)?))?;
+        }
+        Ok(Value::List(Values(words)))
+    }
+}
