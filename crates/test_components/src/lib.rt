@@ -35,6 +35,8 @@ mod refusal_tests;
 #[cfg(test)]
 mod rig;
 #[cfg(test)]
+mod spelled_commands;
+#[cfg(test)]
 mod stage;
 #[cfg(test)]
 mod sweeps;
