@@ -1,4 +1,4 @@
-use Rattle.std.proofs.Common.{◌≡◌, ◌∙◌, None, ap}
+use Rattle.std.proofs.Common.{◌≡◌, ◌∙◌, ap}
 use Rattle.resp_core.specs.Command.{command_of}
 use Rattle.resp_core.specs.ReaderState.{ReaderState}
 use Rattle.proxy_engines.specs.Ends.{InboxState}
