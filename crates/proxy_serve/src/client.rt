@@ -5,9 +5,9 @@ ghost use Rattle.proxy_engines.specs.Turns.{own_history};
 ghost use Rattle.proxy_serve.specs.WorkerConnections.{IsLast};
 ghost use Rattle.proxy_serve.specs.Sockets.{CarriesItsSocket, MayDrain, OpensSocket};
 
-use crate::counted_turns::{CountedTurns, HeldTurns, TurnCounts};
-use crate::generation_state::{GenerationState, LARGE, LARGE_STEP};
+use crate::generation_state::GenerationState;
 use crate::socket::{Reader, SharedStream, Socket, Writer, note_readable, note_writable};
+use journal_room::{CountedTurns, HeldTurns, TurnCounts};
 use limits::{LINGER_MS, MAX_SPARED};
 use mio::event::Event as Readiness;
 use mio::net::TcpStream;
@@ -306,7 +306,7 @@ impl Client {
 
     /// Counts the bytes of its unfinished command.
     pub(crate) fn note_carried(&self, generation: &GenerationState<'_>) {
-        generation.note_unfinished(self.unfinished, 0);
+        generation.room.note_unfinished(self.unfinished, 0);
     }
 
     /// Takes the socket with its unused input, for the newest generation.
@@ -329,7 +329,7 @@ impl Client {
             refusals: _,
             is_drained: _,
         } = self;
-        generation.note_unfinished(0, unfinished);
+        generation.room.note_unfinished(0, unfinished);
         let (reader, writer, rest) = engine.into_rest()?;
         stream.deregister(registry);
         Some(CarriedSocket {
@@ -473,7 +473,7 @@ impl Client {
         ensures engine { self.new.engine ≡ record self.old.engine { is_drained = true } }
         ensures stage { self.new.stage ≡ self.old.stage }
     {
-        generation.stop_accepting();
+        generation.room.stop_accepting();
         self.drain();
     }
 
@@ -597,7 +597,8 @@ impl Client {
             return;
         }
         *room_for = Some(turns.counts().accepted);
-        if !self.may_take_in(rt, turns, generation, reserve) {
+        let room = &generation.room;
+        if !room.takes_command(rt, turns, self.unfinished, reserve) {
             self.stop_accepting(generation);
         }
     }
@@ -636,22 +637,6 @@ impl Client {
                 true
             }
         }
-    }
-
-    // Whether the journal has room for a further command with all steps that it will owe.
-    fn may_take_in<R: Wait, T: HeldTurns>(
-        &self,
-        rt: &R,
-        turns: &mut CountedTurns<T>,
-        generation: &GenerationState<'_>,
-        reserve: u64,
-    ) -> bool
-        ensures { turns.new.turns ≡ turns.old.turns }
-    {
-        if self.unfinished.max(turns.unreported_bytes()) >= LARGE || turns.average() >= LARGE_STEP {
-            generation.settle(rt, turns, reserve);
-        }
-        generation.lend(rt, turns, reserve) && turns.has_room_for_command(self.unfinished)
     }
 
     // Handles an error. Without room for a command none is taken in; without room for an answer the connection ends.
@@ -706,10 +691,10 @@ impl Client {
             self.begun = count;
         }
         let unfinished = count.saturating_sub(self.begun);
-        generation.note_unfinished(unfinished, self.unfinished);
+        generation.room.note_unfinished(unfinished, self.unfinished);
         let grows = unfinished > self.unfinished;
         self.unfinished = unfinished;
-        if grows && unfinished > MAX_SPARED && generation.is_overfull() {
+        if grows && unfinished > MAX_SPARED && generation.room.is_overfull() {
             self.engine.writer_mut().break_off();
             self.engine.reader_mut().break_off();
             self.has_more = true;
@@ -732,7 +717,7 @@ impl Client {
             }
             self.stream.shut_write();
             generation.server().count_closed(rt);
-            generation.note_unfinished(0, self.unfinished);
+            generation.room.note_unfinished(0, self.unfinished);
             self.unfinished = 0;
             self.stage = SocketStage::Lingering {
                 until: now.saturating_add(LINGER_MS),

@@ -5,8 +5,7 @@ ghost use Rattle.proxy_serve.specs.WorkerConnections.{steps_of};
 ghost use Rattle.proxy_config.specs.RingParts.{AreRingParts};
 
 use crate::generation_state::{GenerationState, WorkerStatus};
-use crate::server::{Inherited, Server};
-use crate::stop::Stop;
+use crate::server::Server;
 use crate::sweeping::SweepThread;
 use crate::worker::{WAKER, WorkerSetup};
 use crossbeam_utils::CachePadded;
@@ -17,6 +16,7 @@ use proxy_engines::{EngineError, Work, run_all};
 use proxy_exit_status::Ending;
 use proxy_generations::{Due, Marks};
 use proxy_notices::Notices;
+use proxy_server::{Inherited, Stop};
 use proxy_stats::{Counted, CountedSeat};
 use std::alloc::Global;
 use std::mem;

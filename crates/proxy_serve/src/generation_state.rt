@@ -1,28 +1,17 @@
 //! What the threads of one generation share beside the gate.
-ghost use Rattle.std.specs.Prelude.{◌≡◌};
 
-use crate::counted_turns::{CountedTurns, HeldTurns};
-use crate::ledger::Ledger;
 use crate::server::Server;
 use crossbeam_utils::CachePadded;
-use limits::{MAX_COMMAND_STEPS, MAX_PARTS_AT_ONCE, MAX_START_MS, MAX_UNFINISHED};
+use journal_room::JournalRoom;
+use limits::{MAX_PARTS_AT_ONCE, MAX_START_MS};
 use mio::Waker;
 use proxy_generations::Phase;
 use proxy_notices::Notices;
 use std::rt::Clock;
+use std::sync::Arc;
 use std::sync::atomic::{AtomicBool, AtomicU8, AtomicU64, Ordering};
-use std::sync::{Arc, Mutex, Wait};
 use std::thread;
 use std::time::Duration;
-
-/// Payload of this many bytes is reported to the other workers before room in the journal is decided.
-pub(crate) const LARGE: u64 = 65_536;
-
-/// From this average of payload bytes a step on, each accepted command is reported at once.
-pub(crate) const LARGE_STEP: u64 = 8_192;
-
-// At most this many steps of a journal are lent to all workers together; each worker is lent at least a command's.
-const MAX_LENT: u64 = 65_536;
 
 // The start of a generation isn't decided yet: its threads start.
 const STARTING: u8 = 0;
@@ -55,14 +44,8 @@ pub(crate) struct GenerationState<'a> {
     come: AtomicU64,
     // STARTING, BEGUN or GIVEN_UP.
     start: AtomicU8,
-    // The number of open connections.
-    open: AtomicU64,
-    // The journal's spent and lent steps.
-    ledger: CachePadded<Mutex<Ledger>>,
-    // Whether no further commands are accepted, so that accepted ones can be answered before the journal is full.
-    is_full: AtomicBool,
-    // The bytes of all unfinished commands.
-    unfinished: CachePadded<AtomicU64>,
+    /// The room in its journal.
+    pub(crate) room: JournalRoom,
 }
 
 // Written out so that a drop is one call: each function that holds one is proved sooner.
@@ -75,10 +58,7 @@ impl Drop for GenerationState<'_> {
             notices: _,
             come: _,
             start: _,
-            open: _,
-            ledger: _,
-            is_full: _,
-            unfinished: _,
+            room: _,
         } = self;
     }
 }
@@ -121,6 +101,7 @@ impl<'a> GenerationState<'a> {
         workers: Vec<CachePadded<WorkerStatus>>,
         notices: Arc<Notices>,
     ) -> GenerationState<'a> {
+        let room = JournalRoom::new(workers.len() as u64, average);
         GenerationState {
             server,
             number,
@@ -128,10 +109,7 @@ impl<'a> GenerationState<'a> {
             notices,
             come: AtomicU64::new(0),
             start: AtomicU8::new(STARTING),
-            open: AtomicU64::new(0),
-            ledger: CachePadded::new(Mutex::new(Ledger::new(average))),
-            is_full: AtomicBool::new(false),
-            unfinished: CachePadded::new(AtomicU64::new(0)),
+            room,
         }
     }
 
@@ -196,11 +174,11 @@ impl<'a> GenerationState<'a> {
         }
     }
 
-    /// As `Server::phase`, but `Draining` once `stop_accepting` was called. Sockets wait in the queues while it takes in
+    /// As `Server::phase`, but `Draining` once the room accepts no further commands. Sockets wait in the queues while it takes in
     /// nothing and no newer generation is open.
     pub(crate) fn phase(&self) -> Phase {
         let phase = self.server.phase(self.number);
-        if phase == Phase::Serving && self.is_full() {
+        if phase == Phase::Serving && self.room.is_full() {
             Phase::Draining
         } else {
             phase
@@ -209,120 +187,7 @@ impl<'a> GenerationState<'a> {
 
     /// Whether no connection is open and none will be: reads the phase before the count.
     pub(crate) fn is_drained(&self) -> bool {
-        self.server.phase(self.number) != Phase::Serving && self.open.load(Ordering::SeqCst) == 0
-    }
-
-    /// Reports what the worker's turns did, takes back its unspent steps, and lends it this reserve again.
-    pub(crate) fn settle<R: Wait, T: HeldTurns>(
-        &self,
-        rt: &R,
-        turns: &mut CountedTurns<T>,
-        reserve: u64,
-    )
-        ensures { turns.new.turns ≡ turns.old.turns }
-    {
-        turns.leave();
-        let mut ledger = self.ledger.lock(rt);
-        let ledger = &mut *ledger;
-        turns.settle(ledger, self.open.load(Ordering::SeqCst));
-        turns.borrow_steps(ledger, reserve);
-    }
-
-    /// Lends this many steps. False: that many aren't left.
-    pub(crate) fn lend_steps<R: Wait, T: HeldTurns>(
-        &self,
-        rt: &R,
-        turns: &mut CountedTurns<T>,
-        steps: u64,
-    ) -> bool
-        ensures { turns.new.turns ≡ turns.old.turns }
-    {
-        turns.leave();
-        turns.borrow_steps(&mut self.ledger.lock(rt), steps)
-    }
-
-    /// Lends the worker steps until it has enough for any command beside the reserve. False: that many aren't left.
-    pub(crate) fn lend<R: Wait, T: HeldTurns>(
-        &self,
-        rt: &R,
-        turns: &mut CountedTurns<T>,
-        reserve: u64,
-    ) -> bool
-        ensures { turns.new.turns ≡ turns.old.turns }
-    {
-        let least = reserve.saturating_add(MAX_COMMAND_STEPS);
-        if turns.free_steps() >= least {
-            return true;
-        }
-        let workers = (self.workers.len() as u64).max(1);
-        let many = (MAX_LENT / workers).clamp(MAX_COMMAND_STEPS, 2 * MAX_COMMAND_STEPS);
-        let missing = least.saturating_sub(turns.free_steps());
-        turns.leave();
-        let mut ledger = self.ledger.lock(rt);
-        let ledger = &mut *ledger;
-        turns.borrow_steps(ledger, many.max(missing)) || turns.borrow_steps(ledger, missing)
-    }
-
-    /// Whether the journal has room for a host's reply beside all others that are coming, by all workers' reports.
-    /// `came` of its bytes have come; `before` had come at the last report.
-    pub(crate) fn takes_reply<R: Wait, T: HeldTurns>(
-        &self,
-        rt: &R,
-        turns: &mut CountedTurns<T>,
-        came: u64,
-        before: u64,
-    ) -> bool
-        ensures { turns.new.turns ≡ turns.old.turns }
-    {
-        turns.leave();
-        let mut ledger = self.ledger.lock(rt);
-        let ledger = &mut *ledger;
-        turns.report_payload(ledger);
-        ledger.takes_reply(came, before)
-    }
-
-    /// The steps made or owed, by the workers' reports.
-    pub(crate) fn spent<R: Wait>(&self, rt: &R) -> u64 {
-        self.ledger.lock(rt).budget.spent()
-    }
-
-    /// The payload bytes a step that the next generation starts with.
-    pub(crate) fn average<R: Wait>(&self, rt: &R) -> u64 {
-        self.ledger.lock(rt).payload.next_average()
-    }
-
-    /// Whether no further commands are accepted.
-    pub(crate) fn is_full(&self) -> bool {
-        self.is_full.load(Ordering::SeqCst)
-    }
-
-    /// Accepts no further commands.
-    pub(crate) fn stop_accepting(&self) {
-        self.is_full.store(true, Ordering::SeqCst);
-    }
-
-    /// Counts a socket that may get a connection here, before the phase is read.
-    pub(crate) fn count_opened(&self) {
-        self.open.fetch_add(1, Ordering::SeqCst);
-    }
-
-    /// Takes one back: it got no connection, or has none here any more.
-    pub(crate) fn count_gone(&self) {
-        self.open.fetch_sub(1, Ordering::SeqCst);
-    }
-
-    /// Changes the bytes of a connection's unfinished command.
-    pub(crate) fn note_unfinished(&self, now: u64, before: u64) {
-        if now > before {
-            self.unfinished.fetch_add(now - before, Ordering::SeqCst);
-        } else if now < before {
-            self.unfinished.fetch_sub(before - now, Ordering::SeqCst);
-        }
-    }
-
-    /// Whether the unfinished commands of all connections have too many bytes.
-    pub(crate) fn is_overfull(&self) -> bool {
-        self.unfinished.load(Ordering::SeqCst) > MAX_UNFINISHED
+        self.server.phase(self.number) != Phase::Serving && !self.room.has_connections()
     }
 
     /// The most parts that one worker may let a client queue before it looks at its own.

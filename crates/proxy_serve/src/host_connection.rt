@@ -7,9 +7,9 @@ ghost use Rattle.proxy_serve.specs.Sockets.{KeepsHost};
 ghost use Rattle.proxy_serve.specs.WorkerConnections.{CarriesLink};
 
 use crate::client::StepError;
-use crate::counted_turns::{CountedTurns, HeldTurns, TurnCounts};
-use crate::generation_state::{GenerationState, LARGE};
+use crate::generation_state::GenerationState;
 use crate::socket::{Reader, SharedStream, Socket, Writer, note_readable, note_writable};
+use journal_room::{CountedTurns, HeldTurns, TurnCounts};
 use limits::{CONNECTING_MS, TELL_MS};
 use mio::event::Event as Readiness;
 use mio::net::TcpStream;
@@ -514,15 +514,9 @@ impl HostConnection {
     {
         let count = self.read_count();
         let came = count.unwrap_or(0).saturating_sub(self.begun);
-        let is_small = came.max(self.coming).max(turns.unreported_bytes()) < LARGE;
-        let has_room = if is_small {
-            turns.has_room_for_reply(came)
-        } else {
-            generation.takes_reply(rt, turns, came, self.coming)
-        };
-        if !is_small {
-            self.coming = came;
-        }
+        let has_room = generation
+            .room
+            .takes_reply(rt, turns, came, &mut self.coming);
         count.is_some() && (gives_up || !has_room)
     }
 

@@ -11,27 +11,19 @@
 //! `serve` in `serving.rt`, then `Worker::run_once` in `worker.rt`.
 #![tactic(auto)]
 
-mod board;
 mod client;
-mod counted_turns;
 mod generation;
 mod generation_state;
 mod host_connection;
-mod ledger;
-mod log;
-mod operating;
 mod server;
 mod serving;
 mod socket;
-mod stats;
-mod stop;
 mod sweeping;
 mod worker;
 mod worker_connections;
 
 pub use generation::ServeRuntime;
-pub use log::{Level, Log};
 pub use proxy_admin::Admin;
 pub use proxy_generations::Marks;
+pub use proxy_server::{Failure, Level, Log, Stop};
 pub use serving::{Options, serve, serve_run};
-pub use stop::{Failure, Stop};

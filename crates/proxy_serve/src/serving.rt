@@ -3,10 +3,7 @@ ghost use Rattle.std.specs.Prelude.{◌≤◌, length};
 ghost use Rattle.proxy_config.specs.RingParts.{AreRingParts};
 
 use crate::generation::{ServeRuntime, ServerContext, run_generation};
-use crate::log::{Level, Log};
 use crate::server::Server;
-use crate::stop::Stop;
-use crate::worker::now;
 use limits::SIGNAL_MS;
 use mio::net::TcpListener;
 use mio::{Events, Interest, Poll, Token, Waker};
@@ -15,6 +12,7 @@ use proxy_config::Config;
 use proxy_exit_status::Ending;
 use proxy_generations::Marks;
 use proxy_serve_core::{Asked, RoundRobin, asked_by_signals, is_term_blocked};
+use proxy_server::{Level, Log, Stop, now};
 use proxy_stats::Counts;
 use std::alloc::Global;
 use std::fs::File;

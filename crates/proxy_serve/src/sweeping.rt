@@ -1,18 +1,15 @@
 //! The sweeping thread: sweeps when due, and watches hosts and journal.
 
-use crate::counted_turns::CountedTurns;
 use crate::generation::ThreadContext;
 use crate::generation_state::GenerationState;
-use crate::log::{Level, Log};
-use crate::server::Inherited;
-use crate::stop::Stop;
-use crate::worker::now;
+use journal_room::CountedTurns;
 use mio::Waker;
 use proxy_config::Config;
 use proxy_core::Handover;
 use proxy_exit_status::Ending;
 use proxy_generations::{Marks, Phase};
 use proxy_serve_core::Refusals;
+use proxy_server::{Inherited, Level, Log, Stop, now};
 use proxy_stats::{CountedSeat, Sight};
 use std::net::SocketAddr;
 use std::rt::Clock;
@@ -142,11 +139,11 @@ impl<'a> SweepThread<'a> {
 
     // Sweeps once, if the journal has a step to spare. False: it has to be made again.
     fn sweep<R: Wait>(&mut self, rt: &R, moment: u64) -> Result<bool, Stop> {
-        if !self.generation.lend_steps(rt, &mut self.turns, 1) {
+        if !self.generation.room.lend_steps(rt, &mut self.turns, 1) {
             return Ok(false);
         }
         let swept = sweep_once(rt, &mut self.turns, moment);
-        self.generation.settle(rt, &mut self.turns, 0);
+        self.generation.room.settle(rt, &mut self.turns, 0);
         match swept {
             Ok(_) | Err(SweepRefusal::JournalFull) => {
                 self.refusals.succeeded();
@@ -164,7 +161,7 @@ impl<'a> SweepThread<'a> {
 
     // The core's state, which is also recorded for the operator's pages.
     fn sight<R: Wait>(&mut self, rt: &R) -> Result<Sight, Stop> {
-        match self.turns.inner().sight(rt) {
+        match self.turns.turns.sight(rt) {
             Ok(sight) => {
                 let server = self.generation.server();
                 server.looked(rt, self.generation.number(), &sight);
@@ -193,15 +190,15 @@ impl<'a> SweepThread<'a> {
         }
         self.log_ejections(rt, &handover);
         let (server, number) = (self.generation.server(), self.generation.number());
-        let steps = handover.steps().max(self.generation.spent(rt));
+        let steps = handover.steps().max(self.generation.room.spent(rt));
         let bytes = handover.bytes();
-        let is_full = self.marks.are_reached(steps, bytes) || self.generation.is_full();
+        let is_full = self.marks.are_reached(steps, bytes) || self.generation.room.is_full();
         if !is_full && !self.marks.are_near(steps, bytes) {
             return Ok(());
         }
         server.near(rt, number, moment);
         if is_full {
-            let average = self.generation.average(rt);
+            let average = self.generation.room.average(rt);
             server.full(rt, number, moment, Inherited { handover, average });
         }
         Ok(())

@@ -6,9 +6,7 @@ use crate::client::{CarriedSocket, StepError, Stepped};
 use crate::generation::ThreadContext;
 use crate::generation_state::GenerationState;
 use crate::host_connection::{HostRound, HostStepped};
-use crate::log::Level;
 use crate::server::Server;
-use crate::stop::Stop;
 use crate::worker_connections::{HOSTS, HostResult, WorkerConnections};
 use limits::MAX_SOCKETS;
 use mio::event::Event;
@@ -17,6 +15,7 @@ use mio::{Events, Interest, Poll, Token};
 use proxy_exit_status::Ending;
 use proxy_generations::Phase;
 use proxy_serve_core::Refusals;
+use proxy_server::{Level, Stop, now};
 use proxy_stats::CountedSeat;
 use std::alloc::AllocError;
 use std::marker::Model;
@@ -44,14 +43,6 @@ const NO_MEMORY_MS: u64 = 1;
 
 // The most events taken from the poll, and sockets from the queue, at once.
 const MAX_EVENTS: usize = 1_024;
-
-/// The clock's milliseconds.
-pub(crate) fn now<R: Clock>(rt: &R) -> u64 {
-    match rt.monotonic() {
-        Ok(since) => u64::try_from(since.as_millis()).unwrap_or(u64::MAX),
-        Err(_) => 0,
-    }
-}
 
 /// What a worker starts with.
 pub(crate) struct WorkerSetup<'a> {
@@ -369,7 +360,7 @@ impl<'a> Worker<'a> {
             server.count_closed(rt);
         }
         server.count_dropped(rt);
-        self.generation.count_gone();
+        self.generation.room.count_gone();
         is_cut
     }
 
@@ -460,7 +451,7 @@ impl<'a> Worker<'a> {
     fn handle_error(&mut self, error: StepError) -> Result<(), Stop> {
         match error {
             StepError::Full => {
-                self.generation.stop_accepting();
+                self.generation.room.stop_accepting();
                 Ok(())
             }
             StepError::Ends(ending) => Err(Stop::from(ending)),
@@ -487,7 +478,7 @@ impl<'a> Worker<'a> {
         }
         let has_room = self.connections.borrow_for_client(rt, self.generation);
         if !has_room {
-            self.generation.stop_accepting();
+            self.generation.room.stop_accepting();
         }
         has_room
     }
@@ -497,7 +488,7 @@ impl<'a> Worker<'a> {
     fn accept_new<R: Wait>(&mut self, rt: &R) -> Result<(), Stop> {
         self.may_have_sockets = false;
         for _ in 0..MAX_EVENTS {
-            self.generation.count_opened();
+            self.generation.room.count_opened();
             let accepted = if self.may_open(rt) {
                 self.accept_one(rt)?
             } else {
@@ -505,9 +496,9 @@ impl<'a> Worker<'a> {
             };
             match accepted {
                 OpenResult::Opened => {}
-                OpenResult::Closed => self.generation.count_gone(),
+                OpenResult::Closed => self.generation.room.count_gone(),
                 OpenResult::None => {
-                    self.generation.count_gone();
+                    self.generation.room.count_gone();
                     return Ok(());
                 }
             }
@@ -774,7 +765,7 @@ impl<'a> Worker<'a> {
             Some(carried) => server.carry(rt, self.index, carried),
             None => server.count_closed_and_dropped(rt),
         }
-        self.generation.count_gone();
+        self.generation.room.count_gone();
         Ok(false)
     }
 
@@ -800,7 +791,7 @@ impl<'a> Worker<'a> {
             Ok(Stepped::Ready) => Ok(true),
             Ok(Stepped::Closed) => {
                 self.connections.remove(self.generation.notices(), key);
-                self.generation.count_gone();
+                self.generation.room.count_gone();
                 self.generation.server().count_dropped(rt);
                 Ok(false)
             }

@@ -3,9 +3,9 @@ ghost use Rattle.std.specs.Prelude.{◌≡◌, ◌+◌, [], IfOk, IfSome, OnOk};
 ghost use Rattle.proxy_serve.specs.WorkerConnections.{AddsClient, ChangesClient, ChangesHost, IsLast, IsLeaving, IsNewcomer, KeepsClients, MakesRoom, RemovesClient, RiseTo, ServesHosts, steps_of};
 
 use crate::client::{CarriedSocket, Client, ClientRound, StepError, Stepped};
-use crate::counted_turns::CountedTurns;
 use crate::generation_state::GenerationState;
 use crate::host_connection::{HostConnection, HostRound, HostStepped};
+use journal_room::CountedTurns;
 use limits::MAX_HOSTS;
 use mio::event::Event;
 use mio::net::TcpStream;
@@ -162,7 +162,7 @@ impl<'a> WorkerConnections<'a> {
         ensures { self.new ≡ self.old }
     {
         let reserve = self.reserve();
-        generation.settle(rt, &mut self.turns, reserve);
+        generation.room.settle(rt, &mut self.turns, reserve);
     }
 
     /// Borrows the steps of a further connection and a command of it. False: the journal hasn't that many left.
@@ -174,7 +174,7 @@ impl<'a> WorkerConnections<'a> {
         ensures { self.new ≡ self.old }
     {
         let reserve = self.reserve().saturating_add(StepKind::Opened.cost());
-        generation.lend(rt, &mut self.turns, reserve)
+        generation.room.lend(rt, &mut self.turns, reserve)
     }
 
     /// Makes room for one more client. False: there is no memory.

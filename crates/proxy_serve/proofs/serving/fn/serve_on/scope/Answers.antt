@@ -1,7 +1,8 @@
 use denote.Param.Send.{sendable}
 use Rattle.std.proofs.Crossing.{crosses}
 use Rattle.proxy_admin.proofs.CallerLemmas.{admin_send}
-use Rattle.proxy_serve.proofs.ThreadSharing.{context_send, due_send}
+use Rattle.proxy_serve.proofs.ThreadSharing.{context_send}
+use Rattle.proxy_server.proofs.CallerLemmas.{due_send}
 use Rattle.proxy_serve.proofs.serving.fn.serve_on.scope.Goals as goal
 
 pub spawn-begun-requires-send-F : goal.spawn-begun-requires-send-F

@@ -28,22 +28,22 @@ fn own_answer_bytes(local: Local, command: u64) -> u64 {
 
 /// What happened since the counts were last taken.
 #[derive(Clone, Copy, Drop)]
-pub(crate) struct TurnCounts {
+pub struct TurnCounts {
     /// Commands accepted.
-    pub(crate) accepted: u64,
+    pub accepted: u64,
     /// Replies handed out.
-    pub(crate) handed: u64,
+    pub handed: u64,
     /// Parts queued for hosts.
-    pub(crate) parts: u64,
+    pub parts: u64,
     /// Hosts' replies taken.
-    pub(crate) matched: u64,
+    pub matched: u64,
     /// Hosts' faults recorded.
-    pub(crate) faults: u64,
+    pub faults: u64,
 }
 
 impl TurnCounts {
     /// Nothing has happened.
-    pub(crate) const NONE: TurnCounts = TurnCounts {
+    pub const NONE: TurnCounts = TurnCounts {
         accepted: 0,
         handed: 0,
         parts: 0,
@@ -245,7 +245,7 @@ impl Account {
 }
 
 /// Turns that may stay inside a gate in between.
-pub(crate) trait HeldTurns: CoreTurns {
+pub trait HeldTurns: CoreTurns {
     /// From here on a turn leaves the pass inside, where the next one needn't enter. Others wait meanwhile.
     fn hold(&mut self)
         ensures { self.new ≡ self.old };
@@ -267,14 +267,15 @@ impl<'a> HeldTurns for CountedSeat<'a> {
 
 /// A worker's turns, counted.
 #[derive(Drop)]
-pub(crate) struct CountedTurns<T: CoreTurns> {
-    turns: T,
+pub struct CountedTurns<T: CoreTurns> {
+    /// The turns themselves, for calls that make no turn.
+    pub turns: T,
     account: Account,
 }
 
 impl<T: CoreTurns> CountedTurns<T> {
     /// These turns, of which nothing is counted yet.
-    pub(crate) fn new(turns: T) -> CountedTurns<T>
+    pub fn new(turns: T) -> CountedTurns<T>
         ensures { result.turns ≡ turns }
     {
         CountedTurns {
@@ -283,19 +284,14 @@ impl<T: CoreTurns> CountedTurns<T> {
         }
     }
 
-    /// The turns themselves, for calls that make no turn.
-    pub(crate) fn inner(&mut self) -> &mut T {
-        &mut self.turns
-    }
-
     /// What happened since the counts were last taken.
     #[inline(always)]
-    pub(crate) fn counts(&self) -> &TurnCounts {
+    pub fn counts(&self) -> &TurnCounts {
         &self.account.counts
     }
 
     /// Leaves the gate, if the pass is inside, and takes the counts.
-    pub(crate) fn leave_with_counts(&mut self) -> TurnCounts
+    pub fn leave_with_counts(&mut self) -> TurnCounts
     where
         T: HeldTurns,
         ensures { self.new.turns ≡ self.old.turns }
@@ -305,7 +301,7 @@ impl<T: CoreTurns> CountedTurns<T> {
     }
 
     /// Leaves the gate, if the pass is inside, before something that may take long.
-    pub(crate) fn leave(&mut self)
+    pub fn leave(&mut self)
     where
         T: HeldTurns,
         ensures { self.new.turns ≡ self.old.turns }
@@ -314,7 +310,7 @@ impl<T: CoreTurns> CountedTurns<T> {
     }
 
     /// The same, if something may take long.
-    pub(crate) fn leave_if(&mut self, takes_long: bool)
+    pub fn leave_if(&mut self, takes_long: bool)
     where
         T: HeldTurns,
         ensures { self.new.turns ≡ self.old.turns }
@@ -325,7 +321,7 @@ impl<T: CoreTurns> CountedTurns<T> {
     }
 
     /// From here on a turn leaves the pass inside the gate.
-    pub(crate) fn hold(&mut self)
+    pub fn hold(&mut self)
     where
         T: HeldTurns,
         ensures { self.new.turns ≡ self.old.turns }
@@ -335,7 +331,7 @@ impl<T: CoreTurns> CountedTurns<T> {
 
     /// The steps lent that are neither made nor owed.
     #[inline(always)]
-    pub(crate) fn free_steps(&self) -> u64 {
+    pub fn free_steps(&self) -> u64 {
         self.account.loan.free()
     }
 

@@ -1,15 +1,15 @@
 //! The server, as its operator sees it.
 
 use crate::log::Level;
+use crate::moment::now;
 use crate::server::Server;
-use crate::worker::now;
 use proxy_admin::Operated;
 use proxy_pages::{Order, Snapshot};
 use std::io::Error;
 use std::rt::Clock;
 use std::sync::Wait;
 
-impl Operated for Server {
+impl<C: Drop> Operated for Server<C> {
     fn runs(&self) -> bool {
         Server::runs(self)
     }

@@ -36,6 +36,16 @@ impl Ledger {
         self.payload.takes_reply(self.coming)
     }
 
+    /// The steps made or owed.
+    pub(crate) fn spent(&self) -> u64 {
+        self.budget.spent()
+    }
+
+    /// The payload bytes a step that the next generation starts with.
+    pub(crate) fn next_average(&self) -> u64 {
+        self.payload.next_average()
+    }
+
     /// The steps still owed.
     pub(crate) fn owed(&self) -> u64 {
         self.budget.spent().saturating_sub(self.steps)

@@ -1,0 +1,202 @@
+//! The room in a generation's journal, shared by its workers.
+ghost use Rattle.std.specs.Prelude.{◌≡◌};
+
+use crate::counted_turns::{CountedTurns, HeldTurns};
+use crate::ledger::Ledger;
+use crossbeam_utils::CachePadded;
+use limits::{MAX_COMMAND_STEPS, MAX_UNFINISHED};
+use std::mem;
+use std::sync::atomic::{AtomicBool, AtomicU64, Ordering};
+use std::sync::{Mutex, Wait};
+
+// Payload of this many bytes is reported to the other workers before room is decided.
+const LARGE: u64 = 65_536;
+
+// From this average of payload bytes a step on, each accepted command is reported at once.
+const LARGE_STEP: u64 = 8_192;
+
+// At most this many steps of a journal are lent to all workers together; each worker is lent at least a command's.
+const MAX_LENT: u64 = 65_536;
+
+/// What the workers of a generation share of its journal. What each round of a worker writes has cache lines of its own, so that no
+/// other read waits for it.
+pub struct JournalRoom {
+    workers: u64,
+    // The number of open connections.
+    open: AtomicU64,
+    // The journal's spent and lent steps.
+    ledger: CachePadded<Mutex<Ledger>>,
+    // Whether no further commands are accepted, so that accepted ones can be answered before the journal is full.
+    is_full: AtomicBool,
+    // The bytes of all unfinished commands.
+    unfinished: CachePadded<AtomicU64>,
+}
+
+// Written out so that a drop is one call: each function that holds one is proved sooner.
+impl Drop for JournalRoom {
+    fn drop(self) {
+        let JournalRoom {
+            workers: _,
+            open: _,
+            ledger: _,
+            is_full: _,
+            unfinished: _,
+        } = self;
+    }
+}
+
+impl JournalRoom {
+    /// The room in an empty journal, for this many workers. `average` is the last generation's payload bytes a step.
+    pub fn new(workers: u64, average: u64) -> JournalRoom {
+        JournalRoom {
+            workers,
+            open: AtomicU64::new(0),
+            ledger: CachePadded::new(Mutex::new(Ledger::new(average))),
+            is_full: AtomicBool::new(false),
+            unfinished: CachePadded::new(AtomicU64::new(0)),
+        }
+    }
+
+    /// Reports what the worker's turns did, takes back its unspent steps, and lends it this reserve again.
+    ///
+    /// The turns leave the gate, if they are inside.
+    pub fn settle<R: Wait, T: HeldTurns>(&self, rt: &R, turns: &mut CountedTurns<T>, reserve: u64)
+        ensures { turns.new.turns ≡ turns.old.turns }
+    {
+        turns.leave();
+        let mut ledger = self.ledger.lock(rt);
+        let ledger = &mut *ledger;
+        turns.settle(ledger, self.open.load(Ordering::SeqCst));
+        turns.borrow_steps(ledger, reserve);
+    }
+
+    /// Lends this many steps. False: that many aren't left.
+    ///
+    /// The turns leave the gate, if they are inside.
+    pub fn lend_steps<R: Wait, T: HeldTurns>(
+        &self,
+        rt: &R,
+        turns: &mut CountedTurns<T>,
+        steps: u64,
+    ) -> bool
+        ensures { turns.new.turns ≡ turns.old.turns }
+    {
+        turns.leave();
+        turns.borrow_steps(&mut self.ledger.lock(rt), steps)
+    }
+
+    /// Lends the worker steps until it has enough for any command beside the reserve. False: that many aren't left.
+    ///
+    /// The turns leave the gate where the worker has too few.
+    pub fn lend<R: Wait, T: HeldTurns>(
+        &self,
+        rt: &R,
+        turns: &mut CountedTurns<T>,
+        reserve: u64,
+    ) -> bool
+        ensures { turns.new.turns ≡ turns.old.turns }
+    {
+        let least = reserve.saturating_add(MAX_COMMAND_STEPS);
+        if turns.free_steps() >= least {
+            return true;
+        }
+        let many = (MAX_LENT / self.workers.max(1)).clamp(MAX_COMMAND_STEPS, 2 * MAX_COMMAND_STEPS);
+        let missing = least.saturating_sub(turns.free_steps());
+        turns.leave();
+        let mut ledger = self.ledger.lock(rt);
+        let ledger = &mut *ledger;
+        turns.borrow_steps(ledger, many.max(missing)) || turns.borrow_steps(ledger, missing)
+    }
+
+    /// Whether there is room for a further command with all steps that it will owe, beside the reserve. `unfinished`
+    /// bytes of the client's commands have come and aren't accepted.
+    ///
+    /// Large payload is reported first. The turns leave the gate where they report or have steps lent.
+    pub fn takes_command<R: Wait, T: HeldTurns>(
+        &self,
+        rt: &R,
+        turns: &mut CountedTurns<T>,
+        unfinished: u64,
+        reserve: u64,
+    ) -> bool
+        ensures { turns.new.turns ≡ turns.old.turns }
+    {
+        if unfinished.max(turns.unreported_bytes()) >= LARGE || turns.average() >= LARGE_STEP {
+            self.settle(rt, turns, reserve);
+        }
+        self.lend(rt, turns, reserve) && turns.has_room_for_command(unfinished)
+    }
+
+    /// Whether there is room for a host's reply of which `came` bytes have come. `reported` are those that the other
+    /// workers know of, and stay so.
+    ///
+    /// A large reply is reported first, and has to fit beside all others that are coming. The turns leave the gate then.
+    pub fn takes_reply<R: Wait, T: HeldTurns>(
+        &self,
+        rt: &R,
+        turns: &mut CountedTurns<T>,
+        came: u64,
+        reported: &mut u64,
+    ) -> bool
+        ensures { turns.new.turns ≡ turns.old.turns }
+    {
+        if came.max(*reported).max(turns.unreported_bytes()) < LARGE {
+            return turns.has_room_for_reply(came);
+        }
+        turns.leave();
+        let mut ledger = self.ledger.lock(rt);
+        let ledger = &mut *ledger;
+        turns.report_payload(ledger);
+        let before = mem::replace(reported, came);
+        ledger.takes_reply(came, before)
+    }
+
+    /// The steps made or owed, by the workers' reports.
+    pub fn spent<R: Wait>(&self, rt: &R) -> u64 {
+        self.ledger.lock(rt).spent()
+    }
+
+    /// The payload bytes a step that the next generation starts with.
+    pub fn average<R: Wait>(&self, rt: &R) -> u64 {
+        self.ledger.lock(rt).next_average()
+    }
+
+    /// Whether no further commands are accepted.
+    pub fn is_full(&self) -> bool {
+        self.is_full.load(Ordering::SeqCst)
+    }
+
+    /// Accepts no further commands.
+    pub fn stop_accepting(&self) {
+        self.is_full.store(true, Ordering::SeqCst);
+    }
+
+    /// Counts a socket that may get a connection here.
+    pub fn count_opened(&self) {
+        self.open.fetch_add(1, Ordering::SeqCst);
+    }
+
+    /// Takes one back: it got no connection, or has none here any more.
+    pub fn count_gone(&self) {
+        self.open.fetch_sub(1, Ordering::SeqCst);
+    }
+
+    /// Whether a socket has a connection here, or may get one.
+    pub fn has_connections(&self) -> bool {
+        self.open.load(Ordering::SeqCst) != 0
+    }
+
+    /// Changes the bytes of a connection's unfinished command.
+    pub fn note_unfinished(&self, now: u64, before: u64) {
+        if now > before {
+            self.unfinished.fetch_add(now - before, Ordering::SeqCst);
+        } else if now < before {
+            self.unfinished.fetch_sub(before - now, Ordering::SeqCst);
+        }
+    }
+
+    /// Whether the unfinished commands of all connections have more than `MAX_UNFINISHED` bytes.
+    pub fn is_overfull(&self) -> bool {
+        self.unfinished.load(Ordering::SeqCst) > MAX_UNFINISHED
+    }
+}

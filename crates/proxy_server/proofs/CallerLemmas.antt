@@ -1,0 +1,48 @@
+-- What a crate above cites: a server may be shared by threads, where its sockets may go to one.
+use denote.RattleType.{RattleType}
+use denote.Param.Send.{IsSend, IsSync, sendable}
+use Rattle.std.proofs.Crossing.{crosses}
+use Rattle.proxy_core.specs.contracts.handover.Handover as Handover
+use Rattle.proxy_generations.specs.contracts.lifecycle.Due as Due
+use Rattle.proxy_generations.specs.contracts.lifecycle.Generations as Generations
+use Rattle.proxy_server.specs.contracts.server.AcceptQueue as AcceptQueue
+use Rattle.proxy_server.specs.contracts.server.Server as Server
+use Rattle.proxy_server.specs.contracts.server.Inherited as Inherited
+use Rattle.proxy_server.specs.contracts.stats.Living as Living
+use Rattle.proxy_server.specs.contracts.stats.Stats as Stats
+use Rattle.proxy_server.specs.contracts.stop.Stop as Stop
+use Rattle.proxy_serve_core.specs.contracts.ejection_log.EjectionLog as EjectionLog
+use Rattle.proxy_serve_core.specs.contracts.sockets.Sockets as Sockets
+
+handover_send : IsSend Handover.the_row
+handover_send = search (crosses, sendable) depth 40 fits 20000
+
+inherited_send : IsSend Inherited.the_row
+inherited_send = search (handover_send, crosses, sendable) depth 30 fits 20000
+
+pub due_send : IsSend (Due.the_row Inherited.the_row)
+due_send = search (inherited_send, crosses, sendable) depth 30 fits 20000
+
+generations_send : IsSend (Generations.the_row Inherited.the_row)
+generations_send = search (inherited_send, crosses, sendable) depth 40 fits 20000
+
+stop_send : IsSend Stop.the_row
+stop_send = search (crosses, sendable) depth 40 fits 20000
+
+living_send : IsSend Living.the_row
+living_send = search (crosses, sendable) depth 40 fits 20000
+
+stats_send : IsSend Stats.the_row
+stats_send = search (living_send, crosses, sendable) depth 40 fits 20000
+
+sockets_send : IsSend Sockets.the_row
+sockets_send = search (crosses, sendable) depth 30 fits 20000
+
+ejections_send : IsSend EjectionLog.the_row
+ejections_send = search (crosses, sendable) depth 30 fits 20000
+
+queue_sync : (C : RattleType) → IsSend C → IsSync (AcceptQueue.the_row C)
+queue_sync C s = search (crosses, sendable) depth 40 fits 20000
+
+pub server_sync : (C : RattleType) → IsSend C → IsSync (Server.the_row C)
+server_sync C s = search (generations_send, stats_send, ejections_send, sockets_send, queue_sync, stop_send, crosses, sendable) depth 40 fits 20000

@@ -1,0 +1,413 @@
+//! What all threads of `serve` share, in every generation.
+
+use crate::board::Board;
+use crate::log::{Level, Log};
+use crate::stats::Stats;
+use crate::stop::Stop;
+use limits::MAX_FAILURES;
+use mio::Waker;
+use mio::net::TcpStream;
+use proxy_config::Config;
+use proxy_core::Handover;
+use proxy_generations::{Due, Generations, Phase};
+use proxy_histogram::Histogram;
+use proxy_pages::Snapshot;
+use proxy_serve_core::{EjectionLog, Sockets};
+use proxy_stats::{Counts, Sight};
+use std::alloc::Global;
+use std::collections::VecDeque;
+use std::sync::atomic::{AtomicBool, Ordering};
+use std::sync::{Mutex, MutexGuard, Wait};
+
+/// What a generation starts from.
+#[derive(Drop)]
+pub struct Inherited {
+    /// The state of outlier detection.
+    pub handover: Handover,
+    /// The payload bytes a step.
+    pub average: u64,
+}
+
+// The new sockets and the carried-over sockets that wait for one worker, and the waker of the worker that takes them now.
+#[derive(Drop)]
+struct AcceptQueue<C: Drop> {
+    sockets: Mutex<VecDeque<TcpStream>>,
+    carried: Mutex<VecDeque<C>>,
+    waker: Mutex<Option<Waker>>,
+}
+
+/// What all threads share. `C` is a socket that goes over from one generation to the next.
+pub struct Server<C: Drop> {
+    queues: Vec<AcceptQueue<C>>,
+    // Wakes the thread that accepts and opens generations.
+    waker: Waker,
+    // Whether the server goes on; if not, why, unless it is done.
+    is_running: AtomicBool,
+    stop: Mutex<Option<Stop>>,
+    log: Log,
+    // Which sockets are accepted and when the server is done; and whether it drains, readable without a lock.
+    sockets: Mutex<Sockets>,
+    is_draining: AtomicBool,
+    // Which generation has which task; the board shows it without a lock.
+    generations: Mutex<Generations<Inherited>>,
+    board: Board,
+    stats: Mutex<Stats>,
+    ejections: Mutex<EjectionLog>,
+}
+
+// Written out so that a drop is one call: each function that holds one is proved sooner.
+impl<C: Drop> Drop for Server<C> {
+    fn drop(self) {
+        let Server {
+            queues: _,
+            waker: _,
+            is_running: _,
+            stop: _,
+            log: _,
+            sockets: _,
+            is_draining: _,
+            generations: _,
+            board: _,
+            stats: _,
+            ejections: _,
+        } = self;
+    }
+}
+
+impl<C: Drop> Server<C> {
+    /// A server with a queue for each worker. The first generation is due.
+    pub fn new(
+        alloc: Global,
+        config: &Config,
+        waker: Waker,
+        connections: u64,
+        log: Log,
+    ) -> Result<Server<C>, Stop> {
+        let mut queues = Vec::new(alloc);
+        let interval_ms = u64::from(config.interval_ms);
+        for _ in 0..config.workers {
+            queues.push(AcceptQueue {
+                sockets: Mutex::new(VecDeque::new(alloc)),
+                carried: Mutex::new(VecDeque::new(alloc)),
+                waker: Mutex::new(None),
+            })?;
+        }
+        Ok(Server {
+            queues,
+            waker,
+            is_running: AtomicBool::new(true),
+            stop: Mutex::new(None),
+            log,
+            sockets: Mutex::new(Sockets::new(connections)),
+            is_draining: AtomicBool::new(false),
+            generations: Mutex::new(Generations::new(interval_ms, MAX_FAILURES)),
+            board: Board::new(),
+            stats: Mutex::new(Stats::new()),
+            ejections: Mutex::new(EjectionLog::new(alloc, config.hosts.len())?),
+        })
+    }
+
+    /// The number of workers of each generation.
+    pub fn workers(&self) -> usize {
+        self.queues.len()
+    }
+
+    /// The beginning of lines on standard error.
+    pub fn log(&self) -> Log {
+        self.log
+    }
+
+    // Wakes the worker that takes from this queue now.
+    fn wake<R: Wait>(&self, rt: &R, queue: &AcceptQueue<C>) {
+        if let Some(waker) = &*queue.waker.lock(rt) {
+            let _ = waker.wake();
+        }
+    }
+
+    /// Counts an accepted socket. False: no more are taken, and it is to be closed.
+    pub fn accept<R: Wait>(&self, rt: &R) -> bool {
+        self.sockets.lock(rt).accept()
+    }
+
+    // Ends the server if it waited for nothing else.
+    fn end_if_done(&self, sockets: MutexGuard<'_, Sockets>) {
+        let are_done = sockets.are_done();
+        drop(sockets);
+        if are_done {
+            self.halt();
+        }
+    }
+
+    /// Counts a socket that is dropped. The last one ends a draining server.
+    pub fn count_dropped<R: Wait>(&self, rt: &R) {
+        let mut sockets = self.sockets.lock(rt);
+        sockets.let_go();
+        self.end_if_done(sockets);
+    }
+
+    /// Counts a closed connection; ends the server after `connections` of them, as its options say.
+    pub fn count_closed<R: Wait>(&self, rt: &R) {
+        let mut sockets = self.sockets.lock(rt);
+        sockets.close();
+        self.end_if_done(sockets);
+    }
+
+    /// Counts a closed connection and its dropped socket.
+    pub fn count_closed_and_dropped<R: Wait>(&self, rt: &R) {
+        self.count_closed(rt);
+        self.count_dropped(rt);
+    }
+
+    /// Accepts no further socket, and ends all inputs behind what has come. The last socket then ends the server. A
+    /// second call is ignored.
+    pub fn drain<R: Wait + Eprint>(&self, rt: &R) {
+        if self.is_draining.swap(true, Ordering::SeqCst) {
+            return;
+        }
+        let mut sockets = self.sockets.lock(rt);
+        sockets.drain();
+        let count = sockets.count();
+        self.end_if_done(sockets);
+        let tag = self.log.tag(Level::Notice);
+        let _ = eprintln!(rt; "{tag}redproxy: draining, {count} sockets of clients are open");
+        self.wake_all(rt);
+    }
+
+    // Wakes all workers, and the thread that accepts.
+    fn wake_all<R: Wait>(&self, rt: &R) {
+        for queue in self.queues.iter() {
+            self.wake(rt, queue);
+        }
+        let _ = self.waker.wake();
+    }
+
+    /// Whether no further socket is accepted, and inputs end behind what has come.
+    pub fn is_draining(&self) -> bool {
+        self.is_draining.load(Ordering::SeqCst)
+    }
+
+    /// Ends the server at once.
+    pub fn quit(&self) {
+        self.halt();
+    }
+
+    /// Queues a socket for a worker and wakes it. Without memory the socket is closed.
+    pub fn push<R: Wait>(&self, rt: &R, index: usize, stream: TcpStream) {
+        let Some(queue) = self.queues.get(index) else {
+            return self.count_dropped(rt);
+        };
+        if queue.sockets.lock(rt).push_back(stream).is_err() {
+            self.count_dropped(rt);
+        }
+        self.wake(rt, queue);
+    }
+
+    /// Whether a socket waits in a worker's queue.
+    pub fn has_waiting<R: Wait>(&self, rt: &R, index: usize) -> bool {
+        match self.queues.get(index) {
+            Some(queue) => {
+                !queue.carried.lock(rt).is_empty() || !queue.sockets.lock(rt).is_empty()
+            }
+            None => false,
+        }
+    }
+
+    /// Takes the socket that waits longest in a worker's queue.
+    pub fn pop<R: Wait>(&self, rt: &R, index: usize) -> Option<TcpStream> {
+        self.queues.get(index)?.sockets.lock(rt).pop_front()
+    }
+
+    /// Reserves memory in the queue for one more carried-over socket. False: there is none.
+    ///
+    /// The room stays: for each queue one worker alone puts such sockets in, and one takes them out.
+    pub fn reserve_to_carry<R: Wait>(&self, rt: &R, index: usize) -> bool {
+        match self.queues.get(index) {
+            Some(queue) => queue.carried.lock(rt).reserve(1).is_ok(),
+            None => false,
+        }
+    }
+
+    /// Queues a carried-over socket, and wakes the worker that takes it. Without memory the socket is closed and counted.
+    pub fn carry<R: Wait>(&self, rt: &R, index: usize, carried: C) {
+        let Some(queue) = self.queues.get(index) else {
+            return self.count_closed_and_dropped(rt);
+        };
+        if queue.carried.lock(rt).push_back(carried).is_err() {
+            self.count_closed_and_dropped(rt);
+        }
+        self.wake(rt, queue);
+    }
+
+    /// Puts a carried-over socket that can't be opened yet back at the front. Without memory it is closed and counted.
+    pub fn carry_back<R: Wait>(&self, rt: &R, index: usize, carried: C) {
+        let Some(queue) = self.queues.get(index) else {
+            return self.count_closed_and_dropped(rt);
+        };
+        if queue.carried.lock(rt).push_front(carried).is_err() {
+            self.count_closed_and_dropped(rt);
+        }
+    }
+
+    /// Takes the carried-over socket that waits longest in a worker's queue.
+    pub fn take_carried<R: Wait>(&self, rt: &R, index: usize) -> Option<C> {
+        self.queues.get(index)?.carried.lock(rt).pop_front()
+    }
+
+    /// Whether the server goes on.
+    pub fn runs(&self) -> bool {
+        self.is_running.load(Ordering::SeqCst)
+    }
+
+    // Stops the server. False: it was stopped before.
+    fn halt(&self) -> bool {
+        let did_run = self.is_running.swap(false, Ordering::SeqCst);
+        let _ = self.waker.wake();
+        did_run
+    }
+
+    /// Ends the server. The first reason stays.
+    pub fn end<R: Wait>(&self, rt: &R, stop: Stop) {
+        let mut first = self.stop.lock(rt);
+        if self.halt() {
+            *first = Some(stop);
+        }
+    }
+
+    /// Why the server ended, unless it is done.
+    pub fn stop_reason<R: Wait>(&self, rt: &R) -> Option<Stop> {
+        *self.stop.lock(rt)
+    }
+
+    /// The generation's phase, as `Board::phase` has it; `Stopped` once the server ends.
+    pub fn phase(&self, number: u64) -> Phase {
+        if self.runs() {
+            self.board.phase(number)
+        } else {
+            Phase::Stopped
+        }
+    }
+
+    /// Whether the generation is or was open.
+    pub fn has_opened(&self, number: u64) -> bool {
+        self.board.has_opened(number)
+    }
+
+    // Publishes what was decided, and wakes the thread that opens a generation that is due.
+    fn publish(&self, generations: MutexGuard<'_, Generations<Inherited>>) {
+        self.board.show(&generations);
+        drop(generations);
+        let _ = self.waker.wake();
+    }
+
+    /// The generation to open now; each is returned once.
+    pub fn take_due<R: Wait>(&self, rt: &R) -> Option<Due<Inherited>> {
+        self.generations.lock(rt).take_due()
+    }
+
+    /// The generation opens at this moment: new sockets come to it, and the wakers wake its workers.
+    pub fn open<R: Wait>(&self, rt: &R, number: u64, now: u64, wakers: Vec<Waker>) {
+        let mut generations = self.generations.lock(rt);
+        generations.opened(number, now);
+        self.publish(generations);
+        self.stats.lock(rt).opened();
+        for (queue, waker) in self.queues.iter().zip(wakers) {
+            *queue.waker.lock(rt) = Some(waker);
+            self.wake(rt, queue);
+        }
+    }
+
+    /// The generation could not be opened. Too many failures in a row end the server.
+    pub fn fail<R: Wait>(&self, rt: &R, number: u64, stop: Stop) {
+        let is_last = self.generations.lock(rt).failed(number);
+        if is_last {
+            self.end(rt, stop);
+        }
+    }
+
+    /// Hosts have answered commands of the draining generation by this moment.
+    pub fn progressed<R: Wait>(&self, rt: &R, number: u64, now: u64) {
+        self.generations.lock(rt).progressed(number, now);
+    }
+
+    /// The newest generation is at three quarters of its marks at this moment.
+    pub fn near<R: Wait>(&self, rt: &R, number: u64, now: u64) {
+        let mut generations = self.generations.lock(rt);
+        generations.near(number, now);
+        self.board.show(&generations);
+    }
+
+    /// The newest generation has reached its marks at this moment, or takes in nothing more. The next one starts from
+    /// this state, once an older one has had its time.
+    pub fn full<R: Wait>(&self, rt: &R, number: u64, now: u64, from: Inherited) {
+        let mut generations = self.generations.lock(rt);
+        generations.full(number, now, from);
+        self.publish(generations);
+    }
+
+    /// The draining generation has no connection left.
+    pub fn drained<R: Wait>(&self, rt: &R, number: u64) {
+        let mut generations = self.generations.lock(rt);
+        generations.drained(number);
+        self.publish(generations);
+    }
+
+    /// Whether the generation has to sweep at this moment.
+    pub fn is_sweep_due<R: Wait>(&self, rt: &R, number: u64, now: u64) -> bool {
+        self.generations.lock(rt).is_sweep_due(number, now)
+    }
+
+    /// The generation made a sweep at this moment.
+    pub fn swept<R: Wait>(&self, rt: &R, number: u64, now: u64) {
+        self.generations.lock(rt).swept(number, now);
+    }
+
+    /// Records the sight of a living generation.
+    pub fn looked<R: Wait>(&self, rt: &R, number: u64, sight: &Sight) {
+        self.stats.lock(rt).looked(number, sight);
+    }
+
+    /// What the log says of ejected hosts.
+    pub fn ejections<R: Wait>(&self, rt: &R) -> MutexGuard<'_, EjectionLog> {
+        self.ejections.lock(rt)
+    }
+
+    /// Records that a generation is gone, with its counts and steps.
+    pub fn gone<R: Wait>(&self, rt: &R, number: u64, counts: &Counts, steps: u64) {
+        self.stats.lock(rt).gone(number, counts, steps);
+    }
+
+    /// Adds the durations of commands.
+    pub fn add_durations<R: Wait>(&self, rt: &R, durations: &Histogram) {
+        self.stats.lock(rt).add_durations(durations);
+    }
+
+    /// The counts of all generations; of living ones by their last sight.
+    pub fn counts<R: Wait>(&self, rt: &R) -> Counts {
+        self.stats.lock(rt).counts()
+    }
+
+    // The newest open generation, and the one before it while that has connections.
+    fn open_generations<R: Wait>(&self, rt: &R) -> (Option<u64>, Option<u64>) {
+        let generations = self.generations.lock(rt);
+        (generations.newest(), generations.older())
+    }
+
+    /// The numbers of the server now.
+    pub fn snapshot<R: Wait>(&self, rt: &R) -> Snapshot {
+        let closed = self.sockets.lock(rt).closed();
+        let (newest, older) = self.open_generations(rt);
+        let is_ending = self.is_draining() || !self.runs();
+        let stats = self.stats.lock(rt);
+        Snapshot {
+            counts: stats.counts(),
+            generations: stats.generations(),
+            past_steps: stats.steps_beside(newest, older),
+            serving: stats.look(newest),
+            draining: stats.look(older),
+            closed,
+            durations: *stats.durations(),
+            is_ready: newest.is_some() && !is_ending,
+            is_ending,
+        }
+    }
+}
