@@ -7,6 +7,7 @@ pub mod OneSpellingLemmas
 pub mod CommandLemmas
 pub mod refusals
 pub mod SpellingLengthLemmas
+pub mod PayloadLemmas
 mod SpelledCommandLemmas
 pub mod CallerLemmas
 pub mod unfinished

@@ -29,7 +29,8 @@ use Rattle.resp_core.proofs.RoundTripLemmas.{text_is_read}
 use Rattle.resp_core.proofs.TreeLemmas.{length_members, members_trees}
 use Rattle.resp_core.proofs.OneSpellingLemmas.{one_length}
 use Rattle.resp_core.proofs.unfinished.HeadLemmas.{head_unfinished}
-use Rattle.resp_core.proofs.reading.WholeValueLemmas.{IsCountOf, count-reads, payload-reads, value-reads}
+use Rattle.resp_core.proofs.unfinished.ResumedReadingLemmas.{payload_cut}
+use Rattle.resp_core.proofs.reading.WholeValueLemmas.{IsCountOf, count-reads, value-reads}
 
 -- a length line of as many bytes as the one spelling has is that
 length_line_is : (limit n : ℕ) (b x y : List ℕ) → b ≡ x ++ y → IsCountOf limit x (Some n) → n < 2 ^ 64 → length x ≡ length (decimal n) + 2 → b ≡ decimal n ++ line_end ++ y
@@ -46,22 +47,13 @@ short_line_is limit n len b reads inside small len_is =
     let x_is : take len b ≡ x = sym (append-nil (take len b)) ∙ split ∙ append-nil x in
     length_line_is limit n b x (drop len b) (sym (take-append-drop len b) ∙ ap (λ z. z ++ drop len b) x_is) count small (omega (arith, ap length x_is, length-take-le len b inside, len_is))
 
--- a payload that is read has so many bytes, and its line end
-payload_is : (n : ℕ) (first rest s : List ℕ) → payload_at (Some n) first ≡ found (bulk s) rest → (n ≡ length s) × (first ≡ (s ++ line_end) ++ rest)
-payload_is n first rest s e =
-    let (x, split, payload) = (payload-reads (Some n)).sound first rest (bulk s) e in
-    let (bytes, front, back, x_split, (front_is, len), (_, back_is, same_bulk)) = payload in
-    let s_is : s ≡ bytes = cc in
-    let x_is : x ≡ s ++ line_end = x_split ∙ ap (λ z. z ++ back) (front_is ∙ sym s_is) ∙ ap (λ z. s ++ z) back_is in
-    (omega (arith, len, ap length s_is, ap length front_is), split ∙ ap (λ z. z ++ rest) x_is)
-
 -- a bulk string behind a length line in the one spelling has that spelling
 pub short_bulk_is : (n : ℕ) (b first rest s : List ℕ) → b ≡ line 36 (decimal n) ++ first → payload_at (Some n) first ≡ found (bulk s) rest → b ≡ text (bulk s) ++ rest
 short_bulk_is n b first rest s is e =
-    let (n_is, first_is) = payload_is n first rest s e in
+    let cut = payload_cut n first rest s e in
     let head = line 36 (decimal n) in
-    is ∙ ap (λ z. head ++ z) first_is ∙ sym (append_assoc head (s ++ line_end) rest)
-    ∙ ap (λ z. z ++ rest) (sym (append_assoc head s line_end)) ∙ ap (λ z. (line 36 (decimal z) ++ s ++ line_end) ++ rest) n_is
+    is ∙ ap (λ z. head ++ z) cut.parts ∙ sym (append_assoc head (s ++ line_end) rest)
+    ∙ ap (λ z. z ++ rest) (sym (append_assoc head s line_end)) ∙ ap (λ z. (line 36 (decimal z) ++ s ++ line_end) ++ rest) cut.count
 
 -- the one spelling of a bulk string is read
 bulk_is_read : (b s rest : List ℕ) → b ≡ text (bulk s) ++ rest → length s ≤ max_bulk → value_at 0 0 b ≡ found (bulk s) rest
@@ -72,8 +64,8 @@ goes_there head b next goes = ap (value_at 0 0) (sym (take-append-drop head b)) 
 
 pub place_is : (n head : ℕ) (b : List ℕ) → GoesOn 0 0 heads.Type (take head b) (nexts.Found (founds.Payload n)) → head ≤ length b → (s rest : List ℕ) → b ≡ text (bulk s) ++ rest → length s ≤ max_bulk → IsPlace head n s rest b
 place_is n head b goes inside s rest is few =
-    let (n_is, behind) = payload_is n (drop head b) rest s (sym (goes_there head b (nexts.Found (founds.Payload n)) goes) ∙ bulk_is_read b s rest is few) in
-    record { len_is = n_is; inside = inside; behind = behind }
+    let cut = payload_cut n (drop head b) rest s (sym (goes_there head b (nexts.Found (founds.Payload n)) goes) ∙ bulk_is_read b s rest is few) in
+    record { len_is = cut.count; inside = inside; behind = cut.parts }
 
 -- nothing else is read of it
 pub bulk_not_refused : (b s rest behind : List ℕ) (r : Refusal) → b ≡ text (bulk s) ++ rest → length s ≤ max_bulk → value_at 0 0 b ≡ refused r behind → ⊥

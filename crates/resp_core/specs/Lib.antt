@@ -10,6 +10,7 @@ pub mod ResumedReading
 pub mod OpenLists
 pub mod SeenBytes
 pub mod PartialValue
+pub mod Payload
 pub mod Word
 pub mod ReaderState
 pub mod Offset

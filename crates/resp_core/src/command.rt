@@ -3,8 +3,8 @@ ghost use Rattle.std.specs.Prelude.{◌≡◌, ◌<◌, IfSome, IfNone, true, fa
 ghost use Rattle.resp_core.specs.Value.{tree_of};
 ghost use Rattle.resp_core.specs.Command.{is_command, are_words, is_bulk, payload_of, word, IsArrayOf};
 
+use crate::payload::Payload;
 use crate::value::{Value, Values};
-use bytes::Bytes;
 
 impl Value {
     /// The words of a command: an array of bulk strings only, and of at least one. The first word is the command's
@@ -46,9 +46,9 @@ impl Values {
         !self.0.is_empty()
     }
 
-    /// The bytes of word `at`; word 0 is the command's name. The values must be the words of a command, as
+    /// Word `at`; word 0 is the command's name. The values must be the words of a command, as
     /// `Value::words` returns them, and `at` must be below their number.
-    pub fn word(&self, at: usize) -> &Bytes
+    pub fn word(&self, at: usize) -> &Payload
         requires words { are_words self.now ≡ true }
         requires inside { at < length self.now }
         ensures { result.now ≡ word (map payload_of self.now) at }

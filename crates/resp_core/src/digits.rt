@@ -64,7 +64,7 @@ fn digit_of(byte: u8) -> Option<u64>
     }
 }
 
-// The length of at most three digits that stands at the front with its line end, if it is at most `limit`: the number, and how
+// The length of at most four digits that stands at the front with its line end, if it is at most `limit`: the number, and how
 // many bytes it has. Most lengths are such. `None`: it is read a byte at a time.
 #[tactic(auto, unfolding(crate::specs::Reading::digits_at, crate::specs::Reading::count_at, crate::specs::Reading::byte_at))]
 #[inline(always)]
@@ -80,9 +80,23 @@ pub(crate) fn short_length(bytes: &[u8], limit: u64) -> Option<(u64, usize)>
             digit_of(*a)? * 100 + digit_of(*b)? * 10 + digit_of(*c)?,
             5,
         ),
-        _ => return None,
+        _ => return four_digit_length(bytes, limit),
     };
     if n <= limit { Some((n, len)) } else { None }
+}
+
+// The same for a length of four digits.
+#[tactic(auto, unfolding(crate::specs::Reading::digits_at, crate::specs::Reading::count_at, crate::specs::Reading::byte_at))]
+fn four_digit_length(bytes: &[u8], limit: u64) -> Option<(u64, usize)>
+    ensures inside { IfSome result (λ x. (0 < x.1) × (x.1 ≤ length bytes.now) × (x.0 ≤ limit)) }
+    ensures reads { IfSome result (λ x. (rest : List ℕ)
+        → count_at limit (take x.1 bytes.now ++ rest) ≡ found (Some x.0) rest) }
+{
+    let [a, b, c, d, b'\r', b'\n', ..] = bytes else {
+        return None;
+    };
+    let n = digit_of(*a)? * 1_000 + digit_of(*b)? * 100 + digit_of(*c)? * 10 + digit_of(*d)?;
+    if n <= limit { Some((n, 6)) } else { None }
 }
 
 // The digits' number with one more digit, or `None` at their end.

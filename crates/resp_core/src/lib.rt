@@ -14,6 +14,7 @@ mod head;
 mod laws;
 mod parse;
 mod partial_value;
+mod payload;
 mod pending;
 mod reader;
 mod sink;
@@ -30,6 +31,7 @@ pub use laws::{
     refusal_stays, shortest_text_is_spelling, spelling_is_shortest, text_is_read,
     text_is_read_back, values_go_on, values_stay,
 };
+pub use payload::Payload;
 pub use reader::{Limits, Reader};
 pub use spelled_command::SpelledCommand;
 pub use text::{bulk_len, put_bulk, put_bulk_behind, put_text};

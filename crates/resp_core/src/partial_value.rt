@@ -13,8 +13,10 @@ use crate::begun::{Begun, put};
 use crate::error::Refusal;
 use crate::head::{Found, Head, Line, Next, RefusedByte, read_head, short_bulk};
 use crate::parse::{Stop, take_payload, take_text};
+use crate::payload::Payload;
 use crate::pending::Pending;
 use crate::spelled_command::{SpelledCommand, spelled_len};
+use crate::text::digits;
 use crate::value::{Value, Values};
 use bytes::Bytes;
 use limits::{MAX_DEPTH, MAX_TEXT};
@@ -293,9 +295,10 @@ impl PartialValue {
         }
     }
 
-    // Takes a bulk string with a short head, if it comes next and has come completely. `None`: nothing has changed.
+    // Takes a bulk string with a short head in its one spelling, if it comes next and has come completely. Its payload lies in
+    // its text. `None`: nothing has changed.
     #[inline(always)]
-    fn take_word(&mut self, most: u64) -> Result<Option<Bytes>, AllocError>
+    fn take_word(&mut self, most: u64) -> Result<Option<Payload>, AllocError>
         requires good { IsGood most self.old }
         requires done { self.old.done ≡ None }
         ensures good { IsGood most self.new }
@@ -319,23 +322,17 @@ impl PartialValue {
         let Some((n, head)) = short_bulk(bytes, most, left) else {
             return Ok(None);
         };
-        let Ok((payload, rest)) = take_payload(&bytes[head..], n) else {
+        if head as u64 != digits(n).saturating_add(3) {
+            return Ok(None);
+        }
+        let Ok((_, rest)) = take_payload(&bytes[head..], n) else {
             return Ok(None);
         };
-        let (len, taken) = (payload.len(), visible - head - rest.len());
-        self.pending.advance(head);
-        self.came += head;
+        let len = visible - rest.len();
+        let text = self.pending.cut(self.room, len, len)?;
+        self.came += len;
         self.seen = 0;
-        match self.pending.cut(self.room, len, taken) {
-            Ok(word) => {
-                self.came += taken;
-                Ok(Some(word))
-            }
-            Err(_) => {
-                self.next = Next::Found(Found::Payload(n));
-                Err(AllocError)
-            }
-        }
+        Ok(Some(Payload::in_text(head as u8, text)))
     }
 
     // Reads a head and what it announces, or what the last head announced. True: that has come completely.
@@ -515,7 +512,7 @@ impl PartialValue {
                 };
                 self.came += taken;
                 self.seen = 0;
-                self.finish(Value::Bulk(payload));
+                self.finish(Value::Bulk(Payload::new(payload)));
                 Ok(true)
             }
             Err(Stop::Unfinished) => {

@@ -46,7 +46,9 @@ impl Limits {
 /// continues where it stopped: of an unfinished value it keeps the complete members, and the bytes
 /// of an incomplete text or payload. A payload of at least 16,384 bytes and an eighth of its buffer
 /// is returned as a part of that buffer; any other is copied, and short ones are parts of copies of at
-/// most 512 bytes. While no byte is pending it keeps a buffer of at most 32,768 bytes.
+/// most 512 bytes. A payload of fewer than 10,000 bytes lies in its text (`Payload::text`), where that is
+/// the one spelling and came in one piece. While no byte is pending the reader keeps a buffer of at most
+/// 32,768 bytes.
 pub struct Reader {
     progress: PartialValue,
     // The bytes of the stream before the unfinished value, at most the greatest `u64`.

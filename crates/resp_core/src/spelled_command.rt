@@ -10,8 +10,9 @@ ghost use Rattle.resp_core.specs.Value.{tree_of};
 ghost use Rattle.resp_core.specs.SpelledCommand.{IsPlace, IsSpelled};
 
 use crate::digits::short_length;
-use crate::head::{Found, Head, Next, RefusedByte, read_head};
+use crate::head::{Found, Head, Next, RefusedByte, read_head, short_bulk};
 use crate::parse::take_payload;
+use crate::payload::Payload;
 use crate::pending::MAX_COPY_BLOCK;
 use crate::text::digits;
 use crate::value::{Value, Values};
@@ -29,9 +30,15 @@ pub(crate) const MAX_WORDS: u64 = 9;
 /// A command as it was read, where that is the one spelling of at most nine words in at most 512 bytes.
 ///
 /// It is its text alone. Contracts see its words.
-#[derive(Drop)]
 pub struct SpelledCommand {
     text: Bytes,
+}
+
+// Written out so that a drop is one call: each function that holds one is proved sooner.
+impl Drop for SpelledCommand {
+    fn drop(self) {
+        let SpelledCommand { text: _ } = self;
+    }
 }
 
 impl Model for SpelledCommand {
@@ -107,6 +114,12 @@ fn place_of(bytes: &[u8]) -> Place
     ensures { (s rest : List ℕ) → bytes.now ≡ text (bulk s) ++ rest → length s ≤ max_bulk
         → IsPlace result.head result.len s rest bytes.now }
 {
+    if let Some((n, head)) = short_bulk(bytes, 0, 0) {
+        return Place {
+            head,
+            len: n as usize,
+        };
+    }
     let (next, head) = match read_head(Head::Type, bytes, 0, 0) {
         Ok(read) => read,
         Err(RefusedByte(_, _)) => unreachable!(),
@@ -134,17 +147,15 @@ fn split_bulk(bytes: &[u8]) -> (&[u8], &[u8])
     (word, &behind[2..])
 }
 
-// Takes the bulk string at the front, and returns its payload, which shares its bytes. Refused only for want of memory.
-fn take_bulk(bytes: &mut Bytes) -> Result<Bytes, AllocError>
+// Takes the bulk string at the front, and returns its payload, which lies in that text. Refused only for want of memory.
+fn take_bulk(bytes: &mut Bytes) -> Result<Payload, AllocError>
     requires { (s rest : List ℕ) × (bytes.old ≡ text (bulk s) ++ rest) × (length s ≤ max_bulk) }
     ensures { IfOk result (λ word. (s rest : List ℕ) → bytes.old ≡ text (bulk s) ++ rest
         → length s ≤ max_bulk → (word ≡ s) × (bytes.new ≡ rest)) }
 {
     let Place { head, len } = place_of(bytes.as_slice());
-    bytes.advance(head);
-    let word = bytes.split_to(len)?;
-    bytes.advance(2);
-    Ok(word)
+    let text = bytes.split_to(head + len + 2)?;
+    Ok(Payload::in_text(head as u8, text))
 }
 
 impl SpelledCommand {

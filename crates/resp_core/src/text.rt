@@ -7,6 +7,7 @@ ghost use Rattle.resp_core.specs.Text.{text, texts, line, line_end, Extends};
 ghost use Rattle.resp_core.specs.Value.{tree_of};
 
 use crate::error::RespError;
+use crate::payload::Payload;
 use crate::sink::Sink;
 use crate::value::{Value, Values};
 use itoa::{Buffer, write_digits};
@@ -97,7 +98,7 @@ pub(crate) fn append_value<S: Sink>(value: &Value, out: &mut S) -> Result<(), Al
         Value::Simple(text) => append_line(b'+', text.as_slice(), out),
         Value::Fault(text) => append_line(b'-', text.as_slice(), out),
         Value::Whole(n) => append_line(b':', Buffer::new().format(*n).as_bytes(), out),
-        Value::Bulk(payload) => append_bulk(payload.as_slice(), out),
+        Value::Bulk(payload) => append_payload(payload, out),
         Value::NullBulk => append_line(b'$', b"-1", out),
         Value::List(values) => append_list(values, out),
         Value::NullList => append_line(b'*', b"-1", out),
@@ -125,11 +126,28 @@ fn append_values<S: Sink>(values: &Values, out: &mut S) -> Result<(), AllocError
     for value in &values.0 {
         // (most members are bulk strings)
         match value {
-            Value::Bulk(payload) => append_bulk(payload.as_slice(), out)?,
+            Value::Bulk(payload) => append_payload(payload, out)?,
             _ => append_value(value, out)?,
         }
     }
     Ok(())
+}
+
+// Appends the text of a bulk string of this payload, or nothing.
+#[inline(always)]
+fn append_payload<S: Sink>(payload: &Payload, out: &mut S) -> Result<(), AllocError>
+    ensures ok { OnOk result
+        (S.written out.new ≡ S.written out.old ++ text (bulk payload.now)) }
+    ensures err { OnErr result (S.written out.new ≡ S.written out.old) }
+{
+    match payload.text() {
+        Some(text) => {
+            out.reserve(text.len())?;
+            out.put_reserved(text.as_slice());
+            Ok(())
+        }
+        None => append_bulk(payload.as_slice(), out),
+    }
 }
 
 // Appends the text of a bulk string, or nothing.
@@ -217,7 +235,7 @@ impl Value {
         match self {
             Value::Simple(text) | Value::Fault(text) => line_len(text.len() as u64),
             Value::Whole(n) => line_len(signed_digits(*n)),
-            Value::Bulk(payload) => bulk_len(payload.len() as u64),
+            Value::Bulk(payload) => payload.text_len(),
             Value::List(values) => list_len(values),
             Value::NullBulk | Value::NullList => line_len(2),
         }
@@ -239,7 +257,7 @@ fn members_len(values: &Values) -> u64
     for value in &values.0 {
         // (most members are bulk strings)
         let len = match value {
-            Value::Bulk(payload) => bulk_len(payload.len() as u64),
+            Value::Bulk(payload) => payload.text_len(),
             _ => value.text_len(),
         };
         total = total.saturating_add(len);

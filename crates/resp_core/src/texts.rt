@@ -1,5 +1,5 @@
 //! Texts in blocks that they share.
-ghost use Rattle.std.specs.Prelude.{◌≡◌, ◌++◌, IfOk, IsTrue};
+ghost use Rattle.std.specs.Prelude.{◌≡◌, ◌++◌, IfOk, IfSome, IsTrue};
 ghost use Rattle.resp_core.specs.Text.{text};
 ghost use Rattle.resp_core.specs.Tree.{bulk, is_plain_tree};
 ghost use Rattle.resp_core.specs.Value.{tree_of};
@@ -45,13 +45,17 @@ impl Texts {
     }
 
     /// The one spelling of the value, which must be plain (`Value::is_plain`). `text_len` is its `Value::text_len`:
-    /// that much memory is reserved at once. A wrong number doesn't change the text.
+    /// that much memory is reserved at once. A wrong number doesn't change the text. A payload that lies in its text isn't
+    /// written: that text is shared.
     ///
     /// Refused only for want of memory.
     pub fn text_of(&mut self, value: &Value, text_len: u64) -> Result<Bytes, AllocError>
         requires { IsTrue (is_plain_tree (tree_of value.now)) }
         ensures { IfOk result (λ bytes. bytes ≡ text (tree_of value.now)) }
     {
+        if let Some(text) = text_around(value) {
+            return text.clone();
+        }
         if text_len > MAX_SHORT as u64 {
             let mut text = Vec::with_capacity(self.alloc, text_len as usize)?;
             append_value(value, &mut text)?;
@@ -106,5 +110,15 @@ impl Texts {
         append_behind(head, first, &mut self.block)?;
         append_bulk(second, &mut self.block)?;
         self.block.finish(len)
+    }
+}
+
+// The one spelling of a bulk string whose payload lies in it.
+fn text_around(value: &Value) -> Option<&Bytes>
+    ensures { IfSome result (λ bytes. bytes.now ≡ text (tree_of value.now)) }
+{
+    match value {
+        Value::Bulk(payload) => payload.text(),
+        _ => None,
     }
 }

@@ -4,6 +4,7 @@ ghost use Rattle.std.specs.List.{list_all};
 ghost use Rattle.resp_core.specs.Tree.{is_text_byte, are_plain_trees, trees_of};
 
 use crate::error::RespError;
+use crate::payload::Payload;
 use bytes::Bytes;
 use std::alloc::Global;
 use std::marker::Model;
@@ -19,7 +20,7 @@ pub enum Value {
     /// An integer, `:..`, in the signed 64-bit range.
     Whole(i64),
     /// A bulk string, `$..`, of any bytes.
-    Bulk(Bytes),
+    Bulk(Payload),
     /// The null bulk string, `$-1`.
     NullBulk,
     /// An array, `*..`.
@@ -88,7 +89,7 @@ impl Value {
             Value::Simple(text) => Ok(Value::Simple(text.clone()?)),
             Value::Fault(text) => Ok(Value::Fault(text.clone()?)),
             Value::Whole(n) => Ok(Value::Whole(*n)),
-            Value::Bulk(payload) => Ok(Value::Bulk(payload.clone()?)),
+            Value::Bulk(payload) => Ok(Value::Bulk(payload.share()?)),
             Value::NullBulk => Ok(Value::NullBulk),
             Value::List(values) => Ok(Value::List(share_values(values, alloc)?)),
             Value::NullList => Ok(Value::NullList),

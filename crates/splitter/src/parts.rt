@@ -14,7 +14,7 @@ use crate::error::SplitError;
 use crate::plans::{PartPlan, PartPlans, Planned};
 use bytes::Bytes;
 use itoa::Buffer;
-use resp_core::{Texts, Value, Values, bulk_len, put_bulk, put_bulk_behind};
+use resp_core::{Payload, Texts, Value, Values, bulk_len, put_bulk, put_bulk_behind};
 use std::alloc::Global;
 
 // The most bytes of the texts of parts that share a block.
@@ -111,7 +111,7 @@ fn joined_parts(
         let len = bulk_len(key.len() as u64).saturating_add(head.len() as u64);
         let text = rest.split_to(len.min(rest.len() as u64) as usize)?;
         parts.push(PartPlan {
-            key: key.clone()?,
+            key: key.bytes()?,
             text,
         })?;
     }
@@ -173,12 +173,12 @@ fn head(alloc: Global, words: usize, name: Bytes) -> Result<Vec<u8>, SplitError>
 }
 
 // The part of a command with one key, whose text begins with `head`.
-fn key_part(texts: &mut Texts, head: &[u8], key: &Bytes) -> Result<PartPlan, SplitError>
+fn key_part(texts: &mut Texts, head: &[u8], key: &Payload) -> Result<PartPlan, SplitError>
     ensures part { IfOk result (λ p. p ≡ part_of key.now (head.now ++ text (bulk key.now))) }
     ensures err { IfErr result (λ e. e ≡ SplitError.NoMemory) }
 {
     Ok(PartPlan {
-        key: key.clone()?,
+        key: key.bytes()?,
         text: texts.bulk_behind(head, key.as_slice())?,
     })
 }
@@ -187,15 +187,15 @@ fn key_part(texts: &mut Texts, head: &[u8], key: &Bytes) -> Result<PartPlan, Spl
 fn pair_part(
     texts: &mut Texts,
     head: &[u8],
-    key: &Bytes,
-    value: &Bytes,
+    key: &Payload,
+    value: &Payload,
 ) -> Result<PartPlan, SplitError>
     ensures part { IfOk result
         (λ p. p ≡ part_of key.now (head.now ++ text (bulk key.now) ++ text (bulk value.now))) }
     ensures err { IfErr result (λ e. e ≡ SplitError.NoMemory) }
 {
     Ok(PartPlan {
-        key: key.clone()?,
+        key: key.bytes()?,
         text: texts.bulks_behind(head, key.as_slice(), value.as_slice())?,
     })
 }

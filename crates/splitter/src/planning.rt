@@ -192,7 +192,7 @@ fn plan_known<'a>(
         ))),
         Kind::Echo => return Ok(Planned::Other(Plan::Here(
             Local::Echoed,
-            Value::Bulk(words.word(1).clone()?),
+            Value::Bulk(words.word(1).share()?),
         ))),
         Kind::Quit => return Ok(Planned::Other(Plan::Leave(
             Local::Bye,

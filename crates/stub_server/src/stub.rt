@@ -15,7 +15,7 @@ use crate::number::{number_in, spelling};
 use crate::script::{Act, Script};
 use crate::words::keys_of;
 use bytes::Bytes;
-use resp_core::{Value, Values};
+use resp_core::{Payload, Value, Values};
 use std::alloc::Global;
 use std::marker::Model;
 
@@ -184,26 +184,26 @@ fn answer_command(
 }
 
 // GET
-fn get(entries: &[Entry], key: &Bytes) -> Result<Value, StubError>
+fn get(entries: &[Entry], key: &Payload) -> Result<Value, StubError>
     ensures answer { IfOk result
         (λ answer. tree_of answer ≡ bulk_of (value_at key.now entries.now)) }
     ensures memory { IfErr result (λ e. e ≡ StubError.NoMemory) }
 {
     match value_at(entries, key.as_slice()) {
-        Some(value) => Ok(Value::Bulk(value.clone()?)),
+        Some(value) => Ok(Value::Bulk(Payload::new(value.clone()?))),
         None => Ok(Value::NullBulk),
     }
 }
 
 // SET
-fn set(entries: &mut Vec<Entry>, key: &Bytes, value: &Bytes) -> Result<Value, StubError>
+fn set(entries: &mut Vec<Entry>, key: &Payload, value: &Payload) -> Result<Value, StubError>
     ensures answer { IfOk result (λ answer. tree_of answer ≡ ok_reply) }
     ensures map { IfOk result
         (λ _. entries.new.items ≡ with_value key.now value.now entries.old.items) }
     ensures err { OnErr result (entries.new.items ≡ entries.old.items) }
     ensures memory { IfErr result (λ e. e ≡ StubError.NoMemory) }
 {
-    put(entries, key.clone()?, value.clone()?)?;
+    put(entries, key.bytes()?, value.bytes()?)?;
     Ok(Value::Simple(Bytes::from_static(b"OK")))
 }
 
@@ -224,7 +224,7 @@ fn delete(entries: &mut Vec<Entry>, keys: &[Value]) -> Result<Value, StubError>
 }
 
 // INCR
-fn increment(alloc: Global, entries: &mut Vec<Entry>, key: &Bytes) -> Result<Value, StubError>
+fn increment(alloc: Global, entries: &mut Vec<Entry>, key: &Payload) -> Result<Value, StubError>
     ensures answer { IfOk result
         (λ answer. tree_of answer ≡
         (incremented_reply entries.old.items key.now
@@ -241,7 +241,7 @@ fn increment(alloc: Global, entries: &mut Vec<Entry>, key: &Bytes) -> Result<Val
     let Some(next) = number.checked_add(1) else {
         return Ok(fault(b"ERR value is not an integer or out of range"));
     };
-    put(entries, key.clone()?, spelling(alloc, next)?)?;
+    put(entries, key.bytes()?, spelling(alloc, next)?)?;
     Ok(Value::Whole(next))
 }
 

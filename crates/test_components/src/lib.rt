@@ -31,6 +31,8 @@ mod next_replies;
 #[cfg(test)]
 mod notices;
 #[cfg(test)]
+mod payload_texts;
+#[cfg(test)]
 mod refusal_tests;
 #[cfg(test)]
 mod rig;

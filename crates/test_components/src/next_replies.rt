@@ -3,7 +3,7 @@
 use crate::core_at_gate::core;
 use bytes::Bytes;
 use proxy_core::{Core, Event, Kind, Request};
-use resp_core::{Value, Values};
+use resp_core::{Payload, Value, Values};
 use std::alloc::Global;
 use std::test::Fail;
 
@@ -55,7 +55,7 @@ const MOVES: &[(Move, Told)] = &[
 fn request(alloc: Global, words: &[&[u8]]) -> Result<Request, Fail> {
     let mut members = Vec::new(alloc);
     for word in words {
-        members.push(Value::Bulk(Bytes::copy_from_slice(alloc, word)?))?;
+        members.push(Value::Bulk(Payload::new(Bytes::copy_from_slice(alloc, word)?)))?;
     }
     Ok(Request::Read(Value::List(Values(members))))
 }

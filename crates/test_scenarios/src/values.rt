@@ -4,7 +4,7 @@ use crate::text::{first_word, number, unescaped, word_bytes};
 use anyhow::{Result, bail};
 use bytes::Bytes;
 use proxy_core::Request;
-use resp_core::{Limits, Reader, SpelledCommand, Value, Values, put_text};
+use resp_core::{Limits, Payload, Reader, SpelledCommand, Value, Values, put_text};
 use std::alloc::Global;
 
 // A request of a given length has this many members. All but the first are written in 65,536 bytes each.
@@ -102,7 +102,9 @@ pub(crate) fn command(alloc: Global, line: &str) -> Result<Value> {
 
 /// The bulk string of a word.
 pub(crate) fn bulk(alloc: Global, word: &str) -> Result<Value> {
-    Ok(Value::Bulk(Bytes::from_vec(word_bytes(alloc, word)?)?))
+    Ok(Value::Bulk(Payload::new(Bytes::from_vec(word_bytes(
+        alloc, word,
+    )?)?)))
 }
 
 // The command of this name with the key `a` repeated.
@@ -154,5 +156,5 @@ fn put_shared(alloc: Global, members: &mut Vec<Value>, count: usize, value: &Val
 
 fn zeros(alloc: Global, count: usize) -> Result<Value> {
     let bytes = vec![in alloc; 0u8; count]?;
-    Ok(Value::Bulk(Bytes::from_vec(bytes)?))
+    Ok(Value::Bulk(Payload::new(Bytes::from_vec(bytes)?)))
 }

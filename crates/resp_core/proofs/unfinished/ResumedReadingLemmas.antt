@@ -80,16 +80,18 @@ found_on G N read law b rest a e = let (x, split, text) = law.sound b rest a e i
 
 -- a payload that is found, and its line end
 pub record IsCut (n : ℕ) (b rest s : List ℕ) : Type 0 where
+  pub count : n ≡ length s
   pub parts : b ≡ (s ++ line_end) ++ rest
   pub same : (y : List ℕ) → payload_at (Some n) ((s ++ line_end) ++ y) ≡ found (bulk s) y
 
 pub payload_cut : (n : ℕ) (b rest s : List ℕ) → payload_at (Some n) b ≡ found (bulk s) rest → IsCut n b rest s
 payload_cut n b rest s e =
     let (x, split, payload) = (payload-reads (Some n)).sound b rest (bulk s) e in
-    let (bytes, _, back, x_split, (front_is, _), (_, back_is, same_bulk)) = payload in
+    let (bytes, _, back, x_split, (front_is, len), (_, back_is, same_bulk)) = payload in
     let s_is : s ≡ bytes = cc in
     let x_is : x ≡ s ++ line_end = x_split ∙ ap (λ z. z ++ back) (front_is ∙ sym s_is) ∙ ap (λ z. s ++ z) back_is in
     record {
+      count = omega (arith, len, ap length s_is, ap length front_is);
       parts = split ∙ ap (λ z. z ++ rest) x_is;
       same = λ y. ap (λ z. payload_at (Some n) (z ++ y)) (sym x_is) ∙ (payload-reads (Some n)).again x y (bulk s) payload;
     }

@@ -6,11 +6,11 @@ unreachable-requires c =
     let (s, rest, is, few) = c.requires in
     bulk_not_refused c.args.bytes.now s rest _ _ is few c.in-Err.ensures.refused.1
 
-pub unreachable-requires-in_default : goal.unreachable-requires-in_default
-unreachable-requires-in_default c =
+pub unreachable-requires-in_default-next : goal.unreachable-requires-in_default-next
+unreachable-requires-in_default-next c =
     let (s, rest, is, few) = c.requires in
-    bulk_not_head c.in-Ok.read.1 c.args.bytes.now s rest c.in-Ok.read.0 c.in_default.field-0 is few c.in_default.is c.in-Ok.ensures.gives
-    (c.in-Ok.ensures.all (rw c.in_default.is tt))
+    bulk_not_head c.in-Ok.read.1 c.args.bytes.now s rest c.in-Ok.read.0 c.in_default-next.field-0 is few c.in_default-next.is c.in-Ok.ensures.gives
+    (c.in-Ok.ensures.all (rw c.in_default-next.is tt))
 
 pub unreachable-requires-in_default-found : goal.unreachable-requires-in_default-found
 unreachable-requires-in_default-found c =
@@ -20,3 +20,6 @@ unreachable-requires-in_default-found c =
 pub returns : goal.returns
 returns c =
     place_is c.in-Payload.n c.in-Ok.read.1 c.args.bytes.now (rw (c.in-Found.is, c.in-Payload.is) at c.in-Ok.ensures.gives) c.in-Ok.ensures.inside
+
+pub returns-in-Some : goal.returns-in-Some
+returns-in-Some c = place_is c.in-Some.n c.in-Some.head c.args.bytes.now c.in-Some.ensures.gives c.in-Some.ensures.inside.1

@@ -28,7 +28,7 @@ returns-in-Ok-cut-clause-reads c = λ held r.
     let b_is : take v c.as_slice.result.now ≡ take v p.pending.items = ap (take v) c.as_slice.ensures in
     let t = cuts_at c.args.n v _ p.pending.items c.in-Ok.rest.now s b_is few c.in-Ok.ensures in
     reads_on c.args.most held p q k (omega (arith, few)) (ap (λ z. z.items) f.same.0 ∙ c.in-Ok-cut.ensures.rest) f.seen.1
-    (bulk_along c.args.most c.args.n k p q _ c.in-Ok.rest.now s (variants.Bulk c.in-Ok-cut.payload) c.requires.next.0 c.requires.next.1 (ap (λ z. z.items) f.same.1) f.done (ap bulk (c.in-Ok-cut.ensures.front ∙ t.front)) c.in-Ok.ensures t.all) r
+    (bulk_along c.args.most c.args.n k p q _ c.in-Ok.rest.now s (variants.Bulk c.new.result) c.requires.next.0 c.requires.next.1 (ap (λ z. z.items) f.same.1) f.done (ap bulk (c.new.ensures ∙ c.in-Ok-cut.ensures.front ∙ t.front)) c.in-Ok.ensures t.all) r
 
 pub returns-in-Err-Unfinished-clause-none : goal.returns-in-Err-Unfinished-clause-none
 returns-in-Err-Unfinished-clause-none c = λ _.
