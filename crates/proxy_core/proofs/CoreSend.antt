@@ -10,6 +10,8 @@ use Rattle.std.specs.contracts.impls.GlobalAllocator.TheImpl.{ghosts}
 use Rattle.bytes.specs.contracts.shared.Bytes as Bytes
 use Rattle.bytes.proofs.shared.Bytes.TheSendSync as bytes
 use Rattle.bytes.proofs.unique.BytesMut.TheSendSync as mutable
+use Rattle.resp_core.specs.contracts.payload.Held as Held
+use Rattle.resp_core.specs.contracts.payload.Payload as Payload
 use Rattle.resp_core.specs.contracts.value.Value as Value
 use Rattle.resp_core.specs.contracts.spelled_command.SpelledCommand as SpelledCommand
 use Rattle.resp_core.specs.contracts.value.Values as Values
@@ -40,11 +42,20 @@ bytes_send = search (bytes.the_send, crosses, sendable) depth 20
 bytes_row_send : IsSend (as_row (Bytes.the_field Global.the_row ghosts))
 bytes_row_send = as_row_send (Bytes.the_field Global.the_row ghosts) bytes_send
 
+held_send : IsSend (Held.the_field).row
+held_send = search (bytes_send, crosses, sendable) depth 20
+
+payload_send : IsSend Payload.the_row
+payload_send = search (held_send, crosses, sendable) depth 20
+
+payload_row_send : IsSend (as_row Payload.the_field)
+payload_row_send = as_row_send Payload.the_field payload_send
+
 values_send : IsSend Values.the_row
-values_send = knot.send-Values Vec-send bytes_row_send (search sendable)
+values_send = knot.send-Values Vec-send bytes_row_send (search sendable) payload_row_send
 
 value_field_send : IsSend (Value.the_field).row
-value_field_send = knot.send-Value bytes_send (search sendable) values_send
+value_field_send = knot.send-Value bytes_send (search sendable) payload_send values_send
 
 value_send : IsSend Value.the_row
 value_send = as_row_send Value.the_field value_field_send
