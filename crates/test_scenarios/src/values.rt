@@ -102,9 +102,7 @@ pub(crate) fn command(alloc: Global, line: &str) -> Result<Value> {
 
 /// The bulk string of a word.
 pub(crate) fn bulk(alloc: Global, word: &str) -> Result<Value> {
-    Ok(Value::Bulk(Payload::new(Bytes::from_vec(word_bytes(
-        alloc, word,
-    )?)?)))
+    Ok(Value::Bulk(Payload::new(Bytes::from_vec(word_bytes(alloc, word)?)?)))
 }
 
 // The command of this name with the key `a` repeated.

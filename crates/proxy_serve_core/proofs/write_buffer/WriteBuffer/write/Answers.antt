@@ -1,4 +1,5 @@
-use Rattle.std.proofs.Common.{[], take}
+use Rattle.std.proofs.Common.{[], take, arith}
+use Rattle.std.proofs.lemmas.Grind.{common_steps}
 use Rattle.std.proofs.lemmas.Result.{IfOk-weaker, on_err_weaker}
 use Rattle.proxy_serve_core.specs.WriteBuffer.{GoesOut}
 use Rattle.proxy_serve_core.proofs.WriteBufferLemmas.{GoesOut-then, GoesOut-append}
@@ -41,3 +42,6 @@ returns-in-Err-clause-err g c =
 pub returns-in-Ok-clause-ok : goal.returns-in-Ok-clause-ok
 returns-in-Ok-clause-ok g c = GoesOut-append c.args.self.now c.close_up.new.self c.append.new.self c.args.bytes.now
     (rw c.close_up.ensures c.make_room.ensures.goes_out) c.in-Ok.ensures.ok
+
+pub returns-in-Ok-clause-limit : goal.returns-in-Ok-clause-limit
+returns-in-Ok-clause-limit g c = grind (arith, common_steps)

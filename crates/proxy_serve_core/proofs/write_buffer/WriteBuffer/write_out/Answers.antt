@@ -1,4 +1,4 @@
-use Rattle.std.proofs.Common.{arith}
+use Rattle.std.proofs.Common.{rules, arith}
 use Rattle.std.proofs.lemmas.Grind.{common_steps}
 use Rattle.proxy_serve_core.proofs.write_buffer.WriteBuffer.write_out.Goals as goal
 
@@ -7,3 +7,6 @@ returns-then-not-is_empty-clause-ends g c = c.write_gathered.ensures.ends
 
 pub returns-clause-broken : goal.returns-clause-broken
 returns-clause-broken g c = grind (arith, common_steps)
+
+pub returns-then-not-is_empty-clause-back : goal.returns-then-not-is_empty-clause-back
+returns-then-not-is_empty-clause-back g c = search rules fits 300
