@@ -1,23 +1,9 @@
 -- The core may go to another thread, since each type that it holds may; and threads may share a gate round it.
 use denote.RattleType.{RattleType}
-use denote.Hole.{as_row}
 use denote.Param.Send.{IsSend, IsSync, sendable}
-use denote.Param.SendFields.{as_row_send}
-use Rattle.std.proofs.Crossing.{crosses, Vec-send}
-use Rattle.std.specs.contracts.alloc.Global as Global
+use Rattle.std.proofs.Crossing.{crosses}
 use Rattle.std.specs.contracts.option.Option as Option
-use Rattle.std.specs.contracts.impls.GlobalAllocator.TheImpl.{ghosts}
-use Rattle.bytes.specs.contracts.shared.Bytes as Bytes
-use Rattle.bytes.proofs.shared.Bytes.TheSendSync as bytes
-use Rattle.bytes.proofs.unique.BytesMut.TheSendSync as mutable
-use Rattle.resp_core.specs.contracts.payload.Held as Held
-use Rattle.resp_core.specs.contracts.payload.Payload as Payload
-use Rattle.resp_core.specs.contracts.value.Value as Value
-use Rattle.resp_core.specs.contracts.spelled_command.SpelledCommand as SpelledCommand
-use Rattle.resp_core.specs.contracts.value.Values as Values
-use Rattle.resp_core.specs.contracts.text_block.TextBlock as TextBlock
-use Rattle.resp_core.specs.contracts.texts.Texts as Texts
-use Rattle.resp_core.proofs.value.Values.TheLaws.TheKnot as knot
+use Rattle.resp_core.proofs.SendLemmas.{bytes_send, value_field_send, value_send, spelled_send, texts_send}
 use Rattle.ketama.specs.contracts.ring.Ring as Ring
 use Rattle.ejector.specs.contracts.ejector.Ejector as Ejector
 use Rattle.journal_core.specs.contracts.journal.Journal as Journal
@@ -36,30 +22,6 @@ use Rattle.proxy_core.specs.contracts.state.connection.Connection as Connection
 use Rattle.proxy_core.specs.contracts.machine.Machine as Machine
 use Rattle.proxy_core.specs.contracts.machine.Core as Core
 
-bytes_send : IsSend (Bytes.the_row Global.the_row ghosts)
-bytes_send = search (bytes.the_send, crosses, sendable) depth 20
-
-bytes_row_send : IsSend (as_row (Bytes.the_field Global.the_row ghosts))
-bytes_row_send = as_row_send (Bytes.the_field Global.the_row ghosts) bytes_send
-
-held_send : IsSend (Held.the_field).row
-held_send = search (bytes_send, crosses, sendable) depth 20
-
-payload_send : IsSend Payload.the_row
-payload_send = search (held_send, crosses, sendable) depth 20
-
-payload_row_send : IsSend (as_row Payload.the_field)
-payload_row_send = as_row_send Payload.the_field payload_send
-
-values_send : IsSend Values.the_row
-values_send = knot.send-Values Vec-send bytes_row_send (search sendable) payload_row_send
-
-value_field_send : IsSend (Value.the_field).row
-value_field_send = knot.send-Value bytes_send (search sendable) payload_send values_send
-
-value_send : IsSend Value.the_row
-value_send = as_row_send Value.the_field value_field_send
-
 ring_send : IsSend Ring.the_row
 ring_send = search (crosses, sendable) depth 20
 
@@ -68,9 +30,6 @@ ejector_send = search (crosses, sendable) depth 20
 
 answer_send : IsSend Answer.the_row
 answer_send = search (bytes_send, crosses, sendable) depth 20
-
-spelled_send : IsSend SpelledCommand.the_row
-spelled_send = search (bytes_send, crosses, sendable) depth 20
 
 event_send : IsSend Event.the_row
 event_send = search (value_field_send, spelled_send, crosses, sendable) depth 20
@@ -95,12 +54,6 @@ connection_send = search (queue_send, crosses, sendable) depth 20
 
 journal_send : IsSend (Journal.the_row Event.the_row Answer.the_row)
 journal_send = search (event_send, answer_send, crosses, sendable) depth 20
-
-text_block_send : IsSend TextBlock.the_row
-text_block_send = search (mutable.the_send, crosses, sendable) depth 20
-
-texts_send : IsSend Texts.the_row
-texts_send = search (text_block_send, crosses, sendable) depth 20
 
 machine_send : IsSend (Machine.the_field).row
 machine_send = search (ring_send, ejector_send, journal_send, connection_send, pipe_send, texts_send, crosses, sendable) depth 20

@@ -12,7 +12,7 @@ pub use Rattle.proxy_engines.proofs.ClientLemmas.{ended_is_whole}
 -- a socket over its connections
 pub use Rattle.proxy_engines.proofs.SocketLemmas.{socket_begins, socket_moves, socket_stays, socket_goes_over, socket_asks_in_order, socket_answers_in_order, socket_ends_whole}
 -- what engines hold may go to another thread
-pub use Rattle.proxy_engines.proofs.SendLemmas.{bytes_send, reader_send, request_send, rest_send}
+pub use Rattle.proxy_engines.proofs.SendLemmas.{request_send, rest_send}
 -- turns that an engine made or didn't, and others after them
 pub use Rattle.proxy_engines.proofs.OwnHistoryLemmas.{keeps_same, keeps_then}
 -- what an engine keeps of its socket's logs over any number of calls

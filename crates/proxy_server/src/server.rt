@@ -76,6 +76,8 @@ impl<C: Drop> Drop for Server<C> {
 
 impl<C: Drop> Server<C> {
     /// A server with a queue for each worker. The first generation is due.
+    ///
+    /// Refused only for want of memory.
     pub fn new(
         alloc: Global,
         config: &Config,

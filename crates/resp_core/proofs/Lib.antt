@@ -2,6 +2,7 @@ pub mod reading
 pub mod streams
 pub mod TreeLemmas
 pub mod RoundTripLemmas
+pub mod SendLemmas
 pub mod SpellingLemmas
 pub mod OneSpellingLemmas
 pub mod CommandLemmas

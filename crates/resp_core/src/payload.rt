@@ -49,6 +49,7 @@ impl Model for Payload {
 
 impl Payload {
     /// A payload of these bytes.
+    #[inline(always)]
     pub fn new(bytes: Bytes) -> Payload
         ensures { result ≡ bytes }
     {
@@ -58,6 +59,7 @@ impl Payload {
     }
 
     // The payload behind a head of so many bytes in the text of its bulk string.
+    #[inline(always)]
     pub(crate) fn in_text(head: u8, text: Bytes) -> Payload
         requires { (s : List ℕ) × (text ≡ spelling (bulk s)) × (head + length s + 2 ≡ length text) }
         ensures { (s : List ℕ) → text ≡ spelling (bulk s) → head + length s + 2 ≡ length text
@@ -69,6 +71,7 @@ impl Payload {
     }
 
     /// Its bytes.
+    #[inline(always)]
     pub fn as_slice(&self) -> &[u8]
         ensures { result.now ≡ self.now }
     {
@@ -81,6 +84,7 @@ impl Payload {
     }
 
     /// The number of its bytes.
+    #[inline(always)]
     pub fn len(&self) -> usize
         ensures { result ≡ length self.now }
     {
@@ -88,6 +92,7 @@ impl Payload {
     }
 
     /// Its bytes, which it shares. Refused only for want of memory.
+    #[inline(always)]
     pub fn bytes(&self) -> Result<Bytes, AllocError>
         ensures { IfOk result (λ bytes. bytes ≡ self.now) }
     {
@@ -98,6 +103,7 @@ impl Payload {
     }
 
     /// An equal payload that shares its bytes, and the text that it may lie in. Refused only for want of memory.
+    #[inline(always)]
     pub fn share(&self) -> Result<Payload, AllocError>
         ensures { IfOk result (λ p. p ≡ self.now) }
     {
@@ -112,6 +118,7 @@ impl Payload {
     }
 
     /// The one spelling of its bulk string, if the payload lies in it.
+    #[inline(always)]
     pub fn text(&self) -> Option<&Bytes>
         ensures { IfSome result (λ bytes. bytes.now ≡ text (bulk self.now)) }
     {
@@ -122,6 +129,7 @@ impl Payload {
     }
 
     // The length of its bulk string's one spelling; the greatest `u64` stands for any more.
+    #[inline(always)]
     pub(crate) fn text_len(&self) -> u64
         ensures { result ≡ told_offset (length (text (bulk self.now))) }
     {

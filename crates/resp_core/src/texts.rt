@@ -114,6 +114,7 @@ impl Texts {
 }
 
 // The one spelling of a bulk string whose payload lies in it.
+#[inline(always)]
 fn text_around(value: &Value) -> Option<&Bytes>
     ensures { IfSome result (λ bytes. bytes.now ≡ text (tree_of value.now)) }
 {

@@ -17,7 +17,8 @@ const STREAMS: &[(&[&[u8]], bool)] = &[
     (&[b"$", b"3\r\nabc\r\n"], false),
 ];
 
-// The first value of a stream that comes in these pieces: whether its payload lies in its text, and what is written of it.
+// The first value of a stream that comes in these pieces: whether its payload and one that shares it lie in a text, and what is
+// written of it.
 fn first_of(alloc: Global, pieces: &[&[u8]]) -> Result<(bool, Bytes), Fail> {
     let mut reader = Reader::new(alloc, Limits::HOST);
     for piece in pieces {
@@ -42,6 +43,10 @@ fn look(alloc: Global, value: &Value) -> Result<(bool, Bytes), Fail> {
         return Err("not plain".into());
     }
     let lies = payload.text().is_some();
+    let shared = payload.share()?;
+    if shared.text().is_some() != lies {
+        return Err("a shared payload lies elsewhere".into());
+    }
     Ok((lies, Texts::new(alloc).text_of(value, value.text_len())?))
 }
 

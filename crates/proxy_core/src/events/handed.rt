@@ -54,7 +54,7 @@ impl Machine {
         })
     }
 
-    // Looks for a cause, writes the reply's text, makes room, and shares the text.
+    // Looks for a cause, gets the reply's text, makes room, and shares the text.
     fn ready_to_hand(&mut self, conn: u64) -> Result<(Bytes, Bytes), Refusal>
         requires plain { IfSome (reply_in (connection_at conn self.old.connections.numbered))
             (λ v. IsTrue (is_plain_tree v)) }
@@ -86,8 +86,8 @@ impl Machine {
     }
 }
 
-// The text of the reply to the oldest command, if it has come; it must be plain. A reply of one value is written from
-// its place.
+// The text of the reply to the oldest command, if it has come; it must be plain. A reply of one value isn't copied
+// before.
 fn front_text(texts: &mut Texts, queue: &Queue) -> Result<Option<Bytes>, AllocError>
     requires plain { IfSome (front_reply queue.now.commands) (λ v. IsTrue (is_plain_tree v)) }
     ensures text { IfOk result (λ o. o ≡ option_map text (front_reply queue.now.commands)) }

@@ -2,7 +2,8 @@ use denote.Param.Send.{sendable}
 use Rattle.std.proofs.Crossing.{crosses}
 use Rattle.proxy_core.proofs.CallerLemmas.{core_send}
 use Rattle.proxy_devices.proofs.CallerLemmas.{log_send}
-use Rattle.proxy_engines.proofs.CallerLemmas.{bytes_send, reader_send, request_send}
+use Rattle.proxy_engines.proofs.CallerLemmas.{request_send}
+use Rattle.resp_core.proofs.SendLemmas.{bytes_send, reader_send}
 use Rattle.test_components.proofs.works.two_workers_meet.Goals as goal
 
 pub run_all-requires-send-K : goal.run_all-requires-send-K
