@@ -1,5 +1,10 @@
 //! The room in a generation's journal, shared by its workers.
-ghost use Rattle.std.specs.Prelude.{◌≡◌};
+ghost use Rattle.std.specs.Prelude.{◌≡◌, ◌≤◌, ◌+◌, ◌⊎◌, IsTrue};
+ghost use Rattle.std.specs.Bool.{OnTrue, OnFalse};
+ghost use Rattle.limits.specs.declared.journals.TheConstants.{MAX_COMMAND_STEPS};
+ghost use Rattle.proxy_generations.specs.Budget.{capped, no_loan, free_steps, borrowed};
+ghost use Rattle.proxy_generations.specs.Payload.{HasRoomForCommand, HasRoomForReply};
+ghost use Rattle.journal_room.specs.Account.{known, owed_steps};
 
 use crate::counted_turns::{CountedTurns, HeldTurns};
 use crate::ledger::Ledger;
@@ -61,7 +66,10 @@ impl JournalRoom {
     ///
     /// The turns leave the gate, if they are inside.
     pub fn settle<R: Wait, T: HeldTurns>(&self, rt: &R, turns: &mut CountedTurns<T>, reserve: u64)
-        ensures { turns.new.turns ≡ turns.old.turns }
+        ensures turns { turns.new.turns ≡ turns.old.turns }
+        ensures counts { turns.new.account.counts ≡ turns.old.account.counts }
+        ensures loan { (turns.new.account.loan ≡ no_loan)
+            ⊎ (turns.new.account.loan ≡ borrowed reserve no_loan) }
     {
         turns.leave();
         let mut ledger = self.ledger.lock(rt);
@@ -79,7 +87,10 @@ impl JournalRoom {
         turns: &mut CountedTurns<T>,
         steps: u64,
     ) -> bool
-        ensures { turns.new.turns ≡ turns.old.turns }
+        ensures turns { turns.new.turns ≡ turns.old.turns }
+        ensures lent { OnTrue result (turns.new.account
+            ≡ record turns.old.account { loan = borrowed steps turns.old.account.loan }) }
+        ensures unchanged { OnFalse result (turns.new.account ≡ turns.old.account) }
     {
         turns.leave();
         turns.borrow_steps(&mut self.ledger.lock(rt), steps)
@@ -94,7 +105,11 @@ impl JournalRoom {
         turns: &mut CountedTurns<T>,
         reserve: u64,
     ) -> bool
-        ensures { turns.new.turns ≡ turns.old.turns }
+        ensures turns { turns.new.turns ≡ turns.old.turns }
+        ensures enough { IsTrue result
+            → capped (reserve + MAX_COMMAND_STEPS) ≤ free_steps turns.new.account.loan }
+        ensures account { turns.new.account
+            ≡ record turns.old.account { loan = turns.new.account.loan } }
     {
         let least = reserve.saturating_add(MAX_COMMAND_STEPS);
         if turns.free_steps() >= least {
@@ -105,7 +120,9 @@ impl JournalRoom {
         turns.leave();
         let mut ledger = self.ledger.lock(rt);
         let ledger = &mut *ledger;
-        turns.borrow_steps(ledger, many.max(missing)) || turns.borrow_steps(ledger, missing)
+        let is_lent = turns.borrow_steps(ledger, many.max(missing))
+            || turns.borrow_steps(ledger, missing);
+        is_lent && turns.free_steps() >= least
     }
 
     /// Whether there is room for a further command with all steps that it will owe, beside the reserve. `unfinished`
@@ -119,7 +136,12 @@ impl JournalRoom {
         unfinished: u64,
         reserve: u64,
     ) -> bool
-        ensures { turns.new.turns ≡ turns.old.turns }
+        ensures turns { turns.new.turns ≡ turns.old.turns }
+        ensures counts { turns.new.account.counts ≡ turns.old.account.counts }
+        ensures steps { IsTrue result
+            → capped (reserve + MAX_COMMAND_STEPS) ≤ free_steps turns.new.account.loan }
+        ensures payload { IsTrue result → HasRoomForCommand (known turns.new.account)
+            (owed_steps turns.new.account) unfinished }
     {
         if unfinished.max(turns.unreported_bytes()) >= LARGE || turns.average() >= LARGE_STEP {
             self.settle(rt, turns, reserve);
@@ -138,7 +160,11 @@ impl JournalRoom {
         came: u64,
         reported: &mut u64,
     ) -> bool
-        ensures { turns.new.turns ≡ turns.old.turns }
+        ensures turns { turns.new.turns ≡ turns.old.turns }
+        ensures counts { turns.new.account.counts ≡ turns.old.account.counts }
+        ensures loan { turns.new.account.loan ≡ turns.old.account.loan }
+        ensures payload { IsTrue result → HasRoomForReply (known turns.new.account) came }
+        ensures reported { (reported.new ≡ reported.old) ⊎ (reported.new ≡ came) }
     {
         if came.max(*reported).max(turns.unreported_bytes()) < LARGE {
             return turns.has_room_for_reply(came);

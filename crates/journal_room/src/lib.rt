@@ -9,6 +9,7 @@
 mod counted_turns;
 mod journal_room;
 mod ledger;
+mod reported;
 
 pub use counted_turns::{CountedTurns, HeldTurns, TurnCounts};
 pub use journal_room::JournalRoom;

@@ -1,0 +1,10 @@
+use Rattle.std.proofs.Common.{rules}
+use Rattle.journal_room.proofs.FarLemmas.{far_for_command}
+use Rattle.journal_room.proofs.counted_turns.Account.is_far_from_full.Goals as goal
+
+pub returns-then-self-le-FAR_STEPS-clause-command :
+    goal.returns-then-self-le-FAR_STEPS-clause-command
+returns-then-self-le-FAR_STEPS-clause-command c far =
+    let a = c.args.self.now in
+    far_for_command a.reported.payload a.bytes a.reported.owed a.cost a.steps c.args.unfinished
+    c.is_far.ensures.in_range (c.is_far.ensures.far far) (search rules) (search rules) (search rules) (search rules)
