@@ -3,7 +3,7 @@ use Rattle.std.proofs.Common.{◌≤◌, ◌+◌, ◌-◌, ℕ, arith}
 use Rattle.proxy_generations.specs.Budget.{capped}
 use Rattle.proxy_generations.specs.Payload.{PayloadState, HasGrown, IsFarFromFull, HasRoomForCommand, HasRoomForReply}
 use Rattle.proxy_generations.specs.declared.payload.TheConstants.{FAR_BYTES, FAR_STEPS}
-use Rattle.journal_room.specs.declared.counted_turns.PayloadCounts.{PayloadCounts}
+use Rattle.journal_room.specs.declared.account.PayloadCounts.{PayloadCounts}
 use Rattle.journal_room.specs.Reported.{IsInRange}
 use Rattle.journal_room.specs.Account.{with_bytes}
 

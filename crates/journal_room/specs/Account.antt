@@ -14,10 +14,10 @@ use Rattle.proxy_generations.specs.declared.step_kind.StepKind.TheVariants as ki
 use Rattle.proxy_generations.specs.Budget.{capped, loan_after}
 use Rattle.proxy_generations.specs.Steps.{cost_of}
 use Rattle.proxy_generations.specs.Payload.{PayloadState}
-use Rattle.journal_room.specs.declared.counted_turns.TurnCounts.{TurnCounts}
-use Rattle.journal_room.specs.declared.counted_turns.PayloadCounts.{PayloadCounts}
-use Rattle.journal_room.specs.declared.counted_turns.Account.{Account}
-use Rattle.journal_room.specs.declared.counted_turns.TheConstants.{STEPS_A_REPLY, MAX_OWN_WORD, MAX_OWN_ERROR}
+use Rattle.journal_room.specs.declared.account.TurnCounts.{TurnCounts}
+use Rattle.journal_room.specs.declared.account.PayloadCounts.{PayloadCounts}
+use Rattle.journal_room.specs.declared.account.Account.{Account}
+use Rattle.journal_room.specs.declared.account.TheConstants.{STEPS_A_REPLY, MAX_OWN_WORD, MAX_OWN_ERROR}
 
 -- ---- what a turn adds
 

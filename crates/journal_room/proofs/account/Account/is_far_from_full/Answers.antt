@@ -1,6 +1,6 @@
 use Rattle.std.proofs.Common.{rules}
 use Rattle.journal_room.proofs.FarLemmas.{far_for_command}
-use Rattle.journal_room.proofs.counted_turns.Account.is_far_from_full.Goals as goal
+use Rattle.journal_room.proofs.account.Account.is_far_from_full.Goals as goal
 
 pub returns-then-self-le-FAR_STEPS-clause-command :
     goal.returns-then-self-le-FAR_STEPS-clause-command
