@@ -273,7 +273,8 @@ impl<'a> Worker<'a> {
     }
 
     // Answers what it still can, and hands sockets over, before it closes the others. It makes rounds while a client may be
-    // answered: other workers give up their hosts' parts at the same time.
+    // answered: other workers give up their hosts' parts at the same time. Without connections nobody waits for a part, so
+    // no link is given up, which would count as a fault of its host.
     fn finish<R: Wait + Net + Clock + Eprint>(
         &mut self,
         rt: &R,
@@ -282,7 +283,7 @@ impl<'a> Worker<'a> {
         self.drain();
         self.gives_up = true;
         for _ in 0..MAX_LAST_ROUNDS {
-            if !self.generation.server().runs() {
+            if !self.generation.server().runs() || self.generation.is_drained() {
                 break;
             }
             let moves = self.run_once(rt)?;
@@ -484,9 +485,12 @@ impl<'a> Worker<'a> {
     }
 
     // Opens the sockets in the worker's queue, carried-over ones first. Each is counted before the phase is read: so
-    // none comes to a generation that has drained.
+    // none comes to a generation that has drained. One that drains already counts none.
     fn accept_new<R: Wait>(&mut self, rt: &R) -> Result<(), Stop> {
         self.may_have_sockets = false;
+        if self.generation.phase() != Phase::Serving {
+            return Ok(());
+        }
         for _ in 0..MAX_EVENTS {
             self.generation.room.count_opened();
             let accepted = if self.may_open(rt) {
