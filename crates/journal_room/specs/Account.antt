@@ -70,10 +70,10 @@ no_bytes = record { kept = 0; came = 0; handed = 0; steps = 0 }
 -- the bytes that a turn with this answer adds, whose event brought n bytes: those kept, those of replies, those handed out, and the
 -- steps of the average
 abbrev pub added : ℕ → Answer → PayloadCounts
-added n (answers.Accepted index local parts no_host busy) = record { kept = n; came = own_bytes local n; handed = 0; steps = 0 }
-added n (answers.Sent epoch place text) = record { kept = length text; came = 0; handed = 0; steps = 0 }
-added n (answers.Matched trip) = record { kept = n; came = n; handed = 0; steps = STEPS_A_REPLY }
-added n (answers.Bytes text) = record { kept = length text; came = 0; handed = length text; steps = 0 }
+added n (answers.Accepted index local parts no_host busy) = record no_bytes { kept = n; came = own_bytes local n }
+added n (answers.Sent epoch place text) = record no_bytes { kept = length text }
+added n (answers.Matched trip) = record no_bytes { kept = n; came = n; steps = STEPS_A_REPLY }
+added n (answers.Bytes text) = record no_bytes { kept = length text; handed = length text }
 added n _ = no_bytes
 
 -- two counts of bytes together

@@ -3,6 +3,7 @@ ghost use Rattle.std.specs.Prelude.{◌≡◌, IsTrue};
 ghost use Rattle.limits.specs.declared.journals.TheConstants.{MAX_STEPS};
 ghost use Rattle.proxy_generations.specs.Budget.{no_loan, settled};
 ghost use Rattle.proxy_generations.specs.Payload.{HasRoomForCommand, HasRoomForReply};
+ghost use Rattle.journal_room.specs.declared.account.TheConstants.{STEPS_A_REPLY};
 ghost use Rattle.journal_room.specs.Account.{no_counts, counted, no_bytes, brought_by, own_bytes, plus, stepped, noted, with_bytes, known, owed_steps};
 
 use crate::ledger::Ledger;
@@ -95,6 +96,54 @@ impl PayloadCounts {
         steps: 0,
     };
 
+    // Of a command with this many bytes, and the proxy's own answer to it.
+    #[inline(always)]
+    fn of_command(kept: u64, came: u64) -> PayloadCounts
+        ensures { result ≡ record no_bytes { kept = kept; came = came } }
+    {
+        PayloadCounts {
+            kept,
+            came,
+            ..PayloadCounts::NONE
+        }
+    }
+
+    // Of a part's text.
+    #[inline(always)]
+    fn of_part(kept: u64) -> PayloadCounts
+        ensures { result ≡ record no_bytes { kept = kept } }
+    {
+        PayloadCounts {
+            kept,
+            ..PayloadCounts::NONE
+        }
+    }
+
+    // Of a host's reply.
+    #[inline(always)]
+    fn of_reply(came: u64) -> PayloadCounts
+        ensures { result ≡ record no_bytes { kept = came; came = came; steps = STEPS_A_REPLY } }
+    {
+        PayloadCounts {
+            kept: came,
+            came,
+            steps: STEPS_A_REPLY,
+            ..PayloadCounts::NONE
+        }
+    }
+
+    // Of a text that is handed out.
+    #[inline(always)]
+    fn of_text(handed: u64) -> PayloadCounts
+        ensures { result ≡ record no_bytes { kept = handed; handed = handed } }
+    {
+        PayloadCounts {
+            kept: handed,
+            handed,
+            ..PayloadCounts::NONE
+        }
+    }
+
     // Adds these.
     #[inline(always)]
     fn add(&mut self, other: PayloadCounts)
@@ -135,7 +184,7 @@ pub(crate) struct Account {
     // Since the last settlement: the steps, and their cost.
     steps: u64,
     cost: u64,
-    // Since the last report.
+    // Since the last report, and what all workers had reported then.
     pub(crate) bytes: PayloadCounts,
     pub(crate) reported: Reported,
 }
@@ -183,36 +232,17 @@ impl Account {
                 ..
             } => {
                 let parts = parts.saturating_sub(*no_host).saturating_sub(*busy);
-                let bytes = PayloadCounts {
-                    kept: brought,
-                    came: own_bytes(local, brought),
-                    ..PayloadCounts::NONE
-                };
+                let bytes = PayloadCounts::of_command(brought, own_bytes(local, brought));
                 self.add(StepKind::Accepted { parts }, bytes);
             }
             Answer::Sent { text, .. } => {
-                let bytes = PayloadCounts {
-                    kept: text.len() as u64,
-                    ..PayloadCounts::NONE
-                };
-                self.add(StepKind::Sent, bytes);
+                self.add(StepKind::Sent, PayloadCounts::of_part(text.len() as u64));
             }
             Answer::Matched { .. } => {
-                let bytes = PayloadCounts {
-                    kept: brought,
-                    came: brought,
-                    steps: STEPS_A_REPLY,
-                    ..PayloadCounts::NONE
-                };
-                self.add(StepKind::Matched, bytes);
+                self.add(StepKind::Matched, PayloadCounts::of_reply(brought));
             }
             Answer::Bytes { text } => {
-                let bytes = PayloadCounts {
-                    kept: text.len() as u64,
-                    handed: text.len() as u64,
-                    ..PayloadCounts::NONE
-                };
-                self.add(StepKind::Handed, bytes);
+                self.add(StepKind::Handed, PayloadCounts::of_text(text.len() as u64));
             }
             Answer::Opened { .. } => self.add(StepKind::Opened, PayloadCounts::NONE),
             Answer::Finishing => self.add(StepKind::Finished, PayloadCounts::NONE),
