@@ -26,6 +26,8 @@ PROGRAM = os.environ.get("REDPROXY", os.path.join(TOP, "redproxy"))
 BUILT = os.environ.get("REDPROXY", os.path.join(TOP, "crates", "proxy_main", "out", "proxy_main"))
 # So many checks are made side by side.
 LANES = 8
+# A test that is late is run so often at most.
+TRIES = 4
 # No call to a socket waits longer than so many seconds.
 PATIENCE = 20
 STARTED = []
@@ -35,7 +37,7 @@ STARTING = threading.Lock()
 
 
 class Late(AssertionError):
-    """Something took longer than it may: on a machine that does much else a test has a second chance then."""
+    """Something took longer than it may: on a machine that does much else a test has further chances then."""
 
 
 def in_time(limit, what):
@@ -365,13 +367,14 @@ def install():
         sys.exit(1)
 
 
-def run(name, test):
-    """Runs a test, and once more where only time was too short."""
-    try:
-        test()
-    except Late as late:
-        print(f"{name}: late ({late}), once more", flush=True)
-        test()
+def run_test(name, test):
+    """Runs a test, and again where only time was too short, at most so often."""
+    for _ in range(TRIES - 1):
+        try:
+            return test()
+        except Late as late:
+            print(f"{name}: late ({late}), once more", flush=True)
+    return test()
 
 
 def run_tests(names):
@@ -385,7 +388,7 @@ def run_tests(names):
         for name, test in tests:
             began = time.monotonic()
             try:
-                run(name, test)
+                run_test(name, test)
                 passed += 1
                 print(f"{name}: passed in {time.monotonic() - began:.1f} s", flush=True)
             except Exception:  # pylint: disable=broad-except
