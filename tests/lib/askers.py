@@ -61,12 +61,14 @@ class Load:
 
     def end(self, named=0, is_told=True):
         """Ends well: no reply was wrong, no socket was closed, nothing is unanswered. Gives the numbers of replies and of named
-        errors among them, of which there may be `named`."""
+        errors among them, of which there may be `named`. With more it is late: parts are given up where hosts stay silent, as on
+        a machine that does much else."""
         if is_told:
             self.process.send_signal(signal.SIGTERM)
         replies, errors, _, _ = self.ended()
         self.assert_open()
-        assert errors <= named, f"{errors} of {replies} replies were errors"
+        if errors > named:
+            raise Late(f"{errors} of {replies} replies were errors by name")
         return replies, errors
 
     def ended(self):
