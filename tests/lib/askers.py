@@ -61,14 +61,12 @@ class Load:
 
     def end(self, named=0, is_told=True):
         """Ends well: no reply was wrong, no socket was closed, nothing is unanswered. Gives the numbers of replies and of named
-        errors among them, of which there may be `named`. With more it is late: parts are given up where hosts stay silent, as on
-        a machine that does much else."""
+        errors among them, of which there may be `named`."""
         if is_told:
             self.process.send_signal(signal.SIGTERM)
         replies, errors, _, _ = self.ended()
         self.assert_open()
-        if errors > named:
-            raise Late(f"{errors} of {replies} replies were errors by name")
+        assert errors <= named, f"{errors} of {replies} replies were errors"
         return replies, errors
 
     def ended(self):

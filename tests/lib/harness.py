@@ -26,8 +26,6 @@ PROGRAM = os.environ.get("REDPROXY", os.path.join(TOP, "redproxy"))
 BUILT = os.environ.get("REDPROXY", os.path.join(TOP, "crates", "proxy_main", "out", "proxy_main"))
 # So many checks are made side by side.
 LANES = 8
-# A test that is late is run so often at most.
-TRIES = 4
 # No call to a socket waits longer than so many seconds.
 PATIENCE = 20
 STARTED = []
@@ -37,7 +35,7 @@ STARTING = threading.Lock()
 
 
 class Late(AssertionError):
-    """Something took longer than it may: on a machine that does much else a test has further chances then."""
+    """Something took longer than it may: on a machine that does much else a test has a second chance then."""
 
 
 def in_time(limit, what):
@@ -368,13 +366,12 @@ def install():
 
 
 def run_test(name, test):
-    """Runs a test, and again where only time was too short, at most so often."""
-    for _ in range(TRIES - 1):
-        try:
-            return test()
-        except Late as late:
-            print(f"{name}: late ({late}), once more", flush=True)
-    return test()
+    """Runs a test, and once more where only time was too short."""
+    try:
+        test()
+    except Late as late:
+        print(f"{name}: late ({late}), once more", flush=True)
+        test()
 
 
 def run_tests(names):
