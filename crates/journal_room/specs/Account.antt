@@ -1,5 +1,5 @@
 -- What contracts see of a worker's account: what a turn adds to it, and the payload and steps that it knows of.
-use Rattle.std.specs.Prelude.{◌+◌, ◌-◌, ℕ, Option, Some, None, length}
+use Rattle.std.specs.Prelude.{◌+◌, ◌-◌, ◌*◌, ℕ, Option, Some, None, length}
 use Rattle.resp_core.specs.Text.{text as text_of}
 use Rattle.resp_core.specs.Value.{tree_of}
 use Rattle.splitter.specs.Request.{length_of}
@@ -11,12 +11,14 @@ use Rattle.proxy_history.specs.declared.answer.Answer.{Answer}
 use Rattle.proxy_history.specs.declared.answer.Answer.TheVariants as answers
 use Rattle.proxy_generations.specs.declared.step_kind.StepKind.{StepKind}
 use Rattle.proxy_generations.specs.declared.step_kind.StepKind.TheVariants as kinds
-use Rattle.proxy_generations.specs.Budget.{capped, loan_after}
+use Rattle.limits.specs.declared.journals.TheConstants.{MAX_STEPS}
+use Rattle.proxy_generations.specs.Budget.{capped, no_loan, loan_after, settled}
 use Rattle.proxy_generations.specs.Steps.{cost_of}
 use Rattle.proxy_generations.specs.Payload.{PayloadState}
 use Rattle.journal_room.specs.declared.account.TurnCounts.{TurnCounts}
 use Rattle.journal_room.specs.declared.account.PayloadCounts.{PayloadCounts}
 use Rattle.journal_room.specs.declared.account.Account.{Account}
+use Rattle.journal_room.specs.declared.ledger.Ledger.{Ledger}
 use Rattle.journal_room.specs.declared.account.TheConstants.{STEPS_A_REPLY, MAX_OWN_WORD, MAX_OWN_ERROR}
 
 -- ---- what a turn adds
@@ -85,6 +87,17 @@ plus a b = record {
   steps = capped (a.steps + b.steps);
 }
 
+-- the account of no turns, to which nothing was lent
+abbrev pub no_account : Account
+no_account = record {
+  counts = no_counts;
+  loan = no_loan;
+  steps = 0;
+  cost = 0;
+  bytes = no_bytes;
+  reported = record { payload = record { used = 0; came = 0; handed = 0; steps = 0; before = 0 }; owed = 0 };
+}
+
 -- an account once a step of this kind was made
 abbrev pub stepped : StepKind → Account → Account
 stepped kind a = record a {
@@ -108,6 +121,26 @@ with_bytes b p = record p {
   handed = capped (p.handed + b.handed);
   steps = capped (p.steps + b.steps);
 }
+
+-- the ledger once the worker has reported its payload
+abbrev pub with_payload : Account → Ledger → Ledger
+with_payload a l = record l { payload = with_bytes a.bytes l.payload }
+
+-- the ledger once it has settled: its steps, its loan and its payload are reported
+abbrev pub with_account : Account → Ledger → Ledger
+with_account a l = record (with_payload a l) { budget = settled MAX_STEPS a.loan l.budget; steps = capped (l.steps + a.steps) }
+
+-- an account once its payload was reported to this ledger, while so many owed steps have payload
+abbrev pub reported_to : Ledger → ℕ → Account → Account
+reported_to l owed a = record a { bytes = no_bytes; reported = record { payload = l.payload; owed = owed } }
+
+-- the owed steps of a ledger that have payload, with so many open connections: what one owes for its end has none
+abbrev pub owed_with_payload : ℕ → Ledger → ℕ
+owed_with_payload connections l = l.budget.spent - l.steps - capped (connections * capped (cost_of kinds.Opened))
+
+-- an account once it was settled with this ledger, with so many open connections
+abbrev pub settled_with : Ledger → ℕ → Account → Account
+settled_with l connections a = record (reported_to l (owed_with_payload connections l) a) { loan = no_loan; steps = 0; cost = 0 }
 
 -- the journal's payload as far as the worker knows: what all had reported when it last looked, and its own since
 abbrev pub known : Account → PayloadState

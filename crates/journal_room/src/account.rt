@@ -1,10 +1,8 @@
 //! A worker's account of its turns: what they did, the steps lent for them, and their payload.
 ghost use Rattle.std.specs.Prelude.{◌≡◌, IsTrue};
-ghost use Rattle.limits.specs.declared.journals.TheConstants.{MAX_STEPS};
-ghost use Rattle.proxy_generations.specs.Budget.{no_loan, settled};
 ghost use Rattle.proxy_generations.specs.Payload.{HasRoomForCommand, HasRoomForReply};
 ghost use Rattle.journal_room.specs.declared.account.TheConstants.{STEPS_A_REPLY};
-ghost use Rattle.journal_room.specs.Account.{no_counts, counted, no_bytes, brought_by, own_bytes, plus, stepped, noted, with_bytes, known, owed_steps};
+ghost use Rattle.journal_room.specs.Account.{counted, no_bytes, brought_by, own_bytes, plus, no_account, stepped, noted, with_bytes, with_payload, with_account, reported_to, settled_with, known, owed_steps};
 
 use crate::ledger::Ledger;
 use crate::reported::Reported;
@@ -192,8 +190,7 @@ pub(crate) struct Account {
 impl Account {
     /// An account of no turns, without steps lent.
     pub(crate) fn new() -> Account
-        ensures loan { result.loan ≡ no_loan }
-        ensures counts { result.counts ≡ no_counts }
+        ensures { result ≡ no_account }
     {
         Account {
             counts: TurnCounts::NONE,
@@ -256,34 +253,25 @@ impl Account {
 
     /// Reports its payload, and reads what all workers have reported, while so many owed steps have payload.
     pub(crate) fn report_payload(&mut self, ledger: &mut Ledger, owed: u64)
-        ensures account { self.new ≡ record self.old {
-          bytes = no_bytes;
-          reported = record { payload = ledger.new.payload; owed = owed };
-        } }
-        ensures ledger { ledger.new
-            ≡ record ledger.old { payload = with_bytes self.old.bytes ledger.old.payload } }
+        ensures account { self.new ≡ reported_to ledger.new owed self.old }
+        ensures ledger { ledger.new ≡ with_payload self.old ledger.old }
     {
         let bytes = mem::replace(&mut self.bytes, PayloadCounts::NONE);
         bytes.add_to(&mut ledger.payload);
         self.reported = Reported::new(ledger.payload, owed);
     }
 
-    /// Reports its steps and payload, and reads what all workers have reported.
-    pub(crate) fn settle(&mut self, ledger: &mut Ledger, open: u64)
-        ensures loan { self.new.loan ≡ no_loan }
-        ensures counts { self.new.counts ≡ self.old.counts }
-        ensures budget { ledger.new.budget
-            ≡ settled MAX_STEPS self.old.loan ledger.old.budget }
-        ensures payload { ledger.new.payload ≡ with_bytes self.old.bytes ledger.old.payload }
-        ensures reported { self.new.reported.payload ≡ ledger.new.payload }
-        ensures bytes { self.new.bytes ≡ no_bytes }
+    /// Reports its steps and payload, and reads what all workers have reported, while so many connections are open.
+    pub(crate) fn settle(&mut self, ledger: &mut Ledger, connections: u64)
+        ensures account { self.new ≡ settled_with ledger.new connections self.old }
+        ensures ledger { ledger.new ≡ with_account self.old ledger.old }
     {
         ledger.budget.settle(&mut self.loan);
         let steps = mem::replace(&mut self.steps, 0);
         self.cost = 0;
         ledger.note_steps(steps);
         // (what a connection owes for its end has no payload)
-        let ends = open.saturating_mul(StepKind::Opened.cost());
+        let ends = connections.saturating_mul(StepKind::Opened.cost());
         self.report_payload(ledger, ledger.owed().saturating_sub(ends));
     }
 

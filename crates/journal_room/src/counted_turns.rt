@@ -2,11 +2,11 @@
 ghost use Rattle.std.specs.Prelude.{◌≡◌, ◌↔◌, ◌≤◌, ◌+◌, IsTrue, IfOk, IfErr};
 ghost use Rattle.std.specs.Bool.{OnTrue, OnFalse};
 ghost use Rattle.limits.specs.declared.journals.TheConstants.{MAX_STEPS};
-ghost use Rattle.proxy_generations.specs.Budget.{no_loan, free_steps, borrowed, lent_more, settled};
+ghost use Rattle.proxy_generations.specs.Budget.{free_steps, borrowed, lent_more};
 ghost use Rattle.proxy_generations.specs.Payload.{average_of, HasRoomForCommand, HasRoomForReply};
 ghost use Rattle.ticket_gate.specs.Journal.{AddsTurn};
 ghost use Rattle.ticket_gate.specs.Turns.{RefusesTurn};
-ghost use Rattle.journal_room.specs.Account.{no_counts, brought_by, noted, with_bytes, known, owed_steps};
+ghost use Rattle.journal_room.specs.Account.{no_counts, brought_by, no_account, noted, with_payload, with_account, reported_to, settled_with, known, owed_steps};
 
 use crate::account::{Account, TurnCounts, bytes_of};
 use crate::ledger::Ledger;
@@ -49,8 +49,7 @@ impl<T: CoreTurns> CountedTurns<T> {
     /// These turns, of which nothing is counted yet.
     pub fn new(turns: T) -> CountedTurns<T>
         ensures turns { result.turns ≡ turns }
-        ensures loan { result.account.loan ≡ no_loan }
-        ensures counts { result.account.counts ≡ no_counts }
+        ensures account { result.account ≡ no_account }
     {
         CountedTurns {
             turns,
@@ -134,29 +133,22 @@ impl<T: CoreTurns> CountedTurns<T> {
         is_lent
     }
 
-    /// Reports its steps and payload, returns unspent steps, and reads what all workers have reported. `open` is the
-    /// number of open connections.
-    pub(crate) fn settle(&mut self, ledger: &mut Ledger, open: u64)
+    /// Reports its steps and payload, returns unspent steps, and reads what all workers have reported. `connections`
+    /// are open.
+    pub(crate) fn settle(&mut self, ledger: &mut Ledger, connections: u64)
         ensures turns { self.new.turns ≡ self.old.turns }
-        ensures loan { self.new.account.loan ≡ no_loan }
-        ensures counts { self.new.account.counts ≡ self.old.account.counts }
-        ensures budget { ledger.new.budget
-            ≡ settled MAX_STEPS self.old.account.loan ledger.old.budget }
-        ensures payload { ledger.new.payload
-            ≡ with_bytes self.old.account.bytes ledger.old.payload }
-        ensures known { known self.new.account ≡ ledger.new.payload }
+        ensures account { self.new.account ≡ settled_with ledger.new connections self.old.account }
+        ensures ledger { ledger.new ≡ with_account self.old.account ledger.old }
     {
-        self.account.settle(ledger, open);
+        self.account.settle(ledger, connections);
     }
 
     /// Reports its payload, and reads what all workers have reported.
     pub(crate) fn report_payload(&mut self, ledger: &mut Ledger)
         ensures turns { self.new.turns ≡ self.old.turns }
-        ensures loan { self.new.account.loan ≡ self.old.account.loan }
-        ensures counts { self.new.account.counts ≡ self.old.account.counts }
-        ensures ledger { ledger.new
-            ≡ record ledger.old { payload = with_bytes self.old.account.bytes ledger.old.payload } }
-        ensures known { known self.new.account ≡ ledger.new.payload }
+        ensures account { self.new.account
+            ≡ reported_to ledger.new self.old.account.reported.owed self.old.account }
+        ensures ledger { ledger.new ≡ with_payload self.old.account ledger.old }
     {
         let owed = self.account.reported.owed();
         self.account.report_payload(ledger, owed);

@@ -1,10 +1,11 @@
 //! The room in a generation's journal, shared by its workers.
-ghost use Rattle.std.specs.Prelude.{◌≡◌, ◌≤◌, ◌+◌, ◌⊎◌, IsTrue};
+ghost use Rattle.std.specs.Prelude.{◌≡◌, ◌↔◌, ◌≤◌, ◌<◌, ◌+◌, ◌⊎◌, max, IsTrue};
 ghost use Rattle.std.specs.Bool.{OnTrue, OnFalse};
 ghost use Rattle.limits.specs.declared.journals.TheConstants.{MAX_COMMAND_STEPS};
 ghost use Rattle.proxy_generations.specs.Budget.{capped, no_loan, free_steps, borrowed};
 ghost use Rattle.proxy_generations.specs.Payload.{HasRoomForCommand, HasRoomForReply};
-ghost use Rattle.journal_room.specs.Account.{known, owed_steps};
+ghost use Rattle.journal_room.specs.declared.journal_room.TheConstants.{LARGE};
+ghost use Rattle.journal_room.specs.Account.{no_bytes, known, owed_steps};
 
 use crate::counted_turns::{CountedTurns, HeldTurns};
 use crate::ledger::Ledger;
@@ -70,6 +71,8 @@ impl JournalRoom {
         ensures counts { turns.new.account.counts ≡ turns.old.account.counts }
         ensures loan { (turns.new.account.loan ≡ no_loan)
             ⊎ (turns.new.account.loan ≡ borrowed reserve no_loan) }
+        ensures reported { (turns.new.account.bytes ≡ no_bytes)
+            × (turns.new.account.steps ≡ 0) × (turns.new.account.cost ≡ 0) }
     {
         turns.leave();
         let mut ledger = self.ledger.lock(rt);
@@ -107,7 +110,7 @@ impl JournalRoom {
     ) -> bool
         ensures turns { turns.new.turns ≡ turns.old.turns }
         ensures enough { IsTrue result
-            → capped (reserve + MAX_COMMAND_STEPS) ≤ free_steps turns.new.account.loan }
+            ↔ (capped (reserve + MAX_COMMAND_STEPS) ≤ free_steps turns.new.account.loan) }
         ensures account { turns.new.account
             ≡ record turns.old.account { loan = turns.new.account.loan } }
     {
@@ -138,10 +141,10 @@ impl JournalRoom {
     ) -> bool
         ensures turns { turns.new.turns ≡ turns.old.turns }
         ensures counts { turns.new.account.counts ≡ turns.old.account.counts }
-        ensures steps { IsTrue result
-            → capped (reserve + MAX_COMMAND_STEPS) ≤ free_steps turns.new.account.loan }
-        ensures payload { IsTrue result → HasRoomForCommand (known turns.new.account)
-            (owed_steps turns.new.account) unfinished }
+        ensures takes { IsTrue result
+            ↔ ((capped (reserve + MAX_COMMAND_STEPS) ≤ free_steps turns.new.account.loan)
+            × HasRoomForCommand (known turns.new.account) (owed_steps turns.new.account)
+            unfinished) }
     {
         if unfinished.max(turns.unreported_bytes()) >= LARGE || turns.average() >= LARGE_STEP {
             self.settle(rt, turns, reserve);
@@ -163,8 +166,12 @@ impl JournalRoom {
         ensures turns { turns.new.turns ≡ turns.old.turns }
         ensures counts { turns.new.account.counts ≡ turns.old.account.counts }
         ensures loan { turns.new.account.loan ≡ turns.old.account.loan }
-        ensures payload { IsTrue result → HasRoomForReply (known turns.new.account) came }
-        ensures reported { (reported.new ≡ reported.old) ⊎ (reported.new ≡ came) }
+        ensures room { IsTrue result → HasRoomForReply (known turns.new.account) came }
+        ensures small { max (max came reported.old) turns.old.account.bytes.kept < LARGE
+            → (turns.new ≡ turns.old) × (reported.new ≡ reported.old)
+            × (IsTrue result ↔ HasRoomForReply (known turns.old.account) came) }
+        ensures large { LARGE ≤ max (max came reported.old) turns.old.account.bytes.kept
+            → (reported.new ≡ came) × (turns.new.account.bytes ≡ no_bytes) }
     {
         if came.max(*reported).max(turns.unreported_bytes()) < LARGE {
             return turns.has_room_for_reply(came);
