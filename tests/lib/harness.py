@@ -9,6 +9,7 @@ import itertools
 import json
 import os
 import re
+import select
 import shutil
 import signal
 import socket
@@ -18,6 +19,7 @@ import tempfile
 import threading
 import time
 import traceback
+import urllib.request
 from concurrent.futures import ThreadPoolExecutor
 
 TOP = os.path.dirname(os.path.dirname(os.path.dirname(os.path.abspath(__file__))))
@@ -177,6 +179,23 @@ class Proxy:
         return next(key for key in (f"{word}{n}" for n in range(100_000)) if self.owner(key) == host)
 
 
+class Metered(Proxy):
+    """With a page of its numbers."""
+
+    def __init__(self, servers, **settings):
+        self.admin = free_port()
+        super().__init__(servers, after=("--metrics", f"127.0.0.1:{self.admin}"), **settings)
+
+    def number(self, name):
+        """A number of the page."""
+        with urllib.request.urlopen(f"http://127.0.0.1:{self.admin}/metrics", timeout=PATIENCE) as page:
+            return float(re.search(rf"^{re.escape(name)} (\S+)$", page.read().decode(), re.M)[1])
+
+    def generations(self):
+        """How many have opened."""
+        return self.number("redproxy_generations_total")
+
+
 class Failure(str):
     """An error reply."""
 
@@ -233,6 +252,11 @@ class Client:
     def has_ended(self):
         """Whether the peer ends the connection, and sends nothing more."""
         return self.file.read(1) == b""
+
+
+def is_ready(client):
+    """Whether something came for a client."""
+    return bool(select.select([client.socket], [], [], 0)[0])
 
 
 def is_ended(client):
@@ -326,6 +350,18 @@ def ping(client, count=PINGS):
         client.socket.sendall(text("PING") * some)
         equal(client.file.read(7 * some), b"+PONG\r\n" * some)
         count -= some
+
+
+# A text of so many bytes; seventeen ECHOs of it, each with its answer, have more payload than that at which a generation ends.
+MEGABYTE = b"x" * 1_000_000
+
+
+def change(proxy, client):
+    """A client asks for large texts until another generation begins. This takes a fiftieth of what PINGs take."""
+    before, limit = proxy.generations(), time.monotonic() + PATIENCE
+    while proxy.generations() == before:
+        equal(client.ask("ECHO", MEGABYTE), MEGABYTE)
+        in_time(limit, "no other generation begins")
 
 
 def resident_mib(process):

@@ -1,1 +1,2 @@
 mod BlocksLemmas
+pub mod CallerLemmas

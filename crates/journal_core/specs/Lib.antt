@@ -1,3 +1,4 @@
 pub mod Blocks
 pub mod Error
 pub mod Journal
+pub mod Kept

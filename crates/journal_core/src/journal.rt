@@ -1,10 +1,10 @@
 //! The journal.
-ghost use Rattle.std.specs.Prelude.{◌≡◌, ◌+◌, ◌≤◌, ◌<◌, ◌↔◌, [], ◌∷◌, ◌++◌, Some, None, length, slice_get, OnOk, OnErr, IfErr, IsErrOf, IsSome};
+ghost use Rattle.std.specs.Prelude.{◌≡◌, ◌+◌, ◌-◌, ◌≤◌, ◌<◌, ◌↔◌, true, false, [], ◌∷◌, ◌++◌, Some, None, length, slice_get, OnOk, OnErr, IfErr, IfSome, IsErrOf, IsSome};
 ghost use Rattle.std.specs.Option.{option_copied};
 ghost use Rattle.journal_core.specs.Journal.{IsFull};
 
-use crate::blocks::Blocks;
 use crate::error::JournalError;
+use crate::kept::Kept;
 use crate::step::Step;
 use limits::{MAX_BYTES, MAX_STEPS};
 use std::alloc::Global;
@@ -12,9 +12,10 @@ use std::marker::Model;
 
 /// Steps in the order in which they were made, with their bytes of payload. None is ever changed or removed.
 ///
-/// Contracts see the steps, the oldest first, their bytes, and the room made.
+/// A journal that records keeps all steps. One that only counts keeps no more than the newest, in the same
+/// limits. Contracts see all steps of either, the oldest first, their bytes, the room made, and whether it records.
 pub struct Journal<E, A> {
-    steps: Blocks<Step<E, A>>,
+    steps: Kept<Step<E, A>>,
     bytes: u64,
     // The bytes that there is room for, from `room` to `add`.
     room: Option<u64>,
@@ -37,21 +38,41 @@ impl<E, A> Model for Journal<E, A> {
 
     ghost Value = { JournalState E A };
 
-    ghost view = { λ j. record { steps = j.steps.items; bytes = j.bytes; room = j.room } };
+    ghost view = { λ j. record {
+      steps = j.steps.items;
+      bytes = j.bytes;
+      room = j.room;
+      records = j.steps.is_whole;
+    } };
 
     ghost invariant = { λ j. IsWithinLimits (length j.steps.items) j.bytes
         × HasRoom j.steps j.bytes j.room };
 }
 
 impl<E, A> Journal<E, A> {
-    /// A journal without steps or room.
+    /// A journal without steps or room, which keeps all steps.
     pub fn new(alloc: Global) -> Journal<E, A>
         ensures steps { result.steps ≡ [] }
         ensures bytes { result.bytes ≡ 0 }
         ensures room { result.room ≡ None }
+        ensures records { result.records ≡ true }
     {
         Journal {
-            steps: Blocks::new(alloc),
+            steps: Kept::whole(alloc),
+            bytes: 0,
+            room: None,
+        }
+    }
+
+    /// A journal without steps or room, which keeps no more than the newest step. It never takes memory.
+    pub fn counting() -> Journal<E, A>
+        ensures steps { result.steps ≡ [] }
+        ensures bytes { result.bytes ≡ 0 }
+        ensures room { result.room ≡ None }
+        ensures records { result.records ≡ false }
+    {
+        Journal {
+            steps: Kept::newest(),
             bytes: 0,
             room: None,
         }
@@ -72,6 +93,7 @@ impl<E, A> Journal<E, A> {
         ensures reserved { IsSome self.old.room → IfErr result (λ e. e ≡ JournalError.JournalFull) }
         ensures steps { self.new.steps ≡ self.old.steps }
         ensures bytes { self.new.bytes ≡ self.old.bytes }
+        ensures records { self.new.records ≡ self.old.records }
         ensures err { OnErr result (self.new ≡ self.old) }
     {
         if self.steps.len() >= MAX_STEPS || bytes > MAX_BYTES - self.bytes {
@@ -80,18 +102,6 @@ impl<E, A> Journal<E, A> {
         self.steps.reserve_one()?;
         self.room = Some(bytes);
         Ok(())
-    }
-
-    /// Adds a step with this many bytes of payload, for which room was made. It takes no memory.
-    pub fn add(&mut self, step: Step<E, A>, bytes: u64)
-        requires { self.old.room ≡ Some bytes }
-        ensures steps { self.new.steps ≡ self.old.steps ++ step ∷ [] }
-        ensures bytes { self.new.bytes ≡ self.old.bytes + bytes }
-        ensures room { self.new.room ≡ None }
-    {
-        self.steps.push_reserved(step);
-        self.bytes += bytes;
-        self.room = None;
     }
 
     /// The number of steps, at most 262,144. It takes no memory.
@@ -110,10 +120,43 @@ impl<E, A> Journal<E, A> {
         self.bytes
     }
 
-    /// Step `i`, counted from 0 at the oldest, or `None` if there are at most `i`. It takes no memory.
+    /// Step `i`, counted from 0 at the oldest, if it is kept. A journal that records has each of its steps. It takes no
+    /// memory.
     pub fn get(&self, i: usize) -> Option<&Step<E, A>>
-        ensures { option_copied result ≡ slice_get self.now.steps i }
+        ensures step { IfSome result (λ s. slice_get self.now.steps i ≡ Some s.now) }
+        ensures recorded { self.now.records ≡ true
+            → option_copied result ≡ slice_get self.now.steps i }
     {
         self.steps.get(i)
+    }
+
+    /// The newest step, or `None` if there is none. Each journal keeps it. It takes no memory.
+    pub fn last(&self) -> Option<&Step<E, A>>
+        ensures { option_copied result ≡ slice_get self.now.steps (length self.now.steps - 1) }
+    {
+        self.steps.last()
+    }
+
+    /// Whether all steps are kept.
+    pub fn records(&self) -> bool
+        ensures { result ≡ self.now.records }
+    {
+        self.steps.is_whole()
+    }
+}
+
+impl<E: Drop, A: Drop> Journal<E, A> {
+    /// Adds a step with this many bytes of payload, for which room was made. It takes no memory.
+    #[inline(always)]
+    pub fn add(&mut self, step: Step<E, A>, bytes: u64)
+        requires { self.old.room ≡ Some bytes }
+        ensures steps { self.new.steps ≡ self.old.steps ++ step ∷ [] }
+        ensures bytes { self.new.bytes ≡ self.old.bytes + bytes }
+        ensures room { self.new.room ≡ None }
+        ensures records { self.new.records ≡ self.old.records }
+    {
+        self.steps.push_reserved(step);
+        self.bytes += bytes;
+        self.room = None;
     }
 }

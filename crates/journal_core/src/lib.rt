@@ -8,7 +8,9 @@
 mod blocks;
 mod error;
 mod journal;
+mod kept;
 mod laws;
+mod list;
 mod step;
 
 pub use error::JournalError;

@@ -15,16 +15,20 @@ pub const MAX_REPLY_BYTES: u64 = 8_388_608;
 /// The most passes of one gate.
 pub const MAX_PASSES: u64 = 256;
 
-/// An older generation is given up only if no host has answered its commands for this many milliseconds, or it has
-/// drained for `MAX_DRAINING_MS`.
+/// At most this many generations have connections at a time: the newest one, and those that drain. Where as many drain
+/// as may, the oldest of them is in the way of the next one.
+pub const MAX_GENERATIONS: usize = 64;
+
+/// The generation in the way is given up only if no host has answered its commands for this many milliseconds, or the
+/// newest one has been open for `MAX_DRAINING_MS`.
 pub const STILL_MS: u64 = 100;
 
-/// An older generation may drain for this many milliseconds while hosts answer its commands and the newest one is near
-/// its marks.
+/// The generation in the way may drain until the newest one has been open for this many milliseconds, while hosts answer
+/// its commands and the newest one is near its marks.
 pub const MAX_DRAINING_MS: u64 = 1_000;
 
-/// An older generation is given up for at least this many milliseconds before it is stopped: its clients are answered
-/// by name, and their sockets go over.
+/// The generation in the way is given up for at least this many milliseconds before it is stopped: its clients are
+/// answered by name, and their sockets go over.
 pub const GIVING_UP_MS: u64 = 100;
 
 /// End the server after this many generations in a row could not be opened.

@@ -6,7 +6,10 @@ use Rattle.std.specs.contracts.option.Option as Option
 use Rattle.resp_core.proofs.SendLemmas.{bytes_send, value_field_send, value_send, spelled_send, texts_send}
 use Rattle.ketama.specs.contracts.ring.Ring as Ring
 use Rattle.ejector.specs.contracts.ejector.Ejector as Ejector
+use Rattle.journal_core.proofs.CallerLemmas.{kept_send}
 use Rattle.journal_core.specs.contracts.journal.Journal as Journal
+use Rattle.journal_core.specs.contracts.kept.Kept as Kept
+use Rattle.journal_core.specs.contracts.step.Step as Step
 use Rattle.proxy_history.specs.contracts.answer.Answer as Answer
 use Rattle.proxy_history.specs.contracts.event.Event as Event
 use Rattle.reply_queue.specs.contracts.joined.Joined as Joined
@@ -20,7 +23,10 @@ use Rattle.ticket_gate.specs.declared.recorded.Recorded.{Ghosts}
 use Rattle.ticket_gate.specs.contracts.gate.Gate as Gate
 use Rattle.proxy_core.specs.contracts.state.connection.Connection as Connection
 use Rattle.proxy_core.specs.contracts.machine.Machine as Machine
-use Rattle.proxy_core.specs.contracts.machine.Core as Core
+use Rattle.proxy_core.specs.contracts.machine.CoreOf as CoreOf
+use Rattle.proxy_core.specs.contracts.keeping.Counting as Counting
+use Rattle.proxy_core.specs.contracts.keeping.Recording as Recording
+use Rattle.proxy_core.specs.declared.keeping.Keeping as Keeping
 
 ring_send : IsSend Ring.the_row
 ring_send = search (crosses, sendable) depth 20
@@ -52,14 +58,26 @@ queue_send = search (command_send, crosses, sendable) depth 20
 connection_send : IsSend Connection.the_row
 connection_send = search (queue_send, crosses, sendable) depth 20
 
+step_send : IsSend (Step.the_row Event.the_row Answer.the_row)
+step_send = search (event_send, answer_send, crosses, sendable) depth 20
+
+steps_send : IsSend (Kept.the_row (Step.the_row Event.the_row Answer.the_row))
+steps_send = kept_send (Step.the_row Event.the_row Answer.the_row) step_send
+
 journal_send : IsSend (Journal.the_row Event.the_row Answer.the_row)
-journal_send = search (event_send, answer_send, crosses, sendable) depth 20
+journal_send = search (steps_send, crosses, sendable) depth 20
 
 machine_send : IsSend (Machine.the_field).row
 machine_send = search (ring_send, ejector_send, journal_send, connection_send, pipe_send, texts_send, crosses, sendable) depth 20
 
-pub core_send : IsSend Core.the_row
-core_send = search (machine_send, crosses, sendable) depth 20
+pub counting_send : IsSend Counting.the_row
+counting_send = search (crosses, sendable) depth 20
+
+pub recording_send : IsSend Recording.the_row
+recording_send = search (crosses, sendable) depth 20
+
+pub core_send : (K : RattleType) (g : Keeping.Ghosts K.Denot) → IsSend K → IsSend (CoreOf.the_row K g)
+core_send K g s = search (machine_send, crosses, sendable) depth 20
 
 module _ (S E A R C T : RattleType) (g : Ghosts S.Denot E.Denot A.Denot R.Denot C.Denot T.Denot) where
   slot_send : IsSend S → IsSend (Option.the_row S)

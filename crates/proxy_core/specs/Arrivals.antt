@@ -106,6 +106,7 @@ pub record IsAccepted (old new : Machine) (conn : ℕ) (plan : Plan) (x : Past) 
   pub answer_is : answer_of a ≡ accepts (accepted_count conn x.steps) (local_of plan) (placed_by (setting_in old) x conn plan)
   pub setting : setting_in new ≡ setting_in old
   pub steps : new.journal.steps ≡ old.journal.steps
+  pub records : new.journal.records ≡ old.journal.records
   pub memory : memory_in new ≡ with_arrival old conn plan x
 
 -- A command of these placed parts is accepted, and this is what is answered. There is room for the parts that are to wait,
@@ -119,6 +120,7 @@ pub record HasAccepted (old new : Machine) (conn : ℕ) (how : Join) (placed : L
   pub room : HaveRoom placed new.pipelines
   pub setting : setting_in new ≡ setting_in old
   pub steps : new.journal.steps ≡ old.journal.steps
+  pub records : new.journal.records ≡ old.journal.records
   pub bytes : new.journal.bytes ≡ old.journal.bytes
   pub hosts : new.ejector.state ≡ old.ejector.state
 

@@ -24,6 +24,7 @@ pub record IsMade (old new : Machine) (pass : ℕ) (event : Event) (answer : Ans
   pub may_follow : MayFollow (setting_in old) (past (setting_in old) (history_in old)) (record { pass = pass; event = event; answer = answer })
   pub history : history_in new ≡ (record { pass = pass; event = event; answer = answer }) ∷ history_in old
   pub setting : setting_in new ≡ setting_in old
+  pub records : new.journal.records ≡ old.journal.records
   pub is_kept : IsKept new
 
 -- the machine with the step of an event that was done
@@ -33,6 +34,7 @@ with_step m pass event done = record m {
     steps = m.journal.steps ++ (record { pass = pass; event = event; answer = done.recorded }) ∷ [];
     bytes = m.journal.bytes + done.bytes;
     room = None;
+    records = m.journal.records;
   };
 }
 
@@ -49,6 +51,7 @@ pub record IsLeft (old new : Machine) (event : Event) (r : Refused) : Type 0 whe
   pub cause : IsCause (setting_in old) (history_in old) event r.cause
   pub steps : new.journal.steps ≡ old.journal.steps
   pub setting : setting_in new ≡ setting_in old
+  pub records : new.journal.records ≡ old.journal.records
   pub is_kept : IsKept new
 
 -- what outlier detection knows of the hosts after a core's steps

@@ -100,6 +100,7 @@ payload_in m event = length_of_event event + length (text_in m event)
 pub record IsSame (old new : Machine) : Type 0 where
   pub setting : setting_in new ≡ setting_in old
   pub steps : new.journal.steps ≡ old.journal.steps
+  pub records : new.journal.records ≡ old.journal.records
   pub memory : memory_in new ≡ memory_in old
 
 -- The event has no cause to be refused, and room was made for its step. Nothing that counts has changed.
@@ -117,6 +118,7 @@ pub record HasFailed (old new : Machine) (host : ℕ) (event : Event) : Type 0 w
   pub room : new.journal.room ≡ Some (payload_in (memory_in old) event)
   pub setting : setting_in new ≡ setting_in old
   pub steps : new.journal.steps ≡ old.journal.steps
+  pub records : new.journal.records ≡ old.journal.records
   pub memory : memory_in new ≡ record (memory_in old) { pipelines = with_pipeline failed_pipeline host (memory_in old).pipelines }
 
 -- There is room for the step of an event, unless it hands out a reply.
@@ -140,4 +142,5 @@ pub record IsDone (old new : Machine) (event : Event) (done : Done) (kept : Memo
   pub bytes : done.bytes ≡ payload_in (memory_in old) event
   pub setting : setting_in new ≡ setting_in old
   pub steps : new.journal.steps ≡ old.journal.steps
+  pub records : new.journal.records ≡ old.journal.records
   pub memory : memory_in new ≡ record kept { bytes = old.journal.bytes }

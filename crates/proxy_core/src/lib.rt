@@ -10,6 +10,7 @@
 
 mod events;
 mod handover;
+mod keeping;
 mod local;
 mod machine;
 mod refused;
@@ -19,7 +20,8 @@ mod turns;
 pub use ejector::{Field, Settings, Trip};
 pub use handover::Handover;
 pub use journal_core::{Journal, Step};
-pub use machine::Core;
+pub use keeping::{Counting, Keeping, Recording};
+pub use machine::{Core, CoreOf, CountingCore};
 pub use proxy_history::{Answer, Event, Kind, Local, Refusal, Request};
 pub use refused::Refused;
 pub use turns::CoreTurns;

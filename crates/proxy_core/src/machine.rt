@@ -18,6 +18,7 @@ ghost use Rattle.proxy_core.specs.Core.{IsMade, IsLeft, IsSettled, IsTurn, IsRun
 ghost use Rattle.journal_core.specs.Journal.{IsFull};
 
 use crate::handover::Handover;
+use crate::keeping::{Counting, Keeping, Recording};
 use crate::refused::Refused;
 use crate::state::connections::Connections;
 use crate::state::pipelines::Pipelines;
@@ -29,26 +30,37 @@ use proxy_history::{Answer, Event, Refusal};
 use resp_core::Texts;
 use std::alloc::Global;
 use std::boxed::Box;
-use std::marker::Model;
+use std::marker::{Model, PhantomData};
 use std::snapshot::Snapshot;
 use ticket_gate::Recorded;
 
-/// The core of a proxy: it takes one event after another.
+/// The core of a proxy: it takes one event after another. `K` says what its journal keeps.
 ///
 /// Contracts see its setting, and its steps, which are a legal history.
-pub struct Core {
+pub struct CoreOf<K: Keeping> {
     // On the heap, since a gate moves its state in and out at each turn.
     machine: Box<Machine>,
+    keeping: PhantomData<K>,
 }
 
+/// A core that keeps all its steps.
+pub type Core = CoreOf<Recording>;
+
+/// A core that keeps its newest step alone. It answers and is refused as `Core` is, but takes no memory for steps.
+pub type CountingCore = CoreOf<Counting>;
+
 // Written out so that a drop is one call: each function that holds one is proved sooner.
-impl Drop for Core {
+impl<K: Keeping> Drop for CoreOf<K> {
     fn drop(self) {
-        let Core { machine: _ } = self;
+        let CoreOf {
+            machine: _,
+            keeping: _,
+        } = self;
     }
 }
 
-impl Model for Core {
+impl<K: Keeping> Model for CoreOf<K> {
+    ghost use Rattle.std.specs.Prelude.{◌≡◌};
     ghost use Rattle.proxy_history.specs.Proxy.{Proxy};
     ghost use Rattle.proxy_core.specs.Machine.{IsKept, setting_in};
 
@@ -64,22 +76,23 @@ impl Model for Core {
       steps = c.machine.value.journal.steps;
     } };
 
-    ghost invariant = { λ c. IsKept c.machine.value };
+    ghost invariant = { λ c. IsKept c.machine.value
+        × (c.machine.value.journal.records ≡ K.records) };
 }
 
-impl Core {
+impl<K: Keeping> CoreOf<K> {
     /// A core to which nothing has happened.
     ///
     /// Refused 1011 with the first setting out of its range, or `hosts` where the ring has none. If all are in range,
     /// it is refused only 1001, for want of memory for the hosts.
-    pub fn new(alloc: Global, ring: Ring, settings: Settings) -> Result<Core, Refusal>
+    pub fn new(alloc: Global, ring: Ring, settings: Settings) -> Result<CoreOf<K>, Refusal>
         ensures made { IfOk result (λ c. (c.setting ≡ setting_of ring settings) × (c.steps ≡ [])) }
         ensures refused { MatchOption (first_fault (setting_of ring settings).rules)
             (IfErr result (λ e. e ≡ Refusal.NoMemory))
             (λ field. IsErrOf result (Refusal.BadSettings field)) }
     {
         match Ejector::new(alloc, ring.hosts(), settings) {
-            Ok(ejector) => Core::with(alloc, ring, ejector),
+            Ok(ejector) => CoreOf::with(alloc, ring, ejector),
             Err(error) => {
                 drop(ring);
                 Err(refusal_of(error))
@@ -97,7 +110,7 @@ impl Core {
         ring: Ring,
         settings: Settings,
         from: Handover,
-    ) -> Result<Core, Refusal>
+    ) -> Result<CoreOf<K>, Refusal>
         ensures made { IfOk result (λ c. (c.setting ≡ setting_from ring from.detection)
             × (c.steps ≡ [])) }
         ensures rules { IfOk result (λ c. c.setting.rules ≡ rules_of ring settings) }
@@ -115,13 +128,13 @@ impl Core {
             return Err(Refusal::BadSettings { field });
         }
         match Ejector::new_from(alloc, from.into_detection()) {
-            Ok(ejector) => Core::with(alloc, ring, ejector),
+            Ok(ejector) => CoreOf::with(alloc, ring, ejector),
             Err(_) => Err(Refusal::NoMemory),
         }
     }
 
     // A core with an empty journal and this state of outlier detection.
-    fn with(alloc: Global, ring: Ring, ejector: Ejector) -> Result<Core, Refusal>
+    fn with(alloc: Global, ring: Ring, ejector: Ejector) -> Result<CoreOf<K>, Refusal>
         requires { ejector.rules.hosts ≡ ring.hosts }
         ensures made { IfOk result (λ c. (c.setting ≡ setting_from ring ejector)
             × (c.steps ≡ [])) }
@@ -129,18 +142,22 @@ impl Core {
     {
         let rules = ejector.rules();
         let pipelines = Pipelines::new(alloc, rules.hosts)?;
+        let journal = new_journal(alloc, K::keeps_all());
         let machine = Machine {
             alloc,
             ring,
             opening: Snapshot::of(&ejector),
             ejector,
-            journal: Journal::new(alloc),
+            journal,
             connections: Connections::new(alloc),
             pipelines,
             texts: Texts::new(alloc),
         };
         match Box::new(alloc, machine) {
-            Ok(machine) => Ok(Core { machine }),
+            Ok(machine) => Ok(CoreOf {
+                machine,
+                keeping: PhantomData,
+            }),
             Err(refused) => {
                 drop(refused);
                 Err(Refusal::NoMemory)
@@ -220,9 +237,11 @@ impl Core {
         }
     }
 
-    /// The journal: the steps so far, which are a legal history, and the bytes of their payload.
+    /// The journal: the steps so far, which are a legal history, and the bytes of their payload. That of a `Core` keeps
+    /// all steps, that of a `CountingCore` the newest alone.
     pub fn journal(&self) -> &Journal<Event, Answer>
         ensures steps { result.now.steps ≡ self.now.steps }
+        ensures records { result.now.records ≡ K.records }
         ensures bytes { result.now.bytes ≡ payload (history_in self.now) }
         ensures legal { IsLegal self.now.setting (history_in self.now) }
     {
@@ -312,7 +331,7 @@ impl Core {
     }
 }
 
-impl Recorded for Core {
+impl<K: Keeping> Recorded for CoreOf<K> {
     ghost use Rattle.proxy_core.specs.Recorded.{journal_of, made_with, IsLegalJournal, IsCauseIn, handover_of, legal_at_first, legal_before};
 
     type Event = Event;
@@ -343,7 +362,7 @@ impl Recorded for Core {
     // Inlined, which saves a move of event and answer.
     #[inline(always)]
     fn turn(&mut self, pass: u64, event: Event) -> Result<Answer, (Refusal, Event)> {
-        match Core::turn(self, pass, event) {
+        match CoreOf::turn(self, pass, event) {
             Ok(answer) => Ok(answer),
             Err(refused) => Err((refused.cause, refused.event)),
         }
@@ -352,6 +371,19 @@ impl Recorded for Core {
     ghost legal_at_first = { legal_at_first };
 
     ghost legal_before = { legal_before };
+}
+
+// A journal without steps, which keeps all or the newest alone.
+fn new_journal(alloc: Global, keeps_all: bool) -> Journal<Event, Answer>
+    ensures steps { result.steps ≡ [] }
+    ensures bytes { result.bytes ≡ 0 }
+    ensures records { result.records ≡ keeps_all }
+{
+    if keeps_all {
+        Journal::new(alloc)
+    } else {
+        Journal::counting()
+    }
 }
 
 // The refusal of a core whose ejector was refused.
@@ -459,6 +491,7 @@ pub(crate) fn make_room(journal: &mut Journal<Event, Answer>, bytes: u64) -> Res
         ⊎ ((r ≡ Refusal.JournalFull) × IsFull journal.old bytes)) }
     ensures steps { journal.new.steps ≡ journal.old.steps }
     ensures bytes { journal.new.bytes ≡ journal.old.bytes }
+    ensures records { journal.new.records ≡ journal.old.records }
 {
     match journal.room(bytes) {
         Ok(()) => Ok(()),

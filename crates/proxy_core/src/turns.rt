@@ -1,7 +1,8 @@
 //! The turns that a worker makes of a core.
 ghost use Rattle.proxy_core.specs.CoreTurns.{AnswersFit, AreFewSteps, AreHistories, EpochsArePresent, FinishingTakesNothing, OpeningsAreNew, RefusalsMean};
 
-use crate::machine::Core;
+use crate::keeping::Keeping;
+use crate::machine::CoreOf;
 use ejector::EjectState;
 use ketama::Ring;
 use proxy_history::{Answer, Event, Refusal};
@@ -38,7 +39,7 @@ pub trait CoreTurns: Turns<
     ghost finishing_takes_nothing: { FinishingTakesNothing Self.cause };
 }
 
-impl<'a> CoreTurns for Seated<'a, Core> {
+impl<'a, K: Keeping> CoreTurns for Seated<'a, CoreOf<K>> {
     ghost use Rattle.proxy_core.specs.JournalLaws.{answers_fit, are_few_steps, are_histories, epochs_are_present, finishing_takes_nothing, openings_are_new, refusals_mean};
 
     ghost are_histories = { are_histories };
@@ -56,7 +57,7 @@ impl<'a> CoreTurns for Seated<'a, Core> {
     ghost finishing_takes_nothing = { finishing_takes_nothing };
 }
 
-impl CoreTurns for Alone<Core> {
+impl<K: Keeping> CoreTurns for Alone<CoreOf<K>> {
     ghost use Rattle.proxy_core.specs.JournalLaws.{answers_fit, are_few_steps, are_histories, epochs_are_present, finishing_takes_nothing, openings_are_new, refusals_mean};
 
     ghost are_histories = { are_histories };

@@ -1,5 +1,5 @@
 //! A host's engine.
-ghost use Rattle.std.specs.Prelude.{◌≡◌, ◌≢◌, ◌⊎◌, ◌↔◌, ℕ, List, [], Option, Some, None, IfOk, IfErr, IfSome, IsSome, OnOk, OnErr, true, false, unwrap_or};
+ghost use Rattle.std.specs.Prelude.{◌≡◌, ◌≢◌, ◌⊎◌, ◌↔◌, ℕ, List, [], Option, Some, None, IfOk, IfErr, IfSome, IsSome, OnOk, OnErr, true, false, unwrap_or, IsTrue};
 ghost use Rattle.std.specs.Borrow.{sem};
 ghost use Rattle.proxy_history.specs.History.{History};
 ghost use Rattle.proxy_history.specs.OwnSteps.{host_steps};
@@ -102,6 +102,13 @@ impl<R: ReadTally, W: WriteTally> HostEngine<R, W> {
 impl<R: ReadTally + Drop, W: WriteTally + Drop> HostEngine<R, W> {
     ghost use Rattle.proxy_devices.specs.Device.{reader_state, writer_state};
     ghost use Rattle.proxy_engines.specs.Lends.{lends_host_reader, lends_host_writer, with_link, with_link_reader, with_link_writer};
+
+    /// Whether a part was taken that has no reply yet.
+    pub fn awaits_reply(&self) -> bool
+        ensures { IsTrue result ↔ self.now.outbox.moments ≢ [] }
+    {
+        self.outbox.awaits_reply()
+    }
 
     /// The link's reader, if there is a link.
     pub fn reader(&self) -> Option<&R>

@@ -1,5 +1,5 @@
 //! The output for a host: its pending text, and when each part without a reply was taken.
-ghost use Rattle.std.specs.Prelude.{◌≡◌, ◌≢◌, ◌⊎◌, ◌++◌, ◌==◌, ◌↔◌, ℕ, List, [], Option, None, true, false, length, drop, IfOk, IfErr, OnOk, OnErr};
+ghost use Rattle.std.specs.Prelude.{◌≡◌, ◌≢◌, ◌⊎◌, ◌++◌, ◌==◌, ◌↔◌, ℕ, List, [], Option, None, true, false, length, drop, IfOk, IfErr, OnOk, OnErr, IsTrue};
 ghost use Rattle.std.specs.Io.KnownBytes.{Appends};
 ghost use Rattle.proxy_history.specs.declared.event.Event.{Event};
 ghost use Rattle.proxy_history.specs.declared.refusal.Refusal.{Refusal};
@@ -72,6 +72,13 @@ impl HostOutbox {
             moments: VecDeque::new(alloc),
             is_astray: false,
         }
+    }
+
+    /// Whether a part was taken that has no reply yet.
+    pub(crate) fn awaits_reply(&self) -> bool
+        ensures { IsTrue result ↔ self.now.moments ≢ [] }
+    {
+        !self.moments.is_empty()
     }
 
     /// One Taken turn. False: no part waited. There must be no pending bytes.

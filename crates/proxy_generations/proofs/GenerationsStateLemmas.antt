@@ -1,15 +1,20 @@
 -- How calls keep what `Generations` knows.
-use Rattle.std.proofs.Common.{◌≡◌, ◌⊎◌, ◌↔◌, ◌<◌, ◌≤◌, ◌+◌, ◌-◌, ◌^◌, ℕ, Bool, true, false, Option, Some, None, unwrap_or, is_some, not, IfSome, IsNone, List, ◌∷◌, inl, inr, refl, sym, ap, arith}
-use Rattle.std.proofs.lemmas.Bool.{eq-eqb, ne_eqb, cases_eq}
+use Rattle.std.proofs.Common.{◌≡◌, ◌⊎◌, ◌↔◌, ◌<◌, ◌≤◌, ◌+◌, ◌-◌, ◌^◌, ◌==◌, ◌++◌, ℕ, Bool, true, false, not, Option, Some, None, unwrap_or, option_to_list, is_some, IfSome, IsNone, List, [], ◌∷◌, length, map, filter, Contains, All, inl, inr, refl, sym, ap, arith}
+use Rattle.std.proofs.lemmas.Bool.{eq-eqb, ne_eqb, cases_eq, cases_Bool}
+use Rattle.std.proofs.lemmas.List.{length-map, map-append}
+use Rattle.std.proofs.lemmas.List.Elements.{All-head, All-tail, All-map, All-contains, All-contains_itself}
 use Rattle.std.specs.Prelude.{IsSome}
-use Rattle.proxy_generations.specs.Events.{Event, Opened, Failed, Near, Full, Progressed, Swept, newest, draining, has_connections, is_asked, near_since, failures, handover, last_number, last_sweep, opening}
-use Rattle.proxy_generations.specs.History.{MayHappen, IsHistory, HasGivenUp, IsStill}
-use Rattle.proxy_generations.specs.GenerationsState.{Settings, Stands, Tells, open_of, next_of}
-use Rattle.proxy_generations.specs.OpenGenerations.{IsNumber, HadTime, MayBeLeft}
+use Rattle.proxy_generations.specs.Events.{Event, Opened, Failed, Near, Full, Renewed, Progressed, Drained, Swept, newest, draining, in_the_way, has_connections, is_asked, near_since, failures, handover, last_number, last_sweep, opening}
+use Rattle.proxy_generations.specs.History.{MayHappen, IsHistory, HasRoom, HasGivenUp, IsStill}
+use Rattle.proxy_generations.specs.GenerationsState.{Settings, Stands, Tells, open_of, kept_of, next_of}
+use Rattle.proxy_generations.specs.OpenGenerations.{IsNumber, KeepsRoom, HadTime, MayBeLeft}
+use Rattle.proxy_generations.specs.Older.{numbers_of, first_if_full, swept_at}
+use Rattle.proxy_generations.specs.declared.older.Older.{Older}
 use Rattle.proxy_generations.specs.declared.opened.Open.{Open}
 use Rattle.proxy_generations.specs.declared.lifecycle.NextGeneration.TheVariants.{Unasked, Wanted, Opening}
 use Rattle.proxy_generations.specs.declared.lifecycle.Generations.{Generations}
-use Rattle.proxy_generations.proofs.HistoryLemmas.{IsOrdered, ordered, same}
+use Rattle.proxy_generations.proofs.HistoryLemmas.{IsOrdered, ordered}
+use Rattle.proxy_generations.proofs.OlderLemmas.{first_none, first_in}
 use Rattle.proxy_generations.proofs.ConnectionLemmas.{connected, connects, apart, not_gone, gone}
 use Rattle.std.specs.Option.{SomeIff}
 use Rattle.proxy_generations.specs.Phase.{IsPhase}
@@ -90,24 +95,95 @@ module _ {H : Type 0} where
       → swept ≡ last_sweep n es
   sweep_is es n swept e = ap (λ o. o.swept) (same_kept (record { number = n; swept = swept }) (record { number = n; swept = last_sweep n es }) e)
 
-  -- a generation with another number is kept as it was
-  open_of-opened : (n t : ℕ) (es : List (Event H)) (o : Option ℕ) → ((k : ℕ) → o ≡ Some k → n ≡ k → ⊥)
-      → open_of (Opened n t ∷ es) o ≡ open_of es o
-  open_of-opened n t es None other = refl
-  open_of-opened n t es (Some k) other = rw (ne_eqb n k (other k refl))
+  -- those that drain, as they are kept: their numbers
+  pub numbers_kept : (es : List (Event H)) (ns : List ℕ) → numbers_of (kept_of es ns) ≡ ns
+  numbers_kept es [] = refl
+  numbers_kept es (n ∷ ns) = ap (λ rest. n ∷ rest) (numbers_kept es ns)
 
-  pub stands_opened : (m : Generations H) (s : Settings) (es : List (Event H)) (n t swept : ℕ) → Stands m s es
+  pub numbers_are : (m : Generations H) (s : Settings) (es : List (Event H)) → Stands m s es
+      → numbers_of m.older.kept.items ≡ draining es
+  numbers_are m s es st = rw st.older_is (numbers_kept es (draining es))
+
+  pub room_is : (m : Generations H) (s : Settings) (es : List (Event H)) → Stands m s es → KeepsRoom m ↔ HasRoom es
+  room_is m s es st =
+      let long : length m.older.kept.items ≡ length (draining es) = rw st.older_is (length-map (draining es) _) in
+      (λ less. omega arith, λ less. omega arith)
+
+  -- which one is in the way
+  pub way_is : (m : Generations H) (s : Settings) (es : List (Event H)) (n : ℕ) → Stands m s es
+      → (first_if_full (numbers_of m.older.kept.items) ≡ Some n) ↔ (in_the_way es ≡ Some n)
+  way_is m s es n st =
+      let is : first_if_full (numbers_of m.older.kept.items) ≡ in_the_way es = ap first_if_full (numbers_are m s es st) in
+      (λ e. cc, λ e. cc)
+
+  -- which ones drain
+  pub drains_is : (m : Generations H) (s : Settings) (es : List (Event H)) (n : ℕ) → Stands m s es
+      → Contains (numbers_of m.older.kept.items) n ↔ Contains (draining es) n
+  drains_is m s es n st = rw (numbers_are m s es st) (λ c. c, λ c. c)
+
+  -- those with other numbers are kept as they were
+  kept_opened : (n t : ℕ) (es : List (Event H)) (ns : List ℕ) → All (λ k. k < n) ns → kept_of (Opened n t ∷ es) ns ≡ kept_of es ns
+  kept_opened n t es [] below = refl
+  kept_opened n t es (k ∷ ns) below =
+      let less = All-head (λ k. k < n) k ns below in
+      let rest = kept_opened n t es ns (All-tail (λ k. k < n) k ns below) in
+      rw (ne_eqb n k (λ is. omega arith)) (ap (λ l. record { number = k; swept = last_sweep k es } ∷ l) rest)
+
+  kept_other : (n t : ℕ) (es : List (Event H)) (ns : List ℕ) → All (λ k. k < n) ns → kept_of (Swept n t ∷ es) ns ≡ kept_of es ns
+  kept_other n t es [] below = refl
+  kept_other n t es (k ∷ ns) below =
+      let less = All-head (λ k. k < n) k ns below in
+      let rest = kept_other n t es ns (All-tail (λ k. k < n) k ns below) in
+      rw (ne_eqb n k (λ is. omega arith)) (ap (λ l. record { number = k; swept = last_sweep k es } ∷ l) rest)
+
+  -- one that swept is kept with that
+  kept_swept : (n t : ℕ) (es : List (Event H)) (ns : List ℕ) → kept_of (Swept n t ∷ es) ns ≡ map (swept_at n t) (kept_of es ns)
+  kept_swept n t es [] = refl
+  kept_swept n t es (k ∷ ns) =
+      let rest = kept_swept n t es ns in elim (cases_eq n k) [
+        | inl is ↦ rw (eq-eqb n k is, eq-eqb k n (sym is)) (rw (← is) (ap (λ l. record { number = n; swept = t } ∷ l) rest))
+        | inr differs ↦
+            rw (ne_eqb n k differs, ne_eqb k n (λ is. differs (sym is)))
+            (ap (λ l. record { number = k; swept = last_sweep k es } ∷ l) rest)
+      ]
+
+  -- one that has drained isn't kept
+  kept_filter : (n : ℕ) (es : List (Event H)) (ns : List ℕ)
+      → kept_of es (filter (λ k. not (n == k)) ns) ≡ filter (λ o. not (n == o.number)) (kept_of es ns)
+  kept_filter n es [] = refl
+  kept_filter n es (k ∷ ns) =
+      let rest = kept_filter n es ns in elim (cases_Bool (n == k)) [
+        | inl is ↦ rw is rest
+        | inr is ↦ rw is (ap (λ l. record { number = k; swept = last_sweep k es } ∷ l) rest)
+      ]
+
+  kept_option : (es : List (Event H)) (o : Option ℕ) → kept_of es (option_to_list o) ≡ option_to_list (open_of es o)
+  kept_option es None = refl
+  kept_option es (Some n) = refl
+
+  -- the newest one joins those that drain
+  kept_joined : (n t : ℕ) (es : List (Event H)) (kept after : List Open) (one : Option Open) → kept ≡ kept_of es (draining es)
+      → one ≡ open_of es (newest es) → after ≡ kept ++ option_to_list one → All (λ k. k < n) (draining es ++ option_to_list (newest es))
+      → after ≡ kept_of (Opened n t ∷ es) (draining es ++ option_to_list (newest es))
+  kept_joined n t es kept after one are is joined below =
+      let stay = kept_opened n t es (draining es ++ option_to_list (newest es)) below in
+      let parts : kept_of es (draining es ++ option_to_list (newest es)) ≡ kept_of es (draining es) ++ kept_of es (option_to_list (newest es)) =
+      map-append {B = Open} (λ k. record { number = k; swept = last_sweep k es }) (draining es) (option_to_list (newest es)) in
+      let last = kept_option es (newest es) in cc
+
+  pub stands_opened : (m : Generations H) (s : Settings) (es : List (Event H)) (n t swept : ℕ) (after : Older) → Stands m s es
       → opening es ≡ Some n → swept ≡ unwrap_or m.handed_sweep t
+      → (KeepsRoom m → after.kept.items ≡ m.older.kept.items ++ option_to_list m.newest)
       → Stands (record m {
         tries_left = m.max_failures;
         newest = Some (record { number = n; swept = swept });
-        older = m.newest;
+        older = after;
         near_since = None;
         still_since = Some t;
         drains_since = Some t;
         next = Unasked;
       }) s (Opened n t ∷ es)
-  stands_opened m s es n t swept st o is =
+  stands_opened m s es n t swept after st o is joined =
       let order = ordered es st.may in
       let opens = order.opens n o in
       let handed = st.handed_is in record {
@@ -116,8 +192,9 @@ module _ {H : Type 0} where
         most_is = st.most_is;
         tries_are = let most = st.most_is in omega arith;
         newest_is = rw (eq-eqb n n refl) (ap (λ x. Some (record { number = n; swept = x })) (rw (← handed) is));
-        older_is = let was = st.newest_is in
-            let stays = open_of-opened n t es (newest es) (λ k e is_k. let less = order.fresh k e opens.1 in omega (arith, opens.0)) in cc;
+        older_is =
+            kept_joined n t es m.older.kept.items after.kept.items m.newest st.older_is st.newest_is
+            (joined ((room_is m s es st).1 opens.2)) ((ordered (Opened n t ∷ es) (o, st.may)).older n refl);
         near_is = refl;
         still_is = refl;
         drains_is = refl;
@@ -169,12 +246,12 @@ module _ {H : Type 0} where
 
   -- nothing keeps a further one from being asked for
   pub had_time : (m : Generations H) (s : Settings) (es : List (Event H)) (now : ℕ) → Stands m s es
-      → HadTime m now ↔ ((draining es ≡ None) ⊎ HasGivenUp es now)
+      → HadTime m now ↔ (HasRoom es ⊎ HasGivenUp es now)
   had_time m s es now st =
-      let none = none_is es (draining es) m.older st.older_is in
+      let room = room_is m s es st in
       let near = st.near_is in (
-        λ x. elim x [ inl e ↦ inl (none.0 e) | inr (since, e, long) ↦ inr (since, cc, long) ],
-        λ x. elim x [ inl e ↦ inl (none.1 e) | inr (since, e, long) ↦ inr (since, cc, long) ],
+        λ x. elim x [ inl e ↦ inl (room.0 e) | inr (since, e, long) ↦ inr (since, cc, long) ],
+        λ x. elim x [ inl e ↦ inl (room.1 e) | inr (since, e, long) ↦ inr (since, cc, long) ],
       )
 
   pub stands_full : (m : Generations H) (s : Settings) (es : List (Event H)) (by now swept asked : ℕ) (from : H) → Stands m s es
@@ -209,20 +286,55 @@ module _ {H : Type 0} where
         },
       )
 
+  next-waits : (asked : Bool) (number : Option ℕ) (from kept : Option H) → next_of asked number from ≡ Wanted kept
+      → (asked ≡ true) × (number ≡ None)
+  next-waits false number from kept e = absurd cc
+  next-waits true None from kept e = (refl, refl)
+  next-waits true (Some n) from kept e = absurd cc
+
+  -- once the newest one has handed over anew
+  pub stands_renewed : (m : Generations H) (s : Settings) (es : List (Event H)) (by swept : ℕ) (kept : Option H) (from : H) → Stands m s es
+      → m.next ≡ Wanted kept → m.newest ≡ Some (record { number = by; swept = swept })
+      → MayHappen (Renewed by from) es
+      × Stands (record m { next = Wanted (Some from); handed_sweep = Some swept }) s (Renewed by from ∷ es)
+  stands_renewed m s es by swept kept from st next is =
+      let (asked, none) = next-waits (is_asked es) (opening es) (handover es) kept (let e = st.next_is in cc) in
+      let newest_is = (number_is es (newest es) m.newest by st.newest_is).0 (rw is refl) in
+      let was = st.newest_is in
+      let same_open : Some (record { number = by; swept = swept }) ≡ open_of es (newest es) = cc in
+      let may : MayHappen (Renewed by from) es = (newest_is, asked, none) in
+      let swept_is = sweep_is es by swept (rw newest_is at same_open) in (
+        may,
+        record {
+          may = (may, st.may);
+          interval_is = st.interval_is;
+          most_is = st.most_is;
+          tries_are = st.tries_are;
+          newest_is = st.newest_is;
+          older_is = st.older_is;
+          near_is = st.near_is;
+          still_is = st.still_is;
+          drains_is = st.drains_is;
+          next_is = rw (asked, none) refl;
+          asked_is = st.asked_is;
+          handed_is = ap Some swept_is;
+        },
+      )
+
   -- nothing keeps an older one from being given up
   pub may_be_left : (m : Generations H) (s : Settings) (es : List (Event H)) (now : ℕ) → Stands m s es
-      → MayBeLeft m now ↔ ((draining es ≡ None) ⊎ IsStill es now)
+      → MayBeLeft m now ↔ (HasRoom es ⊎ IsStill es now)
   may_be_left m s es now st =
-      let none = none_is es (draining es) m.older st.older_is in
+      let room = room_is m s es st in
       let still = st.still_is in
       let drains = st.drains_is in (
         λ x. elim x [
-          | inl e ↦ inl (none.0 e)
+          | inl e ↦ inl (room.0 e)
           | inr (inl (since, e, long)) ↦ inr (inl (since, cc, long))
           | inr (inr (since, e, long)) ↦ inr (inr (since, cc, long))
         ],
         λ x. elim x [
-          | inl e ↦ inl (none.1 e)
+          | inl e ↦ inl (room.1 e)
           | inr (inl (since, e, long)) ↦ inr (inl (since, cc, long))
           | inr (inr (since, e, long)) ↦ inr (inr (since, cc, long))
         ],
@@ -230,7 +342,7 @@ module _ {H : Type 0} where
 
   -- once a host answered it
   pub stands_progressed : (m : Generations H) (s : Settings) (es : List (Event H)) (n now : ℕ) → Stands m s es
-      → draining es ≡ Some n → Stands (record m { still_since = Some now }) s (Progressed n now ∷ es)
+      → in_the_way es ≡ Some n → Stands (record m { still_since = Some now }) s (Progressed n now ∷ es)
   stands_progressed m s es n now st may = record {
     may = (may, st.may);
     interval_is = st.interval_is;
@@ -240,6 +352,25 @@ module _ {H : Type 0} where
     older_is = st.older_is;
     near_is = st.near_is;
     still_is = refl;
+    drains_is = st.drains_is;
+    next_is = st.next_is;
+    asked_is = st.asked_is;
+    handed_is = st.handed_is;
+  }
+
+  -- once its last connection is gone
+  pub stands_drained : (m : Generations H) (s : Settings) (es : List (Event H)) (n : ℕ) (after : Older) → Stands m s es
+      → Contains (draining es) n → after.kept.items ≡ filter (λ o. not (n == o.number)) m.older.kept.items
+      → Stands (record m { older = after }) s (Drained n ∷ es)
+  stands_drained m s es n after st may is = record {
+    may = (may, st.may);
+    interval_is = st.interval_is;
+    most_is = st.most_is;
+    tries_are = st.tries_are;
+    newest_is = st.newest_is;
+    older_is = rw (is, st.older_is) (sym (kept_filter n es (draining es)));
+    near_is = st.near_is;
+    still_is = st.still_is;
     drains_is = st.drains_is;
     next_is = st.next_is;
     asked_is = st.asked_is;
@@ -271,84 +402,100 @@ module _ {H : Type 0} where
       → IsNumber m.newest n ↔ (newest es ≡ Some n)
   number_newest m s es n st = number_is es (newest es) m.newest n st.newest_is
 
-  pub number_older : (m : Generations H) (s : Settings) (es : List (Event H)) (n : ℕ) → Stands m s es
-      → IsNumber m.older n ↔ (draining es ≡ Some n)
-  number_older m s es n st = number_is es (draining es) m.older n st.older_is
-
   -- what the newest one is to do
   pub serves : (es : List (Event H)) → IsHistory es → (n : ℕ) → newest es ≡ Some n → IsPhase Serving es n
   serves es h n e = record {
     serves = (λ x. e, λ x. refl);
-    drains = (λ x. absurd cc, λ x. absurd (apart es h n e x.0.0));
-    gives_up = (λ x. absurd cc, λ x. absurd (apart es h n e x.0.0));
+    drains = (λ x. absurd cc, λ x. absurd (apart es h n e x.0));
+    gives_up = (λ x. absurd cc, λ x. absurd (apart es h n e (first_in (draining es) n x.0.0)));
     stops = (
       λ x. absurd cc,
       λ x. elim x [
-        | inl way ↦ absurd (apart es h n e way.0)
+        | inl way ↦ absurd (apart es h n e (first_in (draining es) n way.0))
         | inr none ↦ absurd (not_gone es h n (inl e) none)
       ],
     );
   }
 
   -- what one is to do that is neither
-  pub is_gone : (es : List (Event H)) → IsHistory es → (n : ℕ) → (newest es ≡ Some n → ⊥) → (draining es ≡ Some n → ⊥)
+  pub is_gone : (es : List (Event H)) → IsHistory es → (n : ℕ) → (newest es ≡ Some n → ⊥) → (Contains (draining es) n → ⊥)
       → IsPhase Stopped es n
   is_gone es h n not_newest not_draining = record {
     serves = (λ x. absurd cc, λ e. absurd (not_newest e));
-    drains = (λ x. absurd cc, λ x. absurd (not_draining x.0.0));
-    gives_up = (λ x. absurd cc, λ x. absurd (not_draining x.0.0));
+    drains = (λ x. absurd cc, λ x. absurd (not_draining x.0));
+    gives_up = (λ x. absurd cc, λ x. absurd (not_draining (first_in (draining es) n x.0.0)));
     stops = (λ x. inr (gone es h n not_newest not_draining), λ x. refl);
   }
 
-  -- what the draining one is to do where a further one is asked for
-  pub is_in_the_way : (es : List (Event H)) → IsHistory es → (n : ℕ) → draining es ≡ Some n → is_asked es ≡ true
+  -- what one that drains is to do where it isn't in the way
+  pub aside : (es : List (Event H)) → IsHistory es → (n : ℕ) → Contains (draining es) n → (in_the_way es ≡ Some n → ⊥)
+      → IsPhase Draining es n
+  aside es h n c not_way = record {
+    serves = (λ x. absurd cc, λ f. absurd (apart es h n f c));
+    drains = (λ x. (c, λ way. absurd (not_way way)), λ x. refl);
+    gives_up = (λ x. absurd cc, λ x. absurd (not_way x.0.0));
+    stops = (
+      λ x. absurd cc,
+      λ x. elim x [
+        | inl way ↦ absurd (not_way way.0)
+        | inr none ↦ absurd (not_gone es h n (inr c) none)
+      ],
+    );
+  }
+
+  -- what the one in the way is to do where a further one is asked for
+  pub is_in_the_way : (es : List (Event H)) → IsHistory es → (n : ℕ) → in_the_way es ≡ Some n → is_asked es ≡ true
       → IsPhase Stopped es n
   is_in_the_way es h n e asked = record {
-    serves = (λ x. absurd cc, λ f. absurd (apart es h n f e));
-    drains = (λ x. absurd cc, λ x. absurd (let other = x.0.1 in cc));
+    serves = (λ x. absurd cc, λ f. absurd (apart es h n f (first_in (draining es) n e)));
+    drains = (λ x. absurd cc, λ x. absurd (let other = (x.1 e).0 in cc));
     gives_up = (λ x. absurd cc, λ x. absurd (let other = x.0.1 in cc));
     stops = (λ x. inl (e, asked), λ x. refl);
   }
 
   -- and where none is
-  pub gives_up : (es : List (Event H)) → IsHistory es → (n : ℕ) → draining es ≡ Some n → is_asked es ≡ false → IsSome (near_since es)
+  pub gives_up : (es : List (Event H)) → IsHistory es → (n : ℕ) → in_the_way es ≡ Some n → is_asked es ≡ false → IsSome (near_since es)
       → IsPhase GivingUp es n
   gives_up es h n e unasked near = record {
-    serves = (λ x. absurd cc, λ f. absurd (apart es h n f e));
-    drains = (λ x. absurd cc, λ x. absurd (let other = x.1 in cc));
+    serves = (λ x. absurd cc, λ f. absurd (apart es h n f (first_in (draining es) n e)));
+    drains = (λ x. absurd cc, λ x. absurd (let other = (x.1 e).1 in cc));
     gives_up = (λ x. ((e, unasked), near), λ x. refl);
     stops = (
       λ x. absurd cc,
       λ x. elim x [
         | inl way ↦ absurd (let other = way.1 in cc)
-        | inr none ↦ absurd (not_gone es h n (inr e) none)
+        | inr none ↦ absurd (not_gone es h n (inr (first_in (draining es) n e)) none)
       ],
     );
   }
 
-  pub drains : (es : List (Event H)) → IsHistory es → (n : ℕ) → draining es ≡ Some n → is_asked es ≡ false → near_since es ≡ None
+  pub drains : (es : List (Event H)) → IsHistory es → (n : ℕ) → in_the_way es ≡ Some n → is_asked es ≡ false → near_since es ≡ None
       → IsPhase Draining es n
   drains es h n e unasked near = record {
-    serves = (λ x. absurd cc, λ f. absurd (apart es h n f e));
-    drains = (λ x. ((e, unasked), near), λ x. refl);
+    serves = (λ x. absurd cc, λ f. absurd (apart es h n f (first_in (draining es) n e)));
+    drains = (λ x. (first_in (draining es) n e, λ way. (unasked, near)), λ x. refl);
     gives_up = (λ x. absurd cc, λ x. absurd (let other = x.1 in cc));
     stops = (
       λ x. absurd cc,
       λ x. elim x [
         | inl way ↦ absurd (let other = way.1 in cc)
-        | inr none ↦ absurd (not_gone es h n (inr e) none)
+        | inr none ↦ absurd (not_gone es h n (inr (first_in (draining es) n e)) none)
       ],
     );
   }
 
-  asked_at : (es : List (Event H)) → IsHistory es → (n : ℕ) → draining es ≡ Some n → (asked : Bool) (o : Option ℕ) → is_asked es ≡ asked
+  -- while one is in the way, no further one is being opened
+  not_both : (es : List (Event H)) → HasRoom es → (n : ℕ) → in_the_way es ≡ Some n → ⊥
+  not_both es room n e = let none = first_none (draining es) room in absurd cc
+
+  asked_at : (es : List (Event H)) → IsHistory es → (n : ℕ) → in_the_way es ≡ Some n → (asked : Bool) (o : Option ℕ) → is_asked es ≡ asked
       → opening es ≡ o → ((from : Option H) → next_of asked o (handover es) ≡ Wanted from → ⊥) → asked ≡ false
   asked_at es h n e false o a b never = refl
   asked_at es h n e true None a b never = absurd (never (handover es) refl)
-  asked_at es h n e true (Some k) a b never = absurd (let none = ((ordered es h).opens k b).2 in cc)
+  asked_at es h n e true (Some k) a b never = absurd (not_both es ((ordered es h).opens k b).2 n e)
 
-  -- while one drains, a further one that isn't wanted isn't asked for
-  pub is_unasked : (m : Generations H) (s : Settings) (es : List (Event H)) (n : ℕ) → Stands m s es → draining es ≡ Some n
+  -- so a further one that isn't wanted isn't asked for
+  pub is_unasked : (m : Generations H) (s : Settings) (es : List (Event H)) (n : ℕ) → Stands m s es → in_the_way es ≡ Some n
       → ((from : Option H) → m.next ≡ Wanted from → ⊥) → is_asked es ≡ false
   is_unasked m s es n st e never =
       asked_at es st.may n e (is_asked es) (opening es) refl refl (λ from x. never from (let is = st.next_is in cc))
@@ -379,69 +526,84 @@ module _ {H : Type 0} where
       let is = sweep_at es (newest es) m.newest n t st.newest_is e in
       (connects es st.may n (inl is.0), is.1)
 
+  -- one kept among those that drain
+  kept_in : (es : List (Event H)) (ns : List ℕ) (o : Open) → Contains (kept_of es ns) o → Contains ns o.number × (o.swept ≡ last_sweep o.number es)
+  kept_in es ns o c =
+      All-contains (λ o. Contains ns o.number × (o.swept ≡ last_sweep o.number es)) (kept_of es ns) o
+      (All-map (λ o. Contains ns o.number × (o.swept ≡ last_sweep o.number es)) (λ k. record { number = k; swept = last_sweep k es }) ns
+      (λ k d less. (All-contains_itself ns k d less, refl))) c
+
   pub older_sweep : (m : Generations H) (s : Settings) (es : List (Event H)) (n t : ℕ) → Stands m s es
-      → m.older ≡ Some (record { number = n; swept = t }) → (has_connections n es ≡ true) × (t ≡ last_sweep n es)
-  older_sweep m s es n t st e =
-      let is = sweep_at es (draining es) m.older n t st.older_is e in
+      → Contains m.older.kept.items (record { number = n; swept = t }) → (has_connections n es ≡ true) × (t ≡ last_sweep n es)
+  older_sweep m s es n t st c =
+      let is = kept_in es (draining es) (record { number = n; swept = t }) (rw st.older_is at c) in
       (connects es st.may n (inr is.0), is.1)
 
-  -- neither has this number
+  -- neither the newest nor one that drains has this number
   pub none_has : (m : Generations H) (s : Settings) (es : List (Event H)) (n : ℕ) → Stands m s es → ¬ IsNumber m.newest n
-      → ¬ IsNumber m.older n → has_connections n es ≡ true → ⊥
+      → ¬ Contains (numbers_of m.older.kept.items) n → has_connections n es ≡ true → ⊥
   none_has m s es n st a b has = elim (connected es st.may n has) [
     | inl e ↦ a ((number_newest m s es n st).1 e)
-    | inr e ↦ b ((number_older m s es n st).1 e)
+    | inr c ↦ b ((drains_is m s es n st).1 c)
   ]
 
-  -- an open one, as it is kept after a sweep
-  open_of-swept : (n t : ℕ) (es : List (Event H)) (o : Option ℕ) (kept after : Option Open) → kept ≡ open_of es o
-      → (IsNumber kept n → after ≡ Some (record { number = n; swept = t })) → (¬ IsNumber kept n → after ≡ kept)
-      → after ≡ open_of (Swept n t ∷ es) o
-  open_of-swept n t es None kept after e same_is other_is =
-      let never : ¬ IsNumber kept n = λ x. absurd (let f = (number_is es None kept n e).0 x in cc) in
-      let is = other_is never in cc
-  open_of-swept n t es (Some k) kept after e same_is other_is = elim (cases_eq n k) [
-    | inl is ↦ rw (← is, eq-eqb n n refl) (same_is ((number_is es (Some k) kept n e).1 (ap Some (sym is))))
-    | inr differs ↦
-        let never : ¬ IsNumber kept n = λ x. differs (sym (same k n ((number_is es (Some k) kept n e).0 x))) in
-        let stays = other_is never in rw (ne_eqb n k differs, stays) e
-  ]
+  -- once the newest one has swept
+  pub stands_newest_swept : (m : Generations H) (s : Settings) (es : List (Event H)) (n t : ℕ) → Stands m s es → IsNumber m.newest n
+      → MayHappen (Swept n t) es × Stands (record m { newest = Some (record { number = n; swept = t }) }) s (Swept n t ∷ es)
+  stands_newest_swept m s es n t st is =
+      let e = (number_newest m s es n st).0 is in
+      let has = connects es st.may n (inl e) in (
+        has,
+        record {
+          may = (has, st.may);
+          interval_is = st.interval_is;
+          most_is = st.most_is;
+          tries_are = st.tries_are;
+          newest_is = rw (e, eq-eqb n n refl) refl;
+          older_is = let same_is = kept_other n t es (draining es) ((ordered es st.may).older n e) in let older = st.older_is in cc;
+          near_is = st.near_is;
+          still_is = st.still_is;
+          drains_is = st.drains_is;
+          next_is = st.next_is;
+          asked_is = st.asked_is;
+          handed_is = st.handed_is;
+        },
+      )
 
-  pub stands_swept : (m : Generations H) (s : Settings) (es : List (Event H)) (n t : ℕ) (newer elder : Option Open) → Stands m s es
-      → has_connections n es ≡ true
-      → (IsNumber m.newest n → newer ≡ Some (record { number = n; swept = t })) → (¬ IsNumber m.newest n → newer ≡ m.newest)
-      → (IsNumber m.older n → elder ≡ Some (record { number = n; swept = t })) → (¬ IsNumber m.older n → elder ≡ m.older)
-      → Stands (record m { newest = newer; older = elder }) s (Swept n t ∷ es)
-  stands_swept m s es n t newer elder st has a b c d = record {
-    may = (has, st.may);
-    interval_is = st.interval_is;
-    most_is = st.most_is;
-    tries_are = st.tries_are;
-    newest_is = open_of-swept n t es (newest es) m.newest newer st.newest_is a b;
-    older_is = open_of-swept n t es (draining es) m.older elder st.older_is c d;
-    near_is = st.near_is;
-    still_is = st.still_is;
-    drains_is = st.drains_is;
-    next_is = st.next_is;
-    asked_is = st.asked_is;
-    handed_is = st.handed_is;
-  }
+  -- another open one, as it is kept
+  open_of-swept : (n t : ℕ) (es : List (Event H)) (o : Option ℕ) → ((k : ℕ) → o ≡ Some k → n ≡ k → ⊥)
+      → open_of (Swept n t ∷ es) o ≡ open_of es o
+  open_of-swept n t es None other = refl
+  open_of-swept n t es (Some k) other = rw (ne_eqb n k (other k refl)) refl
 
-  -- a sweep is told
-  pub tells_swept : (m : Generations H) (n t : ℕ) (newer elder : Option Open)
-      → (IsNumber m.newest n → newer ≡ Some (record { number = n; swept = t })) → (¬ IsNumber m.newest n → newer ≡ m.newest)
-      → (IsNumber m.older n → elder ≡ Some (record { number = n; swept = t })) → (¬ IsNumber m.older n → elder ≡ m.older)
-      → Tells (Swept n t) m (record m { newest = newer; older = elder })
-  tells_swept m n t newer elder a b c d = record {
-    counts = λ s es st may. stands_swept m s es n t newer elder st may a b c d;
-    ignored = λ s es st not_open.
-        let x = b (λ is. not_open (connects es st.may n (inl ((number_newest m s es n st).0 is)))) in
-        let y = d (λ is. not_open (connects es st.may n (inr ((number_older m s es n st).0 is)))) in rw (x, y) refl;
-  }
+  -- once one that drains has
+  pub stands_older_swept : (m : Generations H) (s : Settings) (es : List (Event H)) (n t : ℕ) (after : Older) → Stands m s es
+      → ¬ IsNumber m.newest n → Contains (numbers_of m.older.kept.items) n → after.kept.items ≡ map (swept_at n t) m.older.kept.items
+      → MayHappen (Swept n t) es × Stands (record m { older = after }) s (Swept n t ∷ es)
+  stands_older_swept m s es n t after st other c is =
+      let d = (drains_is m s es n st).0 c in
+      let has = connects es st.may n (inr d) in (
+        has,
+        record {
+          may = (has, st.may);
+          interval_is = st.interval_is;
+          most_is = st.most_is;
+          tries_are = st.tries_are;
+          newest_is = let was = st.newest_is in
+              let stays = open_of-swept n t es (newest es) (λ k e same_is. other ((number_newest m s es n st).1 (let x = same_is in cc))) in cc;
+          older_is = rw (is, st.older_is) (sym (kept_swept n t es (draining es)));
+          near_is = st.near_is;
+          still_is = st.still_is;
+          drains_is = st.drains_is;
+          next_is = st.next_is;
+          asked_is = st.asked_is;
+          handed_is = st.handed_is;
+        },
+      )
 
-  -- the last sweep of the older one, where it is asked for
+  -- the last sweep of one that drains, where it is asked for
   pub sweep_told : (m : Generations H) (s : Settings) (es : List (Event H)) (n : ℕ) (r : Option ℕ) → Stands m s es
-      → ¬ IsNumber m.newest n → IfSome r (λ t. m.older ≡ Some (record { number = n; swept = t }))
-      → (IsNone r → ¬ IsNumber m.older n) → SomeIff r (has_connections n es ≡ true) (last_sweep n es)
+      → ¬ IsNumber m.newest n → IfSome r (λ t. Contains m.older.kept.items (record { number = n; swept = t }))
+      → (IsNone r → ¬ Contains (numbers_of m.older.kept.items) n) → SomeIff r (has_connections n es ≡ true) (last_sweep n es)
   sweep_told m s es n None st a some none = λ has. none_has m s es n st a (none refl) has
   sweep_told m s es n (Some t) st a some none = older_sweep m s es n t st some

@@ -1,3 +1,4 @@
+pub mod OlderLemmas
 pub mod HistoryLemmas
 pub mod ConnectionLemmas
 pub mod GenerationsStateLemmas

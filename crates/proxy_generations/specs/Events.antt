@@ -1,15 +1,17 @@
 -- What happens to generations, and what that says. The lists are of all that happened, the newest first.
-use Rattle.std.specs.Prelude.{ℕ, Bool, true, false, ◌==◌, ◌&&◌, ◌||◌, ◌+◌, not, if◌then◌else◌, Option, Some, None, unwrap_or, List, [], ◌∷◌}
+use Rattle.std.specs.Prelude.{ℕ, Bool, true, false, ◌==◌, ◌&&◌, ◌||◌, ◌+◌, not, if◌then◌else◌, Option, Some, None, unwrap_or, option_to_list, List, [], ◌∷◌, ◌++◌, filter}
+use Rattle.proxy_generations.specs.Older.{first_if_full}
 
--- What happens: a generation is given to be opened, opens, could not be opened, is near its marks, is full and hands over, has a
--- command answered by a host, has lost its last connection, makes a sweep. Opening, being near or full, answers and sweeps have
--- a moment.
+-- What happens: a generation is given to be opened, opens or can't, is near its marks, is full and hands over, hands over anew,
+-- has a command answered by a host, has lost its last connection, sweeps. Opening, being near or full, answers and sweeps have a
+-- moment.
 pub data Event (H : Type 0) : Type 0 where
   Taken : ℕ → Event H
   Opened : ℕ → ℕ → Event H
   Failed : ℕ → Event H
   Near : ℕ → ℕ → Event H
   Full : ℕ → ℕ → H → Event H
+  Renewed : ℕ → H → Event H
   Progressed : ℕ → ℕ → Event H
   Drained : ℕ → Event H
   Swept : ℕ → ℕ → Event H
@@ -21,12 +23,16 @@ module _ {H : Type 0} where
   newest (Opened n t ∷ es) = Some n
   newest (_ ∷ es) = newest es
 
-  -- the number of the one that opened before the newest, until its last connection is gone
-  abbrev pub draining : List (Event H) → Option ℕ
-  draining [] = None
-  draining (Opened n t ∷ es) = newest es
-  draining (Drained n ∷ es) = None
+  -- the numbers of those that drain, which opened before the newest, until the last connection of each is gone; the oldest first
+  abbrev pub draining : List (Event H) → List ℕ
+  draining [] = []
+  draining (Opened n t ∷ es) = draining es ++ option_to_list (newest es)
+  draining (Drained n ∷ es) = filter (λ m. not (n == m)) (draining es)
   draining (_ ∷ es) = draining es
+
+  -- the one in the way of the next: the oldest, where as many drain as may
+  abbrev pub in_the_way : List (Event H) → Option ℕ
+  in_the_way es = first_if_full (draining es)
 
   -- a generation has opened, and its last connection isn't gone
   abbrev pub has_connections : ℕ → List (Event H) → Bool
@@ -53,11 +59,13 @@ module _ {H : Type 0} where
   abbrev pub asker : List (Event H) → Option ℕ
   asker [] = None
   asker (Full n t h ∷ es) = Some n
+  asker (Renewed n h ∷ es) = Some n
   asker (_ ∷ es) = asker es
 
   abbrev pub handover : List (Event H) → Option H
   handover [] = None
   handover (Full n t h ∷ es) = Some h
+  handover (Renewed n h ∷ es) = Some h
   handover (_ ∷ es) = handover es
 
   -- the number of the one being opened: it was given, and has neither opened nor failed since
@@ -75,14 +83,14 @@ module _ {H : Type 0} where
   near_since (Opened n t ∷ es) = None
   near_since (_ ∷ es) = near_since es
 
-  -- the moment when a host last answered commands of the one that drains; before the first answer, that when it began to drain
+  -- the moment when a host last answered commands of the one in the way; before the first answer, that when the newest one opened
   abbrev pub still_since : List (Event H) → Option ℕ
   still_since [] = None
   still_since (Progressed n t ∷ es) = Some t
   still_since (Opened n t ∷ es) = Some t
   still_since (_ ∷ es) = still_since es
 
-  -- the moment when the newest one opened, and the one before it began to drain
+  -- the moment when the newest one opened
   abbrev pub drains_since : List (Event H) → Option ℕ
   drains_since [] = None
   drains_since (Opened n t ∷ es) = Some t
@@ -108,4 +116,5 @@ module _ {H : Type 0} where
     pub handed_sweep : List (Event H) → Option ℕ
     handed_sweep [] = None
     handed_sweep (Full n t h ∷ es) = Some (last_sweep n es)
+    handed_sweep (Renewed n h ∷ es) = Some (last_sweep n es)
     handed_sweep (_ ∷ es) = handed_sweep es

@@ -1,5 +1,5 @@
 -- What `Generations` knows of what happened.
-use Rattle.std.specs.Prelude.{◌≡◌, ◌⊎◌, ◌+◌, ◌-◌, ◌≤◌, ℕ, Bool, true, false, Option, Some, None, List, ◌∷◌}
+use Rattle.std.specs.Prelude.{◌≡◌, ◌⊎◌, ◌+◌, ◌-◌, ◌≤◌, ℕ, Bool, true, false, Option, Some, None, List, ◌∷◌, map}
 use Rattle.proxy_generations.specs.Events.{Event, Taken, newest, draining, has_connections, is_asked, near_since, still_since, drains_since, failures, handover, last_number, last_sweep, handed_sweep, opening}
 use Rattle.proxy_generations.specs.History.{MayHappen, IsHistory, IsDue}
 use Rattle.proxy_generations.specs.declared.lifecycle.Due.{Due}
@@ -19,6 +19,10 @@ module _ {H : Type 0} where
   open_of es None = None
   open_of es (Some n) = Some (record { number = n; swept = last_sweep n es })
 
+  -- those that drain, as they are kept
+  abbrev pub kept_of : List (Event H) → List ℕ → List Open
+  kept_of es ns = map (λ n. record { number = n; swept = last_sweep n es }) ns
+
   -- the further one, as it is kept
   abbrev pub next_of : Bool → Option ℕ → Option H → NextGeneration H
   next_of false number from = Unasked
@@ -33,7 +37,7 @@ module _ {H : Type 0} where
     pub most_is : m.max_failures ≡ s.max_failures
     pub tries_are : m.tries_left ≡ s.max_failures - failures es
     pub newest_is : m.newest ≡ open_of es (newest es)
-    pub older_is : m.older ≡ open_of es (draining es)
+    pub older_is : m.older.kept.items ≡ kept_of es (draining es)
     pub near_is : m.near_since ≡ near_since es
     pub still_is : m.still_since ≡ still_since es
     pub drains_is : m.drains_since ≡ drains_since es

@@ -1,4 +1,5 @@
 pub mod Moments
+pub mod Older
 pub mod OpenGenerations
 pub mod Events
 pub mod History

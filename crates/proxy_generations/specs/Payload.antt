@@ -29,16 +29,16 @@ next_average_of p = max (if p.steps == 0 then 0 else p.used / p.steps) (p.before
 abbrev pub kept_bytes : PayloadState → ℕ
 kept_bytes p = p.used + (p.came - p.handed)
 
--- the bytes that so many owed steps may bring: one and a half times the average each, and at least two greatest replies and
--- their handing out
+-- the bytes that so many owed steps may bring: twice the average each, since the two that a command owes once it was sent bring
+-- what its four have, and at least two greatest replies and their handing out
 abbrev pub owed_bytes : PayloadState → ℕ → ℕ
-owed_bytes p owed = max (owed * average_of p * 3 / 2) (4 * MAX_REPLY_BYTES)
+owed_bytes p owed = max (owed * average_of p * 2) (4 * MAX_REPLY_BYTES)
 
--- A further command of a client with n unfinished bytes has room: what is kept, what the owed steps may bring, and n bytes of
--- the command and n of its answer fit. Where nothing is owed and there is no payload, it always has.
+-- A further command of a client with n unfinished bytes has room: what is kept, what the owed steps may bring, the texts of errors,
+-- and n bytes of the command and n of its answer fit. Where nothing is owed and there is no payload, it always has.
 abbrev pub HasRoomForCommand : PayloadState → ℕ → ℕ → Type 0
 HasRoomForCommand p owed unfinished =
-    (kept_bytes p + owed_bytes p owed + 2 * unfinished ≤ MAX_BYTES) ⊎ ((owed ≡ 0) × (p.used ≡ 0))
+    (kept_bytes p + owed_bytes p owed + MAX_ERROR_BYTES + 2 * unfinished ≤ MAX_BYTES) ⊎ ((owed ≡ 0) × (p.used ≡ 0))
 
 -- Hosts' replies of which n bytes have come have room: what is kept, n bytes and one more read, as many to hand them out, and
 -- the texts of errors fit.

@@ -1,20 +1,24 @@
 //! Laws that follow from the contracts.
 ghost use Rattle.proxy_generations.specs.BudgetLaws.{CommandFits, OwedFits, OwedIsPaid, PaysAtFirst, PaysOnceLent, PaysOnceNoted, PaysOnceSettled};
-ghost use Rattle.proxy_generations.specs.Laws.{AllOpenInTurn, GivenUpIfNear, NewestHandsOver, NewestIsAnother, OneIsOpen, StopsIfFull, TwoHaveConnections};
+ghost use Rattle.proxy_generations.specs.Laws.{AllOpenInTurn, DrainInOrder, FewDrain, GivenUpIfNear, NewestHandsOver, OldestIsInTheWay, OneIsOpen, OpenHaveConnections, StopsIfFull};
 
-/// At most two generations have connections: the newest one, and the one that opened before it. From the first opening
-/// on there is a newest one. The next one opens only once the older one has no connections. It starts from the handover
-/// of the newest one, which is still the newest.
+/// At most `MAX_GENERATIONS` generations have connections: the newest one, and those that drain, which opened before it
+/// one after another. From the first opening on there is a newest one. The next one opens only while one more may drain.
+/// It starts from the handover of the newest one, which is still the newest.
 ///
-/// The older one is given up only if the newest one was near its marks while the older one had connections. By then no
-/// host had answered its commands for `STILL_MS` milliseconds, or it had drained for `MAX_DRAINING_MS`. It stops only
-/// if the newest one was full while the older one had connections, at least `GIVING_UP_MS` milliseconds after it was near.
+/// Only one in the way of the next is given up or stops: the oldest, where as many drain as may. By then as many
+/// generations have opened, with it, as may have connections. It is given up only if the newest one was near its marks
+/// while it was in the way. By then no host had answered its commands for `STILL_MS` milliseconds, or the newest one had
+/// been open for `MAX_DRAINING_MS`. It stops only if the newest one was full while it was in the way, at least
+/// `GIVING_UP_MS` milliseconds after the newest one was near.
 pub fn generations_follow<H>()
-    ensures two { TwoHaveConnections H }
-    ensures apart { NewestIsAnother H }
+    ensures connections { OpenHaveConnections H }
+    ensures few { FewDrain H }
+    ensures in_order { DrainInOrder H }
     ensures one_is_open { OneIsOpen H }
     ensures hands_over { NewestHandsOver H }
     ensures in_turn { AllOpenInTurn H }
+    ensures oldest { OldestIsInTheWay H }
     ensures given_up { GivenUpIfNear H }
     ensures stops { StopsIfFull H }
 {}

@@ -9,6 +9,7 @@ mod budget;
 mod laws;
 mod lifecycle;
 mod marks;
+mod older;
 mod opened;
 mod payload;
 mod step_kind;

@@ -1,10 +1,11 @@
 //! The task of each generation.
-ghost use Rattle.std.specs.Prelude.{◌≡◌, ◌↔◌, true, [], List, IsTrue};
+ghost use Rattle.std.specs.Prelude.{◌≡◌, ◌↔◌, true, [], List, IsTrue, Contains, slice_get, Some, IsNone, IfSome, length};
 ghost use Rattle.std.specs.Option.{SomeIff};
-ghost use Rattle.proxy_generations.specs.Events.{Event, Opened, Failed, Near, Full, Progressed, Drained, Swept, newest, draining, has_connections, last_sweep};
+ghost use Rattle.proxy_generations.specs.Events.{Event, Opened, Failed, Near, Full, Renewed, Progressed, Drained, Swept, newest, draining, has_connections, last_sweep};
 ghost use Rattle.proxy_generations.specs.History.{MayHappen};
 ghost use Rattle.proxy_generations.specs.Moments.{HavePassed};
 
+use crate::older::Older;
 use crate::opened::Open;
 use limits::{GIVING_UP_MS, MAX_DRAINING_MS, STILL_MS};
 use std::mem;
@@ -16,7 +17,7 @@ pub enum Phase {
     Serving,
     /// It takes in nothing more, and answers what it accepted.
     Draining,
-    /// As `Draining`, and the parts that wait for hosts are given up: its links are closed.
+    /// It is the one in the way, and the parts that wait for hosts are given up: its links are closed.
     GivingUp,
     /// Its connections are closed at once.
     Stopped,
@@ -51,18 +52,18 @@ pub struct Generations<H> {
     // The number of failures left before the server ends.
     tries_left: u32,
     newest: Option<Open>,
-    // The one before, while it has connections.
-    older: Option<Open>,
+    // Those before it that have connections.
+    older: Older,
     // The moment since which the newest one is near its marks.
     near_since: Option<u64>,
-    // The moment when a host last answered commands of the older one, or when that began to drain.
+    // The moment when a host last answered commands of the one in the way, or when the newest one opened.
     still_since: Option<u64>,
     // The moment when the newest one opened.
     drains_since: Option<u64>,
     next: NextGeneration<H>,
     // The number of generations asked for, beside the first; it is the next one's number.
     asked: u64,
-    // The last sweep known to the newest one when it was full.
+    // The last sweep known to the newest one when it last handed over.
     handed_sweep: Option<u64>,
 }
 
@@ -88,6 +89,7 @@ impl<H: Drop> Drop for Generations<H> {
 impl<H: Drop> Generations<H> {
     ghost use Rattle.proxy_generations.specs.Phase.{IsPhase};
     ghost use Rattle.proxy_generations.specs.OpenGenerations.{HadTime, MayBeLeft};
+    ghost use Rattle.proxy_generations.specs.Older.{first_if_full, numbers_of};
     ghost use Rattle.proxy_generations.specs.GenerationsState.{Settings, Stands, Tells, Gives, EndsServing, IsSweepDue};
 
     /// No generation is open, and the first one, number 0, is due without a handover. A sweep is due every
@@ -101,7 +103,7 @@ impl<H: Drop> Generations<H> {
             max_failures,
             tries_left: max_failures,
             newest: None,
-            older: None,
+            older: Older::new(),
             near_since: None,
             still_since: None,
             drains_since: None,
@@ -111,12 +113,12 @@ impl<H: Drop> Generations<H> {
         }
     }
 
-    /// The generation to open, returned once: one is wanted, and the older one has no connections. It is being opened
-    /// until `opened` or `failed`.
+    /// The generation to open, returned once: one is wanted, and of those that drain there are fewer than may be. It is
+    /// being opened until `opened` or `failed`.
     pub fn take_due(&mut self) -> Option<Due<H>>
         ensures { Gives result self.old self.new }
     {
-        if self.older.is_some() {
+        if !self.older.has_room() {
             return None;
         }
         match mem::replace(&mut self.next, NextGeneration::Unasked) {
@@ -151,7 +153,7 @@ impl<H: Drop> Generations<H> {
         ensures { Tells (Opened number now) self.old self.new }
     {
         if self.is_opening(number) {
-            self.older = self.newest;
+            self.older.add(self.newest);
             self.newest = Some(Open {
                 number,
                 swept: self.handed_sweep.unwrap_or(now),
@@ -180,22 +182,22 @@ impl<H: Drop> Generations<H> {
         self.tries_left == 0 || self.newest.is_none()
     }
 
-    // Whether an older one may be given up at this moment: there is none, no host has answered it for long enough, or
-    // it has drained too long.
+    // Whether the one in the way may be given up at this moment: there is none, no host has answered it for long enough, or
+    // it has been in the way too long.
     fn may_be_left(&self, now: u64) -> bool
         ensures { IsTrue result ↔ MayBeLeft self.now now }
     {
-        self.older.is_none()
+        self.older.has_room()
             || have_passed(self.still_since, STILL_MS, now)
             || have_passed(self.drains_since, MAX_DRAINING_MS, now)
     }
 
-    /// The newest generation is near its marks at the moment `now`: an older one that still has connections is given
-    /// up. Of several calls the first moment counts.
+    /// The newest generation is near its marks at the moment `now`: the one in the way, if there is one, is given up. Of
+    /// several calls the first moment counts.
     ///
-    /// Ignored unless `by` is the newest one. Ignored while hosts answer commands of an older one: within `STILL_MS`
-    /// milliseconds of the last answer, or of the moment when it began to drain. This holds until it has drained for
-    /// `MAX_DRAINING_MS` milliseconds.
+    /// Ignored unless `by` is the newest one. Ignored while hosts answer commands of the one in the way: within
+    /// `STILL_MS` milliseconds of the last answer, or of the moment when the newest one opened. This holds until the
+    /// newest one has been open for `MAX_DRAINING_MS` milliseconds.
     pub fn near(&mut self, by: u64, now: u64)
         ensures { Tells (Near by now) self.old self.new }
     {
@@ -204,19 +206,20 @@ impl<H: Drop> Generations<H> {
         }
     }
 
-    // Whether the next one may be asked for at this moment: there is no older one, or it has been given up long enough.
+    // Whether the next one may be asked for at this moment: none is in the way, or that has been given up long enough.
     fn has_given_up(&self, now: u64) -> bool
         ensures { IsTrue result ↔ HadTime self.now now }
     {
-        self.older.is_none() || have_passed(self.near_since, GIVING_UP_MS, now)
+        self.older.has_room() || have_passed(self.near_since, GIVING_UP_MS, now)
     }
 
     /// The newest generation has reached its marks at the moment `now`, or accepts nothing more: the next one is
-    /// wanted, from this handover. An older one that still has connections stops, and the next one is due once it has none.
+    /// wanted, from this handover or the last one by `renew`. The one in the way, if there is one, stops, and the next one is due once one of those
+    /// that drain has no connections.
     ///
     /// Ignored, and the handover dropped, unless `by` is the newest one and none is wanted or being opened. The same
-    /// happens while an older one has connections, unless it has been given up for `GIVING_UP_MS` milliseconds, and
-    /// once 2^64 generations were asked for.
+    /// happens while one is in the way, unless it has been given up for `GIVING_UP_MS` milliseconds, and once 2^64
+    /// generations were asked for.
     pub fn full(&mut self, by: u64, now: u64, handover: H)
         ensures { Tells (Full by now handover) self.old self.new }
     {
@@ -236,21 +239,41 @@ impl<H: Drop> Generations<H> {
         }
     }
 
-    /// A host has answered commands of the draining generation by the moment `now`. Ignored unless it is the older one.
+    /// The newest generation hands over anew, while the next one waits to be opened: that starts from this handover.
+    /// `None`: so it is. Otherwise the handover comes back, and nothing changes: `by` isn't the newest one, or the next one
+    /// isn't wanted or is being opened.
+    pub fn renew(&mut self, by: u64, handover: H) -> Option<H>
+        ensures tells { Tells (Renewed by handover) self.old self.new }
+        ensures taken { (s : Settings) (es : List (Event H)) → Stands self.old s es
+            → IsNone result ↔ MayHappen (Renewed by handover) es }
+        ensures back { IfSome result (λ h. h ≡ handover) }
+    {
+        let (NextGeneration::Wanted(_), Some(newest)) = (&self.next, self.newest) else {
+            return Some(handover);
+        };
+        if newest.number != by {
+            return Some(handover);
+        }
+        self.next = NextGeneration::Wanted(Some(handover));
+        self.handed_sweep = Some(newest.swept);
+        None
+    }
+
+    /// A host has answered commands of a draining generation by the moment `now`. Ignored unless it is the one in the way.
     pub fn progressed(&mut self, number: u64, now: u64)
         ensures { Tells (Progressed number now) self.old self.new }
     {
-        if Open::has_number(self.older, number) {
+        if self.is_in_the_way(number) {
             self.still_since = Some(now);
         }
     }
 
-    /// The draining generation has no connection left. Ignored unless it is the older one.
+    /// A draining generation has no connection left. Ignored unless it drains.
     pub fn drained(&mut self, number: u64)
         ensures { Tells (Drained number) self.old self.new }
     {
-        if Open::has_number(self.older, number) {
-            self.older = None;
+        if self.older.has(number) {
+            self.older.remove(number);
         }
     }
 
@@ -263,8 +286,11 @@ impl<H: Drop> Generations<H> {
         if Open::has_number(self.newest, number) {
             return Phase::Serving;
         }
-        if !Open::has_number(self.older, number) {
+        if !self.older.has(number) {
             return Phase::Stopped;
+        }
+        if !self.is_in_the_way(number) {
+            return Phase::Draining;
         }
         match &self.next {
             NextGeneration::Wanted(_) => Phase::Stopped,
@@ -290,18 +316,42 @@ impl<H: Drop> Generations<H> {
     {
         match Open::sweep_of(self.newest, number) {
             Some(moment) => Some(moment),
-            None => Open::sweep_of(self.older, number),
+            None => self.older.sweep_of(number),
         }
     }
 
-    /// The number of the draining one: it opened before the newest, and has connections.
-    pub fn older(&self) -> Option<u64>
+    /// The number of the one that drains and that this many others that drain opened before; `None` if there are fewer.
+    pub fn older_at(&self, index: usize) -> Option<u64>
         ensures { (s : Settings) (es : List (Event H)) → Stands self.now s es
-            → result ≡ draining es }
+            → result ≡ slice_get (draining es) index }
     {
-        match self.older {
-            None => None,
-            Some(older) => Some(older.number),
+        self.older.number_at(index)
+    }
+
+    /// The number of generations that drain.
+    pub fn drain_count(&self) -> u64
+        ensures { (s : Settings) (es : List (Event H)) → Stands self.now s es
+            → result ≡ length (draining es) }
+    {
+        self.older.len() as u64
+    }
+
+    /// Whether the generation drains: it opened before the newest, and has connections.
+    pub fn drains(&self, number: u64) -> bool
+        ensures { (s : Settings) (es : List (Event H)) → Stands self.now s es
+            → IsTrue result ↔ Contains (draining es) number }
+    {
+        self.older.has(number)
+    }
+
+    // Whether this one is in the way of the next: it is the oldest of those that drain, and no further one may.
+    fn is_in_the_way(&self, number: u64) -> bool
+        ensures { IsTrue result
+            ↔ (first_if_full (numbers_of self.now.older.kept.items) ≡ Some number) }
+    {
+        match self.older.in_the_way() {
+            None => false,
+            Some(way) => way == number,
         }
     }
 
@@ -323,8 +373,11 @@ impl<H: Drop> Generations<H> {
     pub fn swept(&mut self, number: u64, now: u64)
         ensures { Tells (Swept number now) self.old self.new }
     {
-        self.newest = Open::swept_at(self.newest, number, now);
-        self.older = Open::swept_at(self.older, number, now);
+        if Open::has_number(self.newest, number) {
+            self.newest = Some(Open { number, swept: now });
+        } else if self.older.has(number) {
+            self.older.sweep(number, now);
+        }
     }
 }
 

@@ -2,13 +2,14 @@
 ghost use Rattle.std.specs.Prelude.{◌≡◌, ◌↔◌, Some, IsTrue, IfSome, IsNone};
 
 /// An open generation: its number, and the last sweep that it knows.
-#[derive(Clone, Copy)]
+#[derive(Clone, Copy, Default)]
 pub(crate) struct Open {
     pub(crate) number: u64,
     pub(crate) swept: u64,
 }
 
 impl Open {
+    ghost use Rattle.proxy_generations.specs.Older.{swept_at};
     ghost use Rattle.proxy_generations.specs.OpenGenerations.{IsNumber};
 
     /// Whether there is one, with this number.
@@ -22,14 +23,13 @@ impl Open {
     }
 
     /// The generation, once the one of this number has swept at the moment `now`.
-    pub(crate) fn swept_at(kept: Option<Open>, number: u64, now: u64) -> Option<Open>
-        ensures same { IsNumber kept number
-            → result ≡ Some (record { number = number; swept = now }) }
-        ensures other { ¬ IsNumber kept number → result ≡ kept }
+    pub(crate) fn swept_at(self, number: u64, now: u64) -> Open
+        ensures { result ≡ swept_at number now self }
     {
-        match kept {
-            Some(kept) if kept.number == number => Some(Open { number, swept: now }),
-            other => other,
+        if self.number == number {
+            Open { number, swept: now }
+        } else {
+            self
         }
     }
 

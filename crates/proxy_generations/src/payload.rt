@@ -117,10 +117,11 @@ impl Payload {
         if owed == 0 && self.used == 0 {
             return true;
         }
-        let by_average = owed.saturating_mul(self.average()).saturating_mul(3) / 2;
+        let by_average = owed.saturating_mul(self.average()).saturating_mul(2);
         let room = by_average.max(4 * MAX_REPLY_BYTES);
         self.kept()
             .saturating_add(room)
+            .saturating_add(MAX_ERROR_BYTES)
             .saturating_add(unfinished.saturating_mul(2))
             <= MAX_BYTES
     }

@@ -171,8 +171,7 @@ fn run_client<
 
 // Whether the newest step is a command with parts for hosts.
 fn asks_hosts(core: &Core) -> bool {
-    let journal = core.journal();
-    match journal.get(journal.len().saturating_sub(1)) {
+    match core.journal().last() {
         Some(
             Step {
                 answer: Answer::Accepted { parts, .. },

@@ -28,6 +28,7 @@ pub(crate) enum Number {
     Connections,
     Closed,
     Generations,
+    Draining,
     Turns,
     Ready,
     Ending,
@@ -123,7 +124,7 @@ pub(crate) fn answer_word(answer: usize) -> &'static str
 }
 
 /// The number of metrics.
-pub(crate) const METRIC_COUNT: usize = 24;
+pub(crate) const METRIC_COUNT: usize = 25;
 
 /// All metrics, in the order of the page.
 pub(crate) const METRICS: [Metric; METRIC_COUNT] = [
@@ -226,7 +227,7 @@ pub(crate) const METRICS: [Metric; METRIC_COUNT] = [
     Metric {
         name: "redproxy_client_connections",
         kind: Kind::Gauge,
-        help: "Connections of clients that are open.",
+        help: "Sockets of clients that are open.",
         numbers: Numbers::One(Number::Connections),
     },
     Metric {
@@ -240,6 +241,12 @@ pub(crate) const METRICS: [Metric; METRIC_COUNT] = [
         kind: Kind::Counter,
         help: "Generations that were opened.",
         numbers: Numbers::One(Number::Generations),
+    },
+    Metric {
+        name: "redproxy_generations_draining",
+        kind: Kind::Gauge,
+        help: "Generations that take in nothing more and have connections.",
+        numbers: Numbers::One(Number::Draining),
     },
     Metric {
         name: "redproxy_turns_total",

@@ -18,12 +18,10 @@ impl Number {
             Number::Ejections => snapshot.counts.ejections,
             Number::Kept => snapshot.counts.kept,
             Number::Panic => u64::from(serving.load.in_panic),
-            Number::Connections => serving
-                .load
-                .connections
-                .saturating_add(draining.load.connections),
+            Number::Connections => snapshot.connections,
             Number::Closed => snapshot.closed,
             Number::Generations => snapshot.generations,
+            Number::Draining => snapshot.draining_count,
             Number::Turns => snapshot
                 .past_steps
                 .saturating_add(serving.steps)

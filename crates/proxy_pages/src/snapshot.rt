@@ -75,8 +75,14 @@ pub struct Snapshot {
     /// The generation that takes new connections.
     pub serving: Look,
 
-    /// The one before it, until its last connection is gone.
+    /// All generations that drain, added up: those before it that have connections.
     pub draining: Look,
+
+    /// The number of generations that drain.
+    pub draining_count: u64,
+
+    /// The number of open client sockets, in all generations.
+    pub connections: u64,
 
     /// The number of closed client connections.
     pub closed: u64,

@@ -1,3 +1,6 @@
 mod ThreadSharing
 pub mod SocketLemmas
+pub mod PlaceLemmas
+pub mod TaskLemmas
+pub mod AssignedLemmas
 pub mod WorkerConnectionLemmas

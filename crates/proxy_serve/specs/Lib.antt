@@ -1,2 +1,4 @@
 pub mod Sockets
+pub mod Places
+pub mod Tasks
 pub mod WorkerConnections

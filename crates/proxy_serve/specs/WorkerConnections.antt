@@ -12,13 +12,15 @@ use Rattle.proxy_engines.specs.Turns.{own_steps}
 use Rattle.proxy_engines.specs.Client.{Client as Engine}
 use Rattle.proxy_stats.specs.declared.counted_seat.CountedSeat.{CountedSeat}
 use Rattle.proxy_serve.specs.Sockets.{KeepsHost}
+use Rattle.proxy_serve.specs.Places.{IsOf, KeepsToPlace, Place}
 use Rattle.proxy_serve.specs.declared.client.Client.{Client}
 use Rattle.proxy_serve.specs.declared.client.SocketStage.{SocketStage}
 use Rattle.proxy_serve.specs.declared.client.Stepped.{Stepped}
 use Rattle.proxy_serve.specs.declared.host_connection.HostConnection.{HostConnection}
 
--- a worker's clients by their keys, its hosts, and the steps that it made, the newest first
+-- a worker's place, its clients by their keys, its hosts, and the steps that it made, the newest first
 pub record WorkerConnectionsState : Type 0 where
+  pub place : Place
   pub clients : Slab Client
   pub hosts : List HostConnection
   pub steps : History
@@ -46,21 +48,23 @@ number_of host = host.engine.outbox.host
 abbrev pub CarriesLink : History → HostConnection → Type 0
 CarriesLink steps host = CarriesHostLogs host.engine.outbox host.engine.link steps no_logs
 
--- Each host's engine carries its link's logs, and no host stands twice.
-pub record ServesHosts (hosts : List HostConnection) (steps : History) : Type 0 where
+-- Each host's engine carries its link's logs, each host is of this place, and no host stands twice.
+pub record ServesHosts (place : Place) (hosts : List HostConnection) (steps : History) : Type 0 where
   pub carries : All (CarriesLink steps) hosts
+  pub own : All (λ host. IsOf place (number_of host)) hosts
   pub apart : (i j : ℕ) (one two : HostConnection) → i < length hosts → j < length hosts
       → number_of (slice_index_or hosts i one) ≡ number_of (slice_index_or hosts j two) → i ≡ j
 
 -- some hosts over no steps, each with a number below this one
-pub record RiseTo (hosts : List HostConnection) (next : ℕ) : Type 0 where
-  pub serves : ServesHosts hosts []
+pub record RiseTo (place : Place) (hosts : List HostConnection) (next : ℕ) : Type 0 where
+  pub serves : ServesHosts place hosts []
   pub below : All (λ host. number_of host < next) hosts
 
--- A worker's clients and hosts are served, over the steps that it made.
-pub record IsServing (clients : Slab Client) (hosts : List HostConnection) (steps : History) : Type 0 where
+-- A worker's clients and hosts are served, over the steps that it made, and none of these is of a host of another place.
+pub record IsServing (place : Place) (clients : Slab Client) (hosts : List HostConnection) (steps : History) : Type 0 where
   pub clients_are : ServesClients clients steps
-  pub hosts_are : ServesHosts hosts steps
+  pub hosts_are : ServesHosts place hosts steps
+  pub keeps : KeepsToPlace place steps
 
 -- An engine that is no client's yet: it carries all that its socket's logs hold, steps were made of its connection, and no client
 -- has the same.
@@ -78,6 +82,7 @@ steps_of seat = own_steps seat.seated.pass.number seat.seated.pass.known.seen
 -- Nothing but the client at this key has changed, if there is one. It is there still, and its engine carries what it carried of its
 -- socket's logs: the steps made are its connection's alone.
 pub record ChangesClient (key : ℕ) (old new : WorkerConnectionsState) : Type 0 where
+  pub place : new.place ≡ old.place
   pub hosts : new.hosts ≡ old.hosts
   pub others : (other : ℕ) → other ≢ key → get new.clients other ≡ get old.clients other
   pub stays : (client : Client) → IsAt old.clients key client
@@ -87,6 +92,7 @@ pub record ChangesClient (key : ℕ) (old new : WorkerConnectionsState) : Type 0
 -- Nothing but the host at this index has changed, if there is one. Its engine carries what it carried of its link's logs: the steps
 -- made are the host's alone.
 pub record ChangesHost (index : ℕ) (old new : WorkerConnectionsState) : Type 0 where
+  pub place : new.place ≡ old.place
   pub clients : new.clients ≡ old.clients
   pub many : length new.hosts ≡ length old.hosts
   pub others : (i : ℕ) (d : HostConnection) → i ≢ index → slice_index_or new.hosts i d ≡ slice_index_or old.hosts i d
@@ -101,6 +107,7 @@ KeepsClients old new = (key : ℕ) (client : Client) → IsAt old key client →
 -- Each client is where it was, as it was, and at most one has come. The steps made, if any, are of one connection, which had none
 -- before.
 pub record AddsClient (old new : WorkerConnectionsState) : Type 0 where
+  pub place : new.place ≡ old.place
   pub hosts : new.hosts ≡ old.hosts
   pub stay : KeepsClients old.clients new.clients
   pub conn : ℕ
@@ -111,12 +118,14 @@ pub record AddsClient (old new : WorkerConnectionsState) : Type 0 where
 
 -- the client at this key, if there is one, is gone, and nothing else has changed
 pub record RemovesClient (key : ℕ) (old new : WorkerConnectionsState) : Type 0 where
+  pub place : new.place ≡ old.place
   pub hosts : new.hosts ≡ old.hosts
   pub steps : new.steps ≡ old.steps
   pub clients : Updates old.clients new.clients key None
 
 -- there is room for more clients, and nothing else has changed
 pub record MakesRoom (old new : WorkerConnectionsState) : Type 0 where
+  pub place : new.place ≡ old.place
   pub hosts : new.hosts ≡ old.hosts
   pub steps : new.steps ≡ old.steps
   pub clients : SameValues old.clients new.clients

@@ -1,6 +1,7 @@
 //! A generation: a journal, its gate, and the threads that make turns at it.
-ghost use Rattle.std.specs.Prelude.{◌≡◌, [], IfOk, ⊤};
+ghost use Rattle.std.specs.Prelude.{◌≡◌, [], IfOk, None, Some, ⊤};
 ghost use Rattle.ticket_gate.specs.Gate.{IsSpareOf};
+ghost use Rattle.proxy_serve.specs.Tasks.{HaveOwnPlaces, place_of};
 ghost use Rattle.proxy_serve.specs.WorkerConnections.{steps_of};
 ghost use Rattle.proxy_config.specs.RingParts.{AreRingParts};
 
@@ -11,7 +12,7 @@ use crate::worker::{WAKER, WorkerSetup};
 use crossbeam_utils::CachePadded;
 use mio::{Poll, Waker};
 use proxy_config::Config;
-use proxy_core::{Core, Handover, Settings};
+use proxy_core::{CountingCore, Handover, Settings};
 use proxy_engines::{EngineError, Work, run_all};
 use proxy_exit_status::Ending;
 use proxy_generations::{Due, Marks};
@@ -108,8 +109,8 @@ fn core(
         return Err(Ending::Memory);
     };
     let made = match from {
-        None => Core::new(alloc, ring, settings(config)),
-        Some(from) => Core::new_from(alloc, ring, settings(config), from),
+        None => CountingCore::new(alloc, ring, settings(config)),
+        Some(from) => CountingCore::new_from(alloc, ring, settings(config), from),
     };
     let Ok(core) = made else {
         return Err(Ending::Memory);
@@ -142,12 +143,14 @@ fn work_task<'a, R: Wait>(
     gate: &'a Gate<Counted>,
     spare: Spare<Counted>,
     index: usize,
+    workers: usize,
     poll: Poll,
 ) -> Result<Task<'a>, Ending>
     requires { IsSpareOf gate.now spare }
+    ensures { IfOk result (λ task. place_of task ≡ Some (record { index = index; workers = workers })) }
 {
     let seat = seat(rt, gate, spare)?;
-    Ok(Task::Work(WorkerSetup::new(context, index, poll, seat)))
+    Ok(Task::Work(WorkerSetup::new(context, index, workers, poll, seat)))
 }
 
 // The task that sweeps and opens the generation, with a place at the gate.
@@ -159,21 +162,25 @@ fn sweep_task<'a, R: Wait>(
     wakers: Vec<Waker>,
 ) -> Result<Task<'a>, Ending>
     requires { IsSpareOf gate.now spare }
+    ensures { IfOk result (λ task. place_of task ≡ None) }
 {
     let seat = seat(rt, gate, spare)?;
     Ok(Task::Sweep(SweepThread::new(context, seat, wakers)))
 }
 
-// A worker's task for each poll, and the task that sweeps and opens the generation.
+// A worker's task for each poll, and the task that sweeps and opens the generation. Each worker has a place of its own among
+// these many workers.
 fn tasks<'a, R: Wait>(
     rt: &R,
     context: ThreadContext<'a>,
     gate: &'a Gate<Counted>,
     spare: Spare<Counted>,
+    workers: usize,
     polls: Vec<Poll>,
     wakers: Vec<Waker>,
 ) -> Result<Vec<Task<'a>>, Stop>
     requires { IsSpareOf gate.now spare }
+    ensures { IfOk result (λ tasks. HaveOwnPlaces workers tasks.items) }
 {
     let mut tasks = Vec::new(context.alloc);
     let mut spare = spare;
@@ -181,7 +188,7 @@ fn tasks<'a, R: Wait>(
     for poll in polls {
         let (one, rest) = gate.split(spare);
         spare = rest;
-        tasks.push(work_task(rt, context, gate, one, index, poll)?)?;
+        tasks.push(work_task(rt, context, gate, one, index, workers, poll)?)?;
         index = index.saturating_add(1);
     }
     tasks.push(sweep_task(rt, context, gate, spare, wakers)?)?;
@@ -357,7 +364,8 @@ fn run_threads<'a, R: ServeRuntime>(
 ) -> Result<(), Stop>
     requires { IsSpareOf gate.now spare }
 {
-    let tasks = tasks(rt, context, gate, spare, polls, wakers)?;
+    let workers = context.generation.server().workers();
+    let tasks = tasks(rt, context, gate, spare, workers, polls, wakers)?;
     if run_all(rt, context.alloc, tasks).is_err() || !context.generation.has_begun() {
         return Err(Stop::from(Ending::Memory));
     }

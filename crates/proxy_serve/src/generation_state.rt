@@ -44,6 +44,10 @@ pub(crate) struct GenerationState<'a> {
     come: AtomicU64,
     // STARTING, BEGUN or GIVEN_UP.
     start: AtomicU8,
+    // The number of its workers that may still take in commands.
+    taking: AtomicU64,
+    // Whether a worker has seen that it is to stop.
+    is_stopped: AtomicBool,
     /// The room in its journal.
     pub(crate) room: JournalRoom,
 }
@@ -58,6 +62,8 @@ impl Drop for GenerationState<'_> {
             notices: _,
             come: _,
             start: _,
+            taking: _,
+            is_stopped: _,
             room: _,
         } = self;
     }
@@ -101,7 +107,7 @@ impl<'a> GenerationState<'a> {
         workers: Vec<CachePadded<WorkerStatus>>,
         notices: Arc<Notices>,
     ) -> GenerationState<'a> {
-        let room = JournalRoom::new(workers.len() as u64, average);
+        let count = workers.len() as u64;
         GenerationState {
             server,
             number,
@@ -109,7 +115,9 @@ impl<'a> GenerationState<'a> {
             notices,
             come: AtomicU64::new(0),
             start: AtomicU8::new(STARTING),
-            room,
+            taking: AtomicU64::new(count),
+            is_stopped: AtomicBool::new(false),
+            room: JournalRoom::new(count, average),
         }
     }
 
@@ -166,6 +174,22 @@ impl<'a> GenerationState<'a> {
         self.start.load(Ordering::SeqCst) == BEGUN
     }
 
+    /// Whether it is the newest open generation, or was.
+    pub(crate) fn has_opened(&self) -> bool {
+        self.server.has_opened(self.number)
+    }
+
+    /// Counts a worker that takes in no further command, once it has opened. Each calls it once.
+    pub(crate) fn stop_taking(&self) {
+        self.taking.fetch_sub(1, Ordering::SeqCst);
+    }
+
+    /// Whether no worker here takes in a further command and a newer generation is open: no further part comes for any
+    /// host.
+    pub(crate) fn takes_nothing(&self) -> bool {
+        self.taking.load(Ordering::SeqCst) == 0 && self.server.phase(self.number) != Phase::Serving
+    }
+
     /// The state of a worker.
     pub(crate) fn worker(&self, index: usize) -> Option<&WorkerStatus> {
         match self.workers.get(index) {
@@ -174,14 +198,20 @@ impl<'a> GenerationState<'a> {
         }
     }
 
-    /// As `Server::phase`, but `Draining` once the room accepts no further commands. Sockets wait in the queues while it takes in
-    /// nothing and no newer generation is open.
+    /// As `Server::phase`, but `Draining` once the room accepts no further commands, and `Stopped` once it was: a worker that
+    /// stops counts on the others to do so, also where the generation is in nobody's way any more. Sockets wait in the queues
+    /// while it takes in nothing and no newer generation is open.
     pub(crate) fn phase(&self) -> Phase {
-        let phase = self.server.phase(self.number);
-        if phase == Phase::Serving && self.room.is_full() {
-            Phase::Draining
-        } else {
-            phase
+        if self.is_stopped.load(Ordering::SeqCst) {
+            return Phase::Stopped;
+        }
+        match self.server.phase(self.number) {
+            Phase::Serving if self.room.is_full() => Phase::Draining,
+            Phase::Stopped => {
+                self.is_stopped.store(true, Ordering::SeqCst);
+                Phase::Stopped
+            }
+            other => other,
         }
     }
 

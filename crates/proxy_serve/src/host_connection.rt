@@ -186,6 +186,14 @@ impl HostConnection {
         }
     }
 
+    /// Whether nothing is left to do unless further parts come: none was sent without a reply, and none waited when its last
+    /// round ended.
+    pub(crate) fn is_at_rest(&self) -> bool {
+        !self.has_more
+            && !self.engine.awaits_reply()
+            && !matches!(self.link, LinkState::Connecting { .. })
+    }
+
     /// Whether a round can make progress, where no new parts wait.
     pub(crate) fn may_go(&self, now: u64) -> bool {
         self.has_more || now.saturating_sub(self.looked) >= LOOK_MS || self.has_event()

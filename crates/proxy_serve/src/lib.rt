@@ -15,6 +15,7 @@ mod client;
 mod generation;
 mod generation_state;
 mod host_connection;
+mod laws;
 mod server;
 mod serving;
 mod socket;
@@ -23,6 +24,7 @@ mod worker;
 mod worker_connections;
 
 pub use generation::ServeRuntime;
+pub use laws::{assigned_hosts_have_one_pass, passes_share_no_host};
 pub use proxy_admin::Admin;
 pub use proxy_generations::Marks;
 pub use proxy_server::{Failure, Level, Log, Stop};

@@ -4,7 +4,7 @@ ghost use Rattle.proxy_config.specs.RingParts.{AreRingParts};
 
 use crate::generation::{ServeRuntime, ServerContext, run_generation};
 use crate::server::Server;
-use limits::SIGNAL_MS;
+use limits::{MAX_GENERATIONS, SIGNAL_MS};
 use mio::net::TcpListener;
 use mio::{Events, Interest, Poll, Token, Waker};
 use proxy_admin::{Admin, AdminListener};
@@ -14,7 +14,8 @@ use proxy_generations::Marks;
 use proxy_serve_core::{Asked, RoundRobin, asked_by_signals, is_term_blocked};
 use proxy_server::{Level, Log, Stop, now};
 use proxy_stats::Counts;
-use std::alloc::Global;
+use std::alloc::{AllocError, Global};
+use std::collections::VecDeque;
 use std::fs::File;
 use std::io::{ErrorKind, Read, Seek, SeekFrom, Write};
 use std::net::{Net, SocketAddr};
@@ -256,7 +257,8 @@ pub struct Options {
 /// It drains when SIGTERM or SIGINT waits for the process, by `status`: no further client is accepted, what has come is
 /// answered, and then each connection is closed. If both wait it ends at once.
 ///
-/// The next journal opens when one has reached the marks. At most two have connections at a time, and three are kept.
+/// The next journal opens when one has reached the marks. At most `MAX_GENERATIONS` have connections at a time, and one more
+/// is kept.
 ///
 /// Stops with `Socket` (5), and what failed, where the listener, a poll or the writer fails. Stops with `Memory` (6)
 /// where memory was refused at the start or 1,000 times in a row to one thing, and with `Spent` (7) where a gate has no
@@ -361,6 +363,7 @@ fn serve_on<R: ServeRuntime>(
 {
     let server = context.server;
     let mut events = Events::with_capacity(alloc, 4)?;
+    let mut threads = GenerationThreads::new(alloc)?;
     thread::scope(
         thread::scope_env(),
         rt,
@@ -368,7 +371,6 @@ fn serve_on<R: ServeRuntime>(
             requires { AreRingParts context.config.now.hosts.items
                 context.config.now.weights.items }
         {
-            let mut threads = GenerationThreads::new();
             if let Some(admin) = admin {
                 if scope.spawn(move || run_admin(rt, admin, context)).is_err() {
                     server.end(rt, Stop::from(Ending::Memory));
@@ -388,7 +390,7 @@ fn serve_on<R: ServeRuntime>(
                         { run_generation(rt, alloc, context, due) },
                     );
                     match begun {
-                        Ok(handle) => threads.add(number, handle),
+                        Ok(handle) => threads.add(rt, number, handle),
                         Err(_) => server.fail(rt, number, Stop::from(Ending::Memory)),
                     }
                 }
@@ -402,56 +404,67 @@ fn serve_on<R: ServeRuntime>(
     Ok(())
 }
 
-// Waits until the thread of a generation has ended, if there is one.
-fn join<R: Threads>(rt: &R, generation: Option<JoinHandle<()>>) {
-    if let Some(handle) = generation {
-        handle.join(rt);
-    }
+// The thread of one generation.
+#[derive(Drop)]
+struct GenerationThread {
+    number: u64,
+    handle: JoinHandle<()>,
 }
 
-/// The threads of the latest generations. At most two of these have connections; the third closes its gate.
+/// The threads of the latest generations, the oldest first. All but one of these have connections; that closes its gate.
 #[derive(Drop)]
 struct GenerationThreads {
-    newest: Option<JoinHandle<()>>,
-    // The newest one's number.
-    number: u64,
-    older: Option<JoinHandle<()>>,
-    oldest: Option<JoinHandle<()>>,
+    threads: VecDeque<GenerationThread>,
 }
 
 impl GenerationThreads {
-    // No generation has a thread yet.
-    fn new() -> GenerationThreads {
-        GenerationThreads {
-            newest: None,
-            number: 0,
-            older: None,
-            oldest: None,
+    // No generation has a thread yet. There is room for as many as there can be.
+    fn new(alloc: Global) -> Result<GenerationThreads, AllocError> {
+        Ok(GenerationThreads {
+            threads: VecDeque::with_capacity(alloc, MAX_GENERATIONS + 1)?,
+        })
+    }
+
+    // Makes room for one more thread: waits for those of generations without connections, but for one. This bounds the number of
+    // journals.
+    fn make_room<R: Threads>(&mut self, rt: &R, server: &Server) {
+        let mut spared = false;
+        for _ in 0..self.threads.len() {
+            let Some(thread) = self.threads.pop_back() else {
+                return;
+            };
+            if server.has_connections(thread.number) {
+                self.keep(rt, thread);
+            } else if spared {
+                thread.handle.join(rt);
+            } else {
+                spared = true;
+                self.keep(rt, thread);
+            }
         }
     }
 
-    // Makes room for one more thread. Waits for the newest one if that could not be opened, else for the one without a
-    // connection the longest. This bounds the number of journals.
-    fn make_room<R: Threads>(&mut self, rt: &R, server: &Server) {
-        if !server.has_opened(self.number) {
-            return join(rt, self.newest.take());
+    // Puts a thread at the front. (There is room for all.)
+    fn keep<R: Threads>(&mut self, rt: &R, thread: GenerationThread) {
+        if let Err(refused) = self.threads.push_front(thread) {
+            refused.value.handle.join(rt);
         }
-        join(rt, self.oldest.take());
-        self.oldest = self.older.take();
-        self.older = self.newest.take();
     }
 
     // Adds the newest generation's thread.
-    fn add(&mut self, number: u64, handle: JoinHandle<()>) {
-        self.number = number;
-        self.newest = Some(handle);
+    fn add<R: Threads>(&mut self, rt: &R, number: u64, handle: JoinHandle<()>) {
+        if let Err(refused) = self.threads.push_back(GenerationThread { number, handle }) {
+            refused.value.handle.join(rt);
+        }
     }
 
     // Waits until all generations' threads have ended.
     fn join_all<R: Threads>(&mut self, rt: &R) {
-        join(rt, self.oldest.take());
-        join(rt, self.older.take());
-        join(rt, self.newest.take());
+        for _ in 0..self.threads.len() {
+            if let Some(thread) = self.threads.pop_front() {
+                thread.handle.join(rt);
+            }
+        }
     }
 }
 

@@ -18,8 +18,10 @@ use std::time::Duration;
 use std::{mem, thread};
 use sweeper::{SweepRefusal, sweep_once};
 
-// The milliseconds between two looks.
+// The milliseconds between two looks of the generation that serves, and of one that drains.
 const PAUSE_MS: u64 = 5;
+
+const DRAINING_PAUSE_MS: u64 = 20;
 
 /// Sweeps, logs which hosts are ejected and return, and asks for the next generation in time.
 pub(crate) struct SweepThread<'a> {
@@ -113,7 +115,7 @@ impl<'a> SweepThread<'a> {
                 self.sweep_if_due(rt, moment)?;
             }
             self.look(rt, phase, moment)?;
-            thread::sleep(rt, Duration::from_millis(PAUSE_MS));
+            thread::sleep(rt, Duration::from_millis(pause(phase)));
         }
         unreachable!()
     }
@@ -218,6 +220,14 @@ impl<'a> SweepThread<'a> {
                 log_ejection(rt, server.log(), entry.address, is_out);
             }
         }
+    }
+}
+
+// The milliseconds until the next look.
+fn pause(phase: Phase) -> u64 {
+    match phase {
+        Phase::Serving => PAUSE_MS,
+        Phase::Draining | Phase::GivingUp | Phase::Stopped => DRAINING_PAUSE_MS,
     }
 }
 

@@ -47,7 +47,9 @@ const MAX_EVENTS: usize = 1_024;
 /// What a worker starts with.
 pub(crate) struct WorkerSetup<'a> {
     context: ThreadContext<'a>,
+    // Its index, and the number of workers.
     index: usize,
+    workers: usize,
     poll: Poll,
     seat: CountedSeat<'a>,
 }
@@ -58,6 +60,7 @@ impl Drop for WorkerSetup<'_> {
         let WorkerSetup {
             context: _,
             index: _,
+            workers: _,
             poll: _,
             seat: _,
         } = self;
@@ -65,29 +68,33 @@ impl Drop for WorkerSetup<'_> {
 }
 
 impl<'a> Model for WorkerSetup<'a> {
-    ghost use Rattle.std.specs.Prelude.{◌≡◌, ℕ, []};
+    ghost use Rattle.std.specs.Prelude.{◌≡◌, []};
+    ghost use Rattle.proxy_serve.specs.Places.{Place};
     ghost use Rattle.proxy_serve.specs.WorkerConnections.{steps_of};
 
-    ghost Value = { ℕ };
+    ghost Value = { Place };
 
-    ghost view = { λ s. s.index };
+    ghost view = { λ s. record { index = s.index; workers = s.workers } };
 
     ghost invariant = { λ s. steps_of s.seat ≡ [] };
 }
 
 impl<'a> WorkerSetup<'a> {
-    /// A worker of this index, which waits at this poll and makes turns by this seat.
+    /// A worker of this index among these many workers, which waits at this poll and makes turns by this seat.
     pub(crate) fn new(
         context: ThreadContext<'a>,
         index: usize,
+        workers: usize,
         poll: Poll,
         seat: CountedSeat<'a>,
     ) -> WorkerSetup<'a>
         requires { steps_of seat ≡ [] }
+        ensures { result ≡ record { index = index; workers = workers } }
     {
         WorkerSetup {
             context,
             index,
+            workers,
             poll,
             seat,
         }
@@ -108,10 +115,14 @@ impl<'a> WorkerSetup<'a> {
     }
 
     // The worker with its hosts and no clients; ends with `Memory` where there is none for the hosts.
-    fn worker(self) -> Result<Worker<'a>, Ending> {
+    fn worker(self) -> Result<Worker<'a>, Ending>
+        ensures { IfOk result (λ worker. worker.connections.place
+            ≡ record { index = self.entry.index; workers = self.entry.workers }) }
+    {
         let WorkerSetup {
             context,
             index,
+            workers,
             poll,
             seat,
         } = self;
@@ -121,7 +132,6 @@ impl<'a> WorkerSetup<'a> {
             config,
             marks: _,
         } = context;
-        let workers = generation.server().workers();
         Ok(Worker {
             index,
             poll,
@@ -135,6 +145,7 @@ impl<'a> WorkerSetup<'a> {
             next: 0,
             is_held_back: false,
             is_draining: false,
+            takes_in: true,
             ends_inputs: false,
             gives_up: false,
             reported_at: 0,
@@ -173,6 +184,8 @@ struct Worker<'a> {
     // Whether clients wait until other workers have looked at their hosts.
     is_held_back: bool,
     is_draining: bool,
+    // Whether it may still take in commands.
+    takes_in: bool,
     // Whether the server drains: inputs end behind what has come.
     ends_inputs: bool,
     // Whether the hosts' waiting parts are given up.
@@ -197,6 +210,7 @@ impl Drop for Worker<'_> {
             next: _,
             is_held_back: _,
             is_draining: _,
+            takes_in: _,
             ends_inputs: _,
             gives_up: _,
             reported_at: _,
@@ -216,7 +230,7 @@ impl<'a> Worker<'a> {
         }
     }
 
-    // Makes rounds, one for each wait at the poll, until the generation is stopped.
+    // Makes rounds, one for each wait at the poll, until the generation is stopped or leaves it nothing more to do.
     fn serve<R: Wait + Net + Clock + Eprint>(
         &mut self,
         rt: &R,
@@ -229,7 +243,15 @@ impl<'a> Worker<'a> {
                 return self.finish(rt, &mut events);
             }
             self.wait(&mut events, pause)?;
+            let is_last = !self.takes_in && self.generation.takes_nothing();
+            if is_last {
+                // (no part may depend on a notice)
+                self.connections.stir_hosts();
+            }
             pause = self.serve_once(rt)?;
+            if is_last && self.connections.are_at_rest() {
+                return Ok(());
+            }
         }
         unreachable!()
     }
@@ -245,11 +267,18 @@ impl<'a> Worker<'a> {
 
     // Drains and gives up with the generation. False: its last sockets are to be closed.
     fn follow_phase(&mut self) -> bool {
+        // (read first: one that isn't open yet looks as if it drained)
+        let has_opened = self.generation.has_opened();
         match self.generation.phase() {
             Phase::Serving => {}
-            Phase::Draining => self.drain(),
+            Phase::Draining => {
+                self.drain();
+                self.stop_taking(has_opened);
+                self.gives_up = false;
+            }
             Phase::GivingUp => {
                 self.drain();
+                self.stop_taking(has_opened);
                 self.gives_up = true;
             }
             Phase::Stopped => return false,
@@ -328,6 +357,14 @@ impl<'a> Worker<'a> {
         self.is_draining = true;
         for key in 0..self.connections.capacity() {
             self.connections.drain(key);
+        }
+    }
+
+    // Reports once that it takes in nothing more, where its generation has opened.
+    fn stop_taking(&mut self, has_opened: bool) {
+        if self.takes_in && has_opened {
+            self.takes_in = false;
+            self.generation.stop_taking();
         }
     }
 

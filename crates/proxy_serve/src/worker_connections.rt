@@ -1,5 +1,7 @@
 //! The clients and hosts of a worker, and the turns by which these are stepped.
-ghost use Rattle.std.specs.Prelude.{◌≡◌, ◌+◌, [], IfOk, IfSome, OnOk};
+ghost use Rattle.std.specs.List.{All};
+ghost use Rattle.std.specs.Prelude.{◌≡◌, ◌+◌, ℕ, [], IfOk, IfSome, OnOk};
+ghost use Rattle.proxy_serve.specs.Places.{IsOf, Place};
 ghost use Rattle.proxy_serve.specs.WorkerConnections.{AddsClient, ChangesClient, ChangesHost, IsLast, IsLeaving, IsNewcomer, KeepsClients, MakesRoom, RemovesClient, RiseTo, ServesHosts, steps_of};
 
 use crate::client::{CarriedSocket, Client, ClientRound, StepError, Stepped};
@@ -41,7 +43,8 @@ pub(crate) struct HostResult {
 /// The clients and hosts of a worker.
 ///
 /// At all times each client's engine has done just what its socket's logs show, and each host's what its link's show,
-/// over the steps of this seat. A client goes only by `remove` and `carry`.
+/// over the steps of this seat. None of these is of a host whose number, modulo the workers, isn't the worker's index. A
+/// client goes only by `remove` and `carry`.
 pub(crate) struct WorkerConnections<'a> {
     alloc: Global,
     turns: CountedTurns<CountedSeat<'a>>,
@@ -92,12 +95,13 @@ impl<'a> Model for WorkerConnections<'a> {
     ghost coded = { Prim.hlevel (codes, tree_code, slab_code, client.the_row.coded, host_connection.the_row.coded) };
 
     ghost view = { λ c. record {
+      place = record { index = c.index; workers = c.workers };
       clients = c.clients;
       hosts = c.hosts.items;
       steps = steps_of c.turns.turns;
     } };
 
-    ghost invariant = { λ c. IsServing c.clients c.hosts.items (steps_of c.turns.turns) };
+    ghost invariant = { λ c. IsServing (record { index = c.index; workers = c.workers }) c.clients c.hosts.items (steps_of c.turns.turns) };
 }
 
 impl<'a> WorkerConnections<'a> {
@@ -111,6 +115,7 @@ impl<'a> WorkerConnections<'a> {
         seat: CountedSeat<'a>,
     ) -> Result<WorkerConnections<'a>, Ending>
         requires { steps_of seat ≡ [] }
+        ensures { IfOk result (λ made. made.place ≡ record { index = index; workers = workers }) }
     {
         let hosts = hosts_of(alloc, index, workers, config)?;
         Ok(WorkerConnections {
@@ -197,6 +202,13 @@ impl<'a> WorkerConnections<'a> {
         self.ready.next(0).is_some()
     }
 
+    /// Whether there is no client, and nothing is left to do for the hosts unless further parts come.
+    pub(crate) fn are_at_rest(&self) -> bool {
+        self.clients.is_empty()
+            && self.stirred == 0
+            && self.hosts.iter().all(|host| host.is_at_rest())
+    }
+
     /// Whether a client waits for replies, and all that was handed out to it is written.
     pub(crate) fn may_be_answered(&self) -> bool {
         may_any_be_answered(&self.clients)
@@ -216,6 +228,22 @@ impl<'a> WorkerConnections<'a> {
     {
         self.stirred |= notices.take_hosts(self.index);
         make_told_ready(&mut self.ready, notices, self.index);
+    }
+
+    /// Has each host stepped in the next round, whether it was told of parts or not.
+    pub(crate) fn stir_hosts(&mut self)
+        ensures { self.new ≡ self.old }
+    {
+        self.stirred |= self.bits_of_hosts();
+    }
+
+    // The bits of all its hosts.
+    fn bits_of_hosts(&self) -> u64 {
+        let mut bits = 0;
+        for index in 0..self.hosts.len() {
+            bits |= self.bit_of_host(index);
+        }
+        bits
     }
 
     /// Takes the durations of commands since the last call.
@@ -276,6 +304,7 @@ impl<'a> WorkerConnections<'a> {
     // Gives the client a slot: it has a connection from here on. False: there is no room.
     fn insert(&mut self, notices: &Notices, mut client: Client, ends_input: bool) -> bool
         requires { IsNewcomer client.engine self.old.clients self.old.steps }
+        ensures place { self.new.place ≡ self.old.place }
         ensures hosts { self.new.hosts ≡ self.old.hosts }
         ensures steps { self.new.steps ≡ self.old.steps }
         ensures stay { KeepsClients self.old.clients self.new.clients }
@@ -527,7 +556,7 @@ fn hosts_of(
     workers: usize,
     config: &Config,
 ) -> Result<Vec<HostConnection>, Ending>
-    ensures { IfOk result (λ hosts. ServesHosts hosts.items []) }
+    ensures { IfOk result (λ hosts. ServesHosts (record { index = index; workers = workers }) hosts.items []) }
 {
     let mut hosts = Vec::new(alloc);
     if workers == 0 {
@@ -548,8 +577,8 @@ fn push_host(
     own: &[usize],
     config: &Config,
 ) -> Result<(), Ending>
-    requires { RiseTo hosts.old.items host }
-    ensures { OnOk result (RiseTo hosts.new.items (host + 1)) }
+    ensures { (place : Place) → All (IsOf place) own.now → RiseTo place hosts.old.items host
+        → OnOk result (RiseTo place hosts.new.items (host + 1)) }
 {
     if !own.contains(&host) {
         return Ok(());

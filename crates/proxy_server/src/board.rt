@@ -1,50 +1,108 @@
 //! The present task of each generation, readable without a lock.
 
+use limits::MAX_GENERATIONS;
 use proxy_generations::{Generations, Phase};
+use std::alloc::{AllocError, Global};
 use std::sync::atomic::{AtomicU8, AtomicU64, Ordering};
 
 // Stands for no generation.
 const NONE: u64 = u64::MAX;
 
-// The older generation answers what it has accepted.
+// A generation answers what it has accepted.
 const DRAINING: u8 = 0;
 
-// The older generation gives up the parts that still wait for hosts.
+// It gives up the parts that still wait for hosts.
 const GIVING_UP: u8 = 1;
 
-// The older generation closes its last sockets.
+// It closes its last sockets.
 const STOPPED: u8 = 2;
 
-/// The newest open generation, the one before it while that has connections, and the older one's task.
+// The number of a generation that drains, and its task. A generation keeps its slot until it has drained.
 #[derive(Drop)]
-pub(crate) struct Board {
-    newest: AtomicU64,
-    older: AtomicU64,
+struct Slot {
+    number: AtomicU64,
     phase: AtomicU8,
 }
 
-impl Board {
-    /// A board without an open generation.
-    pub(crate) fn new() -> Board {
-        Board {
-            newest: AtomicU64::new(NONE),
-            older: AtomicU64::new(NONE),
+impl Slot {
+    // No generation is here.
+    fn new() -> Slot {
+        Slot {
+            number: AtomicU64::new(NONE),
             phase: AtomicU8::new(DRAINING),
         }
     }
 
+    fn number(&self) -> u64 {
+        self.number.load(Ordering::SeqCst)
+    }
+
+    // The task before the number: who finds its number finds its task.
+    fn put(&self, number: u64, phase: u8) {
+        self.phase.store(phase, Ordering::SeqCst);
+        self.number.store(number, Ordering::SeqCst);
+    }
+}
+
+/// The newest open generation, and those that drain with their tasks.
+#[derive(Drop)]
+pub(crate) struct Board {
+    newest: AtomicU64,
+    slots: Vec<Slot>,
+}
+
+impl Board {
+    /// A board without an open generation. Refused only for want of memory.
+    pub(crate) fn new(alloc: Global) -> Result<Board, AllocError> {
+        let mut slots = Vec::new(alloc);
+        for _ in 1..MAX_GENERATIONS {
+            slots.push(Slot::new())?;
+        }
+        Ok(Board {
+            newest: AtomicU64::new(NONE),
+            slots,
+        })
+    }
+
     /// Publishes what was decided. A generation that sees that it no longer serves finds its task already here.
     pub(crate) fn show<H: Drop>(&self, generations: &Generations<H>) {
-        let older = generations.older().unwrap_or(NONE);
-        let phase = match generations.phase(older) {
+        for slot in self.slots.iter() {
+            let number = slot.number();
+            if number != NONE && !generations.drains(number) {
+                slot.put(NONE, DRAINING);
+            }
+        }
+        for index in 1..MAX_GENERATIONS {
+            if let Some(number) = generations.older_at(index - 1) {
+                self.show_older(number, generations.phase(number));
+            }
+        }
+        let newest = generations.newest().unwrap_or(NONE);
+        self.newest.store(newest, Ordering::SeqCst);
+    }
+
+    // Publishes the task of one that drains, in its slot or in a free one.
+    fn show_older(&self, number: u64, phase: Phase) {
+        let phase = match phase {
             Phase::GivingUp => GIVING_UP,
             Phase::Stopped => STOPPED,
             Phase::Serving | Phase::Draining => DRAINING,
         };
-        self.phase.store(phase, Ordering::SeqCst);
-        self.older.store(older, Ordering::SeqCst);
-        let newest = generations.newest().unwrap_or(NONE);
-        self.newest.store(newest, Ordering::SeqCst);
+        if let Some(slot) = self.slot_of(number) {
+            slot.put(number, phase);
+        } else if let Some(slot) = self.slot_of(NONE) {
+            slot.put(number, phase);
+        }
+    }
+
+    // The slot with this number.
+    fn slot_of(&self, number: u64) -> Option<&Slot> {
+        for slot in self.slots.iter() {
+            if slot.number() == number {
+                return Some(slot);
+            }
+        }
+        None
     }
 
     /// The generation's phase. One that isn't open yet is `Draining` here: it has no connection.
@@ -56,10 +114,10 @@ impl Board {
         if newest == NONE || newest < number {
             return Phase::Draining;
         }
-        if self.older.load(Ordering::SeqCst) != number {
+        let Some(slot) = self.slot_of(number) else {
             return Phase::Stopped;
-        }
-        match self.phase.load(Ordering::SeqCst) {
+        };
+        match slot.phase.load(Ordering::SeqCst) {
             GIVING_UP => Phase::GivingUp,
             STOPPED => Phase::Stopped,
             _ => Phase::Draining,
@@ -70,5 +128,10 @@ impl Board {
     pub(crate) fn has_opened(&self, number: u64) -> bool {
         let newest = self.newest.load(Ordering::SeqCst);
         newest != NONE && newest >= number
+    }
+
+    /// Whether the generation is the newest open one or drains.
+    pub(crate) fn has_connections(&self, number: u64) -> bool {
+        self.newest.load(Ordering::SeqCst) == number || self.slot_of(number).is_some()
     }
 }

@@ -4,7 +4,7 @@ use crate::board::Board;
 use crate::log::{Level, Log};
 use crate::stats::Stats;
 use crate::stop::Stop;
-use limits::MAX_FAILURES;
+use limits::{MAX_FAILURES, MAX_GENERATIONS};
 use mio::Waker;
 use mio::net::TcpStream;
 use proxy_config::Config;
@@ -103,8 +103,8 @@ impl<C: Drop> Server<C> {
             sockets: Mutex::new(Sockets::new(connections)),
             is_draining: AtomicBool::new(false),
             generations: Mutex::new(Generations::new(interval_ms, MAX_FAILURES)),
-            board: Board::new(),
-            stats: Mutex::new(Stats::new()),
+            board: Board::new(alloc)?,
+            stats: Mutex::new(Stats::new(alloc)?),
             ejections: Mutex::new(EjectionLog::new(alloc, config.hosts.len())?),
         })
     }
@@ -221,10 +221,11 @@ impl<C: Drop> Server<C> {
 
     /// Reserves memory in the queue for one more carried-over socket. False: there is none.
     ///
-    /// The room stays: for each queue one worker alone puts such sockets in, and one takes them out.
+    /// The room stays: for each queue one worker of each generation puts such sockets in or back, one at a time, and each
+    /// reserves for all.
     pub fn reserve_to_carry<R: Wait>(&self, rt: &R, index: usize) -> bool {
         match self.queues.get(index) {
-            Some(queue) => queue.carried.lock(rt).reserve(1).is_ok(),
+            Some(queue) => queue.carried.lock(rt).reserve(MAX_GENERATIONS).is_ok(),
             None => false,
         }
     }
@@ -294,6 +295,11 @@ impl<C: Drop> Server<C> {
         self.board.has_opened(number)
     }
 
+    /// Whether the generation is the newest open one or drains.
+    pub fn has_connections(&self, number: u64) -> bool {
+        self.board.has_connections(number)
+    }
+
     // Publishes what was decided, and wakes the thread that opens a generation that is due.
     fn publish(&self, generations: MutexGuard<'_, Generations<Inherited>>) {
         self.board.show(&generations);
@@ -326,7 +332,7 @@ impl<C: Drop> Server<C> {
         }
     }
 
-    /// Hosts have answered commands of the draining generation by this moment.
+    /// Hosts have answered commands of a draining generation by this moment.
     pub fn progressed<R: Wait>(&self, rt: &R, number: u64, now: u64) {
         self.generations.lock(rt).progressed(number, now);
     }
@@ -339,14 +345,17 @@ impl<C: Drop> Server<C> {
     }
 
     /// The newest generation has reached its marks at this moment, or takes in nothing more. The next one starts from
-    /// this state, once an older one has had its time.
+    /// this state, once one in the way has had its time. While it waits to be opened, it starts from the state of the last
+    /// call.
     pub fn full<R: Wait>(&self, rt: &R, number: u64, now: u64, from: Inherited) {
         let mut generations = self.generations.lock(rt);
-        generations.full(number, now, from);
+        if let Some(from) = generations.renew(number, from) {
+            generations.full(number, now, from);
+        }
         self.publish(generations);
     }
 
-    /// The draining generation has no connection left.
+    /// A draining generation has no connection left.
     pub fn drained<R: Wait>(&self, rt: &R, number: u64) {
         let mut generations = self.generations.lock(rt);
         generations.drained(number);
@@ -388,24 +397,25 @@ impl<C: Drop> Server<C> {
         self.stats.lock(rt).counts()
     }
 
-    // The newest open generation, and the one before it while that has connections.
-    fn open_generations<R: Wait>(&self, rt: &R) -> (Option<u64>, Option<u64>) {
-        let generations = self.generations.lock(rt);
-        (generations.newest(), generations.older())
-    }
-
     /// The numbers of the server now.
     pub fn snapshot<R: Wait>(&self, rt: &R) -> Snapshot {
-        let closed = self.sockets.lock(rt).closed();
-        let (newest, older) = self.open_generations(rt);
+        let (connections, closed) = {
+            let sockets = self.sockets.lock(rt);
+            (sockets.count(), sockets.closed())
+        };
         let is_ending = self.is_draining() || !self.runs();
+        // (nobody takes these two locks the other way round)
+        let generations = self.generations.lock(rt);
+        let newest = generations.newest();
         let stats = self.stats.lock(rt);
         Snapshot {
             counts: stats.counts(),
             generations: stats.generations(),
-            past_steps: stats.steps_beside(newest, older),
+            past_steps: stats.steps_beside(&generations),
             serving: stats.look(newest),
-            draining: stats.look(older),
+            draining: stats.draining(&generations),
+            draining_count: generations.drain_count(),
+            connections,
             closed,
             durations: *stats.durations(),
             is_ready: newest.is_some() && !is_ending,

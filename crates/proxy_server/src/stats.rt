@@ -1,11 +1,14 @@
 //! The counts of a run: of generations that are gone, and of living ones by their last sight.
 
+use limits::{MAX_GENERATIONS, MAX_HOSTS};
+use proxy_generations::Generations;
 use proxy_histogram::Histogram;
 use proxy_pages::Look;
-use proxy_stats::{Counts, Sight};
+use proxy_stats::{Counts, HostLoad, Load, Sight};
+use std::alloc::{AllocError, Global};
 
-// More than the generations with a journal at a time, at most three: with connections, closing the gate, or opening.
-const MAX_LIVING: u64 = 4;
+// The most generations with a journal at a time: with connections, closing its gate, or opening.
+const MAX_LIVING: usize = MAX_GENERATIONS + 2;
 
 // The last sight of a generation that has a journal.
 #[derive(Clone, Copy, Drop)]
@@ -23,21 +26,21 @@ pub(crate) struct Stats {
     // The counts and steps of generations that are gone.
     past: Counts,
     past_steps: u64,
-    // Living generations, each at its number modulo `MAX_LIVING`.
-    living: [Option<Living>; MAX_LIVING as usize],
+    // Living generations, with room for `MAX_LIVING`.
+    living: Vec<Living>,
     durations: Histogram,
 }
 
 impl Stats {
-    /// Nothing has happened.
-    pub(crate) fn new() -> Stats {
-        Stats {
+    /// Nothing has happened. Refused only for want of memory.
+    pub(crate) fn new(alloc: Global) -> Result<Stats, AllocError> {
+        Ok(Stats {
             generations: 0,
             past: Counts::NONE,
             past_steps: 0,
-            living: [None; MAX_LIVING as usize],
+            living: Vec::with_capacity(alloc, MAX_LIVING)?,
             durations: Histogram::new(),
-        }
+        })
     }
 
     /// Counts a generation that opens.
@@ -52,16 +55,24 @@ impl Stats {
             bytes: sight.handover.bytes(),
             load: sight.load,
         };
-        self.living[(number % MAX_LIVING) as usize] = Some(Living {
+        let seen = Living {
             number,
             counts: sight.counts,
             look,
-        });
+        };
+        for living in self.living.iter_mut() {
+            if living.number == number {
+                *living = seen;
+                return;
+            }
+        }
+        // (there is room for all that live)
+        let _ = self.living.push(seen);
     }
 
     /// Records that a generation is gone, with its counts and steps.
     pub(crate) fn gone(&mut self, number: u64, counts: &Counts, steps: u64) {
-        self.living[(number % MAX_LIVING) as usize] = None;
+        self.living.retain(|living| living.number != number);
         self.past = self.past.plus(counts);
         self.past_steps = self.past_steps.saturating_add(steps);
     }
@@ -76,15 +87,13 @@ impl Stats {
         self.generations
     }
 
-    /// The journal steps of all generations but these two.
-    pub(crate) fn steps_beside(&self, newest: Option<u64>, older: Option<u64>) -> u64 {
+    /// The journal steps of all generations without connections.
+    pub(crate) fn steps_beside<H: Drop>(&self, generations: &Generations<H>) -> u64 {
         let mut steps = self.past_steps;
         for living in &self.living {
-            if let Some(living) = living {
-                let number = Some(living.number);
-                if number != newest && number != older {
-                    steps = steps.saturating_add(living.look.steps);
-                }
+            let number = living.number;
+            if generations.newest() != Some(number) && !generations.drains(number) {
+                steps = steps.saturating_add(living.look.steps);
             }
         }
         steps
@@ -99,9 +108,7 @@ impl Stats {
     pub(crate) fn counts(&self) -> Counts {
         let mut counts = self.past;
         for living in &self.living {
-            if let Some(living) = living {
-                counts = counts.plus(&living.counts);
-            }
+            counts = counts.plus(&living.counts);
         }
         counts
     }
@@ -109,11 +116,43 @@ impl Stats {
     /// The last sight of a generation, if it lives.
     pub(crate) fn look(&self, number: Option<u64>) -> Look {
         for living in &self.living {
-            match living {
-                Some(living) if Some(living.number) == number => return living.look,
-                _ => {}
+            if Some(living.number) == number {
+                return living.look;
             }
         }
         Look::NONE
+    }
+
+    /// The last sights of all generations that drain, added up.
+    pub(crate) fn draining<H: Drop>(&self, generations: &Generations<H>) -> Look {
+        let mut look = Look::NONE;
+        for living in &self.living {
+            if generations.drains(living.number) {
+                look = both(&look, &living.look);
+            }
+        }
+        look
+    }
+}
+
+// Two sights, added up.
+fn both(one: &Look, other: &Look) -> Look {
+    let mut load = Load {
+        connections: one.load.connections.saturating_add(other.load.connections),
+        in_panic: one.load.in_panic || other.load.in_panic,
+        hosts: one.load.hosts,
+    };
+    for host in 0..MAX_HOSTS {
+        let (mine, more) = (one.load.hosts[host], other.load.hosts[host]);
+        load.hosts[host] = HostLoad {
+            waiting: mine.waiting.saturating_add(more.waiting),
+            flying: mine.flying.saturating_add(more.flying),
+            is_out: mine.is_out || more.is_out,
+        };
+    }
+    Look {
+        steps: one.steps.saturating_add(other.steps),
+        bytes: one.bytes.saturating_add(other.bytes),
+        load,
     }
 }

@@ -1,7 +1,7 @@
 -- What a crate above cites: a core that counts, and what it tells, may go to another thread.
 use denote.Param.Send.{IsSend, sendable}
 use Rattle.std.proofs.Crossing.{crosses}
-use Rattle.proxy_core.proofs.CallerLemmas.{core_send}
+use Rattle.proxy_core.proofs.CallerLemmas.{core_send, counting_send}
 use Rattle.proxy_core.specs.contracts.handover.Handover as Handover
 use Rattle.proxy_stats.specs.contracts.tally.Counts as Counts
 use Rattle.proxy_stats.specs.contracts.load.Load as Load
@@ -21,4 +21,4 @@ pub sight_send : IsSend Sight.the_row
 sight_send = search (handover_send, counts_send, load_send, crosses, sendable) depth 40 fits 20000
 
 pub counted_send : IsSend Counted.the_row
-counted_send = search (core_send, counts_send, crosses, sendable) depth 40 fits 20000
+counted_send = search (core_send, counting_send, counts_send, crosses, sendable) depth 40 fits 20000

@@ -1,7 +1,7 @@
 -- The counts of a core that counts: with one step more, and as the function of its steps.
-use Rattle.std.proofs.Common.{◌≡◌, ℕ, ◌+◌, ◌-◌, ◌<◌, ◌≤◌, Some, slice_get, List, [], ◌∷◌, ◌++◌, length, map, take, reverse, get_or, sum_by, sym, ap, ◌∙◌, subst, arith}
+use Rattle.std.proofs.Common.{◌≡◌, ℕ, ◌+◌, ◌-◌, ◌<◌, ◌≤◌, Some, slice_get, List, [], ◌∷◌, ◌++◌, length, map, take, reverse, replicate, get_or, sum_by, refl, sym, ap, ◌∙◌, subst, arith}
 use Rattle.std.specs.List.{range_with_len}
-use Rattle.std.proofs.lemmas.List.{length-append, length-reverse, ext_get_or}
+use Rattle.std.proofs.lemmas.List.{length-append, length-reverse, length-replicate, get_or-replicate, ext_get_or}
 use Rattle.std.proofs.lemmas.List.Elements.{All-append, All-cons, All-nil}
 use Rattle.std.proofs.lemmas.List.FromFn.{length-map-range_with_len, get_or-map-range_with_len}
 use Rattle.std.proofs.lemmas.Option.{get_or_from_slice_get}
@@ -49,7 +49,7 @@ kept_last steps step c d kept counted = record {
   hosts = counted.hosts ∙ kept.hosts;
 }
 
-nothing : HostCounts
+abbrev pub nothing : HostCounts
 nothing = record { sent = 0; answered = 0; faults = 0; lost = 0 }
 
 -- counts that are the sums are the function of the steps
@@ -90,3 +90,36 @@ kept_sums k c legal kept =
 -- and the function of the steps
 pub kept_value : (k : Proxy) (c : Counts) → IsLegal k.setting (history_in k) → AreKept k.steps c → c ≡ counts_of k.steps
 kept_value k c legal kept = counts_are k.steps c (kept_sums k c legal kept) kept.kinds kept.hosts
+
+-- those of no steps
+pub kept_at_first : AreKept [] (record {
+  accepted = 0;
+  handed = 0;
+  sent = 0;
+  answered = 0;
+  lost = 0;
+  ejections = 0;
+  kept = 0;
+  no_host = 0;
+  busy = 0;
+  local = replicate 7 0;
+  hosts = replicate 64 nothing;
+})
+kept_at_first = record {
+  counts = record {
+    accepted = refl;
+    handed = refl;
+    sent = refl;
+    answered = refl;
+    lost = refl;
+    ejections = refl;
+    kept = refl;
+    no_host = refl;
+    busy = refl;
+    local = λ place few. get_or-replicate 7 place 0 0 few;
+    hosts = λ h d few. rw (get_or-replicate 64 h nothing d few) (record { sent = refl; answered = refl; faults = refl; lost = refl });
+  };
+  few = All-nil TellsFewHosts;
+  kinds = length-replicate {A = ℕ} 7 0;
+  hosts = length-replicate 64 nothing;
+}

@@ -1,16 +1,15 @@
 //! A core that counts what it does.
 ghost use Rattle.std.specs.Prelude.{◌≡◌, ◌∷◌, [], ◌++◌, List, IfOk, IfSome};
 ghost use Rattle.proxy_history.specs.History.{Step as StepOf};
-ghost use Rattle.proxy_stats.specs.Counted.{HasCounted, counts_of};
+ghost use Rattle.proxy_stats.specs.Counted.{AreKept, HasCounted, counts_of};
 ghost use Rattle.proxy_stats.specs.Sums.{AreCounts};
 
-use crate::counting::counts_of;
 use crate::load::{Load, load_of};
 use crate::tally::Counts;
 use crate::telling::{Teller, concern_of};
 use ejector::EjectState;
 use ketama::Ring;
-use proxy_core::{Answer, Core, Event, Handover, Journal, Refusal};
+use proxy_core::{Answer, CountingCore, Event, Handover, Journal, Refusal};
 use proxy_notices::Notices;
 use std::alloc::{AllocError, Global};
 use std::boxed::Box;
@@ -20,7 +19,7 @@ use ticket_gate::Recorded;
 
 /// A core with its counts, which tells workers what its turns brought them. Contracts see the core.
 pub struct Counted {
-    core: Core,
+    core: CountingCore,
     // On the heap, since a gate moves its state in and out at each turn.
     counts: Box<Counts>,
     teller: Box<Teller>,
@@ -67,15 +66,18 @@ impl Model for Counted {
 }
 
 impl Counted {
-    /// Counts the steps of the core, those made already and those to come, and tells of these by the
-    /// notices.
+    /// Counts the steps of a core that has none yet, and tells of them by the notices.
     ///
     /// Refused where there is no memory for the counts; the core is dropped.
-    pub fn new(alloc: Global, core: Core, notices: Arc<Notices>) -> Result<Counted, AllocError>
+    pub fn new(
+        alloc: Global,
+        core: CountingCore,
+        notices: Arc<Notices>,
+    ) -> Result<Counted, AllocError>
+        requires { core.steps ≡ [] }
         ensures { IfOk result (λ c. c ≡ core) }
     {
-        let counts = counts_of(core.journal());
-        let Some(counts) = boxed(alloc, counts) else {
+        let Some(counts) = boxed(alloc, counts_of_nothing()) else {
             return Err(AllocError);
         };
         match boxed(alloc, Teller::new(notices)) {
@@ -99,7 +101,7 @@ impl Counted {
     }
 
     /// The core.
-    pub fn core(&self) -> &Core
+    pub fn core(&self) -> &CountingCore
         ensures { result.now ≡ self.now }
     {
         &self.core
@@ -154,6 +156,13 @@ impl Recorded for Counted {
     ghost legal_before = { legal_before };
 }
 
+// The counts of no steps.
+fn counts_of_nothing() -> Counts
+    ensures { AreKept [] result }
+{
+    Counts::NONE
+}
+
 // The value on the heap. `None`: there is no memory, and it is dropped.
 fn boxed<T: Drop>(alloc: Global, value: T) -> Option<Box<T>>
     ensures { IfSome result (λ b. b.value ≡ value) }
@@ -172,8 +181,7 @@ fn count_last(journal: &Journal<Event, Answer>, counts: &mut Counts)
     ensures { (steps : List StepOf) (step : StepOf) → journal.now.steps ≡ steps ++ step ∷ []
         → HasCounted counts.old step counts.new }
 {
-    let last = journal.len().saturating_sub(1);
-    if let Some(step) = journal.get(last) {
+    if let Some(step) = journal.last() {
         counts.add(step);
     }
 }

@@ -1,5 +1,5 @@
 //! Counts over a journal.
-ghost use Rattle.std.specs.Prelude.{◌≡◌, ◌<◌, ◌^◌, All, length};
+ghost use Rattle.std.specs.Prelude.{◌≡◌, ◌<◌, ◌^◌, true, All, length};
 ghost use Rattle.proxy_stats.specs.Amounts.{ejected_hosts, kept_hosts};
 ghost use Rattle.proxy_stats.specs.Sums.{AreCounts, AreCapped};
 
@@ -14,7 +14,8 @@ pub fn counts(core: &Core) -> Counts
     counts_of(core.journal())
 }
 
-pub(crate) fn counts_of(journal: &Journal<Event, Answer>) -> Counts
+fn counts_of(journal: &Journal<Event, Answer>) -> Counts
+    requires { journal.now.records ≡ true }
     ensures counts { AreCapped journal.now.steps result }
     ensures few { All (λ s. (ejected_hosts s < 2 ^ 32)
         × (kept_hosts s < 2 ^ 32)) journal.now.steps }

@@ -5,7 +5,7 @@ ghost use Rattle.proxy_history.specs.Proxy.{history_in};
 ghost use Rattle.proxy_stats.specs.Load.{host_load_of, load_of};
 
 use limits::MAX_HOSTS;
-use proxy_core::Core;
+use proxy_core::{CoreOf, Keeping};
 
 /// The load of one host.
 #[derive(Clone, Copy, Debug, PartialEq, Eq)]
@@ -41,7 +41,7 @@ impl HostLoad {
         is_out: false,
     };
 
-    fn of(core: &Core, host: usize) -> HostLoad
+    fn of<K: Keeping>(core: &CoreOf<K>, host: usize) -> HostLoad
         requires { host < hosts core.now.setting }
         ensures { result ≡ host_load_of core.now.setting (history_in core.now) host }
     {
@@ -63,7 +63,7 @@ impl Load {
 }
 
 /// The core's present load. It takes no memory.
-pub fn load_of(core: &Core) -> Load
+pub fn load_of<K: Keeping>(core: &CoreOf<K>) -> Load
     ensures { result ≡ load_of core.now.setting (history_in core.now) }
 {
     let mut hosts = [HostLoad::NONE; MAX_HOSTS];

@@ -7,7 +7,7 @@ ghost use Rattle.proxy_history.specs.Waiting.{waiting_parts};
 ghost use Rattle.proxy_notices.specs.declared.unseen_parts.UnseenParts.{UnseenParts};
 
 use limits::MAX_HOSTS;
-use proxy_core::{Core, Event};
+use proxy_core::{CountingCore, Event};
 use proxy_notices::{Notices, UnseenParts};
 use std::sync::Arc;
 
@@ -35,7 +35,7 @@ pub(crate) struct Teller {
 
 /// What the event may bring.
 #[inline(always)]
-pub(crate) fn concern_of(core: &Core, event: &Event) -> Concern {
+pub(crate) fn concern_of(core: &CountingCore, event: &Event) -> Concern {
     match event {
         Event::Arrived { .. } | Event::Closed { .. } => Concern::Parts,
         Event::Taken { host } => Concern::Taken(*host),
@@ -60,7 +60,7 @@ impl Teller {
 
     /// Tells what a turn brought, after it.
     #[inline(always)]
-    pub(crate) fn tell(&mut self, core: &Core, concern: Concern) {
+    pub(crate) fn tell(&mut self, core: &CountingCore, concern: Concern) {
         match concern {
             Concern::Parts => self.tell_parts(core),
             Concern::Taken(host) => self.see(core, host),
@@ -78,7 +78,7 @@ impl Teller {
     }
 
     // Tells for which hosts parts wait.
-    fn tell_parts(&mut self, core: &Core)
+    fn tell_parts(&mut self, core: &CountingCore)
         ensures told { (host : ℕ) (d : UnseenParts) → host < hosts core.now.setting
             → (slice_index_or self.new.parts host d).waiting
             ≡ length (waiting_parts host (past core.now.setting (history_in core.now))) }
@@ -100,7 +100,7 @@ impl Teller {
 
     // The host's worker took a part, or all were lost.
     #[inline(always)]
-    fn see(&mut self, core: &Core, host: usize) {
+    fn see(&mut self, core: &CountingCore, host: usize) {
         if host < core.hosts() {
             self.parts[host].see(core.waiting(host) as u64);
         }

@@ -13,6 +13,8 @@ mod client_lies;
 #[cfg(test)]
 mod core_at_gate;
 #[cfg(test)]
+mod counting_journals;
+#[cfg(test)]
 mod fake_devices;
 #[cfg(test)]
 mod gate;

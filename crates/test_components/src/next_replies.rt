@@ -21,11 +21,11 @@ pub(crate) enum Move {
 }
 
 // The connection of the host's next reply, and which of the connections 0, 1 and 2 are ready.
-type Told = (Option<u64>, [bool; 3]);
+pub(crate) type Told = (Option<u64>, [bool; 3]);
 
 const NONE: [bool; 3] = [false; 3];
 
-const MOVES: &[(Move, Told)] = &[
+pub(crate) const MOVES: &[(Move, Told)] = &[
     (Move::Opens, (None, NONE)),
     (Move::Opens, (None, NONE)),
     // What waits doesn't fly.

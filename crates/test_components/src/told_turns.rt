@@ -1,6 +1,6 @@
 //! What the turns of a core that counts tell its workers: who must hear of a turn does, and nobody else.
 
-use crate::core_at_gate::core;
+use crate::counting_journals::counting_core;
 use crate::next_replies::{Move, event};
 use limits::MAX_UNSEEN;
 use proxy_core::Event;
@@ -64,7 +64,7 @@ fn counted(alloc: Global) -> Result<(Counted, Arc<Notices>), Fail> {
     let notices = Arc::new(alloc, Notices::new(alloc, 2)?)?;
     notices.add_client(0, 1, KEYS[0]);
     notices.add_client(1, 0, KEYS[1]);
-    let counted = Counted::new(alloc, core(alloc)?, notices.clone()?)?;
+    let counted = Counted::new(alloc, counting_core(alloc)?, notices.clone()?)?;
     Ok((counted, notices))
 }
 

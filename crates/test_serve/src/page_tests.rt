@@ -44,6 +44,8 @@ fn snapshot() -> Snapshot {
         past_steps: 0,
         serving: Look::NONE,
         draining: Look::NONE,
+        draining_count: 0,
+        connections: 0,
         closed: 0,
         durations,
         is_ready: true,

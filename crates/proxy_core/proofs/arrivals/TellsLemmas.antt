@@ -189,8 +189,8 @@ pub pushed-accepted : (old ready new : Machine) (conn : ℕ) (how : Join) (list 
     → HasAccepted old ready conn how placed a → Tells (setting_in old) (memory_in old) conn x → MayAccept (connection_at conn old.connections.numbered)
     → placed ≡ map placed_as (parts_placed (setting_in old) x conn (accepted_count conn x.steps) [] list)
     → new.pipelines.states ≡ pushed_all conn a.index placed ready.pipelines.states → setting_in new ≡ setting_in ready → new.journal.steps ≡ ready.journal.steps
-    → memory_in new ≡ record (memory_in ready) { pipelines = new.pipelines.states } → IsAccepted old new conn (parts how list) x a
-pushed-accepted old ready new conn how list x placed a h tells may are pushed setting steps memory =
+    → new.journal.records ≡ ready.journal.records → memory_in new ≡ record (memory_in ready) { pipelines = new.pipelines.states } → IsAccepted old new conn (parts how list) x a
+pushed-accepted old ready new conn how list x placed a h tells may are pushed setting steps records memory =
     let told = index_told (setting_in old) (memory_in old) conn x tells may in
     let index : a.index ≡ accepted_count conn x.steps = ap (λ (z : Accepted). z.index) h.answer_is ∙ told in
     let pushes : new.pipelines.states ≡ pushed_all conn a.index placed old.pipelines.states = pushed ∙ ap (pushed_all conn a.index placed) h.waiting in
@@ -198,6 +198,7 @@ pushed-accepted old ready new conn how list x placed a h tells may are pushed se
       answer_is = ap answer_of h.answer_is ∙ accepted_as (parts_placed (setting_in old) x conn (accepted_count conn x.steps) [] list) placed _ _ are told;
       setting = setting ∙ h.setting;
       steps = steps ∙ h.steps;
+      records = records ∙ h.records;
       memory = memory
           ∙ (λ i. record { bytes = h.bytes i; connections = ready.connections.numbered; closed = h.closed i; pipelines = new.pipelines.states; hosts = h.hosts i })
           ∙ list_accepted old ready.connections.numbered new.pipelines.states conn a.index how list x placed index are h.connections pushes;
@@ -266,5 +267,6 @@ accepted_before old ready new conn request plan x a e r is =
           ∙ ap (λ S. accepts (accepted_count conn x.steps) (local_of (plan_for request)) (placed_by S x conn (plan_for request))) same.setting;
       setting = is.setting ∙ same.setting;
       steps = is.steps ∙ same.steps;
+      records = is.records ∙ same.records;
       memory = is.memory ∙ arrived;
     }

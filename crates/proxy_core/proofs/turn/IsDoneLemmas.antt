@@ -78,6 +78,11 @@ pub if_kept : (r : Result Answer Refused) (old new : Machine) (pass : ℕ) (even
 if_kept (Ok a) old new pass event made left = made.is_kept
 if_kept (Err x) old new pass event made left = left.is_kept
 
+pub if_records : (r : Result Answer Refused) (old new : Machine) (pass : ℕ) (event : Event) → IfOk r (λ a. IsMade old new pass event a)
+    → IfErr r (λ x. IsLeft old new event x) → new.journal.records ≡ old.journal.records
+if_records (Ok a) old new pass event made left = made.records
+if_records (Err x) old new pass event made left = left.records
+
 pub if_step : (r : Result Answer Refused) (old new : Machine) (k : Proxy) (pass : ℕ) (event : Event) → proxy_of old ≡ k
     → IfOk r (λ a. IsMade old new pass event a) → IfOk r (λ a. IsStep k (proxy_of new) pass event (record { pass = pass; event = event; answer = a }))
 if_step (Ok a) old new k pass event same made =

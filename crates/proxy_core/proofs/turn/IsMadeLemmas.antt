@@ -115,6 +115,7 @@ pub record IsTurned (old new : Machine) (pass : ℕ) (event : Event) (answer : A
   pub has_room : IsFull old.journal (payload_in (memory_in old) event) → ⊥
   pub setting : setting_in new ≡ setting_in old
   pub steps : new.journal.steps ≡ old.journal.steps ++ (record { pass = pass; event = event; answer = answer }) ∷ []
+  pub records : new.journal.records ≡ old.journal.records
   pub memory : memory_in new ≡ record kept { bytes = old.journal.bytes + payload_in (memory_in old) event }
 
 -- So it is once the step of an event that was done is added.
@@ -126,6 +127,7 @@ turned old new pass event done kept is = record {
   setting = is.setting;
   steps = ap (λ z. z ++ (record { pass = pass; event = event; answer = done.recorded }) ∷ []) is.steps
       ∙ ap (λ z. old.journal.steps ++ (record { pass = pass; event = event; answer = z }) ∷ []) is.recorded;
+  records = is.records;
   memory = ap (λ (z : Memory). record z { bytes = z.bytes + done.bytes }) is.memory
       ∙ ap (λ z. record kept { bytes = old.journal.bytes + z }) is.bytes;
 }
@@ -188,6 +190,7 @@ made old new pass event a memory kept turned is moved =
       may_follow = may;
       history = later;
       setting = turned.setting;
+      records = turned.records;
       is_kept = kept_so new S (s ∷ H) turned.setting later (kept.legal, may) now kept.hosts kept.rules kept.opening;
     }
 
@@ -237,5 +240,6 @@ left old new event r kept (is_event, same, has_cause) =
       cause = cause_so old event r.cause kept has_cause;
       steps = same.steps;
       setting = same.setting;
+      records = same.records;
       is_kept = kept_so new (setting_in old) (history_in old) same.setting (ap reverse same.steps) kept.legal (same.memory ∙ kept.memory) kept.hosts kept.rules kept.opening;
     }

@@ -1,4 +1,4 @@
-use Rattle.std.proofs.Common.{◌-◌, sym, ap, subst, ◌∙◌}
+use Rattle.std.proofs.Common.{◌-◌, length, refl, sym, subst}
 use Rattle.std.proofs.lemmas.Option.{slice_get-get_or}
 use Rattle.proxy_history.specs.History.{Step}
 use Rattle.proxy_stats.specs.Counted.{HasCounted}
@@ -8,8 +8,7 @@ use Rattle.proxy_stats.proofs.counted.count_last.Goals as goal
 pub returns-in-Some : goal.returns-in-Some
 returns-in-Some c = λ steps step same.
     let all = c.args.journal.now.steps in
-    let at = c.saturating_sub-last.ensures ∙ ap (λ n. n - 1) c.len.ensures.steps in
-    let found = last_is all steps step c.in-Some.step.now c.saturating_sub-last.result same at (sym c.in-Some.ensures) in
+    let found = last_is all steps step c.in-Some.step.now (length all - 1) same refl (sym c.in-Some.ensures) in
     subst (λ (s : Step). HasCounted c.args.counts.now s c.add.new.self) found (record {
       grown = c.add.ensures.grown;
       few = (c.add.ensures.ejected, c.add.ensures.kept);
@@ -20,6 +19,5 @@ returns-in-Some c = λ steps step same.
 pub returns-in_default : goal.returns-in_default
 returns-in_default c = λ steps step same.
     let all = c.args.journal.now.steps in
-    let at = c.saturating_sub-last.ensures ∙ ap (λ n. n - 1) c.len.ensures.steps in
-    let there = slice_get-get_or all c.saturating_sub-last.result step (last_within all steps step c.saturating_sub-last.result same at) in
+    let there = slice_get-get_or all (length all - 1) step (last_within all steps step (length all - 1) same refl) in
     absurd (let none = c.in_default.ensures in let some = there in cc)

@@ -1,4 +1,4 @@
-use Rattle.std.proofs.Common.{◌≡◌, ◌<◌, ◌^◌, slice_get, Some, sym, ◌∙◌, inl, inr, arith}
+use Rattle.std.proofs.Common.{◌≡◌, ◌<◌, ◌^◌, slice_get, Some, ◌∙◌, inl, inr, arith}
 use Rattle.std.proofs.lemmas.Option.{slice_get_within, slice_get_cases, get_or_from_slice_get}
 use Rattle.proxy_stats.specs.Amounts.{ejected_hosts, kept_hosts}
 use Rattle.proxy_stats.proofs.SumLemmas.{counts_more, all_more}
@@ -13,7 +13,7 @@ loop-i-preserved c =
     elim c.match-get.branch [
       | in-Some w ↦
           let step = w.in-Some.step.now in
-          let at : slice_get steps i ≡ Some step = sym w.in-Some.ensures in
+          let at : slice_get steps i ≡ Some step = w.in-Some.ensures.step in
           let within = slice_get_within steps i step at in
           let here = get_or_from_slice_get steps i step step at in
           rw w.counts-is (
@@ -23,7 +23,7 @@ loop-i-preserved c =
             w.add.ensures.hosts ∙ hosts,
           )
       | in_default w ↦ elim ((slice_get_cases steps i).1) [
-        | inl (_, _, is_some, _) ↦ absurd (let e = w.in_default.ensures in let f = is_some in cc)
+        | inl (_, _, is_some, _) ↦ absurd (let e = w.in_default.ensures.recorded c.requires in let f = is_some in cc)
         | inr z ↦ absurd (omega (arith, z.0, c.loop-i-test.true, c.len-i-end.ensures.steps))
       ]
     ]

@@ -7,11 +7,11 @@ use Rattle.proxy_stats.proofs.LoadLemmas.{loads_are}
 use Rattle.proxy_stats.proofs.load.load_of.Goals as goal
 
 pub loop-host-init : goal.loop-host-init
-loop-host-init c =
+loop-host-init g c =
     (refl, (λ h d within. absurd (omega (arith, within))), (λ h d past within. get_or-replicate 64 h no_load d within))
 
 pub returns : goal.returns
-returns c =
+returns g c =
     let k = c.args.core.now in
     let all : c.loop-host.host ≡ hosts k.setting = omega (arith, c.loop-host-test.false, c.loop-host.auto.host-end, c.hosts-host-end.ensures.hosts) in
     let (long, told, others) = c.loop-host.invariant in

@@ -37,4 +37,4 @@ returns-in-Ok-clause-accepted c = λ x tells.
     let m = c.args.self.now in
     let accepted = subst (λ ps. HasAccepted m c.accept_placed.new.self c.args.conn c.args.how ps c.in-Ok.accepted) c.deref.ensures.value c.in-Ok.ensures.accepted in
     pushed-accepted m c.accept_placed.new.self _ c.args.conn c.args.how c.args.list x c.in_ok-placed.placed.items c.in-Ok.accepted accepted tells c.requires.open
-    (c.in_ok-placed.ensures.placed x c.args.conn (accepted_count c.args.conn x.steps) tells) c.push.ensures refl refl refl
+    (c.in_ok-placed.ensures.placed x c.args.conn (accepted_count c.args.conn x.steps) tells) c.push.ensures refl refl refl refl

@@ -25,6 +25,7 @@ returns-clause-accepted c = record {
   room = have_room c.args.placed.now c.args.counts.now c.args.self.now.pipelines c.reserve.new.self c.reserve.ensures.same c.requires.counted c.in_ok-reserve.ensures.room;
   setting = refl;
   steps = refl;
+  records = refl;
   bytes = refl;
   hosts = refl;
 }

@@ -36,4 +36,4 @@ returns-in-Ok-clause-accepted c = λ x tells.
     let list = part_of c.args.key.now c.args.text ∷ [] in
     let accepted = subst (λ ps. HasAccepted m c.accept_placed.new.self c.args.conn Same ps c.in-Ok.accepted) c.from_ref.ensures.value c.in-Ok.ensures.accepted in
     pushed-accepted m c.accept_placed.new.self _ c.args.conn Same list x (c.place_whole-placed.result ∷ []) c.in-Ok.accepted accepted tells c.requires.open
-    (c.place_whole-placed.ensures.placed x c.args.conn (accepted_count c.args.conn x.steps) tells) c.push_one.ensures.pushed refl refl refl
+    (c.place_whole-placed.ensures.placed x c.args.conn (accepted_count c.args.conn x.steps) tells) c.push_one.ensures.pushed refl refl refl refl

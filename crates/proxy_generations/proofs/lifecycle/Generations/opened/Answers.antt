@@ -7,7 +7,7 @@ returns-then-is_opening g c =
     let is = c.is_opening.ensures.0 c.if-is_opening.true in
     tells_it (Opened c.args.number c.args.now) c.args.self.now _ (λ s es st.
     let o = opening_is c.args.self.now s es c.args.number st is.0 is.1 in
-    (o, stands_opened c.args.self.now s es c.args.number c.args.now c.unwrap_or.result st o c.unwrap_or.ensures))
+    (o, stands_opened c.args.self.now s es c.args.number c.args.now c.unwrap_or.result _ st o c.unwrap_or.ensures c.add.ensures))
 
 pub returns-else-is_opening : goal.returns-else-is_opening
 returns-else-is_opening g c =
