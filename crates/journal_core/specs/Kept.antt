@@ -1,5 +1,5 @@
 -- What contracts see of a list of which all elements are kept, or only the newest.
-use Rattle.std.specs.Prelude.{◌≡◌, ◌-◌, Bool, true, false, List, Option, Some, None, length, slice_get}
+use Rattle.std.specs.Prelude.{◌≡◌, ◌-◌, Bool, true, List, Option, Some, None, length, slice_get}
 use Rattle.journal_core.specs.Blocks.{BlocksState}
 
 -- the elements; whether there is a place for one more; and whether all are kept
@@ -12,10 +12,6 @@ pub record KeptState (X : Type 0) : Type 0 where
 abbrev pub room_in : {X : Type 0} → Option (BlocksState X) → Bool
 room_in None = true
 room_in (Some blocks) = blocks.has_room
-
-abbrev pub is_some : {X : Type 0} → Option X → Bool
-is_some None = false
-is_some (Some x) = true
 
 -- what is kept of these elements: all in blocks, or the newest
 abbrev pub AreKept : {X : Type 0} → Option (BlocksState X) → Option X → List X → Type 0

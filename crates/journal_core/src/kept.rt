@@ -32,8 +32,8 @@ impl<T: Drop> Drop for Kept<T> {
 }
 
 impl<T> Model for Kept<T> {
-    ghost use Rattle.std.specs.Prelude.{◌≡◌, length};
-    ghost use Rattle.journal_core.specs.Kept.{KeptState, AreKept, room_in, is_some};
+    ghost use Rattle.std.specs.Prelude.{◌≡◌, length, is_some};
+    ghost use Rattle.journal_core.specs.Kept.{KeptState, AreKept, room_in};
 
     ghost Value = { KeptState T };
 
@@ -91,7 +91,8 @@ impl<T> Kept<T> {
     /// Element `i`, counted from 0, if it is kept.
     pub(crate) fn get(&self, i: usize) -> Option<&T>
         ensures item { IfSome result (λ e. slice_get self.now.items i ≡ Some e.now) }
-        ensures whole { self.now.is_whole ≡ true → option_copied result ≡ slice_get self.now.items i }
+        ensures whole { self.now.is_whole ≡ true
+            → option_copied result ≡ slice_get self.now.items i }
     {
         match &self.all {
             Some(all) => all.get(i),

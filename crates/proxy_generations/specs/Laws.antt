@@ -52,6 +52,7 @@ pub record IsOldest {H : Type 0} (n : ℕ) (es : List (Event H)) : Type 0 where
   pub are_full : length (draining es) + 1 ≡ MAX_GENERATIONS
   pub have_opened : MAX_GENERATIONS ≤ opened_since n es + 1
 
+-- so it is with each that is in the way
 abbrev pub OldestIsInTheWay : Type 0 → Type 0
 OldestIsInTheWay H = (es : List (Event H)) → IsHistory es → (n : ℕ) → in_the_way es ≡ Some n → IsOldest n es
 

@@ -147,7 +147,8 @@ fn work_task<'a, R: Wait>(
     poll: Poll,
 ) -> Result<Task<'a>, Ending>
     requires { IsSpareOf gate.now spare }
-    ensures { IfOk result (λ task. place_of task ≡ Some (record { index = index; workers = workers })) }
+    ensures { IfOk result (λ task.
+        place_of task ≡ Some (record { index = index; workers = workers })) }
 {
     let seat = seat(rt, gate, spare)?;
     Ok(Task::Work(WorkerSetup::new(context, index, workers, poll, seat)))

@@ -243,17 +243,22 @@ impl<'a> Worker<'a> {
                 return self.finish(rt, &mut events);
             }
             self.wait(&mut events, pause)?;
-            let is_last = !self.takes_in && self.generation.takes_nothing();
+            let is_last = self.may_end();
             if is_last {
                 // (no part may depend on a notice)
                 self.connections.stir_hosts();
             }
             pause = self.serve_once(rt)?;
-            if is_last && self.connections.are_at_rest() {
+            if is_last && self.connections.are_hosts_at_rest() {
                 return Ok(());
             }
         }
         unreachable!()
+    }
+
+    // Whether it has nothing more to do once its hosts have nothing: no client, and no further part comes.
+    fn may_end(&self) -> bool {
+        !self.takes_in && self.connections.is_empty() && self.generation.takes_nothing()
     }
 
     // Makes a round and reports its turns. The longest wait before the next one, in milliseconds.

@@ -202,11 +202,9 @@ impl<'a> WorkerConnections<'a> {
         self.ready.next(0).is_some()
     }
 
-    /// Whether there is no client, and nothing is left to do for the hosts unless further parts come.
-    pub(crate) fn are_at_rest(&self) -> bool {
-        self.clients.is_empty()
-            && self.stirred == 0
-            && self.hosts.iter().all(|host| host.is_at_rest())
+    /// Whether nothing is left to do for the hosts unless further parts come.
+    pub(crate) fn are_hosts_at_rest(&self) -> bool {
+        self.stirred == 0 && self.hosts.iter().all(|host| host.is_at_rest())
     }
 
     /// Whether a client waits for replies, and all that was handed out to it is written.
@@ -556,7 +554,8 @@ fn hosts_of(
     workers: usize,
     config: &Config,
 ) -> Result<Vec<HostConnection>, Ending>
-    ensures { IfOk result (λ hosts. ServesHosts (record { index = index; workers = workers }) hosts.items []) }
+    ensures { IfOk result (λ hosts.
+        ServesHosts (record { index = index; workers = workers }) hosts.items []) }
 {
     let mut hosts = Vec::new(alloc);
     if workers == 0 {
