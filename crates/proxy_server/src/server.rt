@@ -127,7 +127,7 @@ impl<C: Drop> Server<C> {
     }
 
     /// Counts an accepted socket. False: no more are taken, and it is to be closed.
-    pub fn accept<R: Wait>(&self, rt: &R) -> bool {
+    pub fn admit<R: Wait>(&self, rt: &R) -> bool {
         self.sockets.lock(rt).accept()
     }
 

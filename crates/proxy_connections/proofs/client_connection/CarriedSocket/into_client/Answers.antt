@@ -1,0 +1,14 @@
+use Rattle.std.proofs.Common.{ap}
+use Rattle.proxy_serve_core.specs.SocketReader.{SocketReaderState}
+use Rattle.proxy_serve_core.specs.SocketWriter.{SocketWriterState}
+use Rattle.proxy_serve_core.specs.WriteBuffer.{accepted}
+use Rattle.proxy_connections.proofs.SocketLemmas.{reopens_socket}
+use Rattle.proxy_connections.proofs.client_connection.CarriedSocket.into_client.Goals as goal
+
+pub returns-in-Ok-clause-ok : goal.returns-in-Ok-clause-ok
+returns-in-Ok-clause-ok g c =
+    rw c.new-client.ensures
+    (reopens_socket _ _ _ _ _ c.in-Ok.engine c.in-Ok.ensures.opened _ _ _ c.in-Ok.ensures.carries
+    (ap (λ (r : SocketReaderState). r.end.delivered) c.set_readable.ensures)
+    (ap (λ (w : SocketWriterState). accepted w.output) c.set_writable.ensures)
+    c.self.invariant)

@@ -1,0 +1,5 @@
+use Rattle.proxy_connections.specs.WorkerConnections.{RiseTo}
+use Rattle.proxy_connections.proofs.worker_connections.hosts_of.Given as goal
+
+abbrev pub invariant-loop-host : goal.invariant-loop-host
+invariant-loop-host l = RiseTo (record { index = l.index; workers = l.workers }) l.hosts.items l.host

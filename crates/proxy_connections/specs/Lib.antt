@@ -1,0 +1,3 @@
+pub mod Sockets
+pub mod Places
+pub mod WorkerConnections

@@ -1,0 +1,139 @@
+-- What a worker keeps of all its clients and hosts, and what each call may change of them.
+use Rattle.std.specs.Prelude.{◌≡◌, ◌≢◌, ◌⊎◌, ◌<◌, ◌≤◌, ◌++◌, ℕ, List, [], Some, None, length, slice_index_or}
+use Rattle.std.specs.List.{All}
+use Rattle.slab.specs.Slab.{Slab, Updates, SameValues, get}
+use Rattle.proxy_history.specs.History.{History}
+use Rattle.proxy_history.specs.OwnSteps.{connection_steps}
+use Rattle.proxy_engines.specs.Socket.{Past}
+use Rattle.proxy_engines.specs.HostStep.{ends_of}
+use Rattle.proxy_engines.specs.Keeps.{KeepsSocket, no_logs}
+use Rattle.proxy_engines.specs.Logs.{CarriesHostLogs, CarriesSocketLogs}
+use Rattle.proxy_engines.specs.Turns.{own_steps}
+use Rattle.proxy_engines.specs.Client.{Client as Engine}
+use Rattle.proxy_stats.specs.declared.counted_seat.CountedSeat.{CountedSeat}
+use Rattle.proxy_connections.specs.Sockets.{KeepsHost}
+use Rattle.proxy_connections.specs.Places.{IsOf, KeepsToPlace, Place}
+use Rattle.proxy_connections.specs.declared.client_connection.ClientConnection.{ClientConnection}
+use Rattle.proxy_connections.specs.declared.client_connection.SocketStage.{SocketStage}
+use Rattle.proxy_connections.specs.declared.client_connection.Stepped.{Stepped}
+use Rattle.proxy_connections.specs.declared.host_connection.HostConnection.{HostConnection}
+
+-- a worker's place, its clients by their keys, its hosts, and the steps that it made, the newest first
+pub record WorkerConnectionsState : Type 0 where
+  pub place : Place
+  pub clients : Slab ClientConnection
+  pub hosts : List HostConnection
+  pub steps : History
+
+-- SERVED
+
+-- a client has a key
+abbrev pub IsAt : Slab ClientConnection → ℕ → ClientConnection → Type 0
+IsAt clients key client = get clients key ≡ Some client
+
+-- Each client's engine carries all that its socket's logs hold, from the socket's first byte on. Steps were made of its connection,
+-- and no other client has the same.
+pub record ServesClients (clients : Slab ClientConnection) (steps : History) : Type 0 where
+  pub carries : (key : ℕ) (client : ClientConnection) → IsAt clients key client
+      → (pasts : List Past) × CarriesSocketLogs pasts client.engine steps no_logs
+  pub opened : (key : ℕ) (client : ClientConnection) → IsAt clients key client → connection_steps client.engine.conn steps ≢ []
+  pub apart : (key other : ℕ) (one two : ClientConnection) → IsAt clients key one → IsAt clients other two
+      → one.engine.conn ≡ two.engine.conn → key ≡ other
+
+-- the number of a host
+abbrev pub number_of : HostConnection → ℕ
+number_of host = host.engine.outbox.host
+
+-- a host's engine carries all that its link's logs hold, from the link's first byte on
+abbrev pub CarriesLink : History → HostConnection → Type 0
+CarriesLink steps host = CarriesHostLogs host.engine.outbox host.engine.link steps no_logs
+
+-- Each host's engine carries its link's logs, each host is of this place, and no host stands twice.
+pub record ServesHosts (place : Place) (hosts : List HostConnection) (steps : History) : Type 0 where
+  pub carries : All (CarriesLink steps) hosts
+  pub own : All (λ host. IsOf place (number_of host)) hosts
+  pub apart : (i j : ℕ) (one two : HostConnection) → i < length hosts → j < length hosts
+      → number_of (slice_index_or hosts i one) ≡ number_of (slice_index_or hosts j two) → i ≡ j
+
+-- some hosts over no steps, each with a number below this one
+pub record RiseTo (place : Place) (hosts : List HostConnection) (next : ℕ) : Type 0 where
+  pub serves : ServesHosts place hosts []
+  pub below : All (λ host. number_of host < next) hosts
+
+-- A worker's clients and hosts are served, over the steps that it made, and none of these is of a host of another place.
+pub record IsServing (place : Place) (clients : Slab ClientConnection) (hosts : List HostConnection) (steps : History) : Type 0 where
+  pub clients_are : ServesClients clients steps
+  pub hosts_are : ServesHosts place hosts steps
+  pub keeps : KeepsToPlace place steps
+
+-- An engine that is no client's yet: it carries all that its socket's logs hold, steps were made of its connection, and no client
+-- has the same.
+pub record IsNewcomer (engine : Engine) (clients : Slab ClientConnection) (steps : History) : Type 0 where
+  pub carries : (pasts : List Past) × CarriesSocketLogs pasts engine steps no_logs
+  pub opened : connection_steps engine.conn steps ≢ []
+  pub apart : (key : ℕ) (client : ClientConnection) → IsAt clients key client → client.engine.conn ≢ engine.conn
+
+-- the steps that a seat has made so far
+abbrev pub steps_of : CountedSeat → History
+steps_of seat = own_steps seat.seated.pass.number seat.seated.pass.known.seen
+
+-- CHANGES
+
+-- Nothing but the client at this key has changed, if there is one. It is there still, and its engine carries what it carried of its
+-- socket's logs: the steps made are its connection's alone.
+pub record ChangesClient (key : ℕ) (old new : WorkerConnectionsState) : Type 0 where
+  pub place : new.place ≡ old.place
+  pub hosts : new.hosts ≡ old.hosts
+  pub others : (other : ℕ) → other ≢ key → get new.clients other ≡ get old.clients other
+  pub stays : (client : ClientConnection) → IsAt old.clients key client
+      → (after : ClientConnection) × IsAt new.clients key after × KeepsSocket client.engine after.engine old.steps new.steps
+  pub vacant : get old.clients key ≡ None → new ≡ old
+
+-- Nothing but the host at this index has changed, if there is one. Its engine carries what it carried of its link's logs: the steps
+-- made are the host's alone.
+pub record ChangesHost (index : ℕ) (old new : WorkerConnectionsState) : Type 0 where
+  pub place : new.place ≡ old.place
+  pub clients : new.clients ≡ old.clients
+  pub many : length new.hosts ≡ length old.hosts
+  pub others : (i : ℕ) (d : HostConnection) → i ≢ index → slice_index_or new.hosts i d ≡ slice_index_or old.hosts i d
+  pub keeps : (d : HostConnection) → index < length old.hosts
+      → KeepsHost (ends_of (slice_index_or old.hosts index d).engine) (ends_of (slice_index_or new.hosts index d).engine) old.steps new.steps
+  pub none : length old.hosts ≤ index → new ≡ old
+
+-- each client is where it was, as it was
+abbrev pub KeepsClients : Slab ClientConnection → Slab ClientConnection → Type 0
+KeepsClients old new = (key : ℕ) (client : ClientConnection) → IsAt old key client → IsAt new key client
+
+-- Each client is where it was, as it was, and at most one has come. The steps made, if any, are of one connection, which had none
+-- before.
+pub record AddsClient (old new : WorkerConnectionsState) : Type 0 where
+  pub place : new.place ≡ old.place
+  pub hosts : new.hosts ≡ old.hosts
+  pub stay : KeepsClients old.clients new.clients
+  pub conn : ℕ
+  pub later : History
+  pub adds : new.steps ≡ later ++ old.steps
+  pub alone : connection_steps conn later ≡ later
+  pub fresh : later ≢ [] → connection_steps conn old.steps ≡ []
+
+-- the client at this key, if there is one, is gone, and nothing else has changed
+pub record RemovesClient (key : ℕ) (old new : WorkerConnectionsState) : Type 0 where
+  pub place : new.place ≡ old.place
+  pub hosts : new.hosts ≡ old.hosts
+  pub steps : new.steps ≡ old.steps
+  pub clients : Updates old.clients new.clients key None
+
+-- there is room for more clients, and nothing else has changed
+pub record MakesRoom (old new : WorkerConnectionsState) : Type 0 where
+  pub place : new.place ≡ old.place
+  pub hosts : new.hosts ≡ old.hosts
+  pub steps : new.steps ≡ old.steps
+  pub clients : SameValues old.clients new.clients
+
+-- the client at this key, if there is one, isn't served any more: its engine isn't stepped from here on
+abbrev pub IsLeaving : Slab ClientConnection → ℕ → Type 0
+IsLeaving clients key = (client : ClientConnection) → IsAt clients key client → client.stage ≢ SocketStage.Served
+
+-- a result by which a client's socket is to be dropped, or goes over
+abbrev pub IsLast : Stepped → Type 0
+IsLast stepped = (stepped ≡ Stepped.Closed) ⊎ (stepped ≡ Stepped.CarriedOver)

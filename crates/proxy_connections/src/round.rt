@@ -1,0 +1,26 @@
+//! What a worker's connections are told of the round in which they are stepped.
+
+use journal_room::JournalRoom;
+use mio::Registry;
+use proxy_notices::Notices;
+
+/// A worker's round.
+#[derive(Clone, Copy, Drop)]
+pub struct Round<'a> {
+    /// The room in the generation's journal.
+    pub room: &'a JournalRoom,
+    /// What turns tell the generation's workers.
+    pub notices: &'a Notices,
+    /// Where sockets are registered for the worker's poll.
+    pub registry: &'a Registry,
+    /// Its moment, in milliseconds.
+    pub now: u64,
+    /// The most parts that one client may queue in it.
+    pub most_parts: u64,
+    /// Whether the hosts' waiting parts are given up.
+    pub gives_up: bool,
+    /// Whether the inputs of new clients end behind what has come.
+    pub ends_inputs: bool,
+    /// Whether sockets may go over to a newer generation.
+    pub carries_over: bool,
+}

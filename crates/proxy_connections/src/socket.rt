@@ -1,0 +1,134 @@
+//! The socket of a client or a host: its two halves for an engine, and the stream that they share.
+ghost use Rattle.std.specs.Prelude.{◌≡◌, IfOk};
+ghost use Rattle.proxy_engines.specs.Keeps.{no_logs};
+ghost use Rattle.proxy_connections.specs.Sockets.{logs_of};
+ghost use Rattle.proxy_serve_core.specs.WriteBuffer.{accepted};
+
+use mio::event::Event;
+use mio::net::TcpStream;
+use mio::unix::SourceFd;
+use mio::{Interest, Registry, Token};
+use proxy_serve_core::{SocketReader, SocketWriter};
+use std::alloc::{AllocError, Global};
+use std::io;
+use std::io::{Read, Write};
+use std::net::Shutdown;
+use std::os::fd::AsRawFd;
+use std::sync::Arc;
+
+/// The reading half of a socket.
+pub(crate) type Reader = SocketReader<SharedStream>;
+
+/// The writing half of a socket.
+pub(crate) type Writer = SocketWriter<SharedStream>;
+
+/// A stream, which both halves of its socket and their owner hold.
+#[derive(Drop)]
+pub(crate) struct SharedStream(Arc<TcpStream>);
+
+impl SharedStream {
+    fn new(alloc: Global, stream: TcpStream) -> Result<SharedStream, AllocError> {
+        match Arc::new(alloc, stream) {
+            Ok(stream) => Ok(SharedStream(stream)),
+            Err(_) => Err(AllocError),
+        }
+    }
+
+    // The same stream once more.
+    fn share(&self) -> Result<SharedStream, AllocError> {
+        match Arc::try_clone(&self.0) {
+            Ok(stream) => Ok(SharedStream(stream)),
+            Err(_) => Err(AllocError),
+        }
+    }
+
+    fn stream(&self) -> &TcpStream {
+        &self.0
+    }
+
+    /// Registers the stream with the poll under this token.
+    pub(crate) fn register(&self, registry: &Registry, token: Token) -> io::Result<()> {
+        let fd = self.stream().as_raw_fd();
+        registry.register(
+            &mut SourceFd(&fd),
+            token,
+            Interest::READABLE | Interest::WRITABLE,
+        )
+    }
+
+    /// Removes the stream from the poll.
+    pub(crate) fn deregister(&self, registry: &Registry) {
+        let fd = self.stream().as_raw_fd();
+        let _ = registry.deregister(&mut SourceFd(&fd));
+    }
+
+    /// Closes the sending half.
+    pub(crate) fn shut_write(&self) {
+        let _ = self.stream().shutdown(Shutdown::Write);
+    }
+}
+
+impl Read for SharedStream {
+    fn read(&mut self, buffer: &mut [u8]) -> io::Result<usize> {
+        let mut stream = self.stream();
+        stream.read(buffer)
+    }
+}
+
+impl Write for SharedStream {
+    fn write(&mut self, bytes: &[u8]) -> io::Result<usize> {
+        let mut stream = self.stream();
+        stream.write(bytes)
+    }
+
+    fn flush(&mut self) -> io::Result<()> {
+        Ok(())
+    }
+}
+
+/// A new socket's two halves, and its stream.
+#[derive(Drop)]
+pub(crate) struct Socket {
+    pub(crate) stream: SharedStream,
+    pub(crate) reader: Reader,
+    pub(crate) writer: Writer,
+}
+
+impl Socket {
+    /// The socket of this stream, from which nothing was read or written.
+    pub(crate) fn new(alloc: Global, stream: TcpStream) -> Result<Socket, AllocError>
+        ensures { IfOk result (λ s. logs_of s.reader s.writer ≡ no_logs) }
+    {
+        let stream = SharedStream::new(alloc, stream)?;
+        let reader = SocketReader::new(stream.share()?);
+        let writer = SocketWriter::new(alloc, stream.share()?);
+        Ok(Socket {
+            stream,
+            reader,
+            writer,
+        })
+    }
+}
+
+/// What an event of the poll says of a reading half.
+pub(crate) fn note_readable(reader: &mut Reader, event: &Event)
+    ensures logs { reader.new.end.delivered ≡ reader.old.end.delivered }
+    ensures counts { reader.new.counts ≡ reader.old.counts }
+{
+    if event.is_readable() || event.is_read_closed() || event.is_error() {
+        reader.set_readable();
+    }
+    if event.is_read_closed() || event.is_error() {
+        reader.set_closed();
+    }
+}
+
+/// What an event of the poll says of a writing half.
+pub(crate) fn note_writable(writer: &mut Writer, event: &Event)
+    ensures logs { accepted writer.new.output ≡ accepted writer.old.output }
+    ensures counts { writer.new.counts ≡ writer.old.counts }
+{
+    if event.is_writable() || event.is_write_closed() || event.is_error() {
+        writer.set_writable();
+    }
+}

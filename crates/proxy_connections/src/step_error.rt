@@ -1,0 +1,36 @@
+//! Why a step of a connection fails.
+
+use proxy_engines::EngineError;
+use proxy_exit_status::Ending;
+
+/// Why a step failed.
+#[derive(Clone, Copy, Drop)]
+pub enum StepError {
+    /// There was no memory; the step is made again.
+    Memory,
+    /// The journal has no room for it.
+    Full,
+    /// The server ends.
+    Ends(Ending),
+    /// The device failed, or the turn has no meaning: the connection or link ends alone.
+    EndsOne,
+}
+
+impl StepError {
+    /// Whether the connection or link ends alone.
+    pub fn ends_one(self) -> bool {
+        matches!(self, StepError::EndsOne)
+    }
+}
+
+impl From<EngineError> for StepError {
+    /// The engine's error, as its worker treats it.
+    fn from(error: EngineError) -> StepError {
+        match error {
+            EngineError::NoMemory | EngineError::TurnRefused { number: 1001 } => StepError::Memory,
+            EngineError::TurnRefused { number: 1002 } => StepError::Full,
+            EngineError::TurnRefused { number: 1202 } => StepError::Ends(Ending::Spent),
+            _ => StepError::EndsOne,
+        }
+    }
+}

@@ -1,0 +1,604 @@
+//! The clients and hosts of a worker, and the turns by which these are stepped.
+ghost use Rattle.std.specs.List.{All};
+ghost use Rattle.std.specs.Prelude.{◌≡◌, ◌+◌, ℕ, [], IfOk, IfSome, OnOk};
+ghost use Rattle.proxy_connections.specs.Places.{IsOf, Place};
+ghost use Rattle.proxy_connections.specs.WorkerConnections.{AddsClient, ChangesClient, ChangesHost, IsLast, IsLeaving, IsNewcomer, KeepsClients, MakesRoom, RemovesClient, RiseTo, ServesHosts, steps_of};
+
+use crate::client_connection::{CarriedSocket, ClientConnection, ClientRound, Lent, PollPlace, Stepped};
+use crate::host_connection::{HostConnection, HostRound, HostStepped};
+use crate::round::Round;
+use crate::step_error::StepError;
+use journal_room::{CountedTurns, JournalRoom};
+use limits::MAX_HOSTS;
+use mio::event::Event;
+use mio::net::TcpStream;
+use mio::{Registry, Token};
+use proxy_config::Config;
+use proxy_exit_status::Ending;
+use proxy_generations::StepKind;
+use proxy_histogram::Histogram;
+use proxy_notices::{MAX_WORDS, Notices};
+use proxy_serve_core::{ReadyClients, hosts_of_worker};
+use proxy_stats::CountedSeat;
+use slab::Slab;
+use std::alloc::Global;
+use std::marker::Model;
+use std::mem;
+use std::net::{Net, SocketAddr};
+use std::sync::Wait;
+
+/// Tokens from here on are hosts. The token of a client is its key.
+pub const HOSTS: usize = 1 << 32;
+
+/// What came of a connection that the core opened.
+#[derive(Clone, Copy, Drop)]
+pub enum Opened {
+    /// Its client has a key.
+    Kept,
+    /// There was no room for the client, and the connection is dropped.
+    Dropped,
+}
+
+/// What came of a client's round.
+#[derive(Clone, Copy, Drop)]
+pub struct ClientResult {
+    /// Its result.
+    pub stepped: Result<Stepped, StepError>,
+    /// Whether its connection was closed in it, which is to be counted.
+    pub has_closed: bool,
+}
+
+/// What came of a host's round.
+#[derive(Clone, Copy, Drop)]
+pub struct HostResult {
+    /// Its result.
+    pub stepped: Result<HostStepped, StepError>,
+    /// The host's address.
+    pub address: SocketAddr,
+    /// Whether more can be done at once.
+    pub may_go: bool,
+}
+
+/// The clients and hosts of a worker.
+///
+/// At all times each client's engine has done just what its socket's logs show, and each host's what its link's show,
+/// over the steps of this seat. None of these is of a host whose number, modulo the workers, isn't the worker's index. A
+/// client goes only by `remove` and `carry`.
+pub struct WorkerConnections<'a> {
+    alloc: Global,
+    turns: CountedTurns<CountedSeat<'a>>,
+    // The worker's index, and the number of workers.
+    index: usize,
+    workers: usize,
+    clients: Slab<ClientConnection>,
+    // Which of them the next round looks at.
+    ready: ReadyClients,
+    hosts: Vec<HostConnection>,
+    // Bit h: parts came for host h since its last round.
+    stirred: u64,
+    lent: Lent,
+}
+
+// Written out so that a drop is one call: each function that holds one is proved sooner.
+impl Drop for WorkerConnections<'_> {
+    fn drop(self) {
+        let WorkerConnections {
+            alloc: _,
+            turns: _,
+            index: _,
+            workers: _,
+            clients: _,
+            ready: _,
+            hosts: _,
+            stirred: _,
+            lent: _,
+        } = self;
+    }
+}
+
+impl<'a> Model for WorkerConnections<'a> {
+    ghost use Rattle.proxy_connections.specs.WorkerConnections.{WorkerConnectionsState, IsServing, steps_of};
+
+    ghost Value = { WorkerConnectionsState };
+
+    ghost use Rattle.proxy_connections.specs.contracts.client_connection.ClientConnection as client;
+    ghost use Rattle.proxy_connections.specs.contracts.host_connection.HostConnection as host_connection;
+    ghost use Rattle.slab.specs.Slab.{slab_code};
+    ghost use Rattle.std.specs.Coded.{codes};
+    ghost use Rattle.resp_core.specs.Code.{tree_code};
+
+    ghost coded = { Prim.hlevel (codes, tree_code, slab_code, client.the_row.coded, host_connection.the_row.coded) };
+
+    ghost view = { λ c. record {
+      place = record { index = c.index; workers = c.workers };
+      clients = c.clients;
+      hosts = c.hosts.items;
+      steps = steps_of c.turns.turns;
+    } };
+
+    ghost invariant = { λ c. IsServing (record { index = c.index; workers = c.workers }) c.clients c.hosts.items (steps_of c.turns.turns) };
+}
+
+impl<'a> WorkerConnections<'a> {
+    /// The hosts of the worker with this index, each without a link, and no client. Ends with `Memory` where there is
+    /// none for the hosts.
+    pub fn new(
+        alloc: Global,
+        index: usize,
+        workers: usize,
+        config: &Config,
+        seat: CountedSeat<'a>,
+    ) -> Result<WorkerConnections<'a>, Ending>
+        requires { steps_of seat ≡ [] }
+        ensures { IfOk result (λ made. made.place ≡ record { index = index; workers = workers }) }
+    {
+        let hosts = hosts_of(alloc, index, workers, config)?;
+        Ok(WorkerConnections {
+            alloc,
+            turns: CountedTurns::new(seat),
+            index,
+            workers,
+            clients: Slab::new(alloc),
+            ready: ReadyClients::new(alloc),
+            hosts,
+            stirred: 0,
+            lent: Lent {
+                buffer: Vec::new(alloc),
+                durations: Histogram::new(),
+            },
+        })
+    }
+
+    /// The clients' keys are below this number.
+    pub fn capacity(&self) -> usize {
+        self.clients.capacity()
+    }
+
+    /// Whether there is no client.
+    pub fn is_empty(&self) -> bool {
+        self.clients.is_empty()
+    }
+
+    /// The key of the next client.
+    pub fn vacant_key(&self) -> usize {
+        self.clients.vacant_key()
+    }
+
+    /// The number of hosts.
+    pub fn host_count(&self) -> usize {
+        self.hosts.len()
+    }
+
+    /// Whether a host's link is connecting.
+    pub fn is_connecting(&self, now: u64) -> bool {
+        is_any_connecting(&self.hosts, now)
+    }
+
+    // The lent steps that it keeps: one for a fault of each of its links, because a fault must be recorded.
+    fn reserve(&self) -> u64 {
+        self.hosts.len() as u64
+    }
+
+    /// Reports what its turns did, and returns unspent steps. A step for a fault of each link stays lent.
+    pub fn settle<R: Wait>(&mut self, rt: &R, room: &JournalRoom)
+        ensures { self.new ≡ self.old }
+    {
+        let reserve = self.reserve();
+        room.settle(rt, &mut self.turns, reserve);
+    }
+
+    /// Borrows the steps of a further connection and a command of it. False: the journal hasn't that many left.
+    pub fn borrow_for_client<R: Wait>(&mut self, rt: &R, room: &JournalRoom) -> bool
+        ensures { self.new ≡ self.old }
+    {
+        let reserve = self.reserve().saturating_add(StepKind::Opened.cost());
+        room.lend(rt, &mut self.turns, reserve)
+    }
+
+    /// Makes room for one more client. False: there is no memory.
+    pub fn reserve_slot(&mut self) -> bool
+        ensures { MakesRoom self.old self.new }
+    {
+        self.clients.reserve(1).is_ok() && self.ready.reserve(self.clients.capacity()).is_ok()
+    }
+
+    /// The least key of a ready client, from one number on and below another.
+    pub fn next_ready(&self, from: usize, end: usize) -> Option<usize> {
+        match self.ready.next(from) {
+            Some(key) if key < end => Some(key),
+            _ => None,
+        }
+    }
+
+    /// Whether a client is ready.
+    pub fn has_ready(&self) -> bool {
+        self.ready.next(0).is_some()
+    }
+
+    /// Whether nothing is left to do for the hosts unless further parts come.
+    pub fn are_hosts_at_rest(&self) -> bool {
+        self.stirred == 0 && self.hosts.iter().all(|host| host.is_at_rest())
+    }
+
+    /// Whether a client waits for replies, and all that was handed out to it is written.
+    pub fn may_be_answered(&self) -> bool {
+        may_any_be_answered(&self.clients)
+    }
+
+    /// Makes all clients ready.
+    pub fn make_all_ready(&mut self)
+        ensures { self.new ≡ self.old }
+    {
+        self.ready.make_all_ready(self.clients.capacity());
+    }
+
+    /// Takes what turns told of its clients and hosts: clients to which replies came are ready, and hosts for which parts
+    /// came are stepped in their next round.
+    pub fn hear(&mut self, notices: &Notices)
+        ensures { self.new ≡ self.old }
+    {
+        self.stirred |= notices.take_hosts(self.index);
+        make_told_ready(&mut self.ready, notices, self.index);
+    }
+
+    /// Has each host stepped in the next round, whether it was told of parts or not.
+    pub fn stir_hosts(&mut self)
+        ensures { self.new ≡ self.old }
+    {
+        self.stirred |= self.bits_of_hosts();
+    }
+
+    // The bits of all its hosts.
+    fn bits_of_hosts(&self) -> u64 {
+        let mut bits = 0;
+        for index in 0..self.hosts.len() {
+            bits |= self.bit_of_host(index);
+        }
+        bits
+    }
+
+    /// Takes the durations of commands since the last call.
+    pub fn take_durations(&mut self) -> Histogram
+        ensures { self.new ≡ self.old }
+    {
+        mem::replace(&mut self.lent.durations, Histogram::new())
+    }
+
+    /// Opens a connection on a new socket, which is registered under the vacant key.
+    pub fn open<R: Wait>(
+        &mut self,
+        rt: &R,
+        round: Round<'_>,
+        stream: TcpStream,
+    ) -> Result<Opened, StepError>
+        ensures { AddsClient self.old self.new }
+    {
+        match ClientConnection::open(rt, self.alloc, &mut self.turns, stream) {
+            Ok(client) => Ok(self.insert(round, client)),
+            Err(error) => Err(StepError::from(error)),
+        }
+    }
+
+    /// Opens a connection on a carried-over socket, which it registers under the vacant key. If the connection is refused
+    /// the socket comes back.
+    pub fn open_carried<R: Wait>(
+        &mut self,
+        rt: &R,
+        round: Round<'_>,
+        carried: CarriedSocket,
+    ) -> Result<Opened, (StepError, CarriedSocket)>
+        ensures { AddsClient self.old self.new }
+    {
+        let place = PollPlace {
+            registry: round.registry,
+            token: Token(self.clients.vacant_key()),
+        };
+        match ClientConnection::open_carried(rt, self.alloc, &mut self.turns, place, carried) {
+            Ok(client) => {
+                client.note_carried(round.room);
+                Ok(self.insert(round, client))
+            }
+            Err((error, carried)) => Err((StepError::from(error), carried)),
+        }
+    }
+
+    // Gives the client a slot: it has a connection from here on.
+    fn insert(&mut self, round: Round<'_>, mut client: ClientConnection) -> Opened
+        requires { IsNewcomer client.engine self.old.clients self.old.steps }
+        ensures place { self.new.place ≡ self.old.place }
+        ensures hosts { self.new.hosts ≡ self.old.hosts }
+        ensures steps { self.new.steps ≡ self.old.steps }
+        ensures stay { KeepsClients self.old.clients self.new.clients }
+    {
+        begin_input(&mut client, round.ends_inputs);
+        let conn = client.conn();
+        let Ok(key) = self.clients.insert(client) else {
+            return Opened::Dropped;
+        };
+        round.notices.add_client(conn, self.index, key);
+        self.ready.make_ready(key);
+        Opened::Kept
+    }
+
+    /// Records what the poll reports of a client's socket.
+    pub fn on_client_event(&mut self, key: usize, event: &Event)
+        ensures { ChangesClient key self.old self.new }
+    {
+        let Some(client) = self.clients.get_mut(key) else {
+            return;
+        };
+        client.on_readiness(event);
+        self.ready.make_ready(key);
+    }
+
+    /// Records what the poll reports of a host's socket.
+    pub fn on_host_event(&mut self, index: usize, event: &Event)
+        ensures { ChangesHost index self.old self.new }
+    {
+        let Some(host) = self.hosts.get_mut(index) else {
+            return;
+        };
+        host.on_readiness(event);
+    }
+
+    /// Takes in no further commands of the client with this key.
+    pub fn drain(&mut self, key: usize)
+        ensures { ChangesClient key self.old self.new }
+    {
+        let Some(client) = self.clients.get_mut(key) else {
+            return;
+        };
+        client.drain();
+        self.ready.make_ready(key);
+    }
+
+    /// Ends the input of the client with this key behind the bytes that have come.
+    pub fn end_input(&mut self, key: usize)
+        ensures { ChangesClient key self.old self.new }
+    {
+        let Some(client) = self.clients.get_mut(key) else {
+            return;
+        };
+        client.end_input();
+        self.ready.make_ready(key);
+    }
+
+    /// Steps the client with this key. `None`: it can't make progress now, or there is no such client. It is ready again
+    /// only where its round left something to do.
+    pub fn step_client<R: Wait>(
+        &mut self,
+        rt: &R,
+        round: Round<'_>,
+        key: usize,
+    ) -> Option<ClientResult>
+        ensures changes { ChangesClient key self.old self.new }
+        ensures leaves { IfSome result (λ r. IfOk r.stepped
+            (λ s. IsLast s → IsLeaving self.new.clients key)) }
+    {
+        let reserve = self.reserve();
+        self.ready.begin(key);
+        let Some(client) = self.clients.get_mut(key) else {
+            return None;
+        };
+        if !client.may_go(round.now) {
+            return None;
+        }
+        let was_counted = client.is_counted();
+        let own = client_round(round, reserve);
+        let stepped = client.run_once(rt, &mut self.turns, &mut self.lent, own);
+        let awaits = client.awaits_reply();
+        let is_ready = client.has_more() || matches!(stepped, Ok(Stepped::Ready));
+        let has_closed = client.is_counted() && !was_counted;
+        self.ready.end(key, is_ready, awaits);
+        Some(ClientResult {
+            stepped,
+            has_closed,
+        })
+    }
+
+    // The bit of the host with this index: of host h it is bit h.
+    fn bit_of_host(&self, index: usize) -> u64 {
+        let host = index
+            .saturating_mul(self.workers)
+            .saturating_add(self.index);
+        if host < MAX_HOSTS { 1 << host } else { 0 }
+    }
+
+    /// Steps the host with this index. `None`: it can't make progress now, or there is no such host.
+    pub fn step_host<R: Wait + Net>(
+        &mut self,
+        rt: &R,
+        round: Round<'_>,
+        index: usize,
+    ) -> Option<HostResult>
+        ensures { ChangesHost index self.old self.new }
+    {
+        let bit = self.bit_of_host(index);
+        let is_stirred = self.stirred & bit != 0;
+        let Some(host) = self.hosts.get_mut(index) else {
+            return None;
+        };
+        if !is_stirred && !round.gives_up && !host.may_go(round.now) {
+            return None;
+        }
+        self.stirred &= !bit;
+        let own = host_round(round);
+        let stepped = host.run_once(rt, &mut self.turns, &mut self.lent.buffer, own);
+        Some(HostResult {
+            stepped,
+            address: host.address(),
+            may_go: host.may_go(round.now),
+        })
+    }
+
+    /// Drops a client that isn't served any more.
+    pub fn remove(&mut self, notices: &Notices, key: usize)
+        requires { IsLeaving self.old.clients key }
+        ensures { RemovesClient key self.old self.new }
+    {
+        self.ready.forget(key);
+        if let Some(client) = self.clients.try_remove(key) {
+            notices.remove_client(client.conn(), self.index, key);
+            drop(client);
+        }
+    }
+
+    /// Takes the socket of a client that isn't served any more, with its unused input, for the newest generation.
+    /// `None`: its connection can't go on, and the socket is dropped; or there is no such client.
+    pub fn carry(
+        &mut self,
+        round: Round<'_>,
+        key: usize,
+    ) -> Option<CarriedSocket>
+        requires { IsLeaving self.old.clients key }
+        ensures { RemovesClient key self.old self.new }
+    {
+        self.ready.forget(key);
+        match self.clients.try_remove(key) {
+            Some(client) => {
+                round
+                    .notices
+                    .remove_client(client.conn(), self.index, key);
+                client.carry(round.registry, round.room)
+            }
+            None => None,
+        }
+    }
+
+    /// Counts a refusal of memory to a client's socket that would go over. The client tries again, unless too many were
+    /// refused in a row. `None`: there is no such client.
+    pub fn refuse(&mut self, key: usize) -> Option<StepError>
+        ensures { ChangesClient key self.old self.new }
+    {
+        let Some(client) = self.clients.get_mut(key) else {
+            return None;
+        };
+        self.ready.make_ready(key);
+        Some(client.refuse())
+    }
+
+    /// Writes what the client's socket takes at once, and closes its sending half. True: its connection wasn't counted
+    /// as closed yet. `None`: there is no such client.
+    pub fn shut_down(&mut self, key: usize) -> Option<bool>
+        ensures { ChangesClient key self.old self.new }
+    {
+        let Some(client) = self.clients.get_mut(key) else {
+            return None;
+        };
+        let is_cut = !client.is_counted();
+        client.shut_down(&mut self.lent.buffer);
+        Some(is_cut)
+    }
+
+    /// Writes what a carried-over socket takes at once, and closes it.
+    pub fn close_carried(&mut self, mut carried: CarriedSocket)
+        ensures { self.new ≡ self.old }
+    {
+        carried.shut_down(&mut self.lent.buffer);
+        drop(carried);
+    }
+}
+
+// What a client needs of this round, where the worker keeps so many steps for its links.
+fn client_round(round: Round<'_>, reserve: u64) -> ClientRound<'_> {
+    ClientRound {
+        room: round.room,
+        now: round.now,
+        reserve,
+        most_parts: round.most_parts,
+        carries_over: round.carries_over,
+    }
+}
+
+// What a host needs of this round.
+fn host_round(round: Round<'_>) -> HostRound<'_> {
+    HostRound {
+        room: round.room,
+        registry: round.registry,
+        now: round.now,
+        gives_up: round.gives_up,
+    }
+}
+
+// Whether one of these clients waits for replies, and all that was handed out to it is written.
+fn may_any_be_answered(clients: &Slab<ClientConnection>) -> bool {
+    for key in 0..clients.capacity() {
+        if let Some(client) = clients.get(key) {
+            if client.may_be_answered() {
+                return true;
+            }
+        }
+    }
+    false
+}
+
+// Makes the clients of a worker ready to which replies came.
+fn make_told_ready(ready: &mut ReadyClients, notices: &Notices, worker: usize) {
+    if notices.take_all(worker) {
+        ready.make_awaiting_ready();
+    }
+    for _ in 0..MAX_WORDS {
+        let Some(word) = notices.take_word(worker) else {
+            return;
+        };
+        ready.make_word_ready(word.index, word.bits);
+    }
+}
+
+// Ends the input of a new client behind what has come, where it is to end.
+fn begin_input(client: &mut ClientConnection, ends_input: bool)
+    ensures { client.new.engine ≡ client.old.engine }
+{
+    if ends_input {
+        client.end_input();
+    }
+}
+
+// Whether a link of one of these hosts is connecting.
+fn is_any_connecting(hosts: &[HostConnection], now: u64) -> bool {
+    hosts.iter().any(|host| host.is_connecting(now))
+}
+
+// The hosts of the worker with this index, each without a link.
+fn hosts_of(
+    alloc: Global,
+    index: usize,
+    workers: usize,
+    config: &Config,
+) -> Result<Vec<HostConnection>, Ending>
+    ensures { IfOk result (λ hosts.
+        ServesHosts (record { index = index; workers = workers }) hosts.items []) }
+{
+    let mut hosts = Vec::new(alloc);
+    if workers == 0 {
+        return Ok(hosts);
+    }
+    let own = hosts_of_worker(alloc, index, workers, config.hosts.len())?;
+    for host in 0..config.hosts.len() {
+        push_host(&mut hosts, alloc, host, &own, config)?;
+    }
+    Ok(hosts)
+}
+
+// Adds the host of this number, without a link, if it is the worker's own.
+fn push_host(
+    hosts: &mut Vec<HostConnection>,
+    alloc: Global,
+    host: usize,
+    own: &[usize],
+    config: &Config,
+) -> Result<(), Ending>
+    ensures { (place : Place) → All (IsOf place) own.now → RiseTo place hosts.old.items host
+        → OnOk result (RiseTo place hosts.new.items (host + 1)) }
+{
+    if !own.contains(&host) {
+        return Ok(());
+    }
+    let Some(entry) = config.hosts.get(host) else {
+        return Ok(());
+    };
+    let token = Token(HOSTS.saturating_add(hosts.len()));
+    let reply_ms = u64::from(config.reply_ms);
+    hosts.push(HostConnection::new(alloc, host, entry.address, token, reply_ms))?;
+    Ok(())
+}

@@ -1,0 +1,24 @@
+-- What the threads of a generation share may be shared, and what each has may go to it.
+use denote.Ref.{NamedLft}
+use denote.Param.Send.{IsSend, IsSync, sendable}
+use Rattle.std.proofs.Crossing.{crosses}
+use Rattle.journal_room.proofs.CallerLemmas.{room_sync}
+use Rattle.proxy_config.specs.contracts.config.Config as Config
+use Rattle.proxy_connections.proofs.CallerLemmas.{carried_send}
+use Rattle.proxy_server.proofs.CallerLemmas as server
+use Rattle.proxy_server.specs.contracts.server.Server as Server
+use Rattle.proxy_connections.specs.contracts.client_connection.CarriedSocket as CarriedSocket
+use Rattle.proxy_rounds.specs.contracts.generation_state.WorkerStatus as WorkerStatus
+use Rattle.proxy_rounds.specs.contracts.generation_state.GenerationState as GenerationState
+
+pub server_sync : IsSync (Server.the_row CarriedSocket.the_row)
+server_sync = server.server_sync CarriedSocket.the_row carried_send
+
+worker_sync : IsSync WorkerStatus.the_row
+worker_sync = search (crosses, sendable) depth 40 fits 20000
+
+pub generation_sync : (κ : NamedLft) → IsSync (GenerationState.the_row κ)
+generation_sync κ = search (server_sync, worker_sync, room_sync, crosses, sendable) depth 40 fits 20000
+
+pub config_sync : IsSync Config.the_row
+config_sync = search (crosses, sendable) depth 40 fits 20000

@@ -1,0 +1,302 @@
+//! What the threads of one generation share beside the gate.
+
+use crate::server::Server;
+use crossbeam_utils::CachePadded;
+use journal_room::JournalRoom;
+use limits::{MAX_PARTS_AT_ONCE, MAX_START_MS};
+use mio::{Registry, Waker};
+use proxy_config::Config;
+use proxy_connections::Round;
+use proxy_generations::{Marks, Phase};
+use proxy_notices::Notices;
+use std::alloc::Global;
+use std::rt::Clock;
+use std::sync::Arc;
+use std::sync::atomic::{AtomicBool, AtomicU8, AtomicU64, Ordering};
+use std::thread;
+use std::time::Duration;
+
+// The start of a generation isn't decided yet: its threads start.
+const STARTING: u8 = 0;
+
+// All its threads came in time.
+const BEGUN: u8 = 1;
+
+// It never begins: threads were missing, or had no memory.
+const GIVEN_UP: u8 = 2;
+
+/// What each thread of a generation gets beside its seat at the gate.
+#[derive(Clone, Copy, Drop)]
+pub(crate) struct ThreadContext<'a> {
+    pub(crate) alloc: Global,
+    pub(crate) generation: &'a GenerationState<'a>,
+    pub(crate) config: &'a Config,
+    pub(crate) marks: Marks,
+}
+
+/// What a worker does in all of its rounds from some moment on.
+#[derive(Clone, Copy, Drop)]
+pub(crate) struct Mode {
+    /// Whether the hosts' waiting parts are given up.
+    pub(crate) gives_up: bool,
+    /// Whether the server drains: inputs end behind what has come.
+    pub(crate) ends_inputs: bool,
+}
+
+/// How a worker is woken, and whether it waits.
+#[derive(Drop)]
+pub(crate) struct WorkerStatus {
+    waker: Waker,
+    // Whether it takes in nothing until others have looked at their hosts.
+    is_held_back: AtomicBool,
+    // Whether it may be asleep.
+    is_asleep: AtomicBool,
+}
+
+/// What the threads of a generation share. What each round of a worker writes has cache lines of its own, so that no other reads
+/// wait for it.
+pub(crate) struct GenerationState<'a> {
+    server: &'a Server,
+    number: u64,
+    workers: Vec<CachePadded<WorkerStatus>>,
+    // What the core's turns tell the workers.
+    notices: Arc<Notices>,
+    // The number of its threads that have come.
+    come: AtomicU64,
+    // STARTING, BEGUN or GIVEN_UP.
+    start: AtomicU8,
+    // The number of its workers that may still take in commands.
+    taking: AtomicU64,
+    // Whether a worker has seen that it is to stop.
+    is_stopped: AtomicBool,
+    /// The room in its journal.
+    pub(crate) room: JournalRoom,
+}
+
+// Written out so that a drop is one call: each function that holds one is proved sooner.
+impl Drop for GenerationState<'_> {
+    fn drop(self) {
+        let GenerationState {
+            server: _,
+            number: _,
+            workers: _,
+            notices: _,
+            come: _,
+            start: _,
+            taking: _,
+            is_stopped: _,
+            room: _,
+        } = self;
+    }
+}
+
+impl WorkerStatus {
+    /// A worker that is awake.
+    pub(crate) fn new(waker: Waker) -> WorkerStatus {
+        WorkerStatus {
+            waker,
+            is_held_back: AtomicBool::new(false),
+            is_asleep: AtomicBool::new(false),
+        }
+    }
+
+    /// The worker may sleep from here on.
+    pub(crate) fn mark_asleep(&self, is_held_back: bool) {
+        self.is_held_back.store(is_held_back, Ordering::SeqCst);
+        self.is_asleep.store(true, Ordering::SeqCst);
+    }
+
+    /// The worker is awake.
+    pub(crate) fn mark_awake(&self) {
+        self.is_asleep.store(false, Ordering::SeqCst);
+    }
+
+    // Wakes the worker where it may be asleep.
+    fn wake(&self) {
+        if self.is_asleep.load(Ordering::SeqCst) && self.is_asleep.swap(false, Ordering::SeqCst) {
+            let _ = self.waker.wake();
+        }
+    }
+}
+
+impl<'a> GenerationState<'a> {
+    /// A generation to which nothing has happened. `average` is the last generation's payload bytes a step.
+    pub(crate) fn new(
+        server: &'a Server,
+        number: u64,
+        average: u64,
+        workers: Vec<CachePadded<WorkerStatus>>,
+        notices: Arc<Notices>,
+    ) -> GenerationState<'a> {
+        let count = workers.len() as u64;
+        GenerationState {
+            server,
+            number,
+            workers,
+            notices,
+            come: AtomicU64::new(0),
+            start: AtomicU8::new(STARTING),
+            taking: AtomicU64::new(count),
+            is_stopped: AtomicBool::new(false),
+            room: JournalRoom::new(count, average),
+        }
+    }
+
+    /// The server that it belongs to.
+    pub(crate) fn server(&self) -> &'a Server {
+        self.server
+    }
+
+    /// What the core's turns tell its workers.
+    #[inline(always)]
+    pub(crate) fn notices(&self) -> &Notices {
+        &self.notices
+    }
+
+    /// Its number.
+    pub(crate) fn number(&self) -> u64 {
+        self.number
+    }
+
+    // The number of its workers, and one thread that sweeps.
+    fn threads(&self) -> u64 {
+        (self.workers.len() as u64).saturating_add(1)
+    }
+
+    /// Counts a thread that has come, and waits for the others. False: some didn't come in time, and none begins. What was
+    /// decided first stays: one that waits no longer decides nothing where all others have come.
+    pub(crate) fn wait_for_all<R: Clock>(&self, rt: &R) -> bool {
+        if self.come.fetch_add(1, Ordering::SeqCst).saturating_add(1) == self.threads() {
+            self.decide(BEGUN);
+        }
+        for _ in 0..MAX_START_MS {
+            if self.start.load(Ordering::SeqCst) != STARTING {
+                break;
+            }
+            thread::sleep(rt, Duration::from_millis(1));
+        }
+        self.give_up();
+        self.has_begun()
+    }
+
+    /// Keeps the generation from beginning, unless it has begun.
+    pub(crate) fn give_up(&self) {
+        self.decide(GIVEN_UP);
+    }
+
+    // Decides the start, unless it is decided.
+    fn decide(&self, start: u8) {
+        let _ = self
+            .start
+            .compare_exchange(STARTING, start, Ordering::SeqCst, Ordering::SeqCst);
+    }
+
+    /// Whether all its threads came in time.
+    pub(crate) fn has_begun(&self) -> bool {
+        self.start.load(Ordering::SeqCst) == BEGUN
+    }
+
+    /// Whether it is the newest open generation, or was.
+    pub(crate) fn has_opened(&self) -> bool {
+        self.server.has_opened(self.number)
+    }
+
+    /// Counts a worker that takes in no further command, once it has opened. Each calls it once.
+    pub(crate) fn stop_taking(&self) {
+        self.taking.fetch_sub(1, Ordering::SeqCst);
+    }
+
+    /// Whether no worker here takes in a further command and a newer generation is open: no further part comes for any
+    /// host.
+    pub(crate) fn takes_nothing(&self) -> bool {
+        self.taking.load(Ordering::SeqCst) == 0 && self.server.phase(self.number) != Phase::Serving
+    }
+
+    /// The state of a worker.
+    pub(crate) fn worker(&self, index: usize) -> Option<&WorkerStatus> {
+        match self.workers.get(index) {
+            Some(worker) => Some(&**worker),
+            None => None,
+        }
+    }
+
+    /// As `Server::phase`, but `Draining` once the room accepts no further commands, and `Stopped` once it was: a worker that
+    /// stops counts on the others to do so, also where the generation is in nobody's way any more. Sockets wait in the queues
+    /// while it takes in nothing and no newer generation is open.
+    pub(crate) fn phase(&self) -> Phase {
+        if self.is_stopped.load(Ordering::SeqCst) {
+            return Phase::Stopped;
+        }
+        match self.server.phase(self.number) {
+            Phase::Serving if self.room.is_full() => Phase::Draining,
+            Phase::Stopped => {
+                self.is_stopped.store(true, Ordering::SeqCst);
+                Phase::Stopped
+            }
+            other => other,
+        }
+    }
+
+    /// Whether no connection is open and none will be: reads the phase before the count.
+    pub(crate) fn is_drained(&self) -> bool {
+        self.server.phase(self.number) != Phase::Serving && !self.room.has_connections()
+    }
+
+    // The most parts that one worker may let a client queue before it looks at its own.
+    fn parts_per_worker(&self) -> u64 {
+        let workers = self.workers.len() as u64;
+        if workers == 0 {
+            MAX_PARTS_AT_ONCE
+        } else {
+            MAX_PARTS_AT_ONCE / workers
+        }
+    }
+
+    /// A round at this moment of the worker whose sockets are registered here.
+    pub(crate) fn round<'r>(&'r self, registry: &'r Registry, mode: Mode, now: u64) -> Round<'r> {
+        Round {
+            room: &self.room,
+            notices: self.notices(),
+            registry,
+            now,
+            most_parts: self.parts_per_worker(),
+            gives_up: mode.gives_up,
+            ends_inputs: mode.ends_inputs,
+            carries_over: self.server.runs(),
+        }
+    }
+
+    /// Whether clients must be held back until some worker has looked at its hosts.
+    #[inline(always)]
+    pub(crate) fn must_hold_back(&self) -> bool {
+        self.notices.pressed() != 0
+    }
+
+    /// Wakes the other workers for whose hosts clients are held back.
+    pub(crate) fn wake_behind(&self, index: usize) {
+        let pressed = self.notices.pressed();
+        for (other, worker) in self.workers.iter().enumerate() {
+            if other != index && self.notices.has_any_of(other, pressed) {
+                worker.wake();
+            }
+        }
+    }
+
+    /// Wakes the other workers that hold clients back.
+    pub(crate) fn wake_held(&self, index: usize) {
+        for (other, worker) in self.workers.iter().enumerate() {
+            if other != index && worker.is_held_back.load(Ordering::SeqCst) {
+                worker.wake();
+            }
+        }
+    }
+
+    /// Wakes the other workers that have something to know.
+    pub(crate) fn wake_concerned(&self, index: usize) {
+        for (other, worker) in self.workers.iter().enumerate() {
+            if other != index && self.notices.concern(other) {
+                worker.wake();
+            }
+        }
+    }
+}

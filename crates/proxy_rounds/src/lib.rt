@@ -1,0 +1,16 @@
+//! The generations of `serve`, each with the threads that make its rounds.
+//!
+//! A generation is a journal with its gate. The workers make rounds: each steps the clients and hosts of its
+//! `WorkerConnections`, which make turns at the gate. One more thread sweeps, and asks for the next generation in time. Old sockets
+//! follow to that once their accepted commands are answered. Begin with `run_generation` in `generation.rt`, then
+//! `Worker::make_round` in `worker.rt`.
+#![tactic(auto)]
+
+mod generation;
+mod generation_state;
+mod server;
+mod sweeping;
+mod worker;
+
+pub use generation::{ServeRuntime, run_generation};
+pub use server::{Server, ServerContext};

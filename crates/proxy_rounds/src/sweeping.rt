@@ -1,0 +1,253 @@
+//! The sweeping thread: sweeps when due, and watches hosts and journal.
+
+use crate::generation_state::{GenerationState, ThreadContext};
+use journal_room::CountedTurns;
+use mio::Waker;
+use proxy_config::Config;
+use proxy_core::Handover;
+use proxy_exit_status::Ending;
+use proxy_generations::{Marks, Phase};
+use proxy_serve_core::Refusals;
+use proxy_server::{Inherited, Level, Log, Stop, now};
+use proxy_stats::{CountedSeat, Sight};
+use std::net::SocketAddr;
+use std::rt::Clock;
+use std::sync::Wait;
+use std::time::Duration;
+use std::{mem, thread};
+use sweeper::{SweepRefusal, sweep_once};
+
+// The milliseconds between two looks of the generation that serves, and of one that drains.
+const PAUSE_MS: u64 = 5;
+
+const DRAINING_PAUSE_MS: u64 = 20;
+
+/// Sweeps, logs which hosts are ejected and return, and asks for the next generation in time.
+pub(crate) struct SweepThread<'a> {
+    turns: CountedTurns<CountedSeat<'a>>,
+    generation: &'a GenerationState<'a>,
+    config: &'a Config,
+    marks: Marks,
+    // The wakers for new sockets, used once the generation opens.
+    wakers: Vec<Waker>,
+    // Consecutive sweeps without memory.
+    refusals: Refusals,
+    // The number of commands that the hosts had answered at the last look.
+    answered: u64,
+}
+
+// Written out so that a drop is one call: each function that holds one is proved sooner.
+impl Drop for SweepThread<'_> {
+    fn drop(self) {
+        let SweepThread {
+            turns: _,
+            generation: _,
+            config: _,
+            marks: _,
+            wakers: _,
+            refusals: _,
+            answered: _,
+        } = self;
+    }
+}
+
+impl<'a> SweepThread<'a> {
+    /// A thread that hasn't looked yet.
+    pub(crate) fn new(
+        context: ThreadContext<'a>,
+        seat: CountedSeat<'a>,
+        wakers: Vec<Waker>,
+    ) -> SweepThread<'a> {
+        let ThreadContext {
+            alloc: _,
+            generation,
+            config,
+            marks,
+        } = context;
+        SweepThread {
+            turns: CountedTurns::new(seat),
+            generation,
+            config,
+            marks,
+            wakers,
+            refusals: Refusals::new(),
+            answered: 0,
+        }
+    }
+
+    /// Opens the generation once all its threads have come. Sweeps until that is drained or the server ends, or ends
+    /// the server.
+    pub(crate) fn run<R: Wait + Clock + Eprint>(mut self, rt: &R) {
+        if !self.generation.wait_for_all(rt) {
+            return;
+        }
+        if let Err(stop) = self.open_and_sweep(rt) {
+            self.generation.server().end(rt, stop);
+        }
+    }
+
+    // The operator's pages show what the newest open generation recorded last, so it looks before it opens.
+    fn open_and_sweep<R: Wait + Clock + Eprint>(&mut self, rt: &R) -> Result<(), Stop> {
+        self.sight(rt)?;
+        self.open(rt);
+        self.sweep_on(rt)
+    }
+
+    // Opens the generation: new sockets come to it, and its workers are woken for them.
+    fn open<R: Wait + Clock>(&mut self, rt: &R) {
+        let alloc = *self.wakers.allocator();
+        let wakers = mem::replace(&mut self.wakers, Vec::new(alloc));
+        self.generation
+            .server()
+            .open(rt, self.generation.number(), now(rt), wakers);
+    }
+
+    // Sweeps when due, and looks at the core, until the generation is drained or the server ends.
+    fn sweep_on<R: Wait + Clock + Eprint>(&mut self, rt: &R) -> Result<(), Stop> {
+        for _ in rt.forever() {
+            if self.ends(rt) {
+                return Ok(());
+            }
+            let phase = self.generation.server().phase(self.generation.number());
+            let moment = now(rt);
+            if phase != Phase::Stopped {
+                self.sweep_if_due(rt, moment)?;
+            }
+            self.look(rt, phase, moment)?;
+            thread::sleep(rt, Duration::from_millis(pause(phase)));
+        }
+        unreachable!()
+    }
+
+    // Whether the server ends, or the generation is drained, which is reported.
+    fn ends<R: Wait>(&self, rt: &R) -> bool {
+        let server = self.generation.server();
+        if server.runs() && self.generation.is_drained() {
+            server.drained(rt, self.generation.number());
+            return true;
+        }
+        !server.runs()
+    }
+
+    // Sweeps if the generation has to at this moment.
+    fn sweep_if_due<R: Wait>(&mut self, rt: &R, moment: u64) -> Result<(), Stop> {
+        let (server, number) = (self.generation.server(), self.generation.number());
+        if server.is_sweep_due(rt, number, moment) && self.sweep(rt, moment)? {
+            server.swept(rt, number, moment);
+        }
+        Ok(())
+    }
+
+    // Sweeps once, if the journal has a step to spare. False: it has to be made again.
+    fn sweep<R: Wait>(&mut self, rt: &R, moment: u64) -> Result<bool, Stop> {
+        if !self.generation.room.lend_steps(rt, &mut self.turns, 1) {
+            return Ok(false);
+        }
+        let swept = sweep_once(rt, &mut self.turns, moment);
+        self.generation.room.settle(rt, &mut self.turns, 0);
+        match swept {
+            Ok(_) | Err(SweepRefusal::JournalFull) => {
+                self.refusals.succeeded();
+                Ok(true)
+            }
+            Err(SweepRefusal::NoMemory) => {
+                if self.refusals.refused() {
+                    return Err(Stop::from(Ending::Memory));
+                }
+                Ok(false)
+            }
+            Err(SweepRefusal::Spent) => Err(Stop::from(Ending::Spent)),
+        }
+    }
+
+    // The core's state, which is also recorded for the operator's pages.
+    fn sight<R: Wait>(&mut self, rt: &R) -> Result<Sight, Stop> {
+        match self.turns.turns.sight(rt) {
+            Ok(sight) => {
+                let server = self.generation.server();
+                server.looked(rt, self.generation.number(), &sight);
+                Ok(sight)
+            }
+            Err(_) => Err(Stop::from(Ending::Spent)),
+        }
+    }
+
+    // Looks at the core: a draining generation reports that hosts still answer, a serving one what hosts and its journal
+    // came to.
+    fn look<R: Wait + Eprint>(&mut self, rt: &R, phase: Phase, moment: u64) -> Result<(), Stop> {
+        let Sight {
+            handover,
+            counts,
+            ..
+        } = self.sight(rt)?;
+        if phase == Phase::Serving {
+            self.answered = counts.answered;
+            self.log_ejections(rt, &handover);
+            self.report_marks(rt, handover, moment);
+        } else {
+            self.report_progress(rt, counts.answered, moment);
+        }
+        Ok(())
+    }
+
+    // Reports that hosts have answered since the last look.
+    fn report_progress<R: Wait>(&mut self, rt: &R, answered: u64, moment: u64) {
+        if mem::replace(&mut self.answered, answered) != answered {
+            let number = self.generation.number();
+            self.generation.server().progressed(rt, number, moment);
+        }
+    }
+
+    // Reports a journal that is nearly full, and one that has reached its marks or takes in nothing more. Owed steps count
+    // as steps.
+    fn report_marks<R: Wait>(&self, rt: &R, handover: Handover, moment: u64) {
+        let (server, number) = (self.generation.server(), self.generation.number());
+        let room = &self.generation.room;
+        let steps = handover.steps().max(room.spent(rt));
+        let bytes = handover.bytes();
+        let is_full = self.marks.are_reached(steps, bytes) || room.is_full();
+        if !is_full && !self.marks.are_near(steps, bytes) {
+            return;
+        }
+        server.near(rt, number, moment);
+        if is_full {
+            let average = room.average(rt);
+            server.full(rt, number, moment, Inherited { handover, average });
+        }
+    }
+
+    // Logs each host that has been ejected or has returned since the last look of any generation.
+    fn log_ejections<R: Wait + Eprint>(&self, rt: &R, sight: &Handover) {
+        let (server, number) = (self.generation.server(), self.generation.number());
+        let mut ejections = server.ejections(rt);
+        let hosts = sight.rules().hosts;
+        for (host, entry) in self.config.hosts.iter().enumerate() {
+            if host >= hosts {
+                return;
+            }
+            let is_out = sight.is_out(host);
+            if ejections.is_news(number, host, is_out) {
+                log_ejection(rt, server.log(), entry.address, is_out);
+            }
+        }
+    }
+}
+
+// The milliseconds until the next look.
+fn pause(phase: Phase) -> u64 {
+    match phase {
+        Phase::Serving => PAUSE_MS,
+        Phase::Draining | Phase::GivingUp | Phase::Stopped => DRAINING_PAUSE_MS,
+    }
+}
+
+// Logs that a host is ejected or has returned.
+fn log_ejection<R: Eprint>(rt: &R, log: Log, address: SocketAddr, is_out: bool) {
+    if is_out {
+        let tag = log.tag(Level::Warning);
+        let _ = eprintln!(rt; "{tag}redproxy: host {address} is put aside");
+    } else {
+        let tag = log.tag(Level::Notice);
+        let _ = eprintln!(rt; "{tag}redproxy: host {address} is back");
+    }
+}

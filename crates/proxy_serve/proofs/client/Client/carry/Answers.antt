@@ -1,6 +1,0 @@
-use Rattle.proxy_serve.proofs.SocketLemmas.{leaves_socket}
-use Rattle.proxy_serve.proofs.client.Client.carry.Goals as goal
-
-pub invariant_of-result : goal.invariant_of-result
-invariant_of-result c =
-    leaves_socket c.args.self.engine c.in_ok-reader.rest _ _ c.requires c.in_ok-reader.ensures.left c.in_ok-reader.ensures.logs.0 c.in_ok-reader.ensures.logs.1

@@ -1,7 +1,0 @@
-use Rattle.proxy_serve.proofs.SocketLemmas.{KeepsSocket-step}
-use Rattle.proxy_serve.proofs.client.Client.step.Goals as goal
-
-pub returns : goal.returns
-returns g c =
-    KeepsSocket-step c.args.self.now.engine c.find_room.new.self.engine c.accept_or_step-stepped.new.self.engine c.handle_stepped.new.self.engine _ _
-    c.find_room.ensures.drains (rw c.find_room.ensures.turns at c.accept_or_step-stepped.ensures) c.handle_stepped.ensures

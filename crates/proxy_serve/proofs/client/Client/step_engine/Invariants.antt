@@ -1,7 +1,0 @@
-use Rattle.proxy_engines.specs.Keeps.{KeepsSocket}
-use Rattle.proxy_engines.specs.Turns.{own_history}
-use Rattle.proxy_serve.proofs.client.Client.step_engine.Given as goal
-
-abbrev pub invariant-loop : goal.invariant-loop
-invariant-loop g l =
-    KeepsSocket l.fn.self.engine l.self.engine (own_history g.T.Turns.pass g.T.Turns.seen l.fn.turns.turns) (own_history g.T.Turns.pass g.T.Turns.seen l.turns.turns)

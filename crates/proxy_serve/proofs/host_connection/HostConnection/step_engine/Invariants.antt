@@ -1,8 +1,0 @@
-use Rattle.proxy_engines.specs.HostStep.{ends_of}
-use Rattle.proxy_engines.specs.Turns.{own_history}
-use Rattle.proxy_serve.specs.Sockets.{KeepsHost}
-use Rattle.proxy_serve.proofs.host_connection.HostConnection.step_engine.Given as goal
-
-abbrev pub invariant-loop : goal.invariant-loop
-invariant-loop g l =
-    KeepsHost (ends_of l.fn.self.engine) (ends_of l.self.engine) (own_history g.T.Turns.pass g.T.Turns.seen l.fn.turns.turns) (own_history g.T.Turns.pass g.T.Turns.seen l.turns.turns)

@@ -1,5 +1,0 @@
-use Rattle.proxy_serve.proofs.AssignedLemmas.{passes_share_no_host as law}
-use Rattle.proxy_serve.proofs.laws.passes_share_no_host.Goals as goal
-
-pub returns : goal.returns
-returns c = law

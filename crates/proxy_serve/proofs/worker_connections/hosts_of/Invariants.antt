@@ -1,5 +1,0 @@
-use Rattle.proxy_serve.specs.WorkerConnections.{RiseTo}
-use Rattle.proxy_serve.proofs.worker_connections.hosts_of.Given as goal
-
-abbrev pub invariant-loop-host : goal.invariant-loop-host
-invariant-loop-host l = RiseTo (record { index = l.index; workers = l.workers }) l.hosts.items l.host

@@ -1,4 +1,0 @@
-pub mod Sockets
-pub mod Places
-pub mod Tasks
-pub mod WorkerConnections

@@ -1,0 +1,178 @@
+//! The thread that accepts sockets and obeys signals.
+
+use crate::signals::Signals;
+use mio::net::TcpListener;
+use mio::{Events, Interest, Poll, Token, Waker};
+use proxy_config::Config;
+use proxy_rounds::Server;
+use proxy_serve_core::{Asked, RoundRobin};
+use proxy_server::{Level, Log, Stop, now};
+use std::fs::File;
+use std::io;
+use std::io::ErrorKind;
+use std::net::{Net, SocketAddr};
+use std::rt::Clock;
+use std::sync::Wait;
+use std::time::Duration;
+
+// The token of the listener.
+const LISTENER: Token = Token(0);
+
+// The token of the accepting thread's waker.
+const WAKER: Token = Token(1);
+
+// The most sockets accepted at once.
+const MAX_TAKEN: u32 = 1_024;
+
+// The accepting thread looks for work after this many milliseconds at the latest.
+const PAUSE_MS: u64 = 10;
+
+// Linux's errors for want of room for a further socket: no memory, no file number in the system or in the process, and
+// no buffers.
+const NO_ROOM: [i32; 4] = [12, 23, 24, 105];
+
+/// The accepting thread's state.
+pub(crate) struct Acceptor {
+    poll: Poll,
+    // None once no further client is accepted.
+    listener: Option<TcpListener>,
+    // The listener's address.
+    address: SocketAddr,
+    // The worker that gets the next socket.
+    round_robin: RoundRobin,
+    signals: Signals,
+}
+
+// Written out so that a drop is one call: each function that holds one is proved sooner.
+impl Drop for Acceptor {
+    fn drop(self) {
+        let Acceptor {
+            poll: _,
+            listener: _,
+            address: _,
+            round_robin: _,
+            signals: _,
+        } = self;
+    }
+}
+
+impl Acceptor {
+    /// Makes a poll for the listener, and a waker of the thread that waits at it. The address of the settings stands in where
+    /// the system doesn't return the listener's.
+    pub(crate) fn open<R: Net>(
+        rt: &R,
+        mut listener: TcpListener,
+        config: &Config,
+        status: Option<File>,
+    ) -> Result<(Acceptor, Waker), Stop> {
+        let (poll, waker) = open_poll(rt, &mut listener)?;
+        let acceptor = Acceptor {
+            poll,
+            address: listener.local_addr().unwrap_or(config.listen),
+            listener: Some(listener),
+            round_robin: RoundRobin::new(config.workers as usize),
+            signals: Signals::new(status),
+        };
+        Ok((acceptor, waker))
+    }
+
+    /// Logs the start. What SIGTERM does depends on how the program was started.
+    pub(crate) fn log_start<R: Eprint>(&mut self, rt: &R, log: Log, config: &Config) {
+        let tag = log.tag(Level::Info);
+        let (address, hosts, workers) = (self.address, config.hosts.len(), config.workers);
+        let ends = if self.signals.is_term_orderly() {
+            "drains"
+        } else {
+            "ends it at once"
+        };
+        let _ = eprintln!(rt;
+            "{tag}redproxy: listening on {address}, {hosts} hosts, {workers} workers; SIGTERM {ends}"
+        );
+    }
+
+    // Waits for the poll's events, at most `PAUSE_MS` milliseconds.
+    fn wait(&mut self, events: &mut Events) -> Result<(), Stop> {
+        match self
+            .poll
+            .poll(events, Some(Duration::from_millis(PAUSE_MS)))
+        {
+            Ok(()) => Ok(()),
+            Err(error) => Err(Stop::socket("cannot poll", error)),
+        }
+    }
+
+    /// Waits for events, accepts sockets, and obeys signals.
+    pub(crate) fn run_once<R: Wait + Clock + Eprint>(
+        &mut self,
+        rt: &R,
+        server: &Server,
+        events: &mut Events,
+    ) -> Result<(), Stop> {
+        self.wait(events)?;
+        self.accept_all(rt, server)?;
+        match self.signals.asked(now(rt)) {
+            Asked::Nothing => {}
+            Asked::Drain => server.drain(rt),
+            Asked::Quit => server.quit(),
+        }
+        if server.is_draining() {
+            // (the system refuses clients from here on)
+            self.listener = None;
+        }
+        Ok(())
+    }
+
+    // Accepts new connections, and gives them to the workers in turn. One without room is closed.
+    fn accept_all<R: Wait>(&mut self, rt: &R, server: &Server) -> Result<(), Stop> {
+        let Some(listener) = &self.listener else {
+            return Ok(());
+        };
+        for _ in 0..MAX_TAKEN {
+            match listener.accept() {
+                Ok((stream, _)) => {
+                    if server.admit(rt) {
+                        server.push(rt, self.round_robin.take(), stream);
+                    }
+                }
+                Err(error) => {
+                    if error.kind() == ErrorKind::WouldBlock || has_no_room(&error) {
+                        break;
+                    }
+                    // (the peer may be gone already)
+                    if error.kind() != ErrorKind::ConnectionAborted
+                        && error.kind() != ErrorKind::Interrupted
+                    {
+                        return Err(Stop::socket_at("cannot accept on", self.address, error));
+                    }
+                }
+            }
+        }
+        Ok(())
+    }
+}
+
+// Whether accepting failed for want of room alone: it is tried again later.
+fn has_no_room(error: &io::Error) -> bool {
+    match error.raw_os_error() {
+        Some(number) => NO_ROOM.contains(&number),
+        None => false,
+    }
+}
+
+// Opens the poll of the accepting thread, with its waker.
+fn open_poll<R: Net>(rt: &R, listener: &mut TcpListener) -> Result<(Poll, Waker), Stop> {
+    let poll = match Poll::new(rt) {
+        Ok(poll) => poll,
+        Err(error) => return Err(Stop::socket("cannot make a poll", error)),
+    };
+    let registered = poll
+        .registry()
+        .register(listener, LISTENER, Interest::READABLE);
+    if let Err(error) = registered {
+        return Err(Stop::socket("cannot poll the listener", error));
+    }
+    match Waker::new(poll.registry(), WAKER) {
+        Ok(waker) => Ok((poll, waker)),
+        Err(error) => Err(Stop::socket("cannot make a waker", error)),
+    }
+}
