@@ -105,8 +105,8 @@ def differences_of_metrics():
 def differences_of_lines():
     """Each line of `serve` on standard error, but for its last one."""
     told = [re.sub(r"<.*?>", "<>", row[0]) for row in rows(OPERATING, "Serving")]
-    for name in sorted(os.listdir(os.path.join(CRATES, "proxy_serve", "src"))):
-        for line in re.findall(r'eprintln!\(rt;\s*"\{tag\}(redproxy: .*?)"', text_of("crates", "proxy_serve", "src", name)):
+    for _, source in sources.sources():
+        for line in re.findall(r'eprintln!\(rt;\s*"\{tag\}(redproxy: .*?)"', source):
             start = re.sub(r"\{.*?\}", "<>", line).removesuffix("SIGTERM <>")
             if not any(row.startswith(start) for row in told):
                 yield f"OPERATING lacks the line: {line}"

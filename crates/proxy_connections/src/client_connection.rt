@@ -5,8 +5,8 @@ ghost use Rattle.proxy_engines.specs.Turns.{own_history};
 ghost use Rattle.proxy_connections.specs.WorkerConnections.{IsLast};
 ghost use Rattle.proxy_connections.specs.Sockets.{CarriesItsSocket, MayDrain, OpensSocket};
 
-use crate::step_error::StepError;
 use crate::socket::{Reader, SharedStream, Socket, Writer, note_readable, note_writable};
+use crate::step_error::StepError;
 use journal_room::{CountedTurns, HeldTurns, JournalRoom, TurnCounts};
 use limits::{LINGER_MS, MAX_SPARED};
 use mio::event::Event as Readiness;
@@ -312,11 +312,7 @@ impl ClientConnection {
     }
 
     /// Takes the socket with its unused input, for the newest generation.
-    pub(crate) fn carry(
-        self,
-        registry: &Registry,
-        room: &JournalRoom,
-    ) -> Option<CarriedSocket>
+    pub(crate) fn carry(self, registry: &Registry, room: &JournalRoom) -> Option<CarriedSocket>
         requires { CarriesItsSocket self.engine }
     {
         let ClientConnection {
@@ -437,7 +433,10 @@ impl ClientConnection {
             SocketStage::Leaving => self.write_out(&mut lent.buffer),
             SocketStage::Lingering { .. } => {}
         }
-        if matches!(self.stage, SocketStage::Leaving) && round.carries_over && self.may_carry_over() {
+        if matches!(self.stage, SocketStage::Leaving)
+            && round.carries_over
+            && self.may_carry_over()
+        {
             return Ok(Stepped::CarriedOver);
         }
         Ok(self.finish_closing(round))
@@ -459,7 +458,8 @@ impl ClientConnection {
         let stepped = self.step_engine(rt, turns, round);
         let counts = turns.leave_with_counts();
         self.waits.accepted(round.now, counts.accepted);
-        self.waits.answered(round.now, counts.handed, &mut lent.durations);
+        self.waits
+            .answered(round.now, counts.handed, &mut lent.durations);
         self.count(counts, round.room);
         self.write_out(&mut lent.buffer);
         self.has_more = self.has_more || stepped.is_err();
@@ -637,11 +637,7 @@ impl ClientConnection {
     }
 
     // Handles an error. Without room for a command none is taken in; without room for an answer the connection ends.
-    fn handle_error(
-        &mut self,
-        error: StepError,
-        room: &JournalRoom,
-    ) -> Result<(), StepError>
+    fn handle_error(&mut self, error: StepError, room: &JournalRoom) -> Result<(), StepError>
         ensures drains { MayDrain self.old.engine self.new.engine }
         ensures leaves { self.new.stage ≢ self.old.stage → (error ≡ StepError.EndsOne)
             ⊎ ((error ≡ StepError.Full) × (self.old.is_drained ≡ true)) }

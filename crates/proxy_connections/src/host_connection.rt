@@ -517,9 +517,7 @@ impl HostConnection {
     {
         let count = self.read_count();
         let came = count.unwrap_or(0).saturating_sub(self.begun);
-        let has_room = round
-            .room
-            .takes_reply(rt, turns, came, &mut self.coming);
+        let has_room = round.room.takes_reply(rt, turns, came, &mut self.coming);
         count.is_some() && (round.gives_up || !has_room)
     }
 
@@ -609,11 +607,7 @@ impl HostConnection {
     }
 
     // Registers a connecting socket with the poll, and keeps it as the link.
-    fn begin_connecting(
-        &mut self,
-        mut stream: TcpStream,
-        round: HostRound<'_>,
-    ) -> ConnectOutcome
+    fn begin_connecting(&mut self, mut stream: TcpStream, round: HostRound<'_>) -> ConnectOutcome
         ensures { self.new.engine ≡ self.old.engine }
     {
         let _ = stream.set_nodelay(true);

@@ -1,9 +1,11 @@
 //! The connections of one worker of `serve`: its clients and its hosts, each with its socket.
 //!
-//! The engines of `proxy_engines` carry bytes to events and back; here they get sockets, readiness and the time. The clients and hosts of
-//! a worker are its [`WorkerConnections`], whose invariant is that each one's engine carries its socket's logs, over the
-//! steps that the worker's seat has made. It names no server and no generation: what a round shares with other workers comes as
-//! a [`Round`]. Begin with `WorkerConnections::step_client` in `worker_connections.rt`.
+//! Engines carry bytes to events and back; here they get sockets, readiness and the time. The clients and hosts of a
+//! worker are its [`WorkerConnections`], whose invariant is that each one's engine carries its socket's logs, over the
+//! steps that the worker's seat has made. What a round shares with other workers comes as a [`Round`].
+//!
+//! It stands on `proxy_engines`, on `journal_room`, and on `proxy_history` and `journal_core`, whose steps its contracts name. It
+//! names no server and no generation. Begin with `WorkerConnections::step_client` in `worker_connections.rt`.
 #![tactic(auto)]
 
 mod client_connection;

@@ -4,7 +4,9 @@ ghost use Rattle.std.specs.Prelude.{◌≡◌, ◌+◌, ℕ, [], IfOk, IfSome, O
 ghost use Rattle.proxy_connections.specs.Places.{IsOf, Place};
 ghost use Rattle.proxy_connections.specs.WorkerConnections.{AddsClient, ChangesClient, ChangesHost, IsLast, IsLeaving, IsNewcomer, KeepsClients, MakesRoom, RemovesClient, RiseTo, ServesHosts, steps_of};
 
-use crate::client_connection::{CarriedSocket, ClientConnection, ClientRound, Lent, PollPlace, Stepped};
+use crate::client_connection::{
+    CarriedSocket, ClientConnection, ClientRound, Lent, PollPlace, Stepped,
+};
 use crate::host_connection::{HostConnection, HostRound, HostStepped};
 use crate::round::Round;
 use crate::step_error::StepError;
@@ -445,20 +447,14 @@ impl<'a> WorkerConnections<'a> {
 
     /// Takes the socket of a client that isn't served any more, with its unused input, for the newest generation.
     /// `None`: its connection can't go on, and the socket is dropped; or there is no such client.
-    pub fn carry(
-        &mut self,
-        round: Round<'_>,
-        key: usize,
-    ) -> Option<CarriedSocket>
+    pub fn carry(&mut self, round: Round<'_>, key: usize) -> Option<CarriedSocket>
         requires { IsLeaving self.old.clients key }
         ensures { RemovesClient key self.old self.new }
     {
         self.ready.forget(key);
         match self.clients.try_remove(key) {
             Some(client) => {
-                round
-                    .notices
-                    .remove_client(client.conn(), self.index, key);
+                round.notices.remove_client(client.conn(), self.index, key);
                 client.carry(round.registry, round.room)
             }
             None => None,

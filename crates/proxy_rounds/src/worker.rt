@@ -7,7 +7,10 @@ use limits::MAX_SOCKETS;
 use mio::event::Event;
 use mio::net::TcpStream;
 use mio::{Events, Interest, Poll, Token};
-use proxy_connections::{CarriedSocket, ClientResult, HOSTS, HostResult, HostStepped, Opened, StepError, Stepped, WorkerConnections};
+use proxy_connections::{
+    CarriedSocket, ClientResult, HOSTS, HostResult, HostStepped, Opened, StepError, Stepped,
+    WorkerConnections,
+};
 use proxy_exit_status::Ending;
 use proxy_generations::Phase;
 use proxy_serve_core::Refusals;
@@ -175,7 +178,11 @@ enum Remaining {
 impl Remaining {
     // Work where this holds.
     fn work_if(is_more: bool) -> Remaining {
-        if is_more { Remaining::Work } else { Remaining::Nothing }
+        if is_more {
+            Remaining::Work
+        } else {
+            Remaining::Nothing
+        }
     }
 
     // Work where either step leaves some.
@@ -599,7 +606,9 @@ impl<'a> Worker<'a> {
         rt: &R,
         carried: CarriedSocket,
     ) -> Result<OpenResult, Stop> {
-        let round = self.generation.round(self.poll.registry(), self.mode, self.now);
+        let round = self
+            .generation
+            .round(self.poll.registry(), self.mode, self.now);
         match self.connections.open_carried(rt, round, carried) {
             Ok(opened) => Ok(self.handle_opened(rt, opened)),
             Err((error, carried)) => self.refuse_carried(rt, error, carried),
@@ -641,7 +650,9 @@ impl<'a> Worker<'a> {
             self.generation.server().count_dropped(rt);
             return Ok(OpenResult::Closed);
         }
-        let round = self.generation.round(self.poll.registry(), self.mode, self.now);
+        let round = self
+            .generation
+            .round(self.poll.registry(), self.mode, self.now);
         match self.connections.open(rt, round, stream) {
             Ok(opened) => Ok(self.handle_opened(rt, opened)),
             Err(error) => {
@@ -671,7 +682,9 @@ impl<'a> Worker<'a> {
         rt: &R,
         index: usize,
     ) -> Result<Remaining, Stop> {
-        let round = self.generation.round(self.poll.registry(), self.mode, self.now);
+        let round = self
+            .generation
+            .round(self.poll.registry(), self.mode, self.now);
         let Some(
             HostResult {
                 stepped,
@@ -768,7 +781,11 @@ impl<'a> Worker<'a> {
 
     // Steps the hosts, for whose parts clients are held back. Where others' hosts need that too, clients wait from this one on.
     // (What hosts can do at once isn't lost: they are stepped again behind the clients.)
-    fn take_parts_before<R: Wait + Net + Eprint>(&mut self, rt: &R, key: usize) -> Result<(), Stop> {
+    fn take_parts_before<R: Wait + Net + Eprint>(
+        &mut self,
+        rt: &R,
+        key: usize,
+    ) -> Result<(), Stop> {
         self.step_hosts(rt)?;
         if self.must_hold_back() {
             self.hold_back(key);
@@ -796,7 +813,9 @@ impl<'a> Worker<'a> {
             }
             return Ok(Remaining::Work);
         }
-        let round = self.generation.round(self.poll.registry(), self.mode, self.now);
+        let round = self
+            .generation
+            .round(self.poll.registry(), self.mode, self.now);
         match self.connections.carry(round, key) {
             Some(carried) => server.carry(rt, self.index, carried),
             None => server.count_closed_and_dropped(rt),
@@ -807,7 +826,9 @@ impl<'a> Worker<'a> {
 
     // Steps a client if it can make progress.
     fn step_client<R: Wait>(&mut self, rt: &R, key: usize) -> Result<Remaining, Stop> {
-        let round = self.generation.round(self.poll.registry(), self.mode, self.now);
+        let round = self
+            .generation
+            .round(self.poll.registry(), self.mode, self.now);
         let Some(
             ClientResult {
                 stepped,

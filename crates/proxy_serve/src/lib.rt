@@ -1,8 +1,20 @@
 //! Serves clients on sockets, before real hosts, with many threads.
 //!
 //! One thread accepts sockets and gives them to the workers in turn. It runs one generation after another, each in a
-//! thread of its own: when a journal is nearly full, the next generation opens with the state of outlier detection. `proxy_rounds`
-//! has a generation's threads, `proxy_connections` a worker's clients and hosts. Begin with `serve` in `serve.rt`.
+//! thread of its own: when a journal is nearly full, the next generation opens with the state of outlier detection.
+//!
+//! ```text
+//! Acceptor           AdminListener          the threads of a generation, each with a pass of its own:
+//!   │ admit, push      │ snapshot              Worker ..           SweepThread
+//!   │ take_due         │ drain, quit             │ pop, carry        │ open, looked, near, full, drained
+//!   ▼                  ▼                         ▼                   ▼
+//! Server: AcceptQueue of each worker, Sockets, Generations and Board, Stats, EjectionLog
+//!                                                │                   │
+//!               GenerationState: WorkerStatus, Notices, JournalRoom, and the gate
+//! ```
+//!
+//! It stands on `proxy_rounds`, which has a generation's threads, on `proxy_connections`, which has a worker's clients and
+//! hosts, and on `proxy_server`. Begin with `serve` in `serve.rt`.
 #![tactic(auto)]
 
 mod acceptor;
