@@ -7,6 +7,7 @@ ghost use Rattle.proxy_serve.specs.WorkerConnections.{AddsClient, ChangesClient,
 use crate::client::{CarriedSocket, Client, ClientRound, StepError, Stepped};
 use crate::generation_state::GenerationState;
 use crate::host_connection::{HostConnection, HostRound, HostStepped};
+use journal_budget::StepKind;
 use journal_room::CountedTurns;
 use limits::MAX_HOSTS;
 use mio::event::Event;
@@ -14,7 +15,6 @@ use mio::net::TcpStream;
 use mio::{Registry, Token};
 use proxy_config::Config;
 use proxy_exit_status::Ending;
-use proxy_generations::StepKind;
 use proxy_histogram::Histogram;
 use proxy_notices::{MAX_WORDS, Notices};
 use proxy_serve_core::{ReadyClients, hosts_of_worker};
