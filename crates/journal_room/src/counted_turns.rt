@@ -1,18 +1,16 @@
 //! A worker's turns, counted.
-ghost use Rattle.std.specs.Prelude.{◌≡◌, ◌↔◌, ◌≤◌, ◌+◌, IsTrue, IfOk, IfErr};
-ghost use Rattle.std.specs.Bool.{OnTrue, OnFalse};
-ghost use Rattle.limits.specs.declared.journals.TheConstants.{MAX_STEPS};
-ghost use Rattle.proxy_generations.specs.Budget.{free_steps, borrowed, lent_more};
-ghost use Rattle.proxy_generations.specs.Payload.{average_of, HasRoomForCommand, HasRoomForReply};
+ghost use Rattle.std.specs.Prelude.{◌≡◌, IfOk, IfErr};
 ghost use Rattle.ticket_gate.specs.Journal.{AddsTurn};
 ghost use Rattle.ticket_gate.specs.Turns.{RefusesTurn};
-ghost use Rattle.journal_room.specs.Account.{no_counts, brought_by, no_account, noted, with_payload, with_account, reported_to, settled_with, known, owed_steps};
+ghost use Rattle.journal_budget.specs.Account.{no_account};
+ghost use Rattle.journal_budget.specs.Budget.{free_steps};
+ghost use Rattle.journal_budget.specs.Counts.{no_counts};
+ghost use Rattle.journal_room.specs.TurnStep.{brought_by, noted};
 
-use crate::account::{Account, TurnCounts, bytes_of};
-use crate::ledger::Ledger;
+use crate::turn_step::{bytes_of, note_turn};
+use journal_budget::{Account, TurnCounts};
 use proxy_core::{Answer, CoreTurns, Event, Refusal};
 use proxy_stats::CountedSeat;
-use std::mem;
 use std::sync::Wait;
 use ticket_gate::{TurnRefusal, Turns};
 
@@ -42,7 +40,7 @@ impl<'a> HeldTurns for CountedSeat<'a> {
 pub struct CountedTurns<T: CoreTurns> {
     /// The turns themselves, for calls that make no turn.
     pub turns: T,
-    account: Account,
+    pub(crate) account: Account,
 }
 
 impl<T: CoreTurns> CountedTurns<T> {
@@ -62,7 +60,7 @@ impl<T: CoreTurns> CountedTurns<T> {
     pub fn counts(&self) -> &TurnCounts
         ensures { result.now ≡ self.now.account.counts }
     {
-        &self.account.counts
+        self.account.counts()
     }
 
     /// Leaves the gate, if the pass is inside, and takes the counts: nothing is counted yet from here on.
@@ -75,7 +73,7 @@ impl<T: CoreTurns> CountedTurns<T> {
             ≡ record self.old.account { counts = no_counts } }
     {
         self.turns.leave();
-        mem::replace(&mut self.account.counts, TurnCounts::NONE)
+        self.account.take_counts()
     }
 
     /// Leaves the gate, if the pass is inside, before something that may take long.
@@ -112,81 +110,7 @@ impl<T: CoreTurns> CountedTurns<T> {
     pub fn free_steps(&self) -> u64
         ensures { result ≡ free_steps self.now.account.loan }
     {
-        self.account.loan.free()
-    }
-
-    /// Borrows steps of the journal. False: that many aren't left.
-    pub(crate) fn borrow_steps(&mut self, ledger: &mut Ledger, steps: u64) -> bool
-        ensures turns { self.new.turns ≡ self.old.turns }
-        ensures fits { IsTrue result
-            ↔ (ledger.old.budget.spent + ledger.old.budget.lent + steps ≤ MAX_STEPS) }
-        ensures loan { OnTrue result (self.new.account
-            ≡ record self.old.account { loan = borrowed steps self.old.account.loan }) }
-        ensures lent { OnTrue result (ledger.new
-            ≡ record ledger.old { budget = lent_more steps ledger.old.budget }) }
-        ensures unchanged { OnFalse result ((self.new ≡ self.old) × (ledger.new ≡ ledger.old)) }
-    {
-        let is_lent = ledger.budget.lend(steps);
-        if is_lent {
-            self.account.loan.borrow(steps);
-        }
-        is_lent
-    }
-
-    /// Reports its steps and payload, returns unspent steps, and reads what all workers have reported. `connections`
-    /// are open.
-    pub(crate) fn settle(&mut self, ledger: &mut Ledger, connections: u64)
-        ensures turns { self.new.turns ≡ self.old.turns }
-        ensures account { self.new.account ≡ settled_with ledger.new connections self.old.account }
-        ensures ledger { ledger.new ≡ with_account self.old.account ledger.old }
-    {
-        self.account.settle(ledger, connections);
-    }
-
-    /// Reports its payload, and reads what all workers have reported.
-    pub(crate) fn report_payload(&mut self, ledger: &mut Ledger)
-        ensures turns { self.new.turns ≡ self.old.turns }
-        ensures account { self.new.account
-            ≡ reported_to ledger.new self.old.account.reported.owed self.old.account }
-        ensures ledger { ledger.new ≡ with_payload self.old.account ledger.old }
-    {
-        let owed = self.account.reported.owed();
-        self.account.report_payload(ledger, owed);
-    }
-
-    /// The average payload bytes a step, from all workers' reports.
-    pub(crate) fn average(&self) -> u64
-        ensures { result ≡ average_of self.now.account.reported.payload }
-    {
-        self.account.reported.average()
-    }
-
-    /// The payload bytes kept since the last report.
-    pub(crate) fn unreported_bytes(&self) -> u64
-        ensures { result ≡ self.now.account.bytes.kept }
-    {
-        self.account.bytes.kept
-    }
-
-    /// Whether the journal has room for the payload of a further command, of a client with this many unfinished bytes.
-    #[inline(always)]
-    pub(crate) fn has_room_for_command(&self, unfinished: u64) -> bool
-        ensures { IsTrue result
-            ↔ HasRoomForCommand (known self.now.account) (owed_steps self.now.account) unfinished }
-    {
-        self.account.is_far_from_full(unfinished)
-            || self
-                .account
-                .known()
-                .takes_in(self.account.owed(), unfinished)
-    }
-
-    /// Whether the journal has room for a host's reply of which this many bytes have come.
-    #[inline(always)]
-    pub(crate) fn has_room_for_reply(&self, unfinished: u64) -> bool
-        ensures { IsTrue result ↔ HasRoomForReply (known self.now.account) unfinished }
-    {
-        self.account.is_far_from_full(unfinished) || self.account.known().takes_reply(unfinished)
+        self.account.free_steps()
     }
 }
 
@@ -232,7 +156,7 @@ impl<T: CoreTurns> Turns for CountedTurns<T> {
         let brought = bytes_of(&event);
         let result = self.turns.turn(rt, event);
         if let Ok(answer) = &result {
-            self.account.note(brought, answer);
+            note_turn(&mut self.account, brought, answer);
         }
         result
     }

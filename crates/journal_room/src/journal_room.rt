@@ -2,14 +2,15 @@
 ghost use Rattle.std.specs.Prelude.{◌≡◌, ◌↔◌, ◌≤◌, ◌<◌, ◌+◌, ◌⊎◌, max, IsTrue};
 ghost use Rattle.std.specs.Bool.{OnTrue, OnFalse};
 ghost use Rattle.limits.specs.declared.journals.TheConstants.{MAX_COMMAND_STEPS};
-ghost use Rattle.proxy_generations.specs.Budget.{capped, no_loan, free_steps, borrowed};
-ghost use Rattle.proxy_generations.specs.Payload.{HasRoomForCommand, HasRoomForReply};
+ghost use Rattle.journal_budget.specs.Account.{known, owed_steps};
+ghost use Rattle.journal_budget.specs.Budget.{capped, no_loan, free_steps, borrowed};
+ghost use Rattle.journal_budget.specs.Counts.{no_bytes};
+ghost use Rattle.journal_budget.specs.Payload.{HasRoomForCommand, HasRoomForReply};
 ghost use Rattle.journal_room.specs.declared.journal_room.TheConstants.{LARGE};
-ghost use Rattle.journal_room.specs.Account.{no_bytes, known, owed_steps};
 
 use crate::counted_turns::{CountedTurns, HeldTurns};
-use crate::ledger::Ledger;
 use crossbeam_utils::CachePadded;
+use journal_budget::Ledger;
 use limits::{MAX_COMMAND_STEPS, MAX_UNFINISHED};
 use std::mem;
 use std::sync::atomic::{AtomicBool, AtomicU64, Ordering};
@@ -77,8 +78,8 @@ impl JournalRoom {
         turns.leave();
         let mut ledger = self.ledger.lock(rt);
         let ledger = &mut *ledger;
-        turns.settle(ledger, self.open.load(Ordering::SeqCst));
-        turns.borrow_steps(ledger, reserve);
+        turns.account.settle(ledger, self.open.load(Ordering::SeqCst));
+        turns.account.borrow_steps(ledger, reserve);
     }
 
     /// Lends this many steps. False: that many aren't left.
@@ -96,7 +97,7 @@ impl JournalRoom {
         ensures unchanged { OnFalse result (turns.new.account ≡ turns.old.account) }
     {
         turns.leave();
-        turns.borrow_steps(&mut self.ledger.lock(rt), steps)
+        turns.account.borrow_steps(&mut self.ledger.lock(rt), steps)
     }
 
     /// Lends the worker steps until it has enough for any command beside the reserve. False: that many aren't left.
@@ -123,8 +124,8 @@ impl JournalRoom {
         turns.leave();
         let mut ledger = self.ledger.lock(rt);
         let ledger = &mut *ledger;
-        let is_lent = turns.borrow_steps(ledger, many.max(missing))
-            || turns.borrow_steps(ledger, missing);
+        let is_lent = turns.account.borrow_steps(ledger, many.max(missing))
+            || turns.account.borrow_steps(ledger, missing);
         is_lent && turns.free_steps() >= least
     }
 
@@ -146,10 +147,10 @@ impl JournalRoom {
             × HasRoomForCommand (known turns.new.account) (owed_steps turns.new.account)
             unfinished) }
     {
-        if unfinished.max(turns.unreported_bytes()) >= LARGE || turns.average() >= LARGE_STEP {
+        if unfinished.max(turns.account.unreported_bytes()) >= LARGE || turns.account.average() >= LARGE_STEP {
             self.settle(rt, turns, reserve);
         }
-        self.lend(rt, turns, reserve) && turns.has_room_for_command(unfinished)
+        self.lend(rt, turns, reserve) && turns.account.has_room_for_command(unfinished)
     }
 
     /// Whether there is room for a host's reply of which `came` bytes have come. `reported` are those that the other
@@ -173,13 +174,13 @@ impl JournalRoom {
         ensures large { LARGE ≤ max (max came reported.old) turns.old.account.bytes.kept
             → (reported.new ≡ came) × (turns.new.account.bytes ≡ no_bytes) }
     {
-        if came.max(*reported).max(turns.unreported_bytes()) < LARGE {
-            return turns.has_room_for_reply(came);
+        if came.max(*reported).max(turns.account.unreported_bytes()) < LARGE {
+            return turns.account.has_room_for_reply(came);
         }
         turns.leave();
         let mut ledger = self.ledger.lock(rt);
         let ledger = &mut *ledger;
-        turns.report_payload(ledger);
+        turns.account.report_payload(ledger);
         let before = mem::replace(reported, came);
         ledger.takes_reply(came, before)
     }

@@ -10,6 +10,7 @@ use crate::client_connection::{
 use crate::host_connection::{HostConnection, HostRound, HostStepped};
 use crate::round::Round;
 use crate::step_error::StepError;
+use journal_budget::StepKind;
 use journal_room::{CountedTurns, JournalRoom};
 use limits::MAX_HOSTS;
 use mio::event::Event;
@@ -17,7 +18,6 @@ use mio::net::TcpStream;
 use mio::{Registry, Token};
 use proxy_config::Config;
 use proxy_exit_status::Ending;
-use proxy_generations::StepKind;
 use proxy_histogram::Histogram;
 use proxy_notices::{MAX_WORDS, Notices};
 use proxy_serve_core::{ReadyClients, hosts_of_worker};

@@ -3,5 +3,3 @@ pub mod HistoryLemmas
 pub mod ConnectionLemmas
 pub mod GenerationsStateLemmas
 pub mod LawLemmas
-pub mod BudgetLemmas
-pub mod PayloadLemmas

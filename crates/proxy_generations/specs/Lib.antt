@@ -6,7 +6,3 @@ pub mod History
 pub mod Phase
 pub mod GenerationsState
 pub mod Laws
-pub mod Steps
-pub mod Budget
-pub mod BudgetLaws
-pub mod Payload

@@ -1,5 +1,4 @@
 //! Laws that follow from the contracts.
-ghost use Rattle.proxy_generations.specs.BudgetLaws.{CommandFits, OwedFits, OwedIsPaid, PaysAtFirst, PaysOnceLent, PaysOnceNoted, PaysOnceSettled};
 ghost use Rattle.proxy_generations.specs.Laws.{AllOpenInTurn, DrainInOrder, FewDrain, GivenUpIfNear, NewestHandsOver, OldestIsInTheWay, OneIsOpen, OpenHaveConnections, StopsIfFull};
 
 /// At most `MAX_GENERATIONS` generations have connections: the newest one, and those that drain, which opened before it
@@ -21,19 +20,4 @@ pub fn generations_follow<H>()
     ensures oldest { OldestIsInTheWay H }
     ensures given_up { GivenUpIfNear H }
     ensures stops { StopsIfFull H }
-{}
-
-/// A command of at most 1,023 parts costs at most `MAX_COMMAND_STEPS` steps.
-///
-/// The steps made and those still owed are together the cost of all steps, less the steps set free. So all owed steps
-/// fit the journal if no worker makes a step that costs more than it has free. This holds for a new budget and new
-/// loans, and stays true over each borrowing, step and settlement.
-pub fn owed_steps_fit()
-    ensures command { CommandFits }
-    ensures paid { OwedIsPaid }
-    ensures first { PaysAtFirst }
-    ensures lent { PaysOnceLent }
-    ensures noted { PaysOnceNoted }
-    ensures settled { PaysOnceSettled }
-    ensures fits { OwedFits }
 {}

@@ -1,0 +1,4 @@
+pub mod CallerLemmas
+mod BudgetLemmas
+mod PayloadLemmas
+mod FarLemmas

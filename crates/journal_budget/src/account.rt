@@ -1,0 +1,212 @@
+//! A worker's account: the steps that it made, the steps lent for them, and their payload.
+ghost use Rattle.std.specs.Prelude.{◌≡◌, ◌↔◌, ◌≤◌, ◌+◌, IsTrue};
+ghost use Rattle.std.specs.Bool.{OnTrue, OnFalse};
+
+use crate::budget::Loan;
+use crate::ledger::Ledger;
+use crate::payload::{FAR_BYTES, FAR_STEPS, Payload};
+use crate::payload_counts::PayloadCounts;
+use crate::reported::Reported;
+use crate::step_kind::StepKind;
+use crate::turn_counts::TurnCounts;
+use std::marker::Model;
+use std::mem;
+
+/// A worker's account of its steps: what happened, the steps lent for it, and its payload.
+#[derive(Drop)]
+pub struct Account {
+    counts: TurnCounts,
+    loan: Loan,
+    // Since the last settlement: the steps, and their cost.
+    steps: u64,
+    cost: u64,
+    // Since the last report, and what all workers had reported then.
+    bytes: PayloadCounts,
+    reported: Reported,
+}
+
+impl Model for Account {
+    ghost use Rattle.journal_budget.specs.Account.{AccountState};
+
+    ghost Value = { AccountState };
+
+    ghost view = { λ a. record {
+      counts = a.counts;
+      loan = a.loan;
+      steps = a.steps;
+      cost = a.cost;
+      bytes = a.bytes;
+      reported = a.reported;
+    } };
+}
+
+impl Account {
+    ghost use Rattle.limits.specs.declared.journals.TheConstants.{MAX_STEPS};
+    ghost use Rattle.journal_budget.specs.Account.{no_account, stepped_with, with_payload, with_account, reported_to, settled_with, known, owed_steps};
+    ghost use Rattle.journal_budget.specs.Budget.{free_steps, borrowed, lent_more};
+    ghost use Rattle.journal_budget.specs.Counts.{no_counts};
+    ghost use Rattle.journal_budget.specs.Payload.{average_of, HasRoomForCommand, HasRoomForReply};
+
+    /// An account of no steps, to which nothing is lent.
+    pub fn new() -> Account
+        ensures { result ≡ no_account }
+    {
+        Account {
+            counts: TurnCounts::NONE,
+            loan: Loan::new(),
+            steps: 0,
+            cost: 0,
+            bytes: PayloadCounts::NONE,
+            reported: Reported::new(Payload::new(0), 0),
+        }
+    }
+
+    /// What happened since the counts were last taken.
+    #[inline(always)]
+    pub fn counts(&self) -> &TurnCounts
+        ensures { result.now ≡ self.now.counts }
+    {
+        &self.counts
+    }
+
+    /// Takes the counts: nothing is counted yet from here on.
+    pub fn take_counts(&mut self) -> TurnCounts
+        ensures counts { result ≡ self.old.counts }
+        ensures account { self.new ≡ record self.old { counts = no_counts } }
+    {
+        mem::replace(&mut self.counts, TurnCounts::NONE)
+    }
+
+    /// Counts a step of this kind, with its payload bytes. Its cost is spent of the loan.
+    #[inline(always)]
+    pub fn note(&mut self, kind: StepKind, bytes: PayloadCounts)
+        ensures { self.new ≡ stepped_with kind bytes self.old }
+    {
+        self.counts.note(kind);
+        self.loan.note(kind);
+        self.steps = self.steps.saturating_add(1);
+        self.cost = self.cost.saturating_add(kind.cost());
+        self.bytes.add(bytes);
+    }
+
+    /// The steps lent that are neither made nor owed.
+    #[inline(always)]
+    pub fn free_steps(&self) -> u64
+        ensures { result ≡ free_steps self.now.loan }
+    {
+        self.loan.free()
+    }
+
+    /// Borrows steps of the journal. `false`: that many aren't left, and nothing changes.
+    pub fn borrow_steps(&mut self, ledger: &mut Ledger, steps: u64) -> bool
+        ensures fits { IsTrue result
+            ↔ (ledger.old.budget.spent + ledger.old.budget.lent + steps ≤ MAX_STEPS) }
+        ensures loan { OnTrue result (self.new
+            ≡ record self.old { loan = borrowed steps self.old.loan }) }
+        ensures lent { OnTrue result (ledger.new
+            ≡ record ledger.old { budget = lent_more steps ledger.old.budget }) }
+        ensures unchanged { OnFalse result ((self.new ≡ self.old) × (ledger.new ≡ ledger.old)) }
+    {
+        let is_lent = ledger.budget.lend(steps);
+        if is_lent {
+            self.loan.borrow(steps);
+        }
+        is_lent
+    }
+
+    /// Reports its steps and payload, returns unspent steps, and reads what all workers have reported, while this many
+    /// connections are open.
+    pub fn settle(&mut self, ledger: &mut Ledger, connections: u64)
+        ensures account { self.new ≡ settled_with ledger.new connections self.old }
+        ensures ledger { ledger.new ≡ with_account self.old ledger.old }
+    {
+        ledger.budget.settle(&mut self.loan);
+        let steps = mem::replace(&mut self.steps, 0);
+        self.cost = 0;
+        ledger.note_steps(steps);
+        // (what a connection owes for its end has no payload)
+        let ends = connections.saturating_mul(StepKind::Opened.cost());
+        self.report(ledger, ledger.owed().saturating_sub(ends));
+    }
+
+    /// Reports its payload, and reads what all workers have reported.
+    pub fn report_payload(&mut self, ledger: &mut Ledger)
+        ensures account { self.new ≡ reported_to ledger.new self.old.reported.owed self.old }
+        ensures ledger { ledger.new ≡ with_payload self.old ledger.old }
+    {
+        let owed = self.reported.owed();
+        self.report(ledger, owed);
+    }
+
+    // The same, while so many owed steps have payload.
+    fn report(&mut self, ledger: &mut Ledger, owed: u64)
+        ensures account { self.new ≡ reported_to ledger.new owed self.old }
+        ensures ledger { ledger.new ≡ with_payload self.old ledger.old }
+    {
+        let bytes = mem::replace(&mut self.bytes, PayloadCounts::NONE);
+        bytes.add_to(&mut ledger.payload);
+        self.reported = Reported::new(ledger.payload, owed);
+    }
+
+    /// The average payload bytes a step, from all workers' reports.
+    pub fn average(&self) -> u64
+        ensures { result ≡ average_of self.now.reported.payload }
+    {
+        self.reported.average()
+    }
+
+    /// The payload bytes kept since the last report.
+    pub fn unreported_bytes(&self) -> u64
+        ensures { result ≡ self.now.bytes.kept }
+    {
+        self.bytes.kept
+    }
+
+    /// Whether the journal has room for the payload of a further command, of a client with this many unfinished bytes.
+    #[inline(always)]
+    pub fn has_room_for_command(&self, unfinished: u64) -> bool
+        ensures { IsTrue result
+            ↔ HasRoomForCommand (known self.now) (owed_steps self.now) unfinished }
+    {
+        self.is_far_from_full(unfinished) || self.known().takes_in(self.owed(), unfinished)
+    }
+
+    /// Whether the journal has room for a host's reply of which this many bytes have come.
+    #[inline(always)]
+    pub fn has_room_for_reply(&self, unfinished: u64) -> bool
+        ensures { IsTrue result ↔ HasRoomForReply (known self.now) unfinished }
+    {
+        self.is_far_from_full(unfinished) || self.known().takes_reply(unfinished)
+    }
+
+    // Whether room needn't be computed: the journal was far from full, and little has come since.
+    #[inline(always)]
+    #[tactic(auto, using(crate::proofs::FarLemmas::far_for_command, crate::proofs::FarLemmas::far_for_reply))]
+    fn is_far_from_full(&self, unfinished: u64) -> bool
+        ensures command { IsTrue result
+            → HasRoomForCommand (known self.now) (owed_steps self.now) unfinished }
+        ensures reply { IsTrue result → HasRoomForReply (known self.now) unfinished }
+    {
+        let bytes = self.bytes.kept.max(self.bytes.came).max(unfinished);
+        bytes <= FAR_BYTES && self.cost <= FAR_STEPS && self.reported.is_far()
+    }
+
+    // The payload known now.
+    fn known(&self) -> Payload
+        ensures { result ≡ known self.now }
+    {
+        let mut known = self.reported.payload();
+        self.bytes.add_to(&mut known);
+        known
+    }
+
+    // The owed steps that have payload.
+    fn owed(&self) -> u64
+        ensures { result ≡ owed_steps self.now }
+    {
+        self.reported
+            .owed()
+            .saturating_add(self.cost)
+            .saturating_sub(self.steps)
+    }
+}

@@ -1,0 +1,98 @@
+//! The payload bytes of steps.
+ghost use Rattle.std.specs.Prelude.{◌≡◌};
+ghost use Rattle.journal_budget.specs.Counts.{no_bytes, reply_bytes, plus, with_bytes};
+
+use crate::payload::Payload;
+
+// The steps of a command of one part. Payload is averaged over replies, so that failed parts don't lower the average.
+const STEPS_A_REPLY: u64 = 4;
+
+/// Payload bytes of some steps.
+#[derive(Clone, Copy, Drop)]
+pub struct PayloadCounts {
+    /// Bytes kept in all.
+    pub kept: u64,
+    /// Bytes of replies that came and of answers of the proxy's own.
+    pub came: u64,
+    /// Bytes handed out to clients.
+    pub handed: u64,
+    /// The number of steps that the average is taken over.
+    pub steps: u64,
+}
+
+impl PayloadCounts {
+    /// Those of a step that has no payload.
+    pub const NONE: PayloadCounts = PayloadCounts {
+        kept: 0,
+        came: 0,
+        handed: 0,
+        steps: 0,
+    };
+
+    /// Those of a command with `kept` bytes, to which the proxy's own answer has `came`.
+    #[inline(always)]
+    pub fn of_command(kept: u64, came: u64) -> PayloadCounts
+        ensures { result ≡ record no_bytes { kept = kept; came = came } }
+    {
+        PayloadCounts {
+            kept,
+            came,
+            ..PayloadCounts::NONE
+        }
+    }
+
+    /// Those of a part's text with this many bytes.
+    #[inline(always)]
+    pub fn of_part(kept: u64) -> PayloadCounts
+        ensures { result ≡ record no_bytes { kept = kept } }
+    {
+        PayloadCounts {
+            kept,
+            ..PayloadCounts::NONE
+        }
+    }
+
+    /// Those of a host's reply with this many bytes.
+    #[inline(always)]
+    pub fn of_reply(came: u64) -> PayloadCounts
+        ensures { result ≡ reply_bytes came }
+    {
+        PayloadCounts {
+            kept: came,
+            came,
+            steps: STEPS_A_REPLY,
+            ..PayloadCounts::NONE
+        }
+    }
+
+    /// Those of a text with this many bytes that is handed out.
+    #[inline(always)]
+    pub fn of_text(handed: u64) -> PayloadCounts
+        ensures { result ≡ record no_bytes { kept = handed; handed = handed } }
+    {
+        PayloadCounts {
+            kept: handed,
+            handed,
+            ..PayloadCounts::NONE
+        }
+    }
+
+    /// Adds these.
+    #[inline(always)]
+    pub(crate) fn add(&mut self, other: PayloadCounts)
+        ensures { self.new ≡ plus self.old other }
+    {
+        self.kept = self.kept.saturating_add(other.kept);
+        self.came = self.came.saturating_add(other.came);
+        self.handed = self.handed.saturating_add(other.handed);
+        self.steps = self.steps.saturating_add(other.steps);
+    }
+
+    /// Adds them to the payload.
+    #[inline(always)]
+    pub(crate) fn add_to(&self, payload: &mut Payload)
+        ensures { payload.new ≡ with_bytes self.now payload.old }
+    {
+        payload.note(self.kept, self.came, self.handed, self.steps);
+    }
+}

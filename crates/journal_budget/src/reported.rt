@@ -1,0 +1,78 @@
+//! What the workers of a generation have reported of their payload.
+ghost use Rattle.std.specs.Prelude.{◌≡◌, IsTrue};
+ghost use Rattle.journal_budget.specs.Payload.{average_of, IsFarFromFull};
+ghost use Rattle.journal_budget.specs.Reported.{IsInRange};
+
+use crate::payload::Payload;
+use std::marker::Model;
+
+/// What all workers had reported when a worker last looked.
+#[derive(Drop)]
+pub(crate) struct Reported {
+    payload: Payload,
+    // The owed steps that have payload.
+    owed: u64,
+    // The average bytes a step, and whether the journal was far from full.
+    average: u64,
+    is_far: bool,
+}
+
+impl Model for Reported {
+    ghost use Rattle.journal_budget.specs.Reported.{ReportedState, IsReported};
+
+    ghost Value = { ReportedState };
+
+    ghost view = { λ r. record { payload = r.payload; owed = r.owed } };
+
+    ghost invariant = { λ r. IsReported r.payload r.owed r.average r.is_far };
+}
+
+impl Reported {
+    /// This payload, while so many steps are owed that have some.
+    pub(crate) fn new(payload: Payload, owed: u64) -> Reported
+        requires { IsInRange payload }
+        ensures { result ≡ record { payload = payload; owed = owed } }
+    {
+        let average = payload.average();
+        let is_far = payload.is_far_from_full(owed);
+        Reported {
+            payload,
+            owed,
+            average,
+            is_far,
+        }
+    }
+
+    /// The payload.
+    #[inline(always)]
+    pub(crate) fn payload(&self) -> Payload
+        ensures { result ≡ self.now.payload }
+    {
+        self.payload
+    }
+
+    /// The owed steps that have payload.
+    #[inline(always)]
+    pub(crate) fn owed(&self) -> u64
+        ensures { result ≡ self.now.owed }
+    {
+        self.owed
+    }
+
+    /// The average payload bytes a step.
+    #[inline(always)]
+    pub(crate) fn average(&self) -> u64
+        ensures { result ≡ average_of self.now.payload }
+    {
+        self.average
+    }
+
+    /// Whether the journal was so far from full that room needn't be computed while little comes.
+    #[inline(always)]
+    pub(crate) fn is_far(&self) -> bool
+        ensures far { IsTrue result → IsFarFromFull self.now.payload self.now.owed }
+        ensures in_range { IsInRange self.now.payload }
+    {
+        self.is_far
+    }
+}

@@ -1,0 +1,74 @@
+//! The step that a turn is, and its payload.
+ghost use Rattle.std.specs.Prelude.{◌≡◌};
+ghost use Rattle.journal_room.specs.TurnStep.{brought_by, own_bytes, noted};
+
+use journal_budget::{Account, PayloadCounts, StepKind};
+use proxy_core::{Answer, Event, Local};
+
+// The most bytes of the proxy's own answers: of PONG and OK, and of an error for a whole command.
+const MAX_OWN_WORD: u64 = 8;
+
+const MAX_OWN_ERROR: u64 = 96;
+
+// The most bytes of the proxy's own answer to a command of this many bytes; none of an answer that isn't its own.
+fn own_bytes(local: &Option<Local>, command: u64) -> u64
+    ensures { result ≡ own_bytes local.now command }
+{
+    let Some(local) = local else {
+        return 0;
+    };
+    match local {
+        Local::Echoed => command,
+        Local::Pong | Local::Bye => MAX_OWN_WORD,
+        Local::Invalid | Local::Unsupported | Local::WrongNumber | Local::Broken => MAX_OWN_ERROR,
+    }
+}
+
+/// The payload bytes of an event.
+#[inline(always)]
+pub(crate) fn bytes_of(event: &Event) -> u64
+    ensures { result ≡ brought_by event.now }
+{
+    match event {
+        Event::Arrived { request, .. } => request.text_len(),
+        Event::Answered { value, .. } => value.text_len(),
+        _ => 0,
+    }
+}
+
+/// Counts a turn with this answer, whose event had this many payload bytes. A part that failed at once is neither sent
+/// nor answered.
+#[inline(always)]
+pub(crate) fn note_turn(account: &mut Account, brought: u64, answer: &Answer)
+    ensures { account.new ≡ noted brought answer.now account.old }
+{
+    match answer {
+        Answer::Accepted {
+            local,
+            parts,
+            no_host,
+            busy,
+            ..
+        } => {
+            let parts = parts.saturating_sub(*no_host).saturating_sub(*busy);
+            let bytes = PayloadCounts::of_command(brought, own_bytes(local, brought));
+            account.note(StepKind::Accepted { parts }, bytes);
+        }
+        Answer::Sent { text, .. } => {
+            account.note(StepKind::Sent, PayloadCounts::of_part(text.len() as u64));
+        }
+        Answer::Matched { .. } => {
+            account.note(StepKind::Matched, PayloadCounts::of_reply(brought));
+        }
+        Answer::Bytes { text } => {
+            account.note(StepKind::Handed, PayloadCounts::of_text(text.len() as u64));
+        }
+        Answer::Opened { .. } => account.note(StepKind::Opened, PayloadCounts::NONE),
+        Answer::Finishing => account.note(StepKind::Finished, PayloadCounts::NONE),
+        Answer::Lost { parts, .. } => {
+            account.note(StepKind::Lost { parts: *parts }, PayloadCounts::NONE);
+        }
+        Answer::Swept { .. } => account.note(StepKind::Swept, PayloadCounts::NONE),
+        Answer::Closed => account.note(StepKind::Closed, PayloadCounts::NONE),
+    }
+}

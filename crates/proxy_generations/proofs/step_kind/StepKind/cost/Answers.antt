@@ -1,5 +1,0 @@
-use Rattle.std.proofs.Common.{rules}
-use Rattle.proxy_generations.proofs.step_kind.StepKind.cost.Goals as goal
-
-pub returns-in-Accepted : goal.returns-in-Accepted
-returns-in-Accepted c = search rules
