@@ -8,9 +8,9 @@ use Rattle.proxy_engines.specs.Ends.{RestState}
 use Rattle.proxy_engines.specs.Host.{HostEnds}
 use Rattle.proxy_engines.specs.Keeps.{IsBetween, KeepsLink, no_logs}
 use Rattle.proxy_engines.specs.Logs.{Logs, CarriesSocketLogs}
-use Rattle.proxy_serve_core.specs.SocketReader.{SocketReaderState}
-use Rattle.proxy_serve_core.specs.SocketWriter.{SocketWriterState}
-use Rattle.proxy_serve_core.specs.WriteBuffer.{accepted}
+use Rattle.socket_halves.specs.SocketReader.{SocketReaderState}
+use Rattle.socket_halves.specs.SocketWriter.{SocketWriterState}
+use Rattle.socket_halves.specs.WriteBuffer.{accepted}
 
 -- the logs of a socket's halves: all that was delivered to its engines, and all that these had accepted for it
 abbrev pub logs_of : SocketReaderState → SocketWriterState → Logs

@@ -2,13 +2,13 @@
 ghost use Rattle.std.specs.Prelude.{◌≡◌, IfOk};
 ghost use Rattle.proxy_engines.specs.Keeps.{no_logs};
 ghost use Rattle.proxy_connections.specs.Sockets.{logs_of};
-ghost use Rattle.proxy_serve_core.specs.WriteBuffer.{accepted};
+ghost use Rattle.socket_halves.specs.WriteBuffer.{accepted};
 
 use mio::event::Event;
 use mio::net::TcpStream;
 use mio::unix::SourceFd;
 use mio::{Interest, Registry, Token};
-use proxy_serve_core::{SocketReader, SocketWriter};
+use socket_halves::{SocketReader, SocketWriter};
 use std::alloc::{AllocError, Global};
 use std::io;
 use std::io::{Read, Write};

@@ -1,4 +1,2 @@
-mod WriteBufferLemmas
-mod ReadEndLemmas
 mod AssignmentLemmas
 mod KeySetLemmas

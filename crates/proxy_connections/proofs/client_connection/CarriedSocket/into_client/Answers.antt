@@ -1,7 +1,7 @@
 use Rattle.std.proofs.Common.{ap}
-use Rattle.proxy_serve_core.specs.SocketReader.{SocketReaderState}
-use Rattle.proxy_serve_core.specs.SocketWriter.{SocketWriterState}
-use Rattle.proxy_serve_core.specs.WriteBuffer.{accepted}
+use Rattle.socket_halves.specs.SocketReader.{SocketReaderState}
+use Rattle.socket_halves.specs.SocketWriter.{SocketWriterState}
+use Rattle.socket_halves.specs.WriteBuffer.{accepted}
 use Rattle.proxy_connections.proofs.SocketLemmas.{reopens_socket}
 use Rattle.proxy_connections.proofs.client_connection.CarriedSocket.into_client.Goals as goal
 

@@ -1,6 +1,0 @@
-use Rattle.std.proofs.Common.{ap}
-use Rattle.proxy_serve_core.specs.WriteBuffer.{WriteBufferState}
-use Rattle.proxy_serve_core.proofs.write_buffer.WriteBuffer.is_broken.Goals as goal
-
-pub returns : goal.returns
-returns g c = ap (λ (o : WriteBufferState). o.is_broken) c.self.view_is

@@ -1,5 +1,0 @@
-use Rattle.std.proofs.Common.{◌==◌, ap}
-use Rattle.proxy_serve_core.proofs.write_buffer.WriteBuffer.is_empty.Goals as goal
-
-pub returns : goal.returns
-returns g c = ap (λ n. n == 0) c.count.ensures

@@ -1,6 +1,0 @@
-use Rattle.std.proofs.Common.{true, ap}
-use Rattle.proxy_serve_core.specs.WriteBuffer.{WriteBufferState}
-use Rattle.proxy_serve_core.proofs.write_buffer.WriteBuffer.set_writable.Goals as goal
-
-pub returns : goal.returns
-returns g c = ap (λ (o : WriteBufferState). record o { is_writable = true }) c.self.view_is

@@ -1,0 +1,2 @@
+mod ReadEndLemmas
+mod WriteBufferLemmas

@@ -1,0 +1,4 @@
+pub mod ReadEnd
+pub mod SocketReader
+pub mod WriteBuffer
+pub mod SocketWriter

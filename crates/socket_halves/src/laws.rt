@@ -1,0 +1,21 @@
+//! The limit of buffered bytes and two laws of bytes, as contracts of functions that do nothing.
+ghost use Rattle.std.specs.Prelude.{◌≡◌};
+ghost use Rattle.socket_halves.specs.ReadEnd.{DeliveredIsReceived};
+ghost use Rattle.socket_halves.specs.WriteBuffer.{AcceptedGoesOut};
+
+use limits::MAX_BUFFERED;
+
+/// From 65,536 buffered bytes on, some are written before more are buffered.
+pub fn buffered_is_limited()
+    ensures { MAX_BUFFERED ≡ 65536 }
+{}
+
+/// What a writer took and what is buffered for it are all bytes that were accepted, in order, for any writer.
+pub fn accepted_goes_out()
+    ensures { AcceptedGoesOut }
+{}
+
+/// The bytes passed on to the caller are the bytes that the reader gave, for any reader.
+pub fn delivered_is_received()
+    ensures { DeliveredIsReceived }
+{}

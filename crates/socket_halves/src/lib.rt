@@ -1,0 +1,18 @@
+//! The two halves of a socket, for an engine: one reads, the other gathers what is to be written into large pieces.
+//!
+//! A half asks its socket only when there may be bytes, or room for some. Contracts say which bytes came and went, for
+//! any reader and writer. It stands on `limits`, and on `proxy_devices` for counts and logs of bytes. Begin with
+//! `socket_reader.rt`, over `read_end.rt`; then `socket_writer.rt`, over `write_buffer.rt`.
+#![tactic(auto)]
+
+mod laws;
+mod read_end;
+mod socket_reader;
+mod socket_writer;
+mod write_buffer;
+
+pub use laws::{accepted_goes_out, buffered_is_limited, delivered_is_received};
+pub use read_end::{Discarded, ReadEnd};
+pub use socket_reader::SocketReader;
+pub use socket_writer::SocketWriter;
+pub use write_buffer::WriteBuffer;

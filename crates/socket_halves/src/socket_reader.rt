@@ -1,0 +1,231 @@
+//! The reading half of a socket, which tells an engine what the socket gave.
+ghost use Rattle.std.specs.Prelude.{◌≡◌, ◌≢◌, ◌⊎◌, ◌<◌, ◌-◌, ◌^◌, true, false, ℕ, [], length, take, min, IfOk, IfErr, OnErr, IsErr, Some, None, Ok};
+ghost use Rattle.std.specs.Io.{ReadsAtMost};
+ghost use Rattle.std.specs.Io.KnownBytes.{ReadConsumes};
+ghost use Rattle.std.specs.IoError.{error_kind};
+ghost use Rattle.proxy_devices.specs.Device.{CountsRead, IsRead};
+ghost use Rattle.proxy_devices.specs.Faulty.{moved_count};
+ghost use Rattle.socket_halves.specs.ReadEnd.{CountsDown, Discards};
+ghost use Rattle.socket_halves.specs.SocketReader.{LeavesLeft, PassesOn, StaysWhole, engine_reader, fresh_reader};
+
+use crate::read_end::{Discarded, ReadEnd};
+use limits::MAX_LAST;
+use proxy_devices::{Counter, IoOutcome, ReadTally, Tally};
+use std::io;
+use std::io::{ErrorKind, Read};
+use std::marker::Model;
+
+/// The reading half of a socket, for an engine.
+///
+/// It asks the socket only when there may be bytes, and counts reads that failed or paused. What it has told its engine
+/// is what the socket gave, all of it; once input was thrown away each read fails.
+pub struct SocketReader<S: Read> {
+    stream: S,
+    end: ReadEnd,
+    // Each read fails from here on.
+    is_broken: bool,
+    counter: Counter,
+}
+
+// Written out so that a drop is one call: each function that holds one is proved sooner.
+impl<S: Read + Drop> Drop for SocketReader<S> {
+    fn drop(self) {
+        let SocketReader {
+            stream: _,
+            end: _,
+            is_broken: _,
+            counter: _,
+        } = self;
+    }
+}
+
+impl<S: Read> Model for SocketReader<S> {
+    ghost use Rattle.socket_halves.specs.SocketReader.{IsWholeOrBroken, SocketReaderState};
+
+    ghost Value = { SocketReaderState };
+
+    ghost view = { λ r. record { end = r.end; is_broken = r.is_broken; counts = r.counter } };
+
+    ghost invariant = { λ r. IsWholeOrBroken r.end r.is_broken };
+}
+
+impl<S: Read> SocketReader<S> {
+    /// The socket may have bytes. Nothing was read.
+    pub fn new(stream: S) -> SocketReader<S>
+        ensures { result ≡ fresh_reader }
+    {
+        SocketReader {
+            stream,
+            end: ReadEnd::new(),
+            is_broken: false,
+            counter: Counter::new(),
+        }
+    }
+
+    /// The socket may have bytes, or an end or an error.
+    pub fn set_readable(&mut self)
+        ensures { self.new
+            ≡ record self.old { end = record self.old.end { is_readable = true } } }
+    {
+        self.end.set_readable();
+    }
+
+    /// The peer sends nothing more: from here on a short read doesn't say that all was read.
+    pub fn set_closed(&mut self)
+        ensures { self.new
+            ≡ record self.old { end = record self.old.end { is_closed = true } } }
+    {
+        self.end.set_closed();
+    }
+
+    /// Ends the input behind what has come, or after `MAX_LAST` bytes at the latest.
+    pub fn end_input(&mut self)
+        ensures first { self.old.end.left ≡ None → self.new ≡ record self.old {
+          end = record self.old.end { left = Some MAX_LAST; is_readable = true };
+        } }
+        ensures again { self.old.end.left ≢ None → self.new ≡ self.old }
+    {
+        self.end.end_input();
+    }
+
+    /// Makes each read fail from here on, without asking the socket.
+    pub fn break_off(&mut self)
+        ensures { self.new ≡ record self.old {
+          end = record self.old.end { is_readable = true };
+          is_broken = true;
+        } }
+    {
+        self.is_broken = true;
+        self.end.set_readable();
+    }
+
+    /// The number of bytes read.
+    pub fn count(&self) -> u64
+        ensures { result ≡ min (length self.now.end.received) (2 ^ 64 - 1) }
+    {
+        self.end.count()
+    }
+
+    /// Whether a read may return bytes, or an end or an error.
+    pub fn may_read(&self) -> bool
+        ensures { result ≡ self.now.end.is_readable }
+    {
+        self.end.may_read()
+    }
+
+    /// Reads and discards what has come, by at most 64 reads of 16,384 bytes; each later read fails.
+    pub fn throw_away(&mut self) -> Discarded
+        ensures bytes { Discards self.old.end self.new.end None None }
+        ensures paused { result ≡ Discarded.Emptied → self.new.end.is_readable ≡ false }
+        ensures left { self.new.end.left ≡ self.old.end.left }
+        ensures closed { self.new.end.is_closed ≡ self.old.end.is_closed }
+        ensures broken { self.new.is_broken ≡ true }
+        ensures counts { self.new.counts ≡ self.old.counts }
+    {
+        self.is_broken = true;
+        self.end.throw_away(&mut self.stream)
+    }
+
+    // Reads once, unless it is broken off. It isn't counted.
+    fn ask(&mut self, buffer: &mut [u8]) -> io::Result<usize>
+        ensures bound { ReadsAtMost result buffer.new }
+        ensures ok { IfOk result (λ n. PassesOn self.old self.new (take n buffer.new)) }
+        ensures err { OnErr result (PassesOn self.old self.new []) }
+        ensures broken { self.old.is_broken ≡ true → (self.new ≡ self.old)
+            × IsErr result × IfErr result (λ e. error_kind e ≡ ErrorKind.BrokenPipe) }
+        ensures over { self.old.is_broken ≡ false → self.old.end.left ≡ Some 0
+            → (result ≡ Ok 0) × (self.new ≡ self.old) }
+        ensures paused { IfErr result
+            (λ e. error_kind e ≡ ErrorKind.WouldBlock → self.new.end.is_readable ≡ false) }
+        ensures idle { self.old.is_broken ≡ false → self.old.end.is_readable ≡ false
+            → self.old.end.left ≡ None
+            → IsErr result × IfErr result (λ e. error_kind e ≡ ErrorKind.WouldBlock) }
+        ensures awake { IfOk result (λ n. 0 < n
+            → (n ≡ length buffer.old) ⊎ (self.old.end.is_closed ≡ true)
+            → self.new.end.is_readable ≡ self.old.end.is_readable) }
+        ensures left { CountsDown self.old.end.left self.new.end.left result }
+        ensures counts { self.new.counts ≡ self.old.counts }
+    {
+        if self.is_broken {
+            return Err(io::Error::from(ErrorKind::BrokenPipe));
+        }
+        self.end.read(&mut self.stream, buffer)
+    }
+}
+
+impl<S: Read> Tally for SocketReader<S> {
+    ghost counts = { λ r. r.counts };
+
+    fn failures(&self) -> u64 {
+        self.counter.failures()
+    }
+
+    fn pauses(&self) -> u64 {
+        self.counter.pauses()
+    }
+}
+
+impl<S: Read> Read for SocketReader<S> {
+    ghost remaining = { λ _. None };
+
+    /// Reads once, if the socket may have bytes, and counts the result. It returns `WouldBlock` if the socket may have
+    /// none, and `BrokenPipe` once it is broken off.
+    fn read(&mut self, buffer: &mut [u8]) -> io::Result<usize>
+        ensures bound { ReadsAtMost result buffer.new }
+        ensures bytes { ReadConsumes None None result buffer.new }
+        ensures ok { IfOk result (λ n. PassesOn self.old self.new (take n buffer.new)) }
+        ensures err { OnErr result (PassesOn self.old self.new []) }
+        ensures whole { StaysWhole self.old.end self.new.end }
+        ensures broken { self.old.is_broken ≡ true → (self.new.end ≡ self.old.end)
+            × IsErr result × IfErr result (λ e. error_kind e ≡ ErrorKind.BrokenPipe) }
+        ensures over { self.old.is_broken ≡ false → self.old.end.left ≡ Some 0
+            → (result ≡ Ok 0) × (self.new ≡ self.old) }
+        ensures paused { IfErr result
+            (λ e. error_kind e ≡ ErrorKind.WouldBlock → self.new.end.is_readable ≡ false) }
+        ensures idle { self.old.is_broken ≡ false → self.old.end.is_readable ≡ false
+            → self.old.end.left ≡ None
+            → IsErr result × IfErr result (λ e. error_kind e ≡ ErrorKind.WouldBlock) }
+        ensures awake { IfOk result (λ n. 0 < n
+            → (n ≡ length buffer.old) ⊎ (self.old.end.is_closed ≡ true)
+            → self.new.end.is_readable ≡ self.old.end.is_readable) }
+        ensures left { CountsDown self.old.end.left self.new.end.left result }
+        ensures counts { CountsRead result self.old.counts self.new.counts }
+    {
+        match self.ask(buffer) {
+            Ok(n) => Ok(n),
+            Err(error) => {
+                let _told = self.counter.note_error(error.kind());
+                Err(error)
+            }
+        }
+    }
+}
+
+impl<S: Read> ReadTally for SocketReader<S> {
+    ghost told = { λ r. r.end.delivered };
+
+    /// Reads once, if the socket may have bytes; pauses if it may have none, and fails once it is broken off.
+    fn read_told(&mut self, buffer: &mut [u8]) -> IoOutcome
+        requires room { 0 < length buffer.old }
+        ensures told { IsRead (engine_reader self.old) (engine_reader self.new)
+            buffer.new result }
+        ensures passes { PassesOn self.old self.new (take (moved_count result) buffer.new) }
+        ensures whole { StaysWhole self.old.end self.new.end }
+        ensures broken { self.old.is_broken ≡ true
+            → (result ≡ IoOutcome.Failed) × (self.new.end ≡ self.old.end) }
+        ensures over { self.old.is_broken ≡ false → self.old.end.left ≡ Some 0
+            → (result ≡ IoOutcome.End) × (self.new ≡ self.old) }
+        ensures idle { self.old.is_broken ≡ false → self.old.end.is_readable ≡ false
+            → self.old.end.left ≡ None → result ≡ IoOutcome.Idle }
+        ensures awake { (n : ℕ) → result ≡ IoOutcome.Moved n
+            → (n ≡ length buffer.old) ⊎ (self.old.end.is_closed ≡ true)
+            → self.new.end.is_readable ≡ self.old.end.is_readable }
+        ensures left { LeavesLeft self.old.end.left self.new.end.left result }
+    {
+        match self.ask(buffer) {
+            Ok(0) => IoOutcome::End,
+            Ok(n) => IoOutcome::Moved(n),
+            Err(error) => self.counter.note_error(error.kind()),
+        }
+    }
+}

@@ -1,0 +1,285 @@
+//! The writing half of a socket, which takes what an engine gives and writes it in large pieces.
+ghost use Rattle.std.specs.Prelude.{◌≡◌, ◌≢◌, ◌⊎◌, ◌≤◌, ◌<◌, ◌*◌, ◌==◌, ◌||◌, ◌↔◌, max, not, true, false, [], length, take, IfOk, IfErr, OnErr, IsErr, IsTrue, None};
+ghost use Rattle.std.specs.Io.{WritesAtMost};
+ghost use Rattle.std.specs.Io.KnownBytes.{Keeps, WriteAppends};
+ghost use Rattle.std.specs.IoError.{error_kind};
+ghost use Rattle.proxy_devices.specs.Device.{CountsWrite, IsWritten, TakesNone};
+ghost use Rattle.proxy_devices.specs.Faulty.{moved_count};
+ghost use Rattle.socket_halves.specs.WriteBuffer.{GoesOut, accepted, may_write};
+ghost use Rattle.socket_halves.specs.SocketWriter.{IsShortBy, engine_writer, fresh_writer};
+
+use crate::write_buffer::WriteBuffer;
+use limits::MAX_BUFFERED;
+use proxy_devices::{Counter, IoOutcome, Tally, WriteTally};
+use std::alloc::Global;
+use std::io;
+use std::io::{ErrorKind, Write};
+use std::marker::Model;
+
+/// The writing half of a socket, for an engine.
+///
+/// What it takes from its engine is buffered, and goes out in order. It counts writes that failed or paused.
+pub struct SocketWriter<S: Write> {
+    output: WriteBuffer<S>,
+    // The last write took less than it was given.
+    is_short: bool,
+    // The socket has had room since then.
+    is_writable_again: bool,
+    counter: Counter,
+}
+
+// Written out so that a drop is one call: each function that holds one is proved sooner.
+impl<S: Write + Drop> Drop for SocketWriter<S> {
+    fn drop(self) {
+        let SocketWriter {
+            output: _,
+            is_short: _,
+            is_writable_again: _,
+            counter: _,
+        } = self;
+    }
+}
+
+impl<S: Write> Model for SocketWriter<S> {
+    ghost use Rattle.socket_halves.specs.SocketWriter.{SocketWriterState};
+
+    ghost Value = { SocketWriterState };
+
+    ghost view = { λ w. record {
+      output = w.output;
+      is_short = w.is_short;
+      is_writable_again = w.is_writable_again;
+      counts = w.counter;
+    } };
+}
+
+// Whether a write took less than it was given, for now.
+fn is_short(written: &io::Result<usize>, count: usize) -> bool
+    ensures ok { IfOk written.now (λ n. IsTrue result ↔ (n < count)) }
+    ensures err { IfErr written.now
+        (λ e. IsTrue result ↔ (error_kind e ≡ ErrorKind.WouldBlock)) }
+{
+    match written {
+        Ok(taken) => *taken < count,
+        Err(error) => error.kind() == ErrorKind::WouldBlock,
+    }
+}
+
+impl<S: Write> SocketWriter<S> {
+    /// Nothing is buffered, and the socket may take bytes.
+    pub fn new(alloc: Global, stream: S) -> SocketWriter<S>
+        ensures { result ≡ fresh_writer (S.contents stream) }
+    {
+        SocketWriter {
+            output: WriteBuffer::new(alloc, stream),
+            is_short: false,
+            is_writable_again: false,
+            counter: Counter::new(),
+        }
+    }
+
+    /// The socket may take bytes again, as the poll reports.
+    pub fn set_writable(&mut self)
+        ensures { self.new ≡ record self.old {
+          output = record self.old.output { is_writable = true };
+          is_writable_again = self.old.is_short;
+        } }
+    {
+        self.output.set_writable();
+        self.is_writable_again = self.is_short;
+    }
+
+    /// Makes each write fail from here on.
+    pub fn break_off(&mut self)
+        ensures { self.new
+            ≡ record self.old { output = record self.old.output { is_broken = true } } }
+    {
+        self.output.break_off();
+    }
+
+    /// Whether a write failed.
+    pub fn is_broken(&self) -> bool
+        ensures { result ≡ self.now.output.is_broken }
+    {
+        self.output.is_broken()
+    }
+
+    /// Whether bytes are buffered.
+    pub fn has_buffered(&self) -> bool
+        ensures { result ≡ not (length self.now.output.buffered == 0) }
+    {
+        !self.output.is_empty()
+    }
+
+    /// Whether bytes are buffered, or the rest of a text that the socket took in part waits.
+    pub fn is_behind(&self) -> bool
+        ensures { result ≡ (self.now.is_short
+            || not (length self.now.output.buffered == 0)) }
+    {
+        self.is_short || self.has_buffered()
+    }
+
+    /// Whether the socket may take buffered bytes, or the rest of a text that it took in part.
+    pub fn may_write(&self) -> bool
+        ensures { result ≡ (self.now.is_writable_again || may_write self.now.output) }
+    {
+        self.is_writable_again || self.output.may_write()
+    }
+
+    /// Lends a buffer, in which bytes are buffered from here on, unless some are already. Its old content is dropped.
+    /// What stands in its place is empty.
+    pub fn lend_buffer(&mut self, buffer: &mut Vec<u8>)
+        ensures same { self.new ≡ self.old }
+        ensures accepted { accepted self.new.output ≡ accepted self.old.output }
+        ensures lent { self.old.output.buffered ≡ [] → buffer.new.items ≡ [] }
+        ensures stays { self.old.output.buffered ≢ [] → buffer.new.items ≡ buffer.old.items }
+    {
+        self.output.lend_buffer(buffer);
+    }
+
+    /// Writes buffered bytes as far as the socket takes them. Afterwards nothing is buffered, or the socket takes no
+    /// more until `set_writable`, or a write has failed. The buffer is returned once all is taken, and is empty. After a
+    /// failed write nothing is written.
+    pub fn write_out(&mut self, buffer: &mut Vec<u8>)
+        ensures goes_out { GoesOut self.old.output self.new.output [] }
+        ensures accepted { accepted self.new.output ≡ accepted self.old.output }
+        ensures ends { may_write self.new.output ≡ false }
+        ensures broken { self.old.output.is_broken ≡ true → self.new.output ≡ self.old.output }
+        ensures back { buffer.new.items ≡ [] }
+        ensures again { self.new.is_writable_again ≡ false }
+        ensures short { self.new.is_short ≡ self.old.is_short }
+        ensures counts { self.new.counts ≡ self.old.counts }
+    {
+        self.is_writable_again = false;
+        self.output.write_out(buffer);
+    }
+
+    // Takes these bytes as far as there is room. It isn't counted.
+    fn accept(&mut self, bytes: &[u8]) -> io::Result<usize>
+        ensures bound { WritesAtMost result bytes.now }
+        ensures ok { IfOk result (λ n. GoesOut self.old.output self.new.output
+            (take n bytes.now)) }
+        ensures err { OnErr result (GoesOut self.old.output self.new.output []) }
+        ensures paused { IfErr result (λ e. error_kind e ≡ ErrorKind.WouldBlock
+            → self.new.output.is_writable ≡ false) }
+        ensures failed { IfErr result (λ e. error_kind e ≢ ErrorKind.WouldBlock
+            → self.new.output.is_broken ≡ true) }
+        ensures nothing { IfOk result (λ n. n ≡ 0
+            → (bytes.now ≡ []) ⊎ (self.new.output.is_broken ≡ true)) }
+        ensures limit { length self.new.output.buffered
+            ≤ max (length self.old.output.buffered) (2 * MAX_BUFFERED) }
+        ensures broken { self.old.output.is_broken ≡ true → (self.new.output ≡ self.old.output)
+            × IsErr result × IfErr result (λ e. error_kind e ≡ ErrorKind.BrokenPipe) }
+        ensures short { IfOk result (λ n. IsTrue self.new.is_short ↔ (n < length bytes.now)) }
+        ensures refused { IfErr result
+            (λ e. IsTrue self.new.is_short ↔ (error_kind e ≡ ErrorKind.WouldBlock)) }
+        ensures again { self.new.is_writable_again ≡ self.old.is_writable_again }
+        ensures counts { self.new.counts ≡ self.old.counts }
+    {
+        let written = self.output.write(bytes);
+        self.is_short = is_short(&written, bytes.len());
+        written
+    }
+}
+
+impl<S: Write> Tally for SocketWriter<S> {
+    ghost counts = { λ w. w.counts };
+
+    fn failures(&self) -> u64 {
+        self.counter.failures()
+    }
+
+    fn pauses(&self) -> u64 {
+        self.counter.pauses()
+    }
+}
+
+impl<S: Write> Write for SocketWriter<S> {
+    ghost contents = { λ _. None };
+
+    /// Takes these bytes as far as there is room, and counts the result.
+    fn write(&mut self, bytes: &[u8]) -> io::Result<usize>
+        ensures bound { WritesAtMost result bytes.now }
+        ensures bytes { WriteAppends None None result bytes.now }
+        ensures ok { IfOk result (λ n. GoesOut self.old.output self.new.output
+            (take n bytes.now)) }
+        ensures err { OnErr result (GoesOut self.old.output self.new.output []) }
+        ensures paused { IfErr result (λ e. error_kind e ≡ ErrorKind.WouldBlock
+            → self.new.output.is_writable ≡ false) }
+        ensures failed { IfErr result (λ e. error_kind e ≢ ErrorKind.WouldBlock
+            → self.new.output.is_broken ≡ true) }
+        ensures nothing { IfOk result (λ n. n ≡ 0
+            → (bytes.now ≡ []) ⊎ (self.new.output.is_broken ≡ true)) }
+        ensures limit { length self.new.output.buffered
+            ≤ max (length self.old.output.buffered) (2 * MAX_BUFFERED) }
+        ensures broken { self.old.output.is_broken ≡ true → (self.new.output ≡ self.old.output)
+            × IsErr result × IfErr result (λ e. error_kind e ≡ ErrorKind.BrokenPipe) }
+        ensures short { IfOk result (λ n. IsTrue self.new.is_short ↔ (n < length bytes.now)) }
+        ensures refused { IfErr result
+            (λ e. IsTrue self.new.is_short ↔ (error_kind e ≡ ErrorKind.WouldBlock)) }
+        ensures again { self.new.is_writable_again ≡ self.old.is_writable_again }
+        ensures counts { CountsWrite bytes.now result self.old.counts self.new.counts }
+    {
+        match self.accept(bytes) {
+            Ok(n) => {
+                if n == 0 && !bytes.is_empty() {
+                    self.counter.note_failure();
+                }
+                Ok(n)
+            }
+            Err(error) => {
+                let _told = self.counter.note_error(error.kind());
+                Err(error)
+            }
+        }
+    }
+
+    /// Does nothing: `write_out` writes the buffered bytes.
+    fn flush(&mut self) -> io::Result<()>
+        ensures bytes { Keeps None None }
+        ensures same { self.new ≡ self.old }
+    {
+        Ok(())
+    }
+}
+
+impl<S: Write> WriteTally for SocketWriter<S> {
+    ghost taken = { λ w. accepted w.output };
+
+    /// Takes these bytes as far as there is room.
+    fn write_told(&mut self, bytes: &[u8]) -> IoOutcome
+        requires some { bytes.now ≢ [] }
+        ensures told { IsWritten (engine_writer self.old) (engine_writer self.new)
+            bytes.now result }
+        ensures goes_out { GoesOut self.old.output self.new.output
+            (take (moved_count result) bytes.now) }
+        ensures idle { result ≡ IoOutcome.Idle → (self.new.output.is_writable ≡ false)
+            ⊎ (self.new.output.is_broken ≡ true) }
+        ensures ended { result ≡ IoOutcome.End → self.new.output.is_broken ≡ true }
+        ensures failed { result ≡ IoOutcome.Failed → self.new.output.is_broken ≡ true }
+        ensures limit { length self.new.output.buffered
+            ≤ max (length self.old.output.buffered) (2 * MAX_BUFFERED) }
+        ensures broken { self.old.output.is_broken ≡ true
+            → (result ≡ IoOutcome.Failed) × (self.new.output ≡ self.old.output) }
+        ensures short { IsShortBy result bytes.now self.new.is_short }
+        ensures again { self.new.is_writable_again ≡ self.old.is_writable_again }
+    {
+        match self.accept(bytes) {
+            Ok(0) => {
+                self.counter.note_failure();
+                IoOutcome::End
+            }
+            Ok(n) => IoOutcome::Moved(n),
+            Err(error) => self.counter.note_error(error.kind()),
+        }
+    }
+
+    /// Does nothing: `write_out` writes the buffered bytes.
+    fn flush_told(&mut self) -> io::Result<()>
+        ensures none { TakesNone (engine_writer self.old) (engine_writer self.new) }
+        ensures counts { self.new.counts ≡ self.old.counts }
+        ensures same { self.new ≡ self.old }
+    {
+        Ok(())
+    }
+}

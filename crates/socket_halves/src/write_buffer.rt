@@ -1,0 +1,368 @@
+//! A writer with a buffer, so that it writes large pieces.
+ghost use Rattle.std.specs.Prelude.{◌≡◌, ◌≢◌, ◌⊎◌, ◌≤◌, ◌*◌, max, ◌==◌, true, false, ℕ, [], ◌++◌, length, take, IfOk, IfErr, OnOk, OnErr, IsErr};
+ghost use Rattle.std.specs.Io.{WritesAtMost};
+ghost use Rattle.std.specs.Io.KnownBytes.{WriteAppends};
+ghost use Rattle.std.specs.IoError.{error_kind};
+ghost use Rattle.socket_halves.specs.WriteBuffer.{GoesOut, may_write};
+
+use limits::MAX_BUFFERED;
+use proxy_devices::ByteLog;
+use std::alloc::{AllocError, Global};
+use std::io::{ErrorKind, Write};
+use std::marker::Model;
+use std::{io, mem};
+
+// A write interrupted this often in a row has failed.
+const MAX_INTERRUPTIONS: u32 = 1_000;
+
+/// A writer, and the bytes buffered for it.
+///
+/// An interrupted write is made again; 1,000 interruptions in a row are a failed write. A write that takes nothing has
+/// failed too. After one that takes less than it was given, the writer takes no more for now.
+///
+/// Contracts see the writer's bytes, as far as it reports them, all that it took since the buffer was made, the buffered
+/// bytes, whether the writer may take more, and whether a write failed.
+#[derive(Drop)]
+pub struct WriteBuffer<W: Write> {
+    alloc: Global,
+    writer: W,
+    // The bytes that the writer took, for proofs.
+    taken: ByteLog,
+    bytes: Vec<u8>,
+    // The number of bytes in front that are written.
+    written: usize,
+    // Whether the writer may take more.
+    is_writable: bool,
+    is_broken: bool,
+}
+
+impl<W: Write> Model for WriteBuffer<W> {
+    ghost use Rattle.std.specs.Prelude.{◌≤◌, drop, length};
+    ghost use Rattle.socket_halves.specs.WriteBuffer.{WriteBufferState};
+
+    ghost Value = { WriteBufferState };
+
+    ghost view = { λ g. record {
+      held = W.contents g.writer;
+      taken = g.taken.bytes;
+      buffered = drop g.written g.bytes.items;
+      is_writable = g.is_writable;
+      is_broken = g.is_broken;
+    } };
+
+    ghost invariant = { λ g. g.written ≤ length g.bytes.items };
+}
+
+fn paused() -> io::Error
+    ensures { error_kind result ≡ ErrorKind.WouldBlock }
+{
+    io::Error::from(ErrorKind::WouldBlock)
+}
+
+fn broken() -> io::Error
+    ensures { error_kind result ≡ ErrorKind.BrokenPipe }
+{
+    io::Error::from(ErrorKind::BrokenPipe)
+}
+
+fn is_interrupted(told: &io::Result<usize>) -> bool
+    ensures ok { OnOk told.now (result ≡ false) }
+    ensures err { IfErr told.now (λ e. error_kind e ≡ ErrorKind.Interrupted → result ≡ true) }
+{
+    match told {
+        Ok(_) => false,
+        Err(error) => error.kind() == ErrorKind::Interrupted,
+    }
+}
+
+// Writes once, again where it is interrupted.
+fn write_once<W: Write>(writer: &mut W, bytes: &[u8]) -> io::Result<usize>
+    ensures bound { WritesAtMost result bytes.now }
+    ensures bytes { WriteAppends (W.contents writer.old) (W.contents writer.new) result bytes.now }
+    ensures interrupted { IfErr result (λ e. error_kind e ≢ ErrorKind.Interrupted) }
+{
+    for _ in 0..MAX_INTERRUPTIONS {
+        let told = writer.write(bytes);
+        if !is_interrupted(&told) {
+            return told;
+        }
+        drop(told);
+    }
+    Err(broken())
+}
+
+impl<W: Write> WriteBuffer<W> {
+    /// Nothing is buffered, and the writer may take bytes.
+    pub fn new(alloc: Global, writer: W) -> WriteBuffer<W>
+        ensures held { result.held ≡ W.contents writer }
+        ensures taken { result.taken ≡ [] }
+        ensures buffered { result.buffered ≡ [] }
+        ensures open { result.is_writable ≡ true }
+        ensures whole { result.is_broken ≡ false }
+    {
+        WriteBuffer {
+            alloc,
+            writer,
+            taken: ByteLog::new(),
+            bytes: Vec::new(alloc),
+            written: 0,
+            is_writable: true,
+            is_broken: false,
+        }
+    }
+
+    /// The writer, for questions. Bytes written past the buffer would overtake buffered ones.
+    pub fn writer(&self) -> &W
+        ensures { W.contents result.now ≡ self.now.held }
+    {
+        &self.writer
+    }
+
+    /// The writer may take bytes again, as its readiness says.
+    pub fn set_writable(&mut self)
+        ensures { self.new ≡ record self.old { is_writable = true } }
+    {
+        self.is_writable = true;
+    }
+
+    /// From here on, behaves as after a failed write.
+    pub fn break_off(&mut self)
+        ensures { self.new ≡ record self.old { is_broken = true } }
+    {
+        self.is_broken = true;
+    }
+
+    /// Whether a write failed.
+    pub fn is_broken(&self) -> bool
+        ensures { result ≡ self.now.is_broken }
+    {
+        self.is_broken
+    }
+
+    /// Whether nothing is buffered.
+    pub fn is_empty(&self) -> bool
+        ensures { result ≡ (length self.now.buffered == 0) }
+    {
+        self.count() == 0
+    }
+
+    /// Whether bytes are buffered and the writer may take some.
+    pub fn may_write(&self) -> bool
+        ensures { result ≡ may_write self.now }
+    {
+        self.is_writable && !self.is_broken && !self.is_empty()
+    }
+
+    /// Lends a buffer, in which bytes are buffered from here on, unless some are already. Its old content is dropped.
+    /// What stands in its place is empty.
+    pub fn lend_buffer(&mut self, buffer: &mut Vec<u8>)
+        ensures same { self.new ≡ self.old }
+        ensures lent { self.old.buffered ≡ [] → buffer.new.items ≡ [] }
+        ensures stays { self.old.buffered ≢ [] → buffer.new.items ≡ buffer.old.items }
+    {
+        if self.is_empty() {
+            buffer.clear();
+            self.bytes.clear();
+            self.written = 0;
+            mem::swap(&mut self.bytes, buffer);
+        }
+    }
+
+    /// Writes buffered bytes as far as the writer takes them. Afterwards nothing is buffered, or the writer takes no
+    /// more until `set_writable`, or a write has failed. The buffer is returned once all is taken, and is empty. After a
+    /// failed write nothing is written and nothing changes.
+    pub fn write_out(&mut self, buffer: &mut Vec<u8>)
+        ensures goes_out { GoesOut self.old self.new [] }
+        ensures ends { may_write self.new ≡ false }
+        ensures broken { self.old.is_broken ≡ true → self.new ≡ self.old }
+        ensures back { buffer.new.items ≡ [] }
+    {
+        buffer.clear();
+        self.write_gathered();
+        if !self.is_empty() {
+            return;
+        }
+        self.bytes.clear();
+        self.written = 0;
+        if buffer.capacity() < self.bytes.capacity() {
+            mem::swap(&mut self.bytes, buffer);
+        }
+        self.bytes = Vec::new(self.alloc);
+    }
+
+    // Writes buffered bytes once; there are some. A writer that took less takes no more for now.
+    fn write_some(&mut self)
+        ensures goes_out { GoesOut self.old self.new [] }
+        ensures ends { may_write self.new ≡ false }
+    {
+        let rest = self.bytes.split_at(self.written).1;
+        match write_once(&mut self.writer, rest) {
+            Ok(0) => self.is_broken = true,
+            Ok(count) => {
+                self.taken = self.taken.and(rest, count);
+                self.written += count;
+                self.is_writable = self.is_empty();
+            }
+            Err(error) => self.note_refused(error.kind()),
+        }
+    }
+
+    // Records why a write took nothing.
+    fn note_refused(&mut self, kind: ErrorKind)
+        ensures held { self.new.held ≡ self.old.held }
+        ensures taken { self.new.taken ≡ self.old.taken }
+        ensures buffered { self.new.buffered ≡ self.old.buffered }
+        ensures paused { kind ≡ ErrorKind.WouldBlock
+            → self.new ≡ record self.old { is_writable = false } }
+        ensures failed { kind ≢ ErrorKind.WouldBlock
+            → self.new ≡ record self.old { is_broken = true } }
+    {
+        match kind {
+            ErrorKind::WouldBlock => self.is_writable = false,
+            _ => self.is_broken = true,
+        }
+    }
+
+    // Writes until nothing is buffered or the writer takes no more.
+    fn write_gathered(&mut self)
+        ensures goes_out { GoesOut self.old self.new [] }
+        ensures ends { may_write self.new ≡ false }
+        ensures broken { self.old.is_broken ≡ true → self.new ≡ self.old }
+    {
+        if self.may_write() {
+            self.write_some();
+        }
+    }
+
+    // Moves unwritten bytes to the front, once many are written.
+    fn close_up(&mut self)
+        ensures { self.new ≡ self.old }
+    {
+        if self.written >= MAX_BUFFERED || self.is_empty() {
+            self.bytes.drain(..self.written);
+            self.written = 0;
+        }
+    }
+
+    // The number of buffered bytes.
+    fn count(&self) -> usize
+        ensures { result ≡ length self.now.buffered }
+    {
+        self.bytes.len() - self.written
+    }
+
+    // Writes bytes directly; nothing is buffered.
+    fn write_through(&mut self, bytes: &[u8]) -> io::Result<usize>
+        requires { self.old.buffered ≡ [] }
+        ensures bound { WritesAtMost result bytes.now }
+        ensures ok { IfOk result (λ n. GoesOut self.old self.new (take n bytes.now)) }
+        ensures err { OnErr result (GoesOut self.old self.new []) }
+        ensures paused { IfErr result
+            (λ e. error_kind e ≡ ErrorKind.WouldBlock → self.new.is_writable ≡ false) }
+        ensures failed { IfErr result
+            (λ e. error_kind e ≢ ErrorKind.WouldBlock → self.new.is_broken ≡ true) }
+        ensures nothing { IfOk result (λ n. n ≡ 0
+            → (bytes.now ≡ []) ⊎ (self.new.is_broken ≡ true)) }
+        ensures buffered { self.new.buffered ≡ [] }
+    {
+        match write_once(&mut self.writer, bytes) {
+            Ok(count) => {
+                self.taken = self.taken.and(bytes, count);
+                self.is_writable = count == bytes.len();
+                if count == 0 && !bytes.is_empty() {
+                    self.break_off();
+                }
+                Ok(count)
+            }
+            Err(error) => {
+                self.note_refused(error.kind());
+                Err(error)
+            }
+        }
+    }
+
+    // Gathers bytes behind the others.
+    fn append(&mut self, bytes: &[u8]) -> Result<(), AllocError>
+        ensures ok { OnOk result (self.new
+            ≡ record self.old { buffered = self.old.buffered ++ bytes.now }) }
+        ensures err { OnErr result (self.new ≡ self.old) }
+    {
+        match self.bytes.extend_from_slice(bytes) {
+            Ok(()) => Ok(()),
+            Err(_) => Err(AllocError),
+        }
+    }
+
+    // Writes first if this many more bytes are too many.
+    fn make_room(&mut self, count: usize)
+        ensures goes_out { GoesOut self.old self.new [] }
+        ensures full { MAX_BUFFERED ≤ length self.new.buffered → may_write self.new ≡ false }
+        ensures broken { self.old.is_broken ≡ true → self.new ≡ self.old }
+    {
+        if self.count() >= MAX_BUFFERED || count >= MAX_BUFFERED {
+            self.write_gathered();
+        }
+    }
+
+    /// Takes these bytes; all of them if they are fewer than 65,536. They are buffered behind the others. A longer
+    /// text, or one for which there is no memory, is written at once behind the others, as far as the writer takes it.
+    /// At most 131,072 bytes are buffered.
+    ///
+    /// Returns `WouldBlock`, having taken nothing, if the writer takes no more for now and 65,536 bytes are buffered or
+    /// the text isn't buffered. Any other error, or 0 for a text that isn't empty, means that a write has failed, now
+    /// or before: nothing was taken, and nothing will be.
+    pub fn write(&mut self, bytes: &[u8]) -> io::Result<usize>
+        ensures bound { WritesAtMost result bytes.now }
+        ensures ok { IfOk result (λ n. GoesOut self.old self.new (take n bytes.now)) }
+        ensures err { OnErr result (GoesOut self.old self.new []) }
+        ensures paused { IfErr result
+            (λ e. error_kind e ≡ ErrorKind.WouldBlock → self.new.is_writable ≡ false) }
+        ensures failed { IfErr result
+            (λ e. error_kind e ≢ ErrorKind.WouldBlock → self.new.is_broken ≡ true) }
+        ensures nothing { IfOk result (λ n. n ≡ 0
+            → (bytes.now ≡ []) ⊎ (self.new.is_broken ≡ true)) }
+        ensures limit { length self.new.buffered
+            ≤ max (length self.old.buffered) (2 * MAX_BUFFERED) }
+        ensures broken { self.old.is_broken ≡ true → (self.new ≡ self.old)
+            × IsErr result × IfErr result (λ e. error_kind e ≡ ErrorKind.BrokenPipe) }
+    {
+        self.make_room(bytes.len());
+        if self.is_broken {
+            return Err(broken());
+        }
+        if self.count() >= MAX_BUFFERED {
+            return Err(paused());
+        }
+        if bytes.len() >= MAX_BUFFERED {
+            return self.write_long(bytes);
+        }
+        self.close_up();
+        match self.append(bytes) {
+            Ok(()) => Ok(bytes.len()),
+            Err(_) => self.write_long(bytes),
+        }
+    }
+
+    // Writes a text that isn't buffered.
+    fn write_long(&mut self, bytes: &[u8]) -> io::Result<usize>
+        ensures bound { WritesAtMost result bytes.now }
+        ensures ok { IfOk result (λ n. GoesOut self.old self.new (take n bytes.now)) }
+        ensures err { OnErr result (GoesOut self.old self.new []) }
+        ensures paused { IfErr result
+            (λ e. error_kind e ≡ ErrorKind.WouldBlock → self.new.is_writable ≡ false) }
+        ensures failed { IfErr result
+            (λ e. error_kind e ≢ ErrorKind.WouldBlock → self.new.is_broken ≡ true) }
+        ensures nothing { IfOk result (λ n. n ≡ 0
+            → (bytes.now ≡ []) ⊎ (self.new.is_broken ≡ true)) }
+        ensures limit { length self.new.buffered ≤ length self.old.buffered }
+    {
+        self.write_gathered();
+        if self.is_broken {
+            return Err(broken());
+        }
+        if !self.is_empty() || !self.is_writable {
+            return Err(paused());
+        }
+        self.write_through(bytes)
+    }
+}
