@@ -12,7 +12,8 @@ use limits::{LINGER_MS, MAX_SPARED};
 use mio::event::Event as Readiness;
 use mio::net::TcpStream;
 use mio::{Registry, Token};
-use proxy_engines::{ClientEngine, EngineError, Progress, Rest};
+use proxy_core::Refusal;
+use proxy_engines::{ClientEngine, Denied, EngineError, Progress, Rest};
 use proxy_exit_status::Ending;
 use proxy_histogram::{Histogram, Unanswered};
 use proxy_serve_core::{Discarded, Refusals};
@@ -229,10 +230,29 @@ impl From<EngineError> for StepError {
     /// The engine's error, as its worker treats it.
     fn from(error: EngineError) -> StepError {
         match error {
-            EngineError::NoMemory | EngineError::TurnRefused { number: 1001 } => StepError::Memory,
-            EngineError::TurnRefused { number: 1002 } => StepError::Full,
-            EngineError::TurnRefused { number: 1202 } => StepError::Ends(Ending::Spent),
-            _ => StepError::EndsOne,
+            EngineError::NoMemory | EngineError::TurnRefused(Denied::By(Refusal::NoMemory)) => {
+                StepError::Memory
+            }
+            EngineError::TurnRefused(Denied::By(Refusal::JournalFull)) => StepError::Full,
+            EngineError::TurnRefused(Denied::Spent) => StepError::Ends(Ending::Spent),
+            EngineError::ReadFailed
+            | EngineError::WriteFailed
+            | EngineError::TurnRefused(Denied::Astray)
+            | EngineError::TurnRefused(
+                Denied::By(
+                    Refusal::NoSuchConnection
+                    | Refusal::Crowded
+                    | Refusal::NothingWaiting
+                    | Refusal::Stale { .. }
+                    | Refusal::Unasked
+                    | Refusal::NotReady { .. }
+                    | Refusal::Finishing
+                    | Refusal::TooManyConnections
+                    | Refusal::BadSettings { .. }
+                    | Refusal::NoSuchHost
+                    | Refusal::NotPlain,
+                ),
+            ) => StepError::EndsOne,
         }
     }
 }
