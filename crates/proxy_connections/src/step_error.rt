@@ -1,6 +1,7 @@
 //! Why a step of a connection fails.
 
-use proxy_engines::EngineError;
+use proxy_core::Refusal;
+use proxy_engines::{Denied, EngineError};
 use proxy_exit_status::Ending;
 
 /// Why a step failed.
@@ -27,10 +28,29 @@ impl From<EngineError> for StepError {
     /// The engine's error, as its worker treats it.
     fn from(error: EngineError) -> StepError {
         match error {
-            EngineError::NoMemory | EngineError::TurnRefused { number: 1001 } => StepError::Memory,
-            EngineError::TurnRefused { number: 1002 } => StepError::Full,
-            EngineError::TurnRefused { number: 1202 } => StepError::Ends(Ending::Spent),
-            _ => StepError::EndsOne,
+            EngineError::NoMemory | EngineError::TurnRefused(Denied::By(Refusal::NoMemory)) => {
+                StepError::Memory
+            }
+            EngineError::TurnRefused(Denied::By(Refusal::JournalFull)) => StepError::Full,
+            EngineError::TurnRefused(Denied::Spent) => StepError::Ends(Ending::Spent),
+            EngineError::ReadFailed
+            | EngineError::WriteFailed
+            | EngineError::TurnRefused(Denied::Astray)
+            | EngineError::TurnRefused(
+                Denied::By(
+                    Refusal::NoSuchConnection
+                    | Refusal::Crowded
+                    | Refusal::NothingWaiting
+                    | Refusal::Stale { .. }
+                    | Refusal::Unasked
+                    | Refusal::NotReady { .. }
+                    | Refusal::Finishing
+                    | Refusal::TooManyConnections
+                    | Refusal::BadSettings { .. }
+                    | Refusal::NoSuchHost
+                    | Refusal::NotPlain,
+                ),
+            ) => StepError::EndsOne,
         }
     }
 }

@@ -1,9 +1,11 @@
 -- What a step answers, by what its parts answer.
 use Rattle.std.proofs.Common.{◌≡◌, ◌≢◌, ◌⊎◌, ◌∙◌, ℕ, Bool, true, false, None, inl, inr, refl, ap}
+use Rattle.std.proofs.lemmas.Result.{err_from_is_err_and}
 use Rattle.std.specs.Prelude.{Result, Ok, Err, IfOk, IfErr, OnOk}
 use Rattle.proxy_history.specs.History.{History}
 use Rattle.proxy_engines.specs.Client.{Client, Goes, Cuts, HasNoFault}
 use Rattle.proxy_engines.specs.Moves.{AsTold, told_by_step}
+use Rattle.proxy_engines.specs.EngineError.{IsTurnRefused}
 use Rattle.proxy_engines.specs.declared.client.Progress.{Progress}
 use Rattle.proxy_engines.specs.declared.client.Stage.{Stage}
 use Rattle.proxy_engines.specs.declared.error.EngineError.{EngineError}
@@ -74,36 +76,32 @@ pub end_not_link : (A : Type 0) (p : Progress) → (p ≡ Progress.Idle) ⊎ ((p
 end_not_link A p (inl idle) link = absurd cc
 end_not_link A p (inr (ended, a)) link = absurd cc
 
--- a turn was refused
-abbrev pub IsTurn : EngineError → Type 0
-IsTurn e = (n : ℕ) × (e ≡ EngineError.TurnRefused n)
+pub turn_unread : (A : Type 0) (e : EngineError) → IsTurnRefused e → e ≡ EngineError.ReadFailed → A
+turn_unread A e (_, turn) read = absurd cc
 
-pub turn_unread : (A : Type 0) (e : EngineError) → IsTurn e → e ≡ EngineError.ReadFailed → A
-turn_unread A e (n, turn) read = absurd cc
-
-pub turn_unwritten : (A : Type 0) (e : EngineError) → IsTurn e → e ≡ EngineError.WriteFailed → A
-turn_unwritten A e (n, turn) written = absurd cc
+pub turn_unwritten : (A : Type 0) (e : EngineError) → IsTurnRefused e → e ≡ EngineError.WriteFailed → A
+turn_unwritten A e (_, turn) written = absurd cc
 
 -- a device failed, or a turn was refused
 module _ (A B C : Type 0) where
-  pub write_unread : (r : Result Progress EngineError) → IfErr r (λ e. ((e ≡ EngineError.WriteFailed) × A × B) ⊎ IsTurn e) → IfErr r (λ e. e ≡ EngineError.ReadFailed → C)
+  pub write_unread : (r : Result Progress EngineError) → IfErr r (λ e. ((e ≡ EngineError.WriteFailed) × A × B) ⊎ IsTurnRefused e) → IfErr r (λ e. e ≡ EngineError.ReadFailed → C)
   write_unread (Ok p) told = tt
   write_unread (Err e) (inl (is, _, _)) = λ read. absurd cc
   write_unread (Err e) (inr turn) = turn_unread C e turn
 
-  pub read_unwritten : (r : Result Progress EngineError) → IfErr r (λ e. (e ≡ EngineError.NoMemory) ⊎ (((e ≡ EngineError.ReadFailed) × A × B) ⊎ IsTurn e)) → IfErr r (λ e. e ≡ EngineError.WriteFailed → C)
+  pub read_unwritten : (r : Result Progress EngineError) → IfErr r (λ e. (e ≡ EngineError.NoMemory) ⊎ (((e ≡ EngineError.ReadFailed) × A × B) ⊎ IsTurnRefused e)) → IfErr r (λ e. e ≡ EngineError.WriteFailed → C)
   read_unwritten (Ok p) told = tt
   read_unwritten (Err e) (inl none) = λ written. absurd cc
   read_unwritten (Err e) (inr (inl (is, _, _))) = λ written. absurd cc
   read_unwritten (Err e) (inr (inr turn)) = turn_unwritten C e turn
 
 module _ (A B : Type 0) where
-  pub write_is : (r : Result Progress EngineError) → IfErr r (λ e. ((e ≡ EngineError.WriteFailed) × A × B) ⊎ IsTurn e) → IfErr r (λ e. e ≡ EngineError.WriteFailed → A × B)
+  pub write_is : (r : Result Progress EngineError) → IfErr r (λ e. ((e ≡ EngineError.WriteFailed) × A × B) ⊎ IsTurnRefused e) → IfErr r (λ e. e ≡ EngineError.WriteFailed → A × B)
   write_is (Ok p) told = tt
   write_is (Err e) (inl (_, a, b)) = λ _. (a, b)
   write_is (Err e) (inr turn) = turn_unwritten (A × B) e turn
 
-  pub read_is : (r : Result Progress EngineError) → IfErr r (λ e. (e ≡ EngineError.NoMemory) ⊎ (((e ≡ EngineError.ReadFailed) × A × B) ⊎ IsTurn e)) → IfErr r (λ e. e ≡ EngineError.ReadFailed → A × B)
+  pub read_is : (r : Result Progress EngineError) → IfErr r (λ e. (e ≡ EngineError.NoMemory) ⊎ (((e ≡ EngineError.ReadFailed) × A × B) ⊎ IsTurnRefused e)) → IfErr r (λ e. e ≡ EngineError.ReadFailed → A × B)
   read_is (Ok p) told = tt
   read_is (Err e) (inl none) = λ read. absurd cc
   read_is (Err e) (inr (inl (_, a, b))) = λ _. (a, b)
@@ -118,24 +116,24 @@ failed_is A F G e read written (inr is) = (written is).1
 module _ (b c : Client) (y z : History) where
   pub cut_told : (a : Client) (x : History) (m : Bool) (answer result : Result Progress EngineError) → told_by_step answer ≡ None → Goes a b x y m → Cuts b c y z answer result → AsTold (Goes a c x z) (told_by_step result)
   cut_told a x m answer result none first (inl (last, _, is)) = as-none _ _ (ap told_by_step is ∙ none) (goes_some a b c x y z m true first last)
-  cut_told a x m answer result none first (inr (last, _, (n, is))) = as-none _ _ (ap told_by_step is) (goes_some a b c x y z m false first last)
+  cut_told a x m answer result none first (inr (last, _, refused)) = let (_, is, _) = err_from_is_err_and result refused in as-none _ _ (ap told_by_step is) (goes_some a b c x y z m false first last)
 
   pub cut_ok : (P : Progress → Type 0) (error : EngineError) (result : Result Progress EngineError) → Cuts b c y z (Err error) result → IfOk result P
   cut_ok P error result (inl (_, _, is)) = rw is tt
-  cut_ok P error result (inr (_, _, (n, is))) = rw is tt
+  cut_ok P error result (inr (_, _, refused)) = let (_, is, _) = err_from_is_err_and result refused in rw is tt
 
-  pub cut_err : (A : Client → Type 0) (error : EngineError) (result : Result Progress EngineError) → A (record b { stage = Stage.Closed true }) → Cuts b c y z (Err error) result → IfErr result (λ e. ((e ≡ error) × A c × (c.stage ≡ Stage.Closed true)) ⊎ IsTurn e)
+  pub cut_err : (A : Client → Type 0) (error : EngineError) (result : Result Progress EngineError) → A (record b { stage = Stage.Closed true }) → Cuts b c y z (Err error) result → IfErr result (λ e. ((e ≡ error) × A c × (c.stage ≡ Stage.Closed true)) ⊎ IsTurnRefused e)
   cut_err A error result failed (inl (_, new, is)) = rw (is, new) (inl (refl, failed, refl))
-  cut_err A error result failed (inr (_, _, (n, is))) = rw is (inr (n, refl))
+  cut_err A error result failed (inr (_, _, refused)) = let (_, is, turn) = err_from_is_err_and result refused in rw is (inr turn)
 
   pub cut_is : (result : Result Progress EngineError) → Cuts b c y z (Ok Progress.Cut) result → IfOk result (λ p. (p ≡ Progress.Cut) × (c.stage ≡ Stage.Closed true))
   cut_is result (inl (_, new, is)) = rw is (refl, ap (λ (e : Client). e.stage) new)
-  cut_is result (inr (_, _, (n, is))) = rw is tt
+  cut_is result (inr (_, _, refused)) = let (_, is, _) = err_from_is_err_and result refused in rw is tt
 
   pub cut_unfailed : (p : Progress) (result : Result Progress EngineError) → Cuts b c y z (Ok p) result → OnOk result (HasNoFault b c)
   cut_unfailed p result (inl (_, new, is)) = rw (is, new) (refl, refl)
-  cut_unfailed p result (inr (_, _, (n, is))) = rw is tt
+  cut_unfailed p result (inr (_, _, refused)) = let (_, is, _) = err_from_is_err_and result refused in rw is tt
 
-  pub cut_turn : (p : Progress) (result : Result Progress EngineError) → Cuts b c y z (Ok p) result → IfErr result IsTurn
+  pub cut_turn : (p : Progress) (result : Result Progress EngineError) → Cuts b c y z (Ok p) result → IfErr result IsTurnRefused
   cut_turn p result (inl (_, _, is)) = rw is tt
-  cut_turn p result (inr (_, _, (n, is))) = rw is (n, refl)
+  cut_turn p result (inr (_, _, refused)) = let (_, is, turn) = err_from_is_err_and result refused in rw is turn

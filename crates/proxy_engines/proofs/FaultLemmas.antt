@@ -6,7 +6,7 @@ use Rattle.proxy_history.specs.declared.event.Kind.{Kind}
 use Rattle.proxy_history.specs.declared.refusal.Refusal.{Refusal}
 use Rattle.proxy_engines.specs.Ends.{InboxState, KeepsReader}
 use Rattle.proxy_engines.specs.Host.{HostOutboxState, LinkState, next_link}
-use Rattle.proxy_engines.specs.Faults.{HasRead, IsCauseOf, IsOfDevice, LinkMove, IsLate, IsNumberedOn, IfFault, is_fault, either}
+use Rattle.proxy_engines.specs.Faults.{HasRead, IsCauseOf, IsOfDevice, LinkMove, IsDueErrorOn, IsLate, IfFault, is_fault, either}
 use Rattle.proxy_engines.specs.HostStep.{answer_of}
 use Rattle.ticket_gate.specs.Journal.{StartsWith}
 use Rattle.proxy_history.specs.declared.event.Event.{Event}
@@ -28,7 +28,7 @@ module _ (i j k : LinkState) (P Q L M : Type 0) (inbox : j.inbox.counts.failed �
   cause_later Kind.Late None b = later b
   cause_later Kind.Refused e b = absurd b
   cause_later Kind.Dropped (Some EngineError.NoMemory) b = absurd b
-  cause_later Kind.Dropped (Some (EngineError.TurnRefused n)) b = absurd b
+  cause_later Kind.Dropped (Some (EngineError.TurnRefused denied)) b = absurd b
   cause_later Kind.Garbled (Some e) b = absurd b
   cause_later Kind.Late (Some e) b = absurd b
 
@@ -47,7 +47,7 @@ module _ (i j k : LinkState) (P L : Type 0) (inbox : j.inbox.counts.failed ≡ i
   cause_of_device Kind.Late e b = absurd b
   cause_of_device Kind.Refused e b = absurd b
   cause_of_device Kind.Dropped (Some EngineError.NoMemory) b = absurd b
-  cause_of_device Kind.Dropped (Some (EngineError.TurnRefused n)) b = absurd b
+  cause_of_device Kind.Dropped (Some (EngineError.TurnRefused denied)) b = absurd b
 
   pub fault_of_device : (o : Outcome) → IfFault o (IsOfDevice (from_to j k)) → IfFault o (IsCauseOf P L (from_to i k))
   fault_of_device (Outcome.Fault kind error) b = cause_of_device kind error b
@@ -60,15 +60,15 @@ read_kept i j k l (left, told, counts) (left', told', counts') (failed, inl (got
 read_kept i j k l (left, told, counts) (left', told', counts') (failed, inr paused) = (rw (counts', ← counts) failed, inr (rw (counts', ← counts) paused))
 
 -- the error of a fault tells of no turn
-pub cause_numbered : (cause : Refusal → Event → List Step → Type 0) (seen : List Step) (on : HostOutboxState) (kind : Kind) (error : Option EngineError) (j k : LinkState) (P L : Type 0) → IsCauseOf P L (from_to j k) kind error → IfErr (answer_of error) (IsNumberedOn cause seen on)
-cause_numbered cause seen on kind None j k P L b = tt
-cause_numbered cause seen on kind (Some EngineError.NoMemory) j k P L b = inl tt
-cause_numbered cause seen on kind (Some EngineError.ReadFailed) j k P L b = inl tt
-cause_numbered cause seen on kind (Some EngineError.WriteFailed) j k P L b = inl tt
-cause_numbered cause seen on Kind.Dropped (Some (EngineError.TurnRefused n)) j k P L b = absurd b
-cause_numbered cause seen on Kind.Garbled (Some (EngineError.TurnRefused n)) j k P L b = absurd b
-cause_numbered cause seen on Kind.Late (Some (EngineError.TurnRefused n)) j k P L b = absurd b
-cause_numbered cause seen on Kind.Refused (Some (EngineError.TurnRefused n)) j k P L b = absurd b
+pub cause_due : (cause : Refusal → Event → List Step → Type 0) (seen : List Step) (on : HostOutboxState) (kind : Kind) (error : Option EngineError) (j k : LinkState) (P L : Type 0) → IsCauseOf P L (from_to j k) kind error → IfErr (answer_of error) (IsDueErrorOn cause seen on)
+cause_due cause seen on kind None j k P L b = tt
+cause_due cause seen on kind (Some EngineError.NoMemory) j k P L b = inl tt
+cause_due cause seen on kind (Some EngineError.ReadFailed) j k P L b = inl tt
+cause_due cause seen on kind (Some EngineError.WriteFailed) j k P L b = inl tt
+cause_due cause seen on Kind.Dropped (Some (EngineError.TurnRefused denied)) j k P L b = absurd b
+cause_due cause seen on Kind.Garbled (Some (EngineError.TurnRefused denied)) j k P L b = absurd b
+cause_due cause seen on Kind.Late (Some (EngineError.TurnRefused denied)) j k P L b = absurd b
+cause_due cause seen on Kind.Refused (Some (EngineError.TurnRefused denied)) j k P L b = absurd b
 
 pub faulty_calm : (A : Type 0) (o : Outcome) → is_fault o ≡ true → is_fault o ≡ false → A
 faulty_calm A o fault calm = let e : true ≡ false = sym fault ∙ calm in absurd cc

@@ -1,5 +1,6 @@
 -- What a step of a host's engine does, put together.
 use Rattle.std.proofs.Common.{◌≡◌, ◌∙◌, arith, ℕ, Bool, true, List, ◌∷◌, Option, Some, None, Result, Ok, Err, ◌⊎◌, ◌≢◌, [], length, ◌==◌, ap, sym, refl, inl, inr}
+use Rattle.std.proofs.lemmas.Result.{err_from_is_err_and}
 use Rattle.std.specs.Prelude.{IfSome, IfOk, OnOk, ◌↔◌, false}
 use Rattle.proxy_history.specs.History.{History, Step}
 use Rattle.proxy_history.specs.declared.event.Kind.{Kind}
@@ -31,8 +32,9 @@ module _ (U : HostOutboxState → LinkState → Type 0) where
   -- a fault was recorded and told, or is left to the next step
   pub works_told : (old last new : HostState) (kind : Kind) (error : Option EngineError) (H I J : History) (m : ℕ) (moved : Bool) (result : Result Progress EngineError) → GoesOn (move_of (calls old last H I m)) moved → TellsFault (calls last new I J m) kind error result → IsCausedOn U (move_of (calls old last H I m)) kind error → WorksHost U (calls old new H J m) result
   works_told old last new kind error H I J m moved result goes (inl (records, is)) cause = record { last = last; between = I; moved = moved; goes = goes; ends = inr (kind, error, records, cause, is) }
-  works_told old last new kind error H I J m moved result goes (inr (kept, same, (n, is))) cause =
-      works_left old last new kind error H I J m moved result goes (ap (λ (z : HostState). z.outbox) kept) (ap (λ (z : HostState). z.link) kept) (ap (λ (z : HostState). z.fault) kept) same (rw is tt) cause
+  works_told old last new kind error H I J m moved result goes (inr (kept, same, refused)) cause =
+      let (_, is, (_, turn)) = err_from_is_err_and result refused in
+      works_left old last new kind error H I J m moved result goes (ap (λ (z : HostState). z.outbox) kept) (ap (λ (z : HostState). z.link) kept) (ap (λ (z : HostState). z.fault) kept) same (rw (is, turn) tt) cause
 
 -- what is said of a link that stays, where none does
 pub no_link : (P : LinkState → LinkState → Type 0) (j k : Option LinkState) → k ≡ None → IfSome j (λ x. IfSome k (P x))
@@ -45,7 +47,7 @@ module _ (old new : HostState) (H I : History) (kind : Kind) (m : ℕ) where
       → IfOk result (λ p. (p ≡ Progress.Moved) × (new.link ≡ None) × (new.fault ≡ None) × (new.outbox ≡ next_link old.outbox))
   told_ok None result (inl (records, is)) = rw is (refl, records.fails.link, records.fault, records.fails.outbox)
   told_ok (Some e) result (inl (records, is)) = rw is tt
-  told_ok error result (inr (_, _, (n, is))) = rw is tt
+  told_ok error result (inr (_, _, refused)) = let (_, is, _) = err_from_is_err_and result refused in rw is tt
 
   pub told_needs : (error : Option EngineError) (result : Result Progress EngineError) → TellsFault (calls old new H I m) kind error result
       → IfOk result (λ p. (p ≡ Progress.NeedsLink) ↔ ((new.link ≡ None) × (new.outbox.pending ≢ [])))

@@ -7,7 +7,7 @@ pub mod SocketLemmas
 pub mod CallerLemmas
 pub mod InboxLemmas
 pub mod MoveLemmas
-pub mod NumberLemmas
+pub mod RefusalLemmas
 pub mod HostLemmas
 pub mod IdleLemmas
 pub mod LeaveOthersLemmas

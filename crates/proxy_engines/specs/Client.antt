@@ -1,5 +1,5 @@
 -- What contracts see of a client's engine, and how it stands to the steps of its caller.
-use Rattle.std.specs.Prelude.{◌≡◌, ◌≢◌, ⊤, ◌⊎◌, ℕ, Bool, true, false, List, [], ◌∷◌, ◌++◌, Option, Some, None, map, Result, Ok, Err}
+use Rattle.std.specs.Prelude.{◌≡◌, ◌≢◌, ⊤, ◌⊎◌, ℕ, Bool, true, false, List, [], ◌∷◌, ◌++◌, Option, Some, None, map, Result, Ok, IsErrAnd}
 use Rattle.std.specs.List.{list_any}
 use Rattle.std.specs.Io.KnownBytes.{IsAtEnd}
 use Rattle.resp_core.specs.declared.error.RespError.{RespError}
@@ -18,6 +18,7 @@ use Rattle.proxy_engines.specs.Ends.{OutboxState, InboxState, HoldsBehind, HasGi
 use Rattle.proxy_engines.specs.OneTurn.{HasHeld}
 use Rattle.proxy_engines.specs.declared.client.Progress.{Progress}
 use Rattle.proxy_engines.specs.declared.client.Stage.{Stage}
+use Rattle.proxy_engines.specs.EngineError.{IsTurnRefused}
 use Rattle.proxy_engines.specs.declared.error.EngineError.{EngineError}
 
 -- its connection, its two ends, the request that waits to be accepted, how many commands were accepted and how many replies
@@ -242,7 +243,7 @@ abbrev pub Cuts : Client → Client → History → History → Result Progress 
 Cuts old new before after answer result =
     (Goes old new before after true × (new ≡ record old { stage = Stage.Closed true }) × (result ≡ answer))
     ⊎ (Goes old new before after false × (new ≡ record old { stage = Stage.Failed })
-    × ((n : ℕ) × (result ≡ Err (EngineError.TurnRefused n))))
+    × IsErrAnd result IsTurnRefused)
 
 -- What a step comes to where the connection was closed, and where it is to be closed for a fault: nothing more, or that close.
 abbrev pub ClosesFirst : Stage → Client → Client → History → History → Result Progress EngineError → Type 0

@@ -9,23 +9,24 @@ use Rattle.proxy_history.specs.declared.refusal.Refusal.{Refusal}
 use Rattle.journal_core.specs.Journal.{step_by}
 use Rattle.proxy_devices.specs.Device.{HasFailed, ReadState, WasIdle, WriteState}
 use Rattle.proxy_engines.specs.Turns.{KeepsTurns, own_history}
-use Rattle.proxy_engines.specs.OneTurn.{IsNumbered}
+use Rattle.proxy_engines.specs.OneTurn.{IsDueError}
 use Rattle.proxy_engines.specs.Moves.{AsTold}
 use Rattle.proxy_engines.specs.Ends.{HasGivenAll, KeepsReader}
 use Rattle.proxy_engines.specs.Client.{AwaitsBytes, AwaitsReplies, Client, Goes, HandsNothing, HasNext, HasNoFault, HasSameCounts, IsHeldBack, IsIdle, IsLive, TakesNothing}
 use Rattle.proxy_engines.specs.declared.client.Progress.{Progress}
 use Rattle.proxy_engines.specs.declared.client.Stage.{Stage}
+use Rattle.proxy_engines.specs.EngineError.{IsTurnRefused}
 use Rattle.proxy_engines.specs.declared.error.EngineError.{EngineError}
 
 -- Some turns were made, or none, from `before` to `after`: the engine made moves, whether any as was told; where it answers
--- neither device has failed, and where a turn was refused the error has its number.
+-- neither device has failed, and where a turn was refused the error tells why.
 pub record MovesClient {Turns Setting Answered : Type 0} (pass_of : Turns → ℕ) (setting_of : Turns → Setting)
     (seen_of : Turns → List Step) (cause : Setting → Refusal → Event → List Step → Type 0) (before after : Turns)
     (old new : Client) (told : Option Bool) (result : Result Answered EngineError) : Type 0 where
   pub turns : KeepsTurns pass_of setting_of seen_of before after
   pub goes : AsTold (Goes old new (own_history pass_of seen_of before) (own_history pass_of seen_of after)) told
   pub unfailed : OnOk result (HasNoFault old new)
-  pub number : IfErr result (IsNumbered (cause (setting_of before)) (seen_of after))
+  pub due : IfErr result (IsDueError (cause (setting_of before)) (seen_of after))
 
 -- The engine is as it was, and the request that waits is held back: too many commands are unwritten.
 pub record StaysHeld (cause : Refusal → Event → List Step → Type 0) (seen : List Step) (old new : Client) : Type 0 where
@@ -39,14 +40,14 @@ pub record HandsOne (cause : Refusal → Event → List Step → Type 0) (seen :
     (result : Result Bool EngineError) : Type 0 where
   pub stage : new.stage ≡ old.stage
   pub not_ready : IfOk result (λ b. b ≡ false → (new ≡ old) × ((left : ℕ) × cause (Refusal.NotReady left) (Event.Handed old.conn) seen))
-  pub err : IfErr result (λ e. (new ≡ old) × ((n : ℕ) × (e ≡ EngineError.TurnRefused n)))
+  pub err : IfErr result (λ e. (new ≡ old) × IsTurnRefused e)
 
 -- A reply that was due was handed out, or nothing can be handed out, or the turn was refused and the engine is as it was.
 pub record HandsDue (cause : Refusal → Event → List Step → Type 0) (seen_before seen_after : List Step) (old new : Client)
     (result : Result Bool EngineError) : Type 0 where
   pub stage : new.stage ≡ old.stage
   pub nothing : IfOk result (λ b. b ≡ false → (new ≡ old) × HandsNothing cause old seen_before seen_after)
-  pub err : IfErr result (λ e. (new ≡ old) × ((n : ℕ) × (e ≡ EngineError.TurnRefused n)))
+  pub err : IfErr result (λ e. (new ≡ old) × IsTurnRefused e)
 
 -- The request that waits was accepted, or it is held back, or the turn was refused and the engine is as it was.
 pub record OffersOne (cause : Refusal → Event → List Step → Type 0) (seen : List Step) (old new : Client)
@@ -54,7 +55,7 @@ pub record OffersOne (cause : Refusal → Event → List Step → Type 0) (seen 
   pub live : IsLive new.stage
   pub ends : (new.inbox ≡ old.inbox) × (new.outbox ≡ old.outbox)
   pub ok : IfOk result (λ p. (p ≡ Progress.Moved) ⊎ ((p ≡ Progress.Idle) × StaysHeld cause seen old new))
-  pub err : IfErr result (λ e. (new ≡ old) × ((n : ℕ) × (e ≡ EngineError.TurnRefused n)))
+  pub err : IfErr result (λ e. (new ≡ old) × IsTurnRefused e)
 
 -- The next request was fetched, if one has come whole; or there was no memory. Requests are still taken, and the devices are as
 -- they were.
@@ -77,19 +78,19 @@ pub record WritesClient (old new : Client) (result : Result Progress EngineError
   pub ok : IfOk result (λ p. (new.stage ≡ old.stage)
       × ((p ≡ Progress.Moved) ⊎ ((p ≡ Progress.Idle) × WasIdle old.outbox.counts new.outbox.counts)))
   pub err : IfErr result (λ e. ((e ≡ EngineError.WriteFailed) × HasFailed old.outbox.counts new.outbox.counts
-      × (new.stage ≡ Stage.Closed true)) ⊎ ((n : ℕ) × (e ≡ EngineError.TurnRefused n)))
+      × (new.stage ≡ Stage.Closed true)) ⊎ IsTurnRefused e)
 
 -- One read: bytes came, or the end of the input, or nothing for now; or the reader failed in this call, and the connection was
 -- closed or is to be.
 pub record ReadsClient (old new : Client) (result : Result Progress EngineError) : Type 0 where
   pub ok : IfOk result (λ p. IsLive new.stage × ((p ≡ Progress.Moved) ⊎ ((p ≡ Progress.Idle) × AwaitsBytes old new)))
   pub err : IfErr result (λ e. ((e ≡ EngineError.ReadFailed) × HasFailed old.inbox.counts new.inbox.counts
-      × (new.stage ≡ Stage.Closed true)) ⊎ ((n : ℕ) × (e ≡ EngineError.TurnRefused n)))
+      × (new.stage ≡ Stage.Closed true)) ⊎ IsTurnRefused e)
 
 -- Reading stopped, and the connection finishes; or the turn was refused.
 pub record StopsReading (new : Client) (result : Result Progress EngineError) : Type 0 where
   pub ok : IfOk result (λ p. IsLive new.stage × (p ≡ Progress.Moved))
-  pub err : IfErr result (λ e. (n : ℕ) × (e ≡ EngineError.TurnRefused n))
+  pub err : IfErr result IsTurnRefused
 
 -- A request was accepted, or bytes were read, or it is told why neither was done. Or there was no memory, or the reader failed in
 -- this call and the connection was closed or is to be, or a turn was refused.
@@ -98,7 +99,7 @@ pub record TakesIn (cause : Refusal → Event → List Step → Type 0) (seen_be
   pub ok : IfOk result (λ p. IsLive new.stage × ((p ≡ Progress.Moved) ⊎ (p ≡ Progress.Idle)))
   pub err : IfErr result (λ e. (e ≡ EngineError.NoMemory)
       ⊎ ((e ≡ EngineError.ReadFailed) × HasFailed old.inbox.counts new.inbox.counts × (new.stage ≡ Stage.Closed true))
-      ⊎ ((n : ℕ) × (e ≡ EngineError.TurnRefused n)))
+      ⊎ IsTurnRefused e)
   pub idle : IfOk result (λ p. p ≡ Progress.Idle → IsHeldBack cause new seen_before seen_after ⊎ AwaitsBytes old new)
 
 -- A request was accepted, or it is told why none was: the engine takes in nothing more, the request is held back, or none has come
@@ -107,14 +108,14 @@ pub record AcceptsOne (cause : Refusal → Event → List Step → Type 0) (seen
     (result : Result Progress EngineError) : Type 0 where
   pub ends : KeepsReader old.inbox new.inbox × (new.outbox ≡ old.outbox)
   pub ok : IfOk result (λ p. (p ≡ Progress.Moved) ⊎ (p ≡ Progress.Idle))
-  pub err : IfErr result (λ e. (e ≡ EngineError.NoMemory) ⊎ ((n : ℕ) × (e ≡ EngineError.TurnRefused n)))
+  pub err : IfErr result (λ e. (e ≡ EngineError.NoMemory) ⊎ IsTurnRefused e)
   pub idle : IfOk result (λ p. p ≡ Progress.Idle → TakesNothing new
       ⊎ (IsHeldBack cause new seen_before seen_after ⊎ ((new.next ≡ None) × HasGivenAll new.inbox)))
 
 -- The connection was closed at its end, or it awaits replies, or the turn was refused.
 pub record EndsOnce (new : Client) (result : Result Progress EngineError) : Type 0 where
   pub ok : IfOk result (λ p. (p ≡ Progress.Idle) ⊎ ((p ≡ Progress.Ended) × (new.stage ≡ Stage.Closed false)))
-  pub err : IfErr result (λ e. (n : ℕ) × (e ≡ EngineError.TurnRefused n))
+  pub err : IfErr result IsTurnRefused
   pub idle : IfOk result (λ p. p ≡ Progress.Idle → AwaitsReplies new)
 
 -- What a step's answer tells: `Ended` that the connection was closed at its end, and `Idle` why nothing moved; and where a

@@ -9,7 +9,8 @@ use Rattle.resp_core.specs.declared.value.Value.{Value}
 use Rattle.proxy_devices.specs.Device.{HasRisen}
 use Rattle.proxy_engines.specs.Ends.{InboxState, HasGivenAll, Reads}
 use Rattle.proxy_engines.specs.Host.{HostOutboxState, LinkState}
-use Rattle.proxy_engines.specs.OneTurn.{IsNumbered}
+use Rattle.proxy_engines.specs.OneTurn.{IsDueError}
+use Rattle.proxy_engines.specs.declared.error.Denied.{Denied}
 use Rattle.proxy_engines.specs.declared.error.EngineError.{EngineError}
 use Rattle.proxy_engines.specs.declared.link.Outcome.{Outcome}
 
@@ -33,17 +34,16 @@ told_by_moves (Err e) = None
 -- an error that tells of no device
 abbrev pub IsOfNoDevice : EngineError → Type 0
 IsOfNoDevice EngineError.NoMemory = ⊤
-IsOfNoDevice (EngineError.TurnRefused n) = ⊤
+IsOfNoDevice (EngineError.TurnRefused denied) = ⊤
 IsOfNoDevice e = ⊥
 
--- the number of a refused turn of a host's engine; one that is astray, since someone else failed its host, tells that its epoch
--- is over
-abbrev pub IsNumberedOn : (Refusal → Event → List Step → Type 0) → List Step → HostOutboxState → EngineError → Type 0
-IsNumberedOn cause seen outbox error = IsNumbered cause seen error ⊎ ((outbox.is_astray ≡ true) × (error ≡ EngineError.TurnRefused 1006))
+-- the same of a host's engine: where that is astray, since another caller failed its host, the error may tell so
+abbrev pub IsDueErrorOn : (Refusal → Event → List Step → Type 0) → List Step → HostOutboxState → EngineError → Type 0
+IsDueErrorOn cause seen outbox error = IsDueError cause seen error ⊎ ((outbox.is_astray ≡ true) × (error ≡ EngineError.TurnRefused Denied.Astray))
 
--- an error that tells of no device, and of a turn by its number
+-- an error that tells of no device, and of a turn only where it was refused so
 abbrev pub IsPlain : (Refusal → Event → List Step → Type 0) → List Step → HostOutboxState → EngineError → Type 0
-IsPlain cause seen outbox error = IsOfNoDevice error × IsNumberedOn cause seen outbox error
+IsPlain cause seen outbox error = IsOfNoDevice error × IsDueErrorOn cause seen outbox error
 
 -- the first of two moves at which anything came, or the second
 abbrev pub either : Outcome → Outcome → Outcome

@@ -1,5 +1,5 @@
 -- What a step of a host's engine does.
-use Rattle.std.specs.Prelude.{◌≡◌, ◌≢◌, IfSome, ◌⊎◌, ⊤, ℕ, Bool, true, false, List, [], Option, Some, None, Result, Ok, Err}
+use Rattle.std.specs.Prelude.{◌≡◌, ◌≢◌, IfSome, ◌⊎◌, ⊤, ℕ, Bool, true, false, List, [], Option, Some, None, Result, Ok, Err, IsErrAnd}
 use Rattle.resp_core.specs.declared.value.Value.{Value}
 use Rattle.proxy_history.specs.History.{History, Step}
 use Rattle.proxy_history.specs.declared.event.Event.{Event}
@@ -9,6 +9,7 @@ use Rattle.proxy_engines.specs.Host.{HostEnds, HostMove, HostOutboxState, LinkSt
 use Rattle.proxy_engines.specs.OneTurn.{HasHeld}
 use Rattle.proxy_engines.specs.Faults.{IsLate, IsLateOn, IsCauseOf, IsOfNoDevice}
 use Rattle.proxy_engines.specs.declared.client.Progress.{Progress}
+use Rattle.proxy_engines.specs.EngineError.{IsTurnRefused}
 use Rattle.proxy_engines.specs.declared.error.EngineError.{EngineError}
 
 -- a host's engine, and the fault that is still to be recorded
@@ -81,7 +82,7 @@ abbrev pub TellsFault : HostCall → Kind → Option EngineError → Result Prog
 TellsFault call kind error result =
     (Records call kind × (result ≡ answer_of error))
     ⊎ ((call.new ≡ record call.old { fault = Some kind }) × (call.after ≡ call.before)
-    × ((n : ℕ) × (result ≡ Err (EngineError.TurnRefused n))))
+    × IsErrAnd result IsTurnRefused)
 
 -- what a step that recorded no fault answers: whether anything moved, and nothing of a device
 abbrev pub IsAnswered : Bool → Result Progress EngineError → Type 0
@@ -113,7 +114,7 @@ after_fault (Err e) = Err e
 -- the fault of an earlier step can't be recorded, and nothing else is done
 abbrev pub RestsHost : HostCall → Result Progress EngineError → Type 0
 RestsHost call result = (call.old.fault ≢ None) × (call.new ≡ call.old) × (call.after ≡ call.before)
-    × ((n : ℕ) × (result ≡ Err (EngineError.TurnRefused n)))
+    × IsErrAnd result IsTurnRefused
 
 -- A step: the fault of an earlier step is recorded, if there is one, and the work goes on.
 pub record StepsHost (unasked : HostOutboxState → LinkState → Type 0) (call : HostCall)

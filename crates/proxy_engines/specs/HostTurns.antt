@@ -9,16 +9,17 @@ use Rattle.proxy_engines.specs.Turns.{KeepsTurns, own_history}
 use Rattle.proxy_engines.specs.OneTurn.{HasHeld}
 use Rattle.proxy_engines.specs.Moves.{AsTold}
 use Rattle.proxy_engines.specs.Ends.{HasGivenAll}
-use Rattle.proxy_engines.specs.Faults.{HasNoFaultOn, IsLate, IsNumberedOn, IsPlain}
+use Rattle.proxy_engines.specs.Faults.{HasNoFaultOn, IsDueErrorOn, IsLate, IsPlain}
 use Rattle.proxy_engines.specs.Host.{FailsHost, GoesOn, HostEnds, HostOutboxState, LinkState}
 use Rattle.proxy_engines.specs.HostStep.{HostCall, HostState, IsIdleOn, IsUnasked, Records, RestsHost, StepsHost, WorksHost}
 use Rattle.proxy_engines.specs.declared.client.Progress.{Progress}
+use Rattle.proxy_engines.specs.EngineError.{IsTurnRefused}
 use Rattle.proxy_engines.specs.declared.error.EngineError.{EngineError}
 
 module _ {Turns Setting : Type 0} (pass_of : Turns → ℕ) (setting_of : Turns → Setting) (seen_of : Turns → List Step)
     (cause : Setting → Refusal → Event → List Step → Type 0) (before after : Turns) where
   -- Some turns were made, or none, from `before` to `after`. The outbox and its link made moves, whether any as was told; and an
-  -- error tells of no device, and of a turn by its number.
+  -- error tells of no device, and of a turn why it was refused.
   pub record MovesEnds {Answered : Type 0} (old new : HostEnds) (moment : ℕ) (told : Option Bool)
       (result : Result Answered EngineError) : Type 0 where
     pub turns : KeepsTurns pass_of setting_of seen_of before after
@@ -31,8 +32,8 @@ module _ {Turns Setting : Type 0} (pass_of : Turns → ℕ) (setting_of : Turns 
     })) told
     pub plain : IfErr result (IsPlain (cause (setting_of before)) (seen_of after) new.outbox)
 
-  -- One fault of this kind is recorded, by one turn, and the link is given up, if there is one; or that turn was refused, with its
-  -- number, and the outbox is as it was.
+  -- One fault of this kind is recorded, by one turn, and the link is given up, if there is one; or that turn was refused, the error
+  -- tells why, and the outbox is as it was.
   pub record FailsOutbox {Answered : Type 0} (old new : HostOutboxState) (kind : Kind) (moment : ℕ)
       (result : Result Answered EngineError) : Type 0 where
     pub turns : KeepsTurns pass_of setting_of seen_of before after
@@ -44,8 +45,8 @@ module _ {Turns Setting : Type 0} (pass_of : Turns → ℕ) (setting_of : Turns 
       moment = moment;
     }) kind)
     pub same : OnErr result ((new ≡ old) × (own_history pass_of seen_of after ≡ own_history pass_of seen_of before))
-    pub err : IfErr result (λ e. (n : ℕ) × (e ≡ EngineError.TurnRefused n))
-    pub number : IfErr result (IsNumberedOn (cause (setting_of before)) (seen_of after) new)
+    pub err : IfErr result IsTurnRefused
+    pub due : IfErr result (IsDueErrorOn (cause (setting_of before)) (seen_of after) new)
 
   -- a call of the engine, over the turns from `before` to `after`
   abbrev pub call_of : HostState → HostState → ℕ → HostCall
@@ -72,33 +73,33 @@ module _ {Turns Setting : Type 0} (pass_of : Turns → ℕ) (setting_of : Turns 
         old.outbox old.link new.link)
 
   -- Some turns were made, or none, from `before` to `after`. The engine worked on its link or without one, as the answer tells, and
-  -- where a turn was refused the error has its number.
+  -- where a turn was refused the error tells why.
   pub record MovesHost (old new : HostState) (moment : ℕ) (result : Result Progress EngineError) : Type 0 where
     pub turns : KeepsTurns pass_of setting_of seen_of before after
     pub works : WorksHost (IsUnasked (cause (setting_of before) Refusal.Unasked) (seen_of before) (seen_of after) moment)
         (call_of old new moment) result
-    pub number : IfErr result (IsNumberedOn (cause (setting_of before)) (seen_of after) new.outbox)
+    pub due : IfErr result (IsDueErrorOn (cause (setting_of before)) (seen_of after) new.outbox)
     pub tells : TellsHost old new moment result
 
   -- A step over the turns from `before` to `after`: it does its work, or an earlier fault can't be recorded. Where a turn was
-  -- refused the error has its number.
+  -- refused the error tells why.
   pub record MakesStep (old new : HostState) (moment : ℕ) (result : Result Progress EngineError) : Type 0 where
     pub turns : KeepsTurns pass_of setting_of seen_of before after
     pub steps : StepsHost (IsUnasked (cause (setting_of before) Refusal.Unasked) (seen_of before) (seen_of after) moment)
         (call_of old new moment) result
         ⊎ RestsHost (call_of old new moment) result
-    pub number : IfErr result (IsNumberedOn (cause (setting_of before)) (seen_of after) new.outbox)
+    pub due : IfErr result (IsDueErrorOn (cause (setting_of before)) (seen_of after) new.outbox)
 
   -- Some turns were made, or none, from `before` to `after`: a fault of this kind is recorded, and the link given up; or that
-  -- turn was refused, with its number, and the fault left to the next step.
+  -- turn was refused, and the fault left to the next step.
   pub record RecordsFault {Answered : Type 0} (old new : HostState) (kind : Kind) (moment : ℕ)
       (result : Result Answered EngineError) : Type 0 where
     pub turns : KeepsTurns pass_of setting_of seen_of before after
     pub records : OnOk result (Records (call_of old new moment) kind)
     pub kept : OnErr result ((new ≡ record old { fault = Some kind })
         × (own_history pass_of seen_of after ≡ own_history pass_of seen_of before))
-    pub err : IfErr result (λ e. (n : ℕ) × (e ≡ EngineError.TurnRefused n))
-    pub number : IfErr result (IsNumberedOn (cause (setting_of before)) (seen_of after) new.outbox)
+    pub err : IfErr result IsTurnRefused
+    pub due : IfErr result (IsDueErrorOn (cause (setting_of before)) (seen_of after) new.outbox)
 
   -- Where no fault was to be recorded: the engine wrote on its link or took a part, if there is one, as the answer tells, and read
   -- nothing. It is idle where the writer paused, or where nothing was pending and no part waited.
@@ -110,7 +111,7 @@ module _ {Turns Setting : Type 0} (pass_of : Turns → ℕ) (setting_of : Turns 
     pub idle : IfOk result (λ p. p ≡ Progress.Idle → IfSome old.link (λ j. IfSome new.link (λ k.
         HasRisen j.counts.paused k.counts.paused
         ⊎ ((old.outbox.pending ≡ []) × cause (setting_of before) Refusal.NothingWaiting (Event.Taken old.outbox.host) (seen_of after)))))
-    pub number : IfErr result (IsNumberedOn (cause (setting_of before)) (seen_of after) new.outbox)
+    pub due : IfErr result (IsDueErrorOn (cause (setting_of before)) (seen_of after) new.outbox)
 
   -- nothing was done, since a fault is to be recorded first
   abbrev pub RestsSending : HostState → HostState → Result Progress EngineError → Type 0

@@ -8,8 +8,7 @@ use Rattle.proxy_history.specs.StepLaws.{IsAnswerTo}
 use Rattle.proxy_history.specs.declared.answer.Answer.{Answer}
 use Rattle.proxy_history.specs.declared.event.Event.{Event}
 use Rattle.proxy_history.specs.declared.refusal.Refusal.{Refusal}
-use Rattle.proxy_history.specs.Refusal.{number_of}
-use Rattle.proxy_engines.specs.declared.one_turn.Denied.{Denied}
+use Rattle.proxy_engines.specs.declared.error.Denied.{Denied}
 use Rattle.proxy_engines.specs.declared.error.EngineError.{EngineError}
 
 -- The caller made one step more, with an answer of the event's kind.
@@ -18,10 +17,11 @@ pub record Adds (pass : ℕ) (old new : History) (event : Event) (answer : Answe
   pub fits : IsAnswerTo event answer
   pub few : length new ≤ max_steps
 
--- where the state refused the turn, the refusal's cause holds of what is seen
+-- where the state refused the turn, the refusal's cause holds of what is seen; a turn that is made tells of no astray host
 abbrev pub IsDue : (Refusal → Event → List Step → Type 0) → Event → List Step → Denied → Type 0
 IsDue cause event seen Denied.Spent = ⊤
 IsDue cause event seen (Denied.By r) = cause r event seen
+IsDue cause event seen Denied.Astray = ⊥
 
 -- The turn was refused: the caller made no step more, and the cause of its refusal holds of what is seen.
 pub record IsDenied (cause : Refusal → Event → List Step → Type 0) (event : Event) (old new : History) (seen : List Step) (denied : Denied) : Type 0 where
@@ -32,11 +32,6 @@ pub record IsDenied (cause : Refusal → Event → List Step → Type 0) (event 
 abbrev pub HasHeld : (Event → List Step → Type 0) → Event → List Step → List Step → Type 0
 HasHeld cause event old new =
     (between : List Step) × StartsWith between old × StartsWith new between × cause event between
-
--- the number by which a turn was refused: that of the state's refusal, and 1202 where no ticket is left
-abbrev pub denied_number : Denied → ℕ
-denied_number Denied.Spent = 1202
-denied_number (Denied.By r) = number_of r
 
 -- whether a refusal is an error: each is, but that the next reply hasn't come, that a command is held back, that no part waits,
 -- and that a host has spoken unasked
@@ -49,12 +44,13 @@ is_error refusal = true
 
 -- what is told of a turn that was not made: its error, or this answer where it is none
 abbrev pub told_as : {A : Type 0} → Denied → A → Result A EngineError
-told_as Denied.Spent answer = Err (EngineError.TurnRefused 1202)
-told_as (Denied.By r) answer = if is_error r then Err (EngineError.TurnRefused (number_of r)) else Ok answer
+told_as (Denied.By r) answer = if is_error r then Err (EngineError.TurnRefused (Denied.By r)) else Ok answer
+told_as denied answer = Err (EngineError.TurnRefused denied)
 
--- where the error tells of a turn, its number is that of a refusal that is an error, and whose cause holds of what is seen; or
--- it is 1202, and no ticket is left
-abbrev pub IsNumbered : (Refusal → Event → List Step → Type 0) → List Step → EngineError → Type 0
-IsNumbered cause seen (EngineError.TurnRefused n) =
-    (n ≡ 1202) ⊎ ((r : Refusal) × (event : Event) × (is_error r ≡ true) × cause r event seen × (n ≡ number_of r))
-IsNumbered cause seen error = ⊤
+-- where the error tells of a turn, no ticket is left; or the state refused it, which is an error, and the refusal's cause holds
+-- of some event and of what is seen
+abbrev pub IsDueError : (Refusal → Event → List Step → Type 0) → List Step → EngineError → Type 0
+IsDueError cause seen (EngineError.TurnRefused Denied.Spent) = ⊤
+IsDueError cause seen (EngineError.TurnRefused (Denied.By r)) = (is_error r ≡ true) × ((event : Event) × cause r event seen)
+IsDueError cause seen (EngineError.TurnRefused Denied.Astray) = ⊥
+IsDueError cause seen error = ⊤

@@ -8,13 +8,14 @@ ghost use Rattle.proxy_history.specs.declared.event.Event.{Event};
 ghost use Rattle.proxy_engines.specs.Turns.{KeepsTurns, own_history};
 ghost use Rattle.proxy_devices.specs.Device.{HasFailed, WasIdle, reader_state, writer_state};
 ghost use Rattle.proxy_engines.specs.Ends.{HasGivenAll};
-ghost use Rattle.proxy_engines.specs.OneTurn.{IsNumbered};
+ghost use Rattle.proxy_engines.specs.OneTurn.{IsDueError};
+ghost use Rattle.proxy_engines.specs.EngineError.{IsTurnRefused};
 ghost use Rattle.journal_core.specs.Journal.{step_by};
 ghost use Rattle.proxy_engines.specs.Moves.{AsTold, told_by_step, told_by_turn};
 
 use crate::error::EngineError;
 use crate::inbox::{Inbox, Rest};
-use crate::one_turn::{arrive, make_turn, open};
+use crate::one_turn::{arrive, make_turn, open, told_as};
 use crate::outbox::Outbox;
 use proxy_core::{Answer, CoreTurns, Event, Request};
 use proxy_devices::{IoOutcome, ReadTally, WriteTally};
@@ -143,7 +144,7 @@ impl<R: ReadTally, W: WriteTally> ClientEngine<R, W> {
                 Ok(true)
             }
             Ok(_) => unreachable!(),
-            Err(denied) => denied.told_as(false),
+            Err(denied) => told_as(denied, false),
         }
     }
 
@@ -162,7 +163,7 @@ impl<R: ReadTally, W: WriteTally> ClientEngine<R, W> {
             × (self.new ≡ record self.old { stage = Stage.Closed false })) }
         ensures err { IfErr result (λ e. (self.new ≡ self.old) × (own_history T.pass T.seen
             turns.new ≡ own_history T.pass T.seen turns.old)
-            × ((n : ℕ) × (e ≡ EngineError.TurnRefused n))) }
+            × IsTurnRefused e) }
     {
         match make_turn(rt, turns, Event::Closed { conn: self.conn }) {
             Ok(answer) => {
@@ -170,7 +171,7 @@ impl<R: ReadTally, W: WriteTally> ClientEngine<R, W> {
                 self.stage = Stage::Closed { is_cut: false };
                 Ok(Progress::Ended)
             }
-            Err(denied) => Err(denied.error()),
+            Err(denied) => Err(EngineError::TurnRefused(denied)),
         }
     }
 
@@ -184,8 +185,8 @@ impl<R: ReadTally, W: WriteTally> ClientEngine<R, W> {
         ensures turns { KeepsTurns T.pass T.setting T.seen turns.old turns.new }
         ensures cuts { Cuts self.old self.new (own_history T.pass T.seen turns.old)
             (own_history T.pass T.seen turns.new) answer result }
-        ensures number { (result ≡ answer)
-            ⊎ IfErr result (IsNumbered (T.cause (T.setting turns.old)) (T.seen turns.new)) }
+        ensures due { (result ≡ answer)
+            ⊎ IfErr result (IsDueError (T.cause (T.setting turns.old)) (T.seen turns.new)) }
     {
         self.stage = Stage::Failed;
         let close = Event::Closed { conn: self.conn };
@@ -195,7 +196,7 @@ impl<R: ReadTally, W: WriteTally> ClientEngine<R, W> {
                 self.stage = Stage::Closed { is_cut: true };
                 answer
             }
-            Err(denied) => Err(denied.error()),
+            Err(denied) => Err(EngineError::TurnRefused(denied)),
         }
     }
 
@@ -212,7 +213,7 @@ impl<R: ReadTally, W: WriteTally> ClientEngine<R, W> {
             × (self.new ≡ record self.old { stage = Stage.Finishing })) }
         ensures err { IfErr result (λ e. (self.new ≡ self.old) × (own_history T.pass T.seen
             turns.new ≡ own_history T.pass T.seen turns.old)
-            × ((n : ℕ) × (e ≡ EngineError.TurnRefused n))) }
+            × IsTurnRefused e) }
     {
         match make_turn(rt, turns, Event::Finished { conn: self.conn }) {
             Ok(answer) => {
@@ -220,7 +221,7 @@ impl<R: ReadTally, W: WriteTally> ClientEngine<R, W> {
                 self.stage = Stage::Finishing;
                 Ok(Progress::Moved)
             }
-            Err(denied) => Err(denied.error()),
+            Err(denied) => Err(EngineError::TurnRefused(denied)),
         }
     }
 
@@ -251,7 +252,7 @@ impl<R: ReadTally, W: WriteTally> ClientEngine<R, W> {
             }
             Err((denied, request)) => {
                 drop(self.next.replace(request));
-                denied.told_as(Progress::Idle)
+                told_as(denied, Progress::Idle)
             }
         }
     }
@@ -610,9 +611,9 @@ impl<R: ReadTally + Drop, W: WriteTally + Drop> ClientEngine<R, W> {
         ensures carries { IfOk result (λ e. Carries e (own_history T.pass T.seen turns.new) [] []) }
         ensures err { IfErr result (λ e. (own_history T.pass T.seen turns.new ≡ own_history T.pass
             T.seen turns.old) × ((e ≡ EngineError.NoMemory)
-            ⊎ ((n : ℕ) × (e ≡ EngineError.TurnRefused n)))) }
-        ensures number { IfErr result
-            (IsNumbered (T.cause (T.setting turns.old)) (T.seen turns.new)) }
+            ⊎ IsTurnRefused e)) }
+        ensures due { IfErr result
+            (IsDueError (T.cause (T.setting turns.old)) (T.seen turns.new)) }
     {
         let inbox = match Inbox::new(alloc, reader, Limits::CLIENT) {
             Ok(inbox) => inbox,
@@ -637,7 +638,7 @@ impl<R: ReadTally + Drop, W: WriteTally + Drop> ClientEngine<R, W> {
             Err(denied) => {
                 drop(inbox);
                 drop(writer);
-                Err(denied.error())
+                Err(EngineError::TurnRefused(denied))
             }
         }
     }
@@ -661,9 +662,9 @@ impl<R: ReadTally + Drop, W: WriteTally + Drop> ClientEngine<R, W> {
         ensures carries { IfOk result (λ e. (b : List ℕ) → IsRest rest b → Carries e
             (own_history T.pass T.seen turns.new) [] b) }
         ensures err { IfErr result (λ x. (own_history T.pass T.seen turns.new ≡ own_history T.pass
-            T.seen turns.old) × ((n : ℕ) × (x.0 ≡ EngineError.TurnRefused n))) }
-        ensures number { IfErr result
-            (λ x. IsNumbered (T.cause (T.setting turns.old)) (T.seen turns.new) x.0) }
+            T.seen turns.old) × IsTurnRefused x.0) }
+        ensures due { IfErr result
+            (λ x. IsDueError (T.cause (T.setting turns.old)) (T.seen turns.new) x.0) }
         ensures back { IfErr result (λ x. (x.1 ≡ reader) × (x.2 ≡ writer) × (x.3 ≡ rest)) }
     {
         match open(rt, turns) {
@@ -681,7 +682,7 @@ impl<R: ReadTally + Drop, W: WriteTally + Drop> ClientEngine<R, W> {
                     is_halted: false,
                 })
             }
-            Err(denied) => Err((denied.error(), reader, writer, rest)),
+            Err(denied) => Err((EngineError::TurnRefused(denied), reader, writer, rest)),
         }
     }
 

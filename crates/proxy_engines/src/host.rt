@@ -8,7 +8,7 @@ ghost use Rattle.proxy_history.specs.declared.refusal.Refusal.{Refusal};
 ghost use Rattle.proxy_engines.specs.Turns.{KeepsTurns, own_history};
 ghost use Rattle.proxy_engines.specs.OneTurn.{HasHeld};
 ghost use Rattle.proxy_engines.specs.Moves.{AsTold, told_by_turn};
-ghost use Rattle.proxy_engines.specs.Faults.{HasNoFaultOn, IsLate, IsNumberedOn, IsPlain};
+ghost use Rattle.proxy_engines.specs.Faults.{HasNoFaultOn, IsLate, IsDueErrorOn, IsPlain};
 ghost use Rattle.proxy_engines.specs.Ends.{HasGivenAll};
 ghost use Rattle.proxy_engines.specs.Host.{LinkState, CarriesHost};
 ghost use Rattle.proxy_engines.specs.HostTurns.{MakesStep, RecordsFault, RestsSending, MovesEnds, MovesHost, SendsHost, TakesOne, TellsHost, call_of};
@@ -260,8 +260,8 @@ impl<R: ReadTally + Drop, W: WriteTally + Drop> HostEngine<R, W> {
         ensures turns { KeepsTurns T.pass T.setting T.seen turns.old turns.new }
         ensures tells { TellsFault (call_of T.pass T.setting T.seen T.cause turns.old turns.new
             self.old self.new moment) kind error result }
-        ensures number { (result ≡ answer_of error) ⊎ IfErr result
-            (IsNumberedOn (T.cause (T.setting turns.old)) (T.seen turns.new) self.new.outbox) }
+        ensures due { (result ≡ answer_of error) ⊎ IfErr result
+            (IsDueErrorOn (T.cause (T.setting turns.old)) (T.seen turns.new) self.new.outbox) }
     {
         self.record_fault(rt, turns, kind, moment)?;
         match error {

@@ -8,11 +8,11 @@ ghost use Rattle.proxy_devices.specs.Device.{is_moved};
 ghost use Rattle.proxy_engines.specs.Ends.{CountsWritten};
 ghost use Rattle.proxy_engines.specs.Moves.{has_moved, told_by_turn};
 ghost use Rattle.proxy_engines.specs.HostTurns.{FailsOutbox, MovesEnds};
-ghost use Rattle.proxy_engines.specs.Faults.{IsLate, IsNumberedOn};
+ghost use Rattle.proxy_engines.specs.Faults.{IsLate, IsDueErrorOn};
 ghost use Rattle.proxy_engines.specs.Host.{LinkState, FailsHost};
 
-use crate::error::EngineError;
-use crate::one_turn::make_turn;
+use crate::error::{Denied, EngineError};
+use crate::one_turn::{make_turn, told_as};
 use bytes::Bytes;
 use proxy_core::{Answer, CoreTurns, Event, Kind};
 use proxy_devices::{IoOutcome, WriteTally};
@@ -20,9 +20,6 @@ use std::alloc::Global;
 use std::collections::VecDeque;
 use std::marker::Model;
 use std::sync::Wait;
-
-// The number of a refused turn in an epoch that is over.
-const STALE: u16 = 1006;
 
 /// A host's engine without its link.
 #[derive(Drop)]
@@ -98,7 +95,7 @@ impl HostOutbox {
             (Event.Taken self.old.host) (T.seen turns.new)) }
     {
         if self.is_astray {
-            return Err(EngineError::TurnRefused { number: STALE });
+            return Err(EngineError::TurnRefused(Denied::Astray));
         }
         if self.moments.reserve(1).is_err() {
             return Err(EngineError::NoMemory);
@@ -108,13 +105,13 @@ impl HostOutbox {
                 self.moments.push_back_reserved(moment);
                 if epoch != self.epoch {
                     self.is_astray = true;
-                    return Err(EngineError::TurnRefused { number: STALE });
+                    return Err(EngineError::TurnRefused(Denied::Astray));
                 }
                 self.pending = text;
                 Ok(true)
             }
             Ok(_) => unreachable!(),
-            Err(denied) => denied.told_as(false),
+            Err(denied) => told_as(denied, false),
         }
     }
 
@@ -130,7 +127,7 @@ impl HostOutbox {
             self.old self.new kind moment result }
     {
         if self.is_astray {
-            return Err(EngineError::TurnRefused { number: STALE });
+            return Err(EngineError::TurnRefused(Denied::Astray));
         }
         let event = Event::Failed {
             host: self.host,
@@ -146,7 +143,7 @@ impl HostOutbox {
                 self.moments.clear();
                 Ok(())
             }
-            Err(denied) => Err(denied.error()),
+            Err(denied) => Err(EngineError::TurnRefused(denied)),
         }
     }
 

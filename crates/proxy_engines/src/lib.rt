@@ -23,7 +23,7 @@ mod threads;
 mod work;
 
 pub use client::{ClientEngine, Progress, Stage};
-pub use error::EngineError;
+pub use error::{Denied, EngineError};
 pub use host::HostEngine;
 pub use inbox::{READ_SIZE, Rest};
 pub use laws::{

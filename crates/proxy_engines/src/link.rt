@@ -19,7 +19,7 @@ ghost use Rattle.proxy_engines.specs.Faults.{either, is_fault, HasNoFaultOn, Has
 use crate::error::EngineError;
 use crate::host_outbox::HostOutbox;
 use crate::inbox::Inbox;
-use crate::one_turn::give;
+use crate::one_turn::{give, told_as};
 use proxy_core::{CoreTurns, Kind, Request};
 use proxy_devices::{IoOutcome, ReadTally, WriteTally};
 use resp_core::{Limits, Value};
@@ -233,10 +233,11 @@ impl<R: ReadTally, W: WriteTally> Link<R, W> {
             }
             Err((denied, value)) => {
                 drop(self.next.replace(value));
-                denied.told_as(Outcome::Fault {
+                let garbled = Outcome::Fault {
                     kind: Kind::Garbled,
                     error: None,
-                })
+                };
+                told_as(denied, garbled)
             }
         }
     }

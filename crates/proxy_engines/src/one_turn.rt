@@ -9,53 +9,27 @@ ghost use Rattle.proxy_history.specs.StepLaws.{is_last_answer};
 ghost use Rattle.proxy_history.specs.declared.answer.Answer.{Answer};
 ghost use Rattle.proxy_history.specs.declared.event.Event.{Event};
 ghost use Rattle.proxy_engines.specs.Turns.{KeepsTurns, own_history};
-ghost use Rattle.proxy_engines.specs.OneTurn.{Adds, IsDenied, denied_number, told_as};
+ghost use Rattle.proxy_engines.specs.OneTurn.{Adds, IsDenied, told_as};
 
-use crate::error::EngineError;
+use crate::error::{Denied, EngineError};
 use proxy_core::{Answer, CoreTurns, Event, Local, Refusal, Request};
 use resp_core::Value;
 use std::sync::Wait;
 use ticket_gate::TurnRefusal;
 
-/// Why a turn was not made.
-#[derive(Clone, Copy, Drop)]
-pub(crate) enum Denied {
-    /// No ticket is left.
-    Spent,
-    /// The core refused the event.
-    By(Refusal),
-}
-
-// The number of a turn for which no ticket is left.
-const SPENT: u16 = 1202;
-
-impl Denied {
-    /// The engine's error for it.
-    pub(crate) fn error(&self) -> EngineError
-        ensures { result ≡ EngineError.TurnRefused (denied_number self.now) }
-    {
-        match self {
-            Denied::Spent => EngineError::TurnRefused { number: SPENT },
-            Denied::By(refusal) => EngineError::TurnRefused {
-                number: refusal.number(),
-            },
-        }
-    }
-
-    /// The engine's error for it. It returns `answer` where it isn't an error: the next reply hasn't come, a command is
-    /// held back, no part waits, or a host has sent an unasked reply.
-    pub(crate) fn told_as<A: Drop>(&self, answer: A) -> Result<A, EngineError>
-        ensures { result ≡ told_as self.now answer }
-    {
-        match self {
-            Denied::By(
-                Refusal::NotReady { .. }
-                | Refusal::Crowded
-                | Refusal::NothingWaiting
-                | Refusal::Unasked,
-            ) => Ok(answer),
-            Denied::By(_) | Denied::Spent => Err(self.error()),
-        }
+/// The engine's error for a turn that was not made. It returns `answer` where that isn't an error: the next reply hasn't
+/// come, a command is held back, no part waits, or a host has sent an unasked reply.
+pub(crate) fn told_as<A: Drop>(denied: Denied, answer: A) -> Result<A, EngineError>
+    ensures { result ≡ told_as denied answer }
+{
+    match denied {
+        Denied::By(
+            Refusal::NotReady { .. }
+            | Refusal::Crowded
+            | Refusal::NothingWaiting
+            | Refusal::Unasked,
+        ) => Ok(answer),
+        Denied::By(_) | Denied::Spent | Denied::Astray => Err(EngineError::TurnRefused(denied)),
     }
 }
 

@@ -1,9 +1,7 @@
 //! How the program ends when it can't go on.
-ghost use Rattle.proxy_exit_status.specs.Ending.{ending_of};
 ghost use Rattle.std.specs.Prelude.{◌≡◌};
 ghost use Rattle.proxy_exit_status.specs.declared.ending.Ending.TheVariants.{Memory};
 
-use proxy_engines::EngineError;
 use std::alloc::{AllocError, AllocFailed};
 use thiserror::Error;
 
@@ -23,13 +21,6 @@ pub enum Ending {
     #[error("gate spent")]
     Spent,
 }
-
-// The numbers of a turn refused for want of memory, of room in the journal, and of a ticket.
-const NO_MEMORY: u16 = 1001;
-
-const JOURNAL_FULL: u16 = 1002;
-
-const SPENT: u16 = 1202;
 
 impl Ending {
     ghost use Rattle.proxy_exit_status.specs.Ending.{status_of};
@@ -60,22 +51,5 @@ impl<T: Drop> From<AllocFailed<T>> for Ending {
 
     fn from(_error: AllocFailed<T>) -> Ending {
         Ending::Memory
-    }
-}
-
-impl From<EngineError> for Ending {
-    ghost from_gives = { λ error e. e ≡ ending_of error };
-
-    fn from(error: EngineError) -> Ending {
-        match error {
-            EngineError::NoMemory => Ending::Memory,
-            EngineError::ReadFailed | EngineError::WriteFailed => Ending::Socket,
-            EngineError::TurnRefused { number: NO_MEMORY } => Ending::Memory,
-            EngineError::TurnRefused {
-                number: JOURNAL_FULL,
-            } => Ending::JournalFull,
-            EngineError::TurnRefused { number: SPENT } => Ending::Spent,
-            EngineError::TurnRefused { .. } => Ending::Socket,
-        }
     }
 }

@@ -2,3 +2,4 @@ pub mod Announced
 pub mod Stubs
 pub mod Moves
 pub mod Local
+pub mod Ending

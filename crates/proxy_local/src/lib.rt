@@ -3,6 +3,7 @@
 #![tactic(auto)]
 
 mod announced;
+mod ending;
 mod laws;
 mod local;
 mod stubs;

@@ -15,6 +15,7 @@ ghost use Rattle.proxy_local.specs.Local.{RunsLocal};
 ghost use Rattle.proxy_local.specs.Moves.{GoesBeside, HaveRested, IsBeside, RestsIdle};
 
 use crate::announced::Announced;
+use crate::ending::ending_of;
 use crate::stubs::{stub_core, stub_engines};
 use limits::MAX_BUFFERED;
 use proxy_core::{Answer, Core, CoreTurns, Step};
@@ -95,7 +96,7 @@ fn open_client<Rt: Wait, T: CoreTurns, R: Read + Drop, W: Write + Drop>(
         return Err(Ending::Memory);
     };
     let reader = Announced::new(Tallied::new(reader));
-    Ok(ClientEngine::open(rt, alloc, turns, reader, Tallied::new(output))?)
+    ClientEngine::open(rt, alloc, turns, reader, Tallied::new(output)).map_err(ending_of)
 }
 
 // Runs the client until it ends, and then writes the buffered bytes in any case. Returns the ending and the writer.
@@ -232,7 +233,7 @@ fn step_client<Rt: Wait, T: CoreTurns, R: ReadTally + Drop, W: WriteTally + Drop
     ensures cut { IfOk result (λ p. p ≢ Progress.Cut) }
 {
     spend(left)?;
-    let progress = client.step(rt, turns)?;
+    let progress = client.step(rt, turns).map_err(ending_of)?;
     match progress {
         Progress::Idle => match client.flush() {
             Ok(()) => Ok(progress),
@@ -300,7 +301,7 @@ fn step_host<Rt: Wait, T: CoreTurns, P: ReadTally + Drop, Q: WriteTally + Drop>(
         (T.seen turns.old) (T.seen turns.new) host.old host.new) }
 {
     spend(left)?;
-    match host.step(rt, turns, MOMENT)? {
+    match host.step(rt, turns, MOMENT).map_err(ending_of)? {
         Progress::Idle => Ok(true),
         Progress::NeedsLink => Err(Ending::Socket),
         _ => Ok(false),

@@ -7,11 +7,11 @@ use crate::rig::Ends;
 use crate::texts::{BOTH_ANSWERS, EXCHANGES, Exchange, SET_AND_MGET};
 use crate::turns::Ration;
 use proxy_core::Core;
-use proxy_engines::{EngineError, Progress};
+use proxy_engines::{Denied, EngineError, Progress};
 use std::sync::Wait;
 use std::test::Fail;
 
-const SPENT: EngineError = EngineError::TurnRefused { number: 1_202 };
+const SPENT: EngineError = EngineError::TurnRefused(Denied::Spent);
 
 // A client's ends that read 20 bytes at a time.
 const PIECES: Ends = Ends {

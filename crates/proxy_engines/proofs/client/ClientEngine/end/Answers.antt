@@ -11,7 +11,7 @@ returns-clause-moves g c =
       turns = c.close.ensures.moves.turns;
       goes = c.close.ensures.moves.goes;
       unfailed = on_ok _ _ c.close.result (λ p (_, new). rw new (refl, refl)) c.close.ensures.ok;
-      number = c.close.ensures.moves.number;
+      due = c.close.ensures.moves.due;
     }
 
 pub returns-then-self-clause-moves : goal.returns-then-self-clause-moves
@@ -20,7 +20,7 @@ returns-then-self-clause-moves g c =
       turns = keeps_same _ _ _ _;
       goes = same_goes _ _ _ refl;
       unfailed = (refl, refl);
-      number = tt;
+      due = tt;
     }
 
 pub returns-clause-ends : goal.returns-clause-ends

@@ -1,6 +1,6 @@
 use Rattle.std.proofs.Common.{refl, false}
 use Rattle.proxy_engines.proofs.ClientMoves.{finished_goes, same_goes}
-use Rattle.proxy_engines.proofs.NumberLemmas.{is_numbered}
+use Rattle.proxy_engines.proofs.RefusalLemmas.{is_due}
 use Rattle.proxy_engines.proofs.client.ClientEngine.finish.Goals as goal
 
 pub returns-in-Ok-clause-moves : goal.returns-in-Ok-clause-moves
@@ -10,7 +10,7 @@ returns-in-Ok-clause-moves g c =
       goes = rw (c.in-Ok.ensures.answered.steps, ← c.self.view_is)
           (finished_goes _ (g.T.Turns.pass c.args.turns.now) c.in-Ok.answer _ (rw (← c.self.view_is) at c.requires.stage));
       unfailed = rw (← c.self.view_is) (refl, refl);
-      number = tt;
+      due = tt;
     }
 
 pub returns-in-Err-clause-moves : goal.returns-in-Err-clause-moves
@@ -19,7 +19,7 @@ returns-in-Err-clause-moves g c =
       turns = c.make_turn.ensures.turns;
       goes = (false, same_goes _ _ _ c.in-Err.ensures.denied.rests);
       unfailed = tt;
-      number = is_numbered g.T.Turns.cause g.met.T.CoreTurns.refusals_mean (g.T.Turns.setting c.args.turns.now) _ (g.T.Turns.seen c.make_turn.new.turns) c.in-Err.denied c.in-Err.ensures.denied.due c.error.result c.error.ensures (λ x none. none);
+      due = is_due g.T.Turns.cause g.met.T.CoreTurns.refusals_mean (g.T.Turns.setting c.args.turns.now) _ (g.T.Turns.seen c.make_turn.new.turns) c.in-Err.denied c.in-Err.ensures.denied.due (λ x none. none);
     }
 
 pub returns-in-Ok-clause-ok : goal.returns-in-Ok-clause-ok
@@ -32,4 +32,4 @@ pub returns-in-Err-clause-ok : goal.returns-in-Err-clause-ok
 returns-in-Err-clause-ok g c = tt
 
 pub returns-in-Err-clause-err : goal.returns-in-Err-clause-err
-returns-in-Err-clause-err g c = (refl, c.in-Err.ensures.denied.rests, (_, c.error.ensures))
+returns-in-Err-clause-err g c = (refl, c.in-Err.ensures.denied.rests, (_, refl))

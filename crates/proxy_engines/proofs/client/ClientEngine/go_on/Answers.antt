@@ -44,7 +44,7 @@ returns-in_err-hand_if_due-clause-moves g c =
       turns = c.hand_if_due.ensures.moves.turns;
       goes = step-err _ c.from_residual.result c.from_residual.ensures.0 c.in_err-hand_if_due.ensures.moves.goes;
       unfailed = IfOk-from_err c.from_residual.result _ c.from_residual.ensures.0;
-      number = let (_, result_is, error_is) = err_from_is_err_and c.from_residual.result c.from_residual.ensures.1 in rw (result_is, error_is) c.in_err-hand_if_due.ensures.moves.number;
+      due = let (_, result_is, error_is) = err_from_is_err_and c.from_residual.result c.from_residual.ensures.1 in rw (result_is, error_is) c.in_err-hand_if_due.ensures.moves.due;
     }
 
 pub returns-then-branch-clause-moves : goal.returns-then-branch-clause-moves
@@ -53,7 +53,7 @@ returns-then-branch-clause-moves g c =
       turns = c.hand_if_due.ensures.moves.turns;
       goes = rw c.if-branch.true at c.in_ok-hand_if_due.ensures.moves.goes;
       unfailed = c.in_ok-hand_if_due.ensures.moves.unfailed;
-      number = tt;
+      due = tt;
     }
 
 pub returns-in-Open-clause-moves : goal.returns-in-Open-clause-moves
@@ -62,7 +62,7 @@ returns-in-Open-clause-moves g c =
       turns = keeps_then _ _ _ _ _ _ c.hand_if_due.ensures.moves.turns c.take_in.ensures.moves.turns;
       goes = told_then _ _ _ _ _ _ (told_by_step c.take_in.result) (rw c.if-branch.false at c.in_ok-hand_if_due.ensures.moves.goes) c.take_in.ensures.moves.goes;
       unfailed = rw ((c.in_ok-hand_if_due.ensures.hands.nothing c.if-branch.false).0) at c.take_in.ensures.moves.unfailed;
-      number = rw c.hand_if_due.ensures.moves.turns.setting_is at c.take_in.ensures.moves.number;
+      due = rw c.hand_if_due.ensures.moves.turns.setting_is at c.take_in.ensures.moves.due;
     }
 
 pub returns-in_default-clause-moves : goal.returns-in_default-clause-moves
@@ -71,7 +71,7 @@ returns-in_default-clause-moves g c =
       turns = keeps_then _ _ _ _ _ _ c.hand_if_due.ensures.moves.turns c.end.ensures.moves.turns;
       goes = told_then _ _ _ _ _ _ (told_by_step c.end.result) (rw c.if-branch.false at c.in_ok-hand_if_due.ensures.moves.goes) c.end.ensures.moves.goes;
       unfailed = rw ((c.in_ok-hand_if_due.ensures.hands.nothing c.if-branch.false).0) at c.end.ensures.moves.unfailed;
-      number = rw c.hand_if_due.ensures.moves.turns.setting_is at c.end.ensures.moves.number;
+      due = rw c.hand_if_due.ensures.moves.turns.setting_is at c.end.ensures.moves.due;
     }
 
 pub returns-then-branch-clause-tells : goal.returns-then-branch-clause-tells
@@ -119,7 +119,7 @@ returns-in-AtEnd-clause-moves g c =
       turns = keeps_then _ _ _ _ _ _ c.hand_if_due.ensures.moves.turns c.finish.ensures.moves.turns;
       goes = told_then _ _ _ _ _ _ (told_by_step c.finish.result) (rw c.if-branch.false at c.in_ok-hand_if_due.ensures.moves.goes) c.finish.ensures.moves.goes;
       unfailed = on_ok _ _ c.finish.result (λ p (_, new). rw (new, (c.in_ok-hand_if_due.ensures.hands.nothing c.if-branch.false).0) (refl, refl)) c.finish.ensures.ok;
-      number = rw c.hand_if_due.ensures.moves.turns.setting_is at c.finish.ensures.moves.number;
+      due = rw c.hand_if_due.ensures.moves.turns.setting_is at c.finish.ensures.moves.due;
     }
 
 pub returns-in-Open-clause-cut : goal.returns-in-Open-clause-cut

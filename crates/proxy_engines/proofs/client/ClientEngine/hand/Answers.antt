@@ -3,7 +3,7 @@ use Rattle.proxy_engines.specs.Client.{Client}
 use Rattle.std.proofs.Common.{◌≡◌, false, ap, refl}
 use Rattle.proxy_history.specs.declared.event.Event.{Event}
 use Rattle.proxy_engines.proofs.MoveLemmas.{turn_told}
-use Rattle.proxy_engines.proofs.NumberLemmas.{expected, is_not_ready, told_ok, told_turn, told_number}
+use Rattle.proxy_engines.proofs.RefusalLemmas.{expected, is_not_ready, told_ok, told_turn, told_due}
 use Rattle.proxy_engines.proofs.ClientMoves.{handed_goes, same_goes}
 use Rattle.proxy_engines.proofs.client.ClientEngine.hand.Goals as goal
 
@@ -15,7 +15,7 @@ returns-in-Ok-Bytes-clause-moves g c =
           rw (c.put.ensures, c.saturating_add-self-inside.ensures, adds.steps, ← c.self.view_is)
           (handed_goes _ (g.T.Turns.pass c.args.turns.now) _ c.in-Ok-Bytes.text (rw adds.steps at adds.few) (rw (← c.self.view_is) at c.requires.nothing) (rw (← c.self.view_is) at c.requires.live));
       unfailed = rw (c.put.ensures, ← c.self.view_is) (refl, refl);
-      number = tt;
+      due = tt;
     }
 
 pub returns-in-Err-clause-moves : goal.returns-in-Err-clause-moves
@@ -24,7 +24,7 @@ returns-in-Err-clause-moves g c =
       turns = c.make_turn.ensures.turns;
       goes = turn_told _ c.told_as.result (told_ok c.in-Err.denied false c.told_as.result c.told_as.ensures (λ b. b ≡ false) (λ x is soft. refl)) (same_goes _ _ _ c.in-Err.ensures.denied.rests);
       unfailed = any_ok _ c.told_as.result (refl, refl);
-      number = told_number c.in-Err.denied false c.told_as.result c.told_as.ensures (g.T.Turns.cause (g.T.Turns.setting c.args.turns.now)) (Event.Handed c.self.inside.conn) (g.T.Turns.seen c.make_turn.new.turns) c.in-Err.ensures.denied.due;
+      due = told_due c.in-Err.denied false c.told_as.result c.told_as.ensures (g.T.Turns.cause (g.T.Turns.setting c.args.turns.now)) (Event.Handed c.self.inside.conn) (g.T.Turns.seen c.make_turn.new.turns) c.in-Err.ensures.denied.due;
     }
 
 pub returns-in-Ok-Bytes-clause-hands : goal.returns-in-Ok-Bytes-clause-hands

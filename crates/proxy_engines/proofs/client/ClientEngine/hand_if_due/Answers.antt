@@ -11,7 +11,7 @@ returns-then-self-clause-moves g c =
       turns = keeps_same _ _ _ _;
       goes = same_goes _ _ _ refl;
       unfailed = (refl, refl);
-      number = tt;
+      due = tt;
     }
 
 pub returns-clause-moves : goal.returns-clause-moves

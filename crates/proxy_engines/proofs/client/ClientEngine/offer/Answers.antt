@@ -5,7 +5,7 @@ use Rattle.proxy_engines.specs.declared.client.Progress.{Progress}
 use Rattle.std.proofs.Common.{◌≡◌, ◌∙◌, IfOk, Some, refl, sym, ap, inl, inr, rules}
 use Rattle.proxy_engines.proofs.ClientMoves.{arrived_on, arrived_last, unanswered_goes}
 use Rattle.proxy_history.specs.declared.event.Event.{Event}
-use Rattle.proxy_engines.proofs.NumberLemmas.{expected, is_crowded, told_ok, told_turn, told_number}
+use Rattle.proxy_engines.proofs.RefusalLemmas.{expected, is_crowded, told_ok, told_turn, told_due}
 use Rattle.proxy_engines.proofs.client.ClientEngine.offer.Goals as goal
 
 pub returns-then-is_last-clause-moves : goal.returns-then-is_last-clause-moves
@@ -17,7 +17,7 @@ returns-then-is_last-clause-moves g c =
           (arrived_last _ c.in-Some.request (g.T.Turns.pass c.args.turns.now) _ now.0 (rw (← c.self.view_is) at c.requires.stage) (sym c.take.ensures.value ∙ c.in-Some.is) (rw (← c.self.view_is) at c.requires.last) (rw now.1.steps at now.1.few)
           (sym c.in-Ok.ensures.last ∙ c.if-is_last.true));
       unfailed = rw (← c.self.view_is) (refl, refl);
-      number = tt;
+      due = tt;
     }
 
 pub returns-else-is_last-clause-moves : goal.returns-else-is_last-clause-moves
@@ -29,7 +29,7 @@ returns-else-is_last-clause-moves g c =
           (arrived_on _ c.in-Some.request (g.T.Turns.pass c.args.turns.now) _ now.0 (rw (← c.self.view_is) at c.requires.stage) (sym c.take.ensures.value ∙ c.in-Some.is) (rw (← c.self.view_is) at c.requires.last) (rw now.1.steps at now.1.few)
           (sym c.in-Ok.ensures.last ∙ c.if-is_last.false));
       unfailed = rw (← c.self.view_is) (refl, refl);
-      number = tt;
+      due = tt;
     }
 
 pub returns-in-Err-clause-moves : goal.returns-in-Err-clause-moves
@@ -40,7 +40,7 @@ returns-in-Err-clause-moves g c =
           let unmoved : IfOk c.told_as.result (λ p. p ≡ Progress.Idle) = told_ok c.in-Err.denied Progress.Idle c.told_as.result c.told_as.ensures (λ p. p ≡ Progress.Idle) (λ x is soft. refl) in
           rw (c.replace.ensures.after, back, c.self.view_is) (unanswered_goes c.args.self.now _ _ _ c.in-Err.ensures.denied.rests unmoved);
       unfailed = any_ok _ c.told_as.result (rw (← c.self.view_is) (refl, refl));
-      number = told_number c.in-Err.denied Progress.Idle c.told_as.result c.told_as.ensures (g.T.Turns.cause (g.T.Turns.setting c.args.turns.now)) (Event.Arrived c.self.inside.conn c.in-Some.request) (g.T.Turns.seen c.arrive.new.turns) c.in-Err.ensures.denied.due;
+      due = told_due c.in-Err.denied Progress.Idle c.told_as.result c.told_as.ensures (g.T.Turns.cause (g.T.Turns.setting c.args.turns.now)) (Event.Arrived c.self.inside.conn c.in-Some.request) (g.T.Turns.seen c.arrive.new.turns) c.in-Err.ensures.denied.due;
     }
 
 pub returns-in_default-clause-moves : goal.returns-in_default-clause-moves
@@ -49,7 +49,7 @@ returns-in_default-clause-moves g c =
       turns = keeps_same _ _ _ _;
       goes = search rules;
       unfailed = rw (← c.self.view_is) (refl, refl);
-      number = tt;
+      due = tt;
     }
 
 pub returns-in-Err-clause-offers : goal.returns-in-Err-clause-offers

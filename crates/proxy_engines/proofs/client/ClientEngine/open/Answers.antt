@@ -2,7 +2,7 @@ use Rattle.proxy_engines.proofs.OwnHistoryLemmas.{keeps_same}
 use Rattle.std.proofs.Common.{None, [], refl, inl, inr, rules}
 use Rattle.proxy_engines.proofs.ClientMoves.{opened_carries}
 use Rattle.proxy_engines.proofs.InboxLemmas.{behind_none}
-use Rattle.proxy_engines.proofs.NumberLemmas.{is_numbered}
+use Rattle.proxy_engines.proofs.RefusalLemmas.{is_due}
 use Rattle.proxy_engines.proofs.client.ClientEngine.open.Goals as goal
 
 pub returns-in-Ok-open-clause-carries : goal.returns-in-Ok-open-clause-carries
@@ -38,17 +38,17 @@ pub returns-in-Err-clause-err : goal.returns-in-Err-clause-err
 returns-in-Err-clause-err g c = (refl, inl refl)
 
 pub returns-in-Err-open-clause-err : goal.returns-in-Err-open-clause-err
-returns-in-Err-open-clause-err g c = (c.in-Err-open.ensures.denied.rests, inr (_, c.error.ensures))
+returns-in-Err-open-clause-err g c = (c.in-Err-open.ensures.denied.rests, inr (_, refl))
 
-pub returns-in-Ok-open-clause-number : goal.returns-in-Ok-open-clause-number
-returns-in-Ok-open-clause-number g c = tt
+pub returns-in-Ok-open-clause-due : goal.returns-in-Ok-open-clause-due
+returns-in-Ok-open-clause-due g c = tt
 
-pub returns-in-Err-clause-number : goal.returns-in-Err-clause-number
-returns-in-Err-clause-number g c = tt
+pub returns-in-Err-clause-due : goal.returns-in-Err-clause-due
+returns-in-Err-clause-due g c = tt
 
-pub returns-in-Err-open-clause-number : goal.returns-in-Err-open-clause-number
-returns-in-Err-open-clause-number g c =
-    is_numbered g.T.Turns.cause g.met.T.CoreTurns.refusals_mean (g.T.Turns.setting c.args.turns.now) _ (g.T.Turns.seen c.open.new.turns) c.in-Err-open.denied c.in-Err-open.ensures.denied.due c.error.result c.error.ensures (λ x none. none)
+pub returns-in-Err-open-clause-due : goal.returns-in-Err-open-clause-due
+returns-in-Err-open-clause-due g c =
+    is_due g.T.Turns.cause g.met.T.CoreTurns.refusals_mean (g.T.Turns.setting c.args.turns.now) _ (g.T.Turns.seen c.open.new.turns) c.in-Err-open.denied c.in-Err-open.ensures.denied.due (λ x none. none)
 
 pub returns-in-Ok-open-clause-opened : goal.returns-in-Ok-open-clause-opened
 returns-in-Ok-open-clause-opened g c =

@@ -3,7 +3,7 @@ use Rattle.std.proofs.Common.{◌∙◌, ap, rules, refl}
 use Rattle.resp_core.specs.ReaderState.{ReaderState}
 use Rattle.proxy_engines.specs.Client.{waiting_requests}
 use Rattle.proxy_engines.proofs.InboxLemmas.{with-behind}
-use Rattle.proxy_engines.proofs.NumberLemmas.{is_numbered}
+use Rattle.proxy_engines.proofs.RefusalLemmas.{is_due}
 use Rattle.proxy_engines.proofs.client.ClientEngine.open_with.Goals as goal
 
 pub returns-in-Ok-clause-carries : goal.returns-in-Ok-clause-carries
@@ -13,12 +13,12 @@ returns-in-Ok-clause-carries g c =
     (ap (λ (z : ReaderState). z.most) c.with-inbox.ensures.values ∙ rest.most_is)
     (with-behind c.with-inbox.result.0 c.args.rest b (waiting_requests c.args.rest.next) c.with-inbox.ensures.fresh c.with-inbox.ensures.values rest.holds))
 
-pub returns-in-Ok-clause-number : goal.returns-in-Ok-clause-number
-returns-in-Ok-clause-number g c = tt
+pub returns-in-Ok-clause-due : goal.returns-in-Ok-clause-due
+returns-in-Ok-clause-due g c = tt
 
-pub returns-in-Err-clause-number : goal.returns-in-Err-clause-number
-returns-in-Err-clause-number g c =
-    is_numbered g.T.Turns.cause g.met.T.CoreTurns.refusals_mean (g.T.Turns.setting c.args.turns.now) _ (g.T.Turns.seen c.open.new.turns) c.in-Err.denied c.in-Err.ensures.denied.due c.error.result c.error.ensures (λ x none. none)
+pub returns-in-Err-clause-due : goal.returns-in-Err-clause-due
+returns-in-Err-clause-due g c =
+    is_due g.T.Turns.cause g.met.T.CoreTurns.refusals_mean (g.T.Turns.setting c.args.turns.now) _ (g.T.Turns.seen c.open.new.turns) c.in-Err.denied c.in-Err.ensures.denied.due (λ x none. none)
 
 pub returns-in-Ok-clause-opened : goal.returns-in-Ok-clause-opened
 returns-in-Ok-clause-opened g c =

@@ -8,7 +8,7 @@ use Rattle.proxy_engines.specs.Moves.{told_by_step}
 use Rattle.proxy_engines.proofs.ClientMoves.{read_goes, told_then}
 use Rattle.proxy_engines.proofs.IdleLemmas.{given_still}
 use Rattle.std.specs.Prelude.{Err}
-use Rattle.proxy_engines.proofs.NumberLemmas.{numbered_cut}
+use Rattle.proxy_engines.proofs.RefusalLemmas.{due_cut}
 use Rattle.proxy_engines.proofs.client.ClientEngine.read.Goals as goal
 
 pub returns-in-End-clause-moves : goal.returns-in-End-clause-moves
@@ -21,7 +21,7 @@ returns-in-End-clause-moves g c =
           c.stop_reading.ensures.moves.goes);
       unfailed = let (_, _, same) = c.read_once.ensures.reads.end c.in-End.is in
           rw (← c.self.view_is) (if_ok _ _ c.stop_reading.result (λ p (read, written). (read ∙ ap (λ (n : Counts). n.failed) same, written)) c.stop_reading.ensures.moves.unfailed);
-      number = c.stop_reading.ensures.moves.number;
+      due = c.stop_reading.ensures.moves.due;
     }
 
 pub returns-in-Moved-clause-moves : goal.returns-in-Moved-clause-moves
@@ -31,7 +31,7 @@ returns-in-Moved-clause-moves g c =
       goes = let all = rw (← c.self.view_is) at c.requires.all in
           rw (← c.self.view_is) (read_goes _ c.read_once.new.self _ true (rw c.in-Moved.is at c.read_once.ensures.reads.is_told) (rw (← c.self.view_is) at c.requires.stage) (rw (← c.self.view_is) at c.requires.reads) all.none_refused all.none_fresh c.read_once.ensures.reads.bytes c.read_once.ensures.reads.values);
       unfailed = rw (← c.self.view_is) (ap (λ (n : Counts). n.failed) (c.read_once.ensures.reads.moved _ c.in-Moved.is).1, refl);
-      number = tt;
+      due = tt;
     }
 
 pub returns-in-Idle-clause-moves : goal.returns-in-Idle-clause-moves
@@ -41,7 +41,7 @@ returns-in-Idle-clause-moves g c =
       goes = let all = rw (← c.self.view_is) at c.requires.all in
           rw (← c.self.view_is) (read_goes _ c.read_once.new.self _ false (rw c.in-Idle.is at c.read_once.ensures.reads.is_told) (rw (← c.self.view_is) at c.requires.stage) (rw (← c.self.view_is) at c.requires.reads) all.none_refused all.none_fresh c.read_once.ensures.reads.bytes c.read_once.ensures.reads.values);
       unfailed = rw (← c.self.view_is) ((c.read_once.ensures.reads.idle c.in-Idle.is).1.failed, refl);
-      number = tt;
+      due = tt;
     }
 
 pub stop_reading-requires-clause-done : goal.stop_reading-requires-clause-done
@@ -64,7 +64,7 @@ returns-in-Failed-clause-moves g c =
           (cut_told _ _ _ _ _ _ _ _ c.cut.result refl (read_goes _ c.read_once.new.self _ _ c.read_once.ensures.reads.is_told (rw (← c.self.view_is) at c.requires.stage) (rw (← c.self.view_is) at c.requires.reads) all.none_refused all.none_fresh c.read_once.ensures.reads.bytes c.read_once.ensures.reads.values)
           c.cut.ensures.cuts);
       unfailed = cut_ok _ _ _ _ _ EngineError.ReadFailed c.cut.result c.cut.ensures.cuts;
-      number = numbered_cut _ (Err EngineError.ReadFailed) c.cut.result tt c.cut.ensures.number;
+      due = due_cut _ (Err EngineError.ReadFailed) c.cut.result tt c.cut.ensures.due;
     }
 
 pub returns-in-Moved-clause-reads : goal.returns-in-Moved-clause-reads

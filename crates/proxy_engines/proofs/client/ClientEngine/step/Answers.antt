@@ -4,7 +4,7 @@ use Rattle.std.proofs.Common.{false, refl, rules}
 use Rattle.proxy_engines.proofs.ClientMoves.{same_goes}
 use Rattle.std.specs.Prelude.{Ok}
 use Rattle.proxy_engines.specs.declared.client.Progress.{Progress}
-use Rattle.proxy_engines.proofs.NumberLemmas.{numbered_cut}
+use Rattle.proxy_engines.proofs.RefusalLemmas.{due_cut}
 use Rattle.proxy_engines.proofs.client.ClientEngine.step.Goals as goal
 
 pub returns-in-Closed-true-clause-moves : goal.returns-in-Closed-true-clause-moves
@@ -13,7 +13,7 @@ returns-in-Closed-true-clause-moves g c =
       turns = keeps_same _ _ _ _;
       goes = (false, same_goes _ _ _ refl);
       unfailed = (refl, refl);
-      number = tt;
+      due = tt;
     }
 
 pub returns-in-Closed-false-clause-moves : goal.returns-in-Closed-false-clause-moves
@@ -22,7 +22,7 @@ returns-in-Closed-false-clause-moves g c =
       turns = keeps_same _ _ _ _;
       goes = (false, same_goes _ _ _ refl);
       unfailed = (refl, refl);
-      number = tt;
+      due = tt;
     }
 
 pub returns-in-Open-clause-moves : goal.returns-in-Open-clause-moves
@@ -63,7 +63,7 @@ returns-in-Failed-clause-moves g c =
       turns = c.cut.ensures.turns;
       goes = cut_told _ _ _ _ _ _ false _ c.cut.result refl (same_goes _ _ _ refl) c.cut.ensures.cuts;
       unfailed = cut_unfailed _ _ _ _ Progress.Cut c.cut.result c.cut.ensures.cuts;
-      number = numbered_cut _ (Ok Progress.Cut) c.cut.result tt c.cut.ensures.number;
+      due = due_cut _ (Ok Progress.Cut) c.cut.result tt c.cut.ensures.due;
     }
 
 pub returns-in-Failed-clause-tells : goal.returns-in-Failed-clause-tells

@@ -13,7 +13,7 @@ returns-clause-moves g c =
           (over_goes _ _ (rw (← c.self.view_is) at c.requires.stage) done.unbroken done.none done.all done.over)
           c.finish.ensures.moves.goes);
       unfailed = on_ok _ _ c.finish.result (λ p (moved, new). rw (new, ← c.self.view_is) (refl, refl)) c.finish.ensures.ok;
-      number = c.finish.ensures.moves.number;
+      due = c.finish.ensures.moves.due;
     }
 
 pub returns-clause-stops : goal.returns-clause-stops

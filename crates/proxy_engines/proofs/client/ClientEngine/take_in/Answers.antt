@@ -16,7 +16,7 @@ returns-then-not-branch-clause-moves g c =
       turns = c.read.ensures.moves.turns;
       goes = told_then _ _ _ _ _ _ (told_by_step c.read.result) (c.fetch_if_none.ensures.goes _) c.read.ensures.moves.goes;
       unfailed = rw c.fetch_if_none.ensures.looks.keeps.1.1 at (rw c.fetch_if_none.ensures.looks.keeps.1.0 at c.read.ensures.moves.unfailed);
-      number = c.read.ensures.moves.number;
+      due = c.read.ensures.moves.due;
     }
 
 pub returns-in_err-fetch_if_none-clause-moves : goal.returns-in_err-fetch_if_none-clause-moves
@@ -25,7 +25,7 @@ returns-in_err-fetch_if_none-clause-moves g c =
       turns = keeps_same _ _ _ _;
       goes = step-err _ c.from_residual.result c.from_residual.ensures.0 (false, c.fetch_if_none.ensures.goes _);
       unfailed = IfOk-from_err c.from_residual.result _ c.from_residual.ensures.0;
-      number = let (_, result_is, error_is) = err_from_is_err_and c.from_residual.result c.from_residual.ensures.1 in rw (result_is, error_is, c.in_err-fetch_if_none.ensures.looks.err) tt;
+      due = let (_, result_is, error_is) = err_from_is_err_and c.from_residual.result c.from_residual.ensures.1 in rw (result_is, error_is, c.in_err-fetch_if_none.ensures.looks.err) tt;
     }
 
 pub returns-clause-moves : goal.returns-clause-moves
@@ -34,7 +34,7 @@ returns-clause-moves g c =
       turns = c.offer.ensures.moves.turns;
       goes = told_then _ _ _ _ _ _ (told_by_step c.offer.result) (c.fetch_if_none.ensures.goes _) c.offer.ensures.moves.goes;
       unfailed = rw c.fetch_if_none.ensures.looks.keeps.1.1 at (rw c.fetch_if_none.ensures.looks.keeps.1.0 at c.offer.ensures.moves.unfailed);
-      number = c.offer.ensures.moves.number;
+      due = c.offer.ensures.moves.due;
     }
 
 pub returns-then-is_to_stop-clause-moves : goal.returns-then-is_to_stop-clause-moves

@@ -6,7 +6,7 @@ use Rattle.proxy_engines.proofs.AnswerLemmas.{cut_told, cut_ok, cut_err}
 use Rattle.std.proofs.Common.{true, false, ap, refl, inl, inr}
 use Rattle.proxy_engines.proofs.ClientMoves.{wrote_goes}
 use Rattle.std.specs.Prelude.{Err}
-use Rattle.proxy_engines.proofs.NumberLemmas.{numbered_cut}
+use Rattle.proxy_engines.proofs.RefusalLemmas.{due_cut}
 use Rattle.proxy_engines.proofs.client.ClientEngine.write.Goals as goal
 
 pub returns-in-Moved-clause-moves : goal.returns-in-Moved-clause-moves
@@ -16,7 +16,7 @@ returns-in-Moved-clause-moves g c =
       goes = let (gave, sends, moved) = c.in-Moved.ensures.writes.bytes in
           rw (← c.self.view_is) (wrote_goes _ c.write_once.new.self gave _ true (rw (← c.self.view_is) at c.requires.live) sends moved);
       unfailed = rw (← c.self.view_is) (refl, ap (λ (n : Counts). n.failed) (c.write_once.ensures.writes.counts.moved _ c.in-Moved.is));
-      number = tt;
+      due = tt;
     }
 
 pub returns-in-Idle-clause-moves : goal.returns-in-Idle-clause-moves
@@ -26,7 +26,7 @@ returns-in-Idle-clause-moves g c =
       goes = let (gave, sends, moved) = rw c.in-Idle.is at c.write_once.ensures.writes.bytes in
           rw (← c.self.view_is) (wrote_goes _ c.write_once.new.self gave _ false (rw (← c.self.view_is) at c.requires.live) sends moved);
       unfailed = rw (← c.self.view_is) (refl, (c.write_once.ensures.writes.counts.idle c.in-Idle.is).failed);
-      number = tt;
+      due = tt;
     }
 
 pub returns-in-End-clause-moves : goal.returns-in-End-clause-moves
@@ -36,7 +36,7 @@ returns-in-End-clause-moves g c =
       goes = let (gave, sends, moved) = c.write_once.ensures.writes.bytes in
           rw (← c.self.view_is) (cut_told _ _ _ _ _ _ _ _ c.cut.result refl (wrote_goes _ c.write_once.new.self gave _ _ (rw (← c.self.view_is) at c.requires.live) sends moved) c.cut.ensures.cuts);
       unfailed = cut_ok _ _ _ _ _ EngineError.WriteFailed c.cut.result c.cut.ensures.cuts;
-      number = numbered_cut _ (Err EngineError.WriteFailed) c.cut.result tt c.cut.ensures.number;
+      due = due_cut _ (Err EngineError.WriteFailed) c.cut.result tt c.cut.ensures.due;
     }
 
 pub returns-in-Moved-clause-writes : goal.returns-in-Moved-clause-writes

@@ -10,7 +10,7 @@ use Rattle.proxy_engines.specs.Faults.{IsLate}
 use Rattle.proxy_history.specs.declared.event.Kind.{Kind}
 use Rattle.proxy_engines.proofs.HostMoves.{some_told}
 use Rattle.proxy_engines.proofs.HostLemmas.{empty_is, works_told, works_on, needs_alone, told_needs, told_recorded, told_in_time, told_moved, told_link}
-use Rattle.proxy_engines.proofs.NumberLemmas.{numbered_cut}
+use Rattle.proxy_engines.proofs.RefusalLemmas.{due_cut}
 use Rattle.proxy_engines.proofs.FaultLemmas.{not_late}
 use Rattle.proxy_engines.proofs.host.HostEngine.go_on_alone.Goals as goal
 use Rattle.proxy_engines.proofs.host.HostEngine.go_on_alone.Goals.{then-taken, else-taken}
@@ -23,7 +23,7 @@ returns-clause-moves g c =
         | then-taken w ↦ rw w.result-is (works_on _ _ c.take_one.new.self _ _ c.args.moment true _ (rw w.if-taken.true at c.in_ok-taken.ensures.moves.goes) refl (c.take_one.ensures.takes.fault ∙ c.requires.no_fault))
         | else-taken w ↦ rw w.result-is (works_on _ _ c.take_one.new.self _ _ c.args.moment false _ (rw w.if-taken.false at c.in_ok-taken.ensures.moves.goes) refl (c.take_one.ensures.takes.fault ∙ c.requires.no_fault))
       ];
-      number = elim c.if-taken.branch [
+      due = elim c.if-taken.branch [
         | then-taken w ↦ rw w.result-is tt
         | else-taken w ↦ rw w.result-is tt
       ];
@@ -69,7 +69,7 @@ returns-in_err-taken-clause-moves g c =
           let went = c.in_err-taken.ensures.moves.goes in
           rw (result_is, error_is)
           (works_on _ _ c.take_one.new.self _ _ c.args.moment went.0 _ went.1 c.in_err-taken.ensures.moves.plain.0 (c.take_one.ensures.takes.fault ∙ c.requires.no_fault));
-      number = let (_, result_is, error_is) = err_from_is_err_and c.from_residual.result c.from_residual.ensures.1 in rw (result_is, error_is) c.in_err-taken.ensures.moves.plain.1;
+      due = let (_, result_is, error_is) = err_from_is_err_and c.from_residual.result c.from_residual.ensures.1 in rw (result_is, error_is) c.in_err-taken.ensures.moves.plain.1;
       tells = record {
         recorded = IfOk-from_err c.from_residual.result _ c.from_residual.ensures.0;
         unfailed = IfOk-from_err c.from_residual.result _ c.from_residual.ensures.0;
@@ -85,7 +85,7 @@ returns-then-not-is_empty-clause-moves g c =
     record {
       turns = c.take_one.ensures.moves.turns;
       works = works_on _ _ c.take_one.new.self _ _ c.args.moment c.in_ok-taken.taken _ c.in_ok-taken.ensures.moves.goes tt (c.take_one.ensures.takes.fault ∙ c.requires.no_fault);
-      number = tt;
+      due = tt;
       tells = record {
         recorded = c.take_one.ensures.takes.fault ∙ c.requires.no_fault;
         unfailed = rw c.requires.none tt;
@@ -104,7 +104,7 @@ returns-then-is_late-clause-moves g c =
           let late : IsLate c.take_one.new.self.outbox c.args.moment = rw (← c.self.view_is) (c.is_late.ensures.0 c.if-is_late.true) in
           works_told _ _ c.take_one.new.self c.tell_fault.new.self Kind.Late None _ _ _ c.args.moment went.0 c.tell_fault.result went.1
           c.tell_fault.ensures.tells (rw (c.requires.none, c.take_one.ensures.takes.link) (refl, refl, late));
-      number = numbered_cut _ _ c.tell_fault.result tt (rw c.take_one.ensures.moves.turns.setting_is at c.tell_fault.ensures.number);
+      due = due_cut _ _ c.tell_fault.result tt (rw c.take_one.ensures.moves.turns.setting_is at c.tell_fault.ensures.due);
       tells = record {
         recorded = told_recorded _ _ _ _ _ _ None c.tell_fault.result c.tell_fault.ensures.tells;
         unfailed = any_ok _ c.tell_fault.result (rw c.requires.none tt);

@@ -7,8 +7,8 @@ use Rattle.proxy_engines.specs.Faults.{HasNoFaultOn, told_by_moves}
 use Rattle.proxy_engines.specs.HostStep.{HostState}
 use Rattle.proxy_engines.proofs.HostMoves.{some_told}
 use Rattle.proxy_engines.proofs.HostLemmas.{works_on, unasked_here, works_told, told_needs, told_answered, told_unlinked, told_recorded, told_in_time, told_moved}
-use Rattle.proxy_engines.proofs.FaultLemmas.{cause_numbered}
-use Rattle.proxy_engines.proofs.NumberLemmas.{numbered_cut}
+use Rattle.proxy_engines.proofs.FaultLemmas.{cause_due}
+use Rattle.proxy_engines.proofs.RefusalLemmas.{due_cut}
 use Rattle.proxy_engines.proofs.host.HostEngine.go_on_link.Goals as goal
 
 pub returns-in_err-step : goal.returns-in_err-step
@@ -20,7 +20,7 @@ returns-in_err-step g c =
             let went = c.in_err-step.ensures.moves.goes in
             rw (result_is, error_is, ← c.self.view_is, c.in-Some.is)
             (works_on _ _ _ _ _ c.args.moment went.0 _ went.1 c.in_err-step.ensures.moves.plain.0 (rw (← c.self.view_is) at c.requires.no_fault));
-        number = let (_, result_is, error_is) = err_from_is_err_and c.from_residual.result c.from_residual.ensures.1 in rw (result_is, error_is) c.in_err-step.ensures.moves.plain.1;
+        due = let (_, result_is, error_is) = err_from_is_err_and c.from_residual.result c.from_residual.ensures.1 in rw (result_is, error_is) c.in_err-step.ensures.moves.plain.1;
         tells = record {
           recorded = IfOk-from_err c.from_residual.result _ c.from_residual.ensures.0;
           unfailed = IfOk-from_err c.from_residual.result _ c.from_residual.ensures.0;
@@ -39,7 +39,7 @@ returns-in-Idle g c =
         turns = c.step.ensures.moves.turns;
         works = let goes = rw c.in-Idle.is at c.in_ok-step.ensures.moves.goes in
             rw (← c.self.view_is, c.in-Some.is) (works_on _ _ _ _ _ c.args.moment false _ goes refl (rw (← c.self.view_is) at c.requires.no_fault));
-        number = tt;
+        due = tt;
         tells = record {
           recorded = ap (λ (h : HostState). h.fault) c.self.view_is ∙ c.requires.no_fault;
           unfailed = rw (← c.self.view_is, c.in-Some.is) ((c.in_ok-step.ensures.works.calm (rw c.in-Idle.is refl)).unfailed);
@@ -58,7 +58,7 @@ returns-in-Moved g c =
         turns = c.step.ensures.moves.turns;
         works = let goes = rw c.in-Moved.is at c.in_ok-step.ensures.moves.goes in
             rw (← c.self.view_is, c.in-Some.is) (works_on _ _ _ _ _ c.args.moment true _ goes refl (rw (← c.self.view_is) at c.requires.no_fault));
-        number = tt;
+        due = tt;
         tells = record {
           recorded = ap (λ (h : HostState). h.fault) c.self.view_is ∙ c.requires.no_fault;
           unfailed = rw (← c.self.view_is, c.in-Some.is) ((c.in_ok-step.ensures.works.calm (rw c.in-Moved.is refl)).unfailed);
@@ -80,8 +80,8 @@ returns-in-Fault g c =
             rw (← c.self.view_is, c.in-Some.is)
             (works_told _ _ (record { outbox = c.step.new.outbox; link = Some c.step.new.self; fault = Some c.in-Fault.kind }) c.tell_fault.new.self c.in-Fault.kind c.in-Fault.error _ _ _ c.args.moment went.0 _ went.1
             c.tell_fault.ensures.tells cause);
-        number = let cause = rw c.in-Fault.is at c.in_ok-step.ensures.works.fault in
-            numbered_cut _ _ c.tell_fault.result (cause_numbered (g.T.Turns.cause (g.T.Turns.setting c.args.turns.now)) (g.T.Turns.seen c.tell_fault.new.turns) c.tell_fault.new.self.outbox c.in-Fault.kind c.in-Fault.error c.in-Some.link c.step.new.self _ _ cause) (rw c.step.ensures.moves.turns.setting_is at c.tell_fault.ensures.number);
+        due = let cause = rw c.in-Fault.is at c.in_ok-step.ensures.works.fault in
+            due_cut _ _ c.tell_fault.result (cause_due (g.T.Turns.cause (g.T.Turns.setting c.args.turns.now)) (g.T.Turns.seen c.tell_fault.new.turns) c.tell_fault.new.self.outbox c.in-Fault.kind c.in-Fault.error c.in-Some.link c.step.new.self _ _ cause) (rw c.step.ensures.moves.turns.setting_is at c.tell_fault.ensures.due);
         tells = record {
           recorded = told_recorded _ _ _ _ _ _ _ c.tell_fault.result c.tell_fault.ensures.tells;
           unfailed = told_unlinked _ _ _ _ _ _ HasNoFaultOn c.args.self.now.link _ c.tell_fault.result c.tell_fault.ensures.tells;

@@ -10,7 +10,7 @@ returns g c =
         records = rw (c.take.ensures.after, ← c.self.view_is) (record { fails = c.in_ok-fail.ensures.records.fails _; fault = refl });
         kept = tt;
         err = tt;
-        number = tt;
+        due = tt;
       };
     }
 
@@ -23,6 +23,6 @@ returns-in_err-fail g c =
         records = IfOk-from_err c.from_residual.result _ c.from_residual.ensures.0;
         kept = rw result_is (rw (c.in_err-fail.ensures.records.same.0, ← c.self.view_is) (refl, c.in_err-fail.ensures.records.same.1));
         err = rw (result_is, error_is) c.in_err-fail.ensures.records.err;
-        number = rw (result_is, error_is) c.in_err-fail.ensures.records.number;
+        due = rw (result_is, error_is) c.in_err-fail.ensures.records.due;
       };
     }

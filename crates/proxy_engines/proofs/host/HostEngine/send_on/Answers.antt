@@ -6,8 +6,8 @@ use Rattle.proxy_engines.specs.declared.link.Outcome.{Outcome}
 use Rattle.proxy_engines.specs.Host.{LinkState}
 use Rattle.proxy_engines.proofs.HostMoves.{some_told, stays_on}
 use Rattle.proxy_engines.proofs.HostLemmas.{works_on, works_told, told_unlinked, told_moved}
-use Rattle.proxy_engines.proofs.FaultLemmas.{cause_numbered, fault_of_device}
-use Rattle.proxy_engines.proofs.NumberLemmas.{numbered_cut}
+use Rattle.proxy_engines.proofs.FaultLemmas.{cause_due, fault_of_device}
+use Rattle.proxy_engines.proofs.RefusalLemmas.{due_cut}
 use Rattle.proxy_engines.proofs.host.HostEngine.send_on.Goals as goal
 
 pub returns-in_default : goal.returns-in_default
@@ -17,7 +17,7 @@ returns-in_default g c =
       works = rw (← c.self.view_is, c.in_default.is) (works_on _ _ _ _ _ c.args.moment false _ (stays_on _ _ _ _ c.args.moment refl) refl (rw (← c.self.view_is) at c.requires.no_fault));
       unread = rw (← c.self.view_is, c.in_default.is) tt;
       idle = λ _. rw (← c.self.view_is, c.in_default.is) tt;
-      number = tt;
+      due = tt;
     }
 
 pub returns-in_err-send : goal.returns-in_err-send
@@ -31,7 +31,7 @@ returns-in_err-send g c =
           (works_on _ _ _ _ _ c.args.moment went.0 _ went.1 c.in_err-send.ensures.moves.plain.0 (rw (← c.self.view_is) at c.requires.no_fault));
       unread = IfOk-from_err c.from_residual.result _ c.from_residual.ensures.0;
       idle = IfOk-from_err c.from_residual.result _ c.from_residual.ensures.0;
-      number = rw (result_is, error_is) c.in_err-send.ensures.moves.plain.1;
+      due = rw (result_is, error_is) c.in_err-send.ensures.moves.plain.1;
     }
 
 pub returns-in-Idle : goal.returns-in-Idle
@@ -42,7 +42,7 @@ returns-in-Idle g c =
           rw (← c.self.view_is, c.in-Some.is) (works_on _ _ _ _ _ c.args.moment false _ goes refl (rw (← c.self.view_is) at c.requires.no_fault));
       unread = rw (← c.self.view_is, c.in-Some.is) c.send.ensures.sends.keeps;
       idle = λ _. rw (← c.self.view_is, c.in-Some.is) (c.in_ok-send.ensures.sends.idle c.in-Idle.is);
-      number = tt;
+      due = tt;
     }
 
 pub returns-in-Moved : goal.returns-in-Moved
@@ -53,7 +53,7 @@ returns-in-Moved g c =
           rw (← c.self.view_is, c.in-Some.is) (works_on _ _ _ _ _ c.args.moment true _ goes refl (rw (← c.self.view_is) at c.requires.no_fault));
       unread = rw (← c.self.view_is, c.in-Some.is) c.send.ensures.sends.keeps;
       idle = λ idle. absurd cc;
-      number = tt;
+      due = tt;
     }
 
 pub returns-in-Fault : goal.returns-in-Fault
@@ -68,7 +68,7 @@ returns-in-Fault g c =
           (fault_of_device c.in-Some.link c.in-Some.link c.send.new.self _ _ refl refl (Outcome.Fault c.in-Fault.kind c.in-Fault.error) device));
       unread = told_unlinked _ _ _ _ _ _ (λ (j k : LinkState). (k.inbox ≡ j.inbox) × (k.next ≡ j.next)) c.args.self.now.link _ c.tell_fault.result c.tell_fault.ensures.tells;
       idle = told_moved _ _ _ _ _ _ _ _ c.tell_fault.result c.tell_fault.ensures.tells;
-      number = let device = rw c.in-Fault.is at c.in_ok-send.ensures.sends.fault in
+      due = let device = rw c.in-Fault.is at c.in_ok-send.ensures.sends.fault in
           let cause = fault_of_device c.in-Some.link c.in-Some.link c.send.new.self ⊥ ⊥ refl refl (Outcome.Fault c.in-Fault.kind c.in-Fault.error) device in
-          numbered_cut _ _ c.tell_fault.result (cause_numbered (g.T.Turns.cause (g.T.Turns.setting c.args.turns.now)) (g.T.Turns.seen c.tell_fault.new.turns) c.tell_fault.new.self.outbox c.in-Fault.kind c.in-Fault.error c.in-Some.link c.send.new.self _ _ cause) (rw c.send.ensures.moves.turns.setting_is at c.tell_fault.ensures.number);
+          due_cut _ _ c.tell_fault.result (cause_due (g.T.Turns.cause (g.T.Turns.setting c.args.turns.now)) (g.T.Turns.seen c.tell_fault.new.turns) c.tell_fault.new.self.outbox c.in-Fault.kind c.in-Fault.error c.in-Some.link c.send.new.self _ _ cause) (rw c.send.ensures.moves.turns.setting_is at c.tell_fault.ensures.due);
     }

@@ -53,7 +53,7 @@ returns-clause-makes g c =
       steps = let was = ap (λ (h : HostState). h.fault) (sym c.self.view_is) ∙ c.in-Some.is in
           inl (steps_after (g.T.Turns.cause (g.T.Turns.setting c.args.turns.now) Refusal.Unasked) (g.T.Turns.seen c.args.turns.now) (g.T.Turns.seen c.record_fault.new.turns) (g.T.Turns.seen c.go_on-2.new.turns) c.args.moment c.record_fault.ensures.records.turns.begins
           c.args.self.now c.record_fault.new.self c.go_on-2.new.self c.in-Some.kind _ _ _ c.go_on-2.result _ was c.in_ok-record_fault.ensures.records.records (rw c.record_fault.ensures.records.turns.setting_is at c.go_on-2.ensures.moves.works) c.after_fault.ensures);
-      number = rw c.after_fault.ensures (after_err _ c.go_on-2.result (rw c.record_fault.ensures.records.turns.setting_is at c.go_on-2.ensures.moves.number));
+      due = rw c.after_fault.ensures (after_err _ c.go_on-2.result (rw c.record_fault.ensures.records.turns.setting_is at c.go_on-2.ensures.moves.due));
     }
 
 pub returns-in_default-clause-makes : goal.returns-in_default-clause-makes
@@ -61,7 +61,7 @@ returns-in_default-clause-makes g c =
     record {
       turns = c.go_on.ensures.moves.turns;
       steps = inl (record { first = c.args.self.now; between = _; answer = c.go_on.result; begins = inl (refl, refl, refl); whole = search rules; works = c.go_on.ensures.moves.works });
-      number = c.go_on.ensures.moves.number;
+      due = c.go_on.ensures.moves.due;
     }
 
 pub returns-in_err-record_fault-clause-makes : goal.returns-in_err-record_fault-clause-makes
@@ -69,7 +69,7 @@ returns-in_err-record_fault-clause-makes g c =
     record {
       turns = c.record_fault.ensures.records.turns;
       steps = search rules;
-      number = let (_, result_is, error_is) = err_from_is_err_and c.from_residual.result c.from_residual.ensures.1 in rw (result_is, error_is) c.in_err-record_fault.ensures.records.number;
+      due = let (_, result_is, error_is) = err_from_is_err_and c.from_residual.result c.from_residual.ensures.1 in rw (result_is, error_is) c.in_err-record_fault.ensures.records.due;
     }
 
 pub returns-in_default-clause-tells : goal.returns-in_default-clause-tells

@@ -1,6 +1,6 @@
 use Rattle.std.proofs.Common.{rules, ◌∙◌, ap, refl, sym, inl, inr}
 use Rattle.proxy_engines.specs.Host.{HostOutboxState}
-use Rattle.proxy_engines.proofs.NumberLemmas.{is_numbered}
+use Rattle.proxy_engines.proofs.RefusalLemmas.{is_due}
 use Rattle.proxy_engines.proofs.HostMoves.{fault_records}
 use Rattle.proxy_engines.proofs.host_outbox.HostOutbox.fail.Goals as goal
 
@@ -13,7 +13,7 @@ returns-in-Ok g c =
             (λ k. fault_records _ k (g.T.Turns.pass c.args.turns.now) _ c.args.kind c.args.moment c.in-Ok.answer c.if-self.false (rw c.in-Ok.ensures.answered.steps at c.in-Ok.ensures.answered.few));
         same = tt;
         err = tt;
-        number = tt;
+        due = tt;
       };
     }
 
@@ -24,8 +24,8 @@ returns-in-Err g c =
         turns = c.make_turn.ensures.turns;
         fails = tt;
         same = (refl, c.in-Err.ensures.denied.rests);
-        err = (_, c.error.ensures);
-        number = inl (is_numbered g.T.Turns.cause g.met.T.CoreTurns.refusals_mean (g.T.Turns.setting c.args.turns.now) _ (g.T.Turns.seen c.make_turn.new.turns) c.in-Err.denied c.in-Err.ensures.denied.due c.error.result c.error.ensures (λ x none. none));
+        err = (_, refl);
+        due = inl (is_due g.T.Turns.cause g.met.T.CoreTurns.refusals_mean (g.T.Turns.setting c.args.turns.now) _ (g.T.Turns.seen c.make_turn.new.turns) c.in-Err.denied c.in-Err.ensures.denied.due (λ x none. none));
       };
     }
 
@@ -37,6 +37,6 @@ returns-then-self g c =
         fails = search rules;
         same = search rules;
         err = search rules;
-        number = inr (ap (λ (l : HostOutboxState). l.is_astray) (sym c.self.view_is) ∙ c.if-self.true, refl);
+        due = inr (ap (λ (l : HostOutboxState). l.is_astray) (sym c.self.view_is) ∙ c.if-self.true, refl);
       };
     }

@@ -4,7 +4,7 @@ use Rattle.proxy_history.specs.declared.event.Event.{Event}
 use Rattle.proxy_engines.specs.Host.{HostOutboxState}
 use Rattle.proxy_engines.proofs.AnswerLemmas.{if_err}
 use Rattle.proxy_engines.proofs.MoveLemmas.{turn_told}
-use Rattle.proxy_engines.proofs.NumberLemmas.{expected, is_nothing_waiting, told_ok, told_plain}
+use Rattle.proxy_engines.proofs.RefusalLemmas.{expected, is_nothing_waiting, told_ok, told_plain}
 use Rattle.proxy_engines.proofs.HostMoves.{stays_on, taken_on, taken_astray}
 use Rattle.proxy_engines.proofs.host_outbox.HostOutbox.take.Goals as goal
 
@@ -43,7 +43,7 @@ returns-in-Err-clause-moves g c = λ k.
     record {
       turns = c.make_turn.ensures.turns;
       goes = turn_told _ c.told_as.result (told_ok c.in-Err.denied false c.told_as.result c.told_as.ensures (λ b. b ≡ false) (λ x is soft. refl)) (rw (c.reserve.ensures.items, ← c.self.view_is) (stays_on _ k _ _ c.args.moment c.in-Err.ensures.denied.rests));
-      plain = if_err _ _ c.told_as.result (λ e (plain, number). (plain, inl number))
+      plain = if_err _ _ c.told_as.result (λ e (plain, due). (plain, inl due))
           (told_plain c.in-Err.denied false c.told_as.result c.told_as.ensures (g.T.Turns.cause (g.T.Turns.setting c.args.turns.now)) (Event.Taken c.self.inside.host) (g.T.Turns.seen c.make_turn.new.turns) c.in-Err.ensures.denied.due);
     }
 

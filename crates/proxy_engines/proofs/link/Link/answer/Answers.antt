@@ -4,7 +4,7 @@ use Rattle.std.proofs.Common.{◌≡◌, ◌∙◌, ap, sym, Some, None, false, 
 use Rattle.proxy_history.specs.declared.event.Event.{Event}
 use Rattle.proxy_history.specs.declared.event.Kind.{Kind}
 use Rattle.proxy_engines.specs.declared.link.Outcome.{Outcome}
-use Rattle.proxy_engines.proofs.NumberLemmas.{expected, is_unasked, told_ok, told_plain}
+use Rattle.proxy_engines.proofs.RefusalLemmas.{expected, is_unasked, told_ok, told_plain}
 use Rattle.proxy_engines.proofs.HostMoves.{answered_on, stays_on}
 use Rattle.proxy_engines.specs.Faults.{told_by_outcome}
 use Rattle.proxy_engines.proofs.AnswerLemmas.{if_err}
@@ -35,7 +35,7 @@ returns-in-Err-clause-moves g c =
           moves_none _ c.told_as.result unmoved (false, rw (c.replace.ensures.after, same, ← c.self.view_is) (stays_on c.args.outbox.now _ _ _ c.args.moment c.in-Err.ensures.denied.rests));
       plain = let l = c.args.outbox.now in
           let due = rw (c.host.ensures, c.epoch.ensures) at c.in-Err.ensures.denied.due in
-          if_err _ _ c.told_as.result (λ e (plain, number). (plain, inl number))
+          if_err _ _ c.told_as.result (λ e (plain, due). (plain, inl due))
           (told_plain c.in-Err.denied garbled c.told_as.result c.told_as.ensures (g.T.Turns.cause (g.T.Turns.setting c.args.turns.now)) (Event.Answered l.host l.epoch c.in-Some.value c.args.moment) (g.T.Turns.seen c.give.new.turns) due);
     }
 

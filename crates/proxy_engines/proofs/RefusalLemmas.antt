@@ -1,4 +1,4 @@
--- What is told of a turn that was refused, and by which number.
+-- What is told of a turn that was refused, and for which cause.
 use Rattle.std.proofs.Common.{◌≡◌, ◌⊎◌, ℕ, Bool, true, false, List, inl, inr, refl}
 use Rattle.std.specs.Prelude.{⊤, Result, IfOk, IfErr}
 use Rattle.proxy_core.specs.CoreTurns.{RefusalsMean}
@@ -7,12 +7,12 @@ use Rattle.proxy_history.specs.Setting.{Setting}
 use Rattle.proxy_history.specs.History.{History, Step}
 use Rattle.proxy_history.specs.SeenSteps.{history_of_seen}
 use Rattle.proxy_history.specs.RefusalLaws.{Means}
-use Rattle.proxy_history.specs.Refusal.{number_of}
 use Rattle.proxy_history.specs.declared.event.Event.{Event}
 use Rattle.proxy_history.specs.declared.refusal.Refusal.{Refusal}
 use Rattle.proxy_engines.specs.Faults.{IsOfNoDevice}
-use Rattle.proxy_engines.specs.OneTurn.{IsDue, IsNumbered, denied_number, is_error, told_as}
-use Rattle.proxy_engines.specs.declared.one_turn.Denied.{Denied}
+use Rattle.proxy_engines.specs.EngineError.{IsTurnRefused}
+use Rattle.proxy_engines.specs.OneTurn.{IsDue, IsDueError, is_error, told_as}
+use Rattle.proxy_engines.specs.declared.error.Denied.{Denied}
 use Rattle.proxy_engines.specs.declared.client.Progress.{Progress}
 use Rattle.proxy_engines.specs.declared.error.EngineError.{EngineError}
 
@@ -71,6 +71,16 @@ expected_of S H (Event.Swept t) (Refusal.NotReady left) m soft = absurd m
 expected_of S H (Event.Handed c) (Refusal.NotReady left) m soft = tt
 expected_of S H (Event.Closed c) (Refusal.NotReady left) m soft = absurd m
 
+-- why a turn was not made is an error
+abbrev IsError : Denied → Type 0
+IsError (Denied.By x) = is_error x ≡ true
+IsError denied = ⊤
+
+due_error : (cause : Refusal → Event → List Step → Type 0) (event : Event) (seen : List Step) (d : Denied) → IsDue cause event seen d → IsError d → IsDueError cause seen (EngineError.TurnRefused d)
+due_error cause event seen Denied.Spent due error = tt
+due_error cause event seen (Denied.By x) due error = (error, (event, due))
+due_error cause event seen Denied.Astray due error = absurd due
+
 -- what is told of a turn, by whether its refusal is an error
 module _ {A : Type 0} (d : Denied) (a : A) (r : Result A EngineError) (is : r ≡ told_as d a) where
   pub told_ok : (P : A → Type 0) → ((x : Refusal) → d ≡ Denied.By x → is_error x ≡ false → P a) → IfOk r P
@@ -83,27 +93,28 @@ module _ {A : Type 0} (d : Denied) (a : A) (r : Result A EngineError) (is : r �
       by : (y : Denied) → d ≡ y → IfOk r P
       by Denied.Spent same = rw (is, same) tt
       by (Denied.By x) same = by_error x same (is_error x) refl
+      by Denied.Astray same = rw (is, same) tt
 
-  pub told_err : (P : EngineError → Type 0) → (d ≡ Denied.Spent → P (EngineError.TurnRefused 1202)) → ((x : Refusal) → d ≡ Denied.By x → is_error x ≡ true → P (EngineError.TurnRefused (number_of x))) → IfErr r P
-  told_err P spent f = by d refl
+  told_err : (P : EngineError → Type 0) → ((y : Denied) → d ≡ y → IsError y → P (EngineError.TurnRefused y)) → IfErr r P
+  told_err P f = by d refl
     where
       by_error : (x : Refusal) → d ≡ Denied.By x → (b : Bool) → is_error x ≡ b → IfErr r P
-      by_error x same true e = rw (is, same, e) (f x same e)
+      by_error x same true e = rw (is, same, e) (f (Denied.By x) same e)
       by_error x same false e = rw (is, same, e) tt
 
       by : (y : Denied) → d ≡ y → IfErr r P
-      by Denied.Spent same = rw (is, same) (spent same)
+      by Denied.Spent same = rw (is, same) (f Denied.Spent same tt)
       by (Denied.By x) same = by_error x same (is_error x) refl
+      by Denied.Astray same = rw (is, same) (f Denied.Astray same tt)
 
-  -- a turn was refused
-  pub told_turn : (P : Type 0) → P → IfErr r (λ e. P × ((n : ℕ) × (e ≡ EngineError.TurnRefused n)))
-  told_turn P p = told_err (λ e. P × ((n : ℕ) × (e ≡ EngineError.TurnRefused n))) (λ _. (p, (_, refl))) (λ x _ _. (p, (_, refl)))
+  pub told_turn : (P : Type 0) → P → IfErr r (λ e. P × IsTurnRefused e)
+  told_turn P p = told_err (λ e. P × IsTurnRefused e) (λ y _ _. (p, (y, refl)))
 
-  pub told_number : (cause : Refusal → Event → List Step → Type 0) (event : Event) (seen : List Step) → IsDue cause event seen d → IfErr r (IsNumbered cause seen)
-  told_number cause event seen due = told_err (IsNumbered cause seen) (λ _. inl refl) (λ x same e. inr (x, event, e, rw same at due, refl))
+  pub told_due : (cause : Refusal → Event → List Step → Type 0) (event : Event) (seen : List Step) → IsDue cause event seen d → IfErr r (IsDueError cause seen)
+  told_due cause event seen due = told_err (IsDueError cause seen) (λ y same error. due_error cause event seen y (rw same at due) error)
 
-  pub told_plain : (cause : Refusal → Event → List Step → Type 0) (event : Event) (seen : List Step) → IsDue cause event seen d → IfErr r (λ e. IsOfNoDevice e × IsNumbered cause seen e)
-  told_plain cause event seen due = told_err (λ e. IsOfNoDevice e × IsNumbered cause seen e) (λ _. (tt, inl refl)) (λ x same e. (tt, inr (x, event, e, rw same at due, refl)))
+  pub told_plain : (cause : Refusal → Event → List Step → Type 0) (event : Event) (seen : List Step) → IsDue cause event seen d → IfErr r (λ e. IsOfNoDevice e × IsDueError cause seen e)
+  told_plain cause event seen due = told_err (λ e. IsOfNoDevice e × IsDueError cause seen e) (λ y same error. (tt, due_error cause event seen y (rw same at due) error))
 
 -- a turn that was refused, with what its refusal means
 module _ (cause : Origin → Refusal → Event → List Step → Type 0) (means : RefusalsMean cause) (made : Origin) (event : Event) (seen : List Step) (d : Denied) (due : IsDue (cause made) event seen d) where
@@ -112,16 +123,17 @@ module _ (cause : Origin → Refusal → Event → List Step → Type 0) (means 
   expected x same soft = let holds = rw same at due in (expected_of (setting_by made) (history_of_seen seen) event x (means made x event seen holds) soft, holds)
 
   -- the error of an event of which each refusal is one
-  pub is_numbered : (e : EngineError) → e ≡ EngineError.TurnRefused (denied_number d) → ((x : Refusal) → IsExpected event x → ⊥) → IsNumbered (cause made) seen e
-  is_numbered e is none = by d refl
+  pub is_due : ((x : Refusal) → IsExpected event x → ⊥) → IsDueError (cause made) seen (EngineError.TurnRefused d)
+  is_due none = due_error (cause made) event seen d due (by d refl)
     where
-      by_error : (x : Refusal) → d ≡ Denied.By x → (b : Bool) → is_error x ≡ b → IsNumbered (cause made) seen e
-      by_error x same true error = rw (is, same) (inr (x, event, error, rw same at due, refl))
+      by_error : (x : Refusal) → d ≡ Denied.By x → (b : Bool) → is_error x ≡ b → is_error x ≡ true
+      by_error x same true error = error
       by_error x same false soft = absurd (none x (expected x same soft).0)
 
-      by : (y : Denied) → d ≡ y → IsNumbered (cause made) seen e
-      by Denied.Spent same = rw (is, same) (inl refl)
+      by : (y : Denied) → d ≡ y → IsError y
+      by Denied.Spent same = tt
       by (Denied.By x) same = by_error x same (is_error x) refl
+      by Denied.Astray same = tt
 
 -- the one refusal that is no error, of each event that has one
 pub is_not_ready : (P : Refusal → Type 0) (c : ℕ) (x : Refusal) → IsExpected (Event.Handed c) x × P x → (left : ℕ) × P (Refusal.NotReady left)
@@ -185,6 +197,6 @@ is_unasked P h e v t Refusal.NothingWaiting (none, _) = absurd none
 is_unasked P h e v t (Refusal.NotReady left) (none, _) = absurd none
 
 -- and of a close after a fault, where it was refused
-pub numbered_cut : (P : EngineError → Type 0) (answer result : Result Progress EngineError) → IfErr answer P → (result ≡ answer) ⊎ IfErr result P → IfErr result P
-numbered_cut P answer result told (inl same) = rw same told
-numbered_cut P answer result told (inr number) = number
+pub due_cut : (P : EngineError → Type 0) (answer result : Result Progress EngineError) → IfErr answer P → (result ≡ answer) ⊎ IfErr result P → IfErr result P
+due_cut P answer result told (inl same) = rw same told
+due_cut P answer result told (inr due) = due
