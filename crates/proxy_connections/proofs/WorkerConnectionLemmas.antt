@@ -13,7 +13,9 @@ use Rattle.proxy_engines.specs.HostStep.{ends_of}
 use Rattle.proxy_engines.proofs.CallerLemmas as engines
 use Rattle.proxy_engines.specs.Client.{Client as Engine}
 use Rattle.proxy_connections.specs.Sockets.{CarriesItsSocket, KeepsHost, OpensSocket}
-use Rattle.proxy_connections.specs.Places.{IsOf, KeepsToPlace, Place}
+use Rattle.proxy_notices.specs.Places.{IsOf}
+use Rattle.proxy_notices.specs.declared.place.Place.{Place}
+use Rattle.proxy_connections.specs.Places.{KeepsToPlace}
 use Rattle.proxy_connections.proofs.PlaceLemmas.{keeps_beside, keeps_of_connection, keeps_of_host}
 use Rattle.proxy_connections.specs.WorkerConnections.{AddsClient, CarriesLink, ChangesClient, ChangesHost, WorkerConnectionsState, IsAt, IsNewcomer, IsServing, KeepsClients, RiseTo, ServesClients, ServesHosts, number_of}
 use Rattle.proxy_connections.specs.declared.client_connection.ClientConnection.{ClientConnection}

@@ -1,5 +1,5 @@
 -- Which worker steps which host, and that a host's steps are of one pass.
-use Rattle.std.specs.Prelude.{◌≡◌, ◌≢◌, ◌%◌, ℕ, List, [], Option, Some, None}
+use Rattle.std.specs.Prelude.{◌≡◌, ◌≢◌, ℕ, List, [], Option, Some, None}
 use Rattle.proxy_history.specs.History.{History, Step}
 use Rattle.proxy_history.specs.OwnSteps.{host_steps}
 use Rattle.proxy_history.specs.OwnStepsLaws.{SameOfHost}
@@ -7,19 +7,12 @@ use Rattle.proxy_history.specs.SeenSteps.{history_of_seen}
 use Rattle.proxy_engines.specs.Turns.{own_steps}
 use Rattle.ticket_gate.specs.Journal.{Meets}
 use Rattle.proxy_core.specs.Recorded.{Origin, IsLegalJournal}
-
--- a worker's index, and the number of the workers of its generation
-pub record Place : Type 0 where
-  pub index : ℕ
-  pub workers : ℕ
-
--- the host's number leaves the place's index behind
-abbrev pub IsOf : Place → ℕ → Type 0
-IsOf place h = h % place.workers ≡ place.index
+use Rattle.proxy_notices.specs.Places.{IsOf}
+use Rattle.proxy_notices.specs.declared.place.Place.{Place}
 
 -- no step in it is of a host of another place
 abbrev pub KeepsToPlace : Place → History → Type 0
-KeepsToPlace place H = (h : ℕ) → h % place.workers ≢ place.index → host_steps h H ≡ []
+KeepsToPlace place H = (h : ℕ) → (IsOf place h → ⊥) → host_steps h H ≡ []
 
 -- no step in it is of a host
 abbrev pub HasNoHostStep : History → Type 0

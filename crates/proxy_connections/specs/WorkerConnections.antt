@@ -12,7 +12,9 @@ use Rattle.proxy_engines.specs.Turns.{own_steps}
 use Rattle.proxy_engines.specs.Client.{Client as Engine}
 use Rattle.proxy_stats.specs.declared.counted_seat.CountedSeat.{CountedSeat}
 use Rattle.proxy_connections.specs.Sockets.{KeepsHost}
-use Rattle.proxy_connections.specs.Places.{IsOf, KeepsToPlace, Place}
+use Rattle.proxy_notices.specs.Places.{IsOf}
+use Rattle.proxy_notices.specs.declared.place.Place.{Place}
+use Rattle.proxy_connections.specs.Places.{KeepsToPlace}
 use Rattle.proxy_connections.specs.declared.client_connection.ClientConnection.{ClientConnection}
 use Rattle.proxy_connections.specs.declared.client_connection.SocketStage.{SocketStage}
 use Rattle.proxy_connections.specs.declared.client_connection.Stepped.{Stepped}

@@ -9,7 +9,7 @@ ghost use Rattle.proxy_connections.specs.WorkerConnections.{CarriesLink};
 use crate::socket::{Reader, SharedStream, Socket, Writer, note_readable, note_writable};
 use crate::step_error::StepError;
 use journal_room::{CountedTurns, HeldTurns, JournalRoom, TurnCounts};
-use limits::{CONNECTING_MS, TELL_MS};
+use limits::{CONNECTING_MS, MAX_HOSTS, TELL_MS};
 use mio::event::Event as Readiness;
 use mio::net::TcpStream;
 use mio::{Interest, Registry, Token};
@@ -159,6 +159,12 @@ impl HostConnection {
             coming: 0,
             logged_at: None,
         }
+    }
+
+    /// The host's bit: of host h it is bit h.
+    pub(crate) fn bit(&self) -> u64 {
+        let host = self.engine.host();
+        if host < MAX_HOSTS { 1 << host } else { 0 }
     }
 
     /// The host's address.

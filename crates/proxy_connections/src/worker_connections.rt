@@ -1,7 +1,5 @@
 //! The clients and hosts of a worker, and the turns by which these are stepped.
-ghost use Rattle.std.specs.List.{All};
-ghost use Rattle.std.specs.Prelude.{◌≡◌, ◌+◌, ℕ, [], IfOk, IfSome, OnOk};
-ghost use Rattle.proxy_connections.specs.Places.{IsOf, Place};
+ghost use Rattle.std.specs.Prelude.{◌≡◌, ◌<◌, ◌+◌, [], IfOk, IfSome, OnOk};
 ghost use Rattle.proxy_connections.specs.WorkerConnections.{AddsClient, ChangesClient, ChangesHost, IsLast, IsLeaving, IsNewcomer, KeepsClients, MakesRoom, RemovesClient, RiseTo, ServesHosts, steps_of};
 
 use crate::client_connection::{
@@ -12,15 +10,14 @@ use crate::round::Round;
 use crate::step_error::StepError;
 use journal_budget::StepKind;
 use journal_room::{CountedTurns, JournalRoom};
-use limits::MAX_HOSTS;
 use mio::event::Event;
 use mio::net::TcpStream;
 use mio::{Registry, Token};
 use proxy_config::Config;
 use proxy_exit_status::Ending;
 use proxy_histogram::Histogram;
-use proxy_notices::{MAX_WORDS, Notices};
-use proxy_serve_core::{ReadyClients, hosts_of_worker};
+use proxy_notices::{MAX_WORDS, Notices, Place};
+use proxy_serve_core::ReadyClients;
 use proxy_stats::CountedSeat;
 use slab::Slab;
 use std::alloc::Global;
@@ -64,14 +61,11 @@ pub struct HostResult {
 /// The clients and hosts of a worker.
 ///
 /// At all times each client's engine has done just what its socket's logs show, and each host's what its link's show,
-/// over the steps of this seat. None of these is of a host whose number, modulo the workers, isn't the worker's index. A
-/// client goes only by `remove` and `carry`.
+/// over the steps of this seat. None of these is of a host of another worker. A client goes only by `remove` and `carry`.
 pub struct WorkerConnections<'a> {
     alloc: Global,
     turns: CountedTurns<CountedSeat<'a>>,
-    // The worker's index, and the number of workers.
-    index: usize,
-    workers: usize,
+    place: Place,
     clients: Slab<ClientConnection>,
     // Which of them the next round looks at.
     ready: ReadyClients,
@@ -87,8 +81,7 @@ impl Drop for WorkerConnections<'_> {
         let WorkerConnections {
             alloc: _,
             turns: _,
-            index: _,
-            workers: _,
+            place: _,
             clients: _,
             ready: _,
             hosts: _,
@@ -112,34 +105,32 @@ impl<'a> Model for WorkerConnections<'a> {
     ghost coded = { Prim.hlevel (codes, tree_code, slab_code, client.the_row.coded, host_connection.the_row.coded) };
 
     ghost view = { λ c. record {
-      place = record { index = c.index; workers = c.workers };
+      place = c.place;
       clients = c.clients;
       hosts = c.hosts.items;
       steps = steps_of c.turns.turns;
     } };
 
-    ghost invariant = { λ c. IsServing (record { index = c.index; workers = c.workers }) c.clients c.hosts.items (steps_of c.turns.turns) };
+    ghost invariant = { λ c. IsServing c.place c.clients c.hosts.items (steps_of c.turns.turns) };
 }
 
 impl<'a> WorkerConnections<'a> {
-    /// The hosts of the worker with this index, each without a link, and no client. Ends with `Memory` where there is
+    /// The hosts of the worker at this place, each without a link, and no client. Ends with `Memory` where there is
     /// none for the hosts.
     pub fn new(
         alloc: Global,
-        index: usize,
-        workers: usize,
+        place: Place,
         config: &Config,
         seat: CountedSeat<'a>,
     ) -> Result<WorkerConnections<'a>, Ending>
         requires { steps_of seat ≡ [] }
-        ensures { IfOk result (λ made. made.place ≡ record { index = index; workers = workers }) }
+        ensures { IfOk result (λ made. made.place ≡ place) }
     {
-        let hosts = hosts_of(alloc, index, workers, config)?;
+        let hosts = hosts_of(alloc, place, config)?;
         Ok(WorkerConnections {
             alloc,
             turns: CountedTurns::new(seat),
-            index,
-            workers,
+            place,
             clients: Slab::new(alloc),
             ready: ReadyClients::new(alloc),
             hosts,
@@ -239,8 +230,8 @@ impl<'a> WorkerConnections<'a> {
     pub fn hear(&mut self, notices: &Notices)
         ensures { self.new ≡ self.old }
     {
-        self.stirred |= notices.take_hosts(self.index);
-        make_told_ready(&mut self.ready, notices, self.index);
+        self.stirred |= notices.take_hosts(self.place.index);
+        make_told_ready(&mut self.ready, notices, self.place.index);
     }
 
     /// Has each host stepped in the next round, whether it was told of parts or not.
@@ -253,8 +244,8 @@ impl<'a> WorkerConnections<'a> {
     // The bits of all its hosts.
     fn bits_of_hosts(&self) -> u64 {
         let mut bits = 0;
-        for index in 0..self.hosts.len() {
-            bits |= self.bit_of_host(index);
+        for host in &self.hosts {
+            bits |= host.bit();
         }
         bits
     }
@@ -317,7 +308,7 @@ impl<'a> WorkerConnections<'a> {
         let Ok(key) = self.clients.insert(client) else {
             return Opened::Dropped;
         };
-        round.notices.add_client(conn, self.index, key);
+        round.notices.add_client(conn, self.place.index, key);
         self.ready.make_ready(key);
         Opened::Kept
     }
@@ -398,14 +389,6 @@ impl<'a> WorkerConnections<'a> {
         })
     }
 
-    // The bit of the host with this index: of host h it is bit h.
-    fn bit_of_host(&self, index: usize) -> u64 {
-        let host = index
-            .saturating_mul(self.workers)
-            .saturating_add(self.index);
-        if host < MAX_HOSTS { 1 << host } else { 0 }
-    }
-
     /// Steps the host with this index. `None`: it can't make progress now, or there is no such host.
     pub fn step_host<R: Wait + Net>(
         &mut self,
@@ -415,11 +398,11 @@ impl<'a> WorkerConnections<'a> {
     ) -> Option<HostResult>
         ensures { ChangesHost index self.old self.new }
     {
-        let bit = self.bit_of_host(index);
-        let is_stirred = self.stirred & bit != 0;
         let Some(host) = self.hosts.get_mut(index) else {
             return None;
         };
+        let bit = host.bit();
+        let is_stirred = self.stirred & bit != 0;
         if !is_stirred && !round.gives_up && !host.may_go(round.now) {
             return None;
         }
@@ -440,7 +423,7 @@ impl<'a> WorkerConnections<'a> {
     {
         self.ready.forget(key);
         if let Some(client) = self.clients.try_remove(key) {
-            notices.remove_client(client.conn(), self.index, key);
+            notices.remove_client(client.conn(), self.place.index, key);
             drop(client);
         }
     }
@@ -454,7 +437,9 @@ impl<'a> WorkerConnections<'a> {
         self.ready.forget(key);
         match self.clients.try_remove(key) {
             Some(client) => {
-                round.notices.remove_client(client.conn(), self.index, key);
+                round
+                    .notices
+                    .remove_client(client.conn(), self.place.index, key);
                 client.carry(round.registry, round.room)
             }
             None => None,
@@ -555,39 +540,33 @@ fn is_any_connecting(hosts: &[HostConnection], now: u64) -> bool {
     hosts.iter().any(|host| host.is_connecting(now))
 }
 
-// The hosts of the worker with this index, each without a link.
-fn hosts_of(
-    alloc: Global,
-    index: usize,
-    workers: usize,
-    config: &Config,
-) -> Result<Vec<HostConnection>, Ending>
-    ensures { IfOk result (λ hosts.
-        ServesHosts (record { index = index; workers = workers }) hosts.items []) }
+// The hosts of the worker at this place, each without a link.
+fn hosts_of(alloc: Global, place: Place, config: &Config) -> Result<Vec<HostConnection>, Ending>
+    ensures { IfOk result (λ hosts. ServesHosts place hosts.items []) }
 {
     let mut hosts = Vec::new(alloc);
-    if workers == 0 {
+    if place.workers == 0 {
         return Ok(hosts);
     }
-    let own = hosts_of_worker(alloc, index, workers, config.hosts.len())?;
     for host in 0..config.hosts.len() {
-        push_host(&mut hosts, alloc, host, &own, config)?;
+        push_host(&mut hosts, alloc, host, place, config)?;
     }
     Ok(hosts)
 }
 
-// Adds the host of this number, without a link, if it is the worker's own.
+// Adds the host of this number, without a link, if the worker at this place has it.
 fn push_host(
     hosts: &mut Vec<HostConnection>,
     alloc: Global,
     host: usize,
-    own: &[usize],
+    place: Place,
     config: &Config,
 ) -> Result<(), Ending>
-    ensures { (place : Place) → All (IsOf place) own.now → RiseTo place hosts.old.items host
+    requires { 0 < place.workers }
+    ensures { RiseTo place hosts.old.items host
         → OnOk result (RiseTo place hosts.new.items (host + 1)) }
 {
-    if !own.contains(&host) {
+    if !place.has(host) {
         return Ok(());
     }
     let Some(entry) = config.hosts.get(host) else {

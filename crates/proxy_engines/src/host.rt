@@ -103,6 +103,13 @@ impl<R: ReadTally + Drop, W: WriteTally + Drop> HostEngine<R, W> {
     ghost use Rattle.proxy_devices.specs.Device.{reader_state, writer_state};
     ghost use Rattle.proxy_engines.specs.Lends.{lends_host_reader, lends_host_writer, with_link, with_link_reader, with_link_writer};
 
+    /// The host's number.
+    pub fn host(&self) -> usize
+        ensures { result ≡ self.now.outbox.host }
+    {
+        self.outbox.host()
+    }
+
     /// Whether a part was taken that has no reply yet.
     pub fn awaits_reply(&self) -> bool
         ensures { IsTrue result ↔ self.now.outbox.moments ≢ [] }

@@ -1,22 +1,24 @@
 -- The bits of a worker's hosts, one after the other.
 use Rattle.std.proofs.Common.{◌≡◌, ◌≢◌, ◌↔◌, ℕ, ◌+◌, ◌*◌, ◌%◌, ◌^◌, ◌<◌, ◌≤◌, bit_or, w64, ◌∙◌, inl, inr, arith}
 use Rattle.std.specs.Int.{bit_at}
+use Rattle.proxy_notices.specs.Places.{IsOf}
+use Rattle.proxy_notices.specs.declared.place.Place.{Place}
 use Rattle.std.proofs.lemmas.Bool.{cases_eq}
 use Rattle.std.proofs.lemmas.Nat.Bits.{bit_at-zero, bit_at_set_same, bit_at_set_other}
 
 -- the hosts below a number have their bits, and no others
-pub record AreBelow (bits worker workers next : ℕ) : Type 0 where
-  pub below : (host : ℕ) → host < next → host < 64 → (bit_at bits host ≡ 1) ↔ (host % workers ≡ worker)
+pub record AreBelow (bits : ℕ) (place : Place) (next : ℕ) : Type 0 where
+  pub below : (host : ℕ) → host < next → host < 64 → (bit_at bits host ≡ 1) ↔ IsOf place host
   pub above : (host : ℕ) → next ≤ host → bit_at bits host ≡ 0
 
-pub none_below : (worker workers : ℕ) → AreBelow 0 worker workers 0
-none_below worker workers = record {
+pub none_below : (place : Place) → AreBelow 0 place 0
+none_below place = record {
   below = λ host past. absurd (omega (arith, past));
   above = λ host _. bit_at-zero host;
 }
 
-module _ (bits worker workers next : ℕ) (few : next < 64) (are : AreBelow bits worker workers next) where
-  pub with_host : next % workers ≡ worker → AreBelow (bit_or bits (1 * 2 ^ next % 2 ^ 64)) worker workers (next + 1)
+module _ (bits : ℕ) (place : Place) (next : ℕ) (few : next < 64) (are : AreBelow bits place next) where
+  pub with_host : IsOf place next → AreBelow (bit_or bits (1 * 2 ^ next % 2 ^ 64)) place (next + 1)
   with_host is =
       let same = bit_at_set_same w64 bits next few in
       record {
@@ -31,7 +33,7 @@ module _ (bits worker workers next : ℕ) (few : next < 64) (are : AreBelow bits
             bit_at_set_other w64 bits next few host (λ at. omega (arith, past, at)) ∙ are.above host (omega (arith, past));
       }
 
-  pub without_host : next % workers ≢ worker → AreBelow bits worker workers (next + 1)
+  pub without_host : (IsOf place next → ⊥) → AreBelow bits place (next + 1)
   without_host differs = record {
     below = λ host within small.
         elim (cases_eq host next) [

@@ -1,3 +1,4 @@
 pub mod ClientPlace
 pub mod HostBits
+pub mod Places
 pub mod UnseenParts

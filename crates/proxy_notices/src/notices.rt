@@ -3,20 +3,21 @@ ghost use Rattle.std.specs.Prelude.{◌<◌};
 ghost use Rattle.proxy_notices.specs.HostBits.{AreHostsOf};
 
 use crate::client_place::{ClientPlace, FREE, MAX_KEYS, SHARED, code_of, place_of};
+use crate::place::{Place, worker_of_host};
 use crate::worker_notices::{ReadyWord, WorkerNotices};
 use crossbeam_utils::CachePadded;
 use limits::MAX_HOSTS;
 use std::alloc::{AllocError, Global};
 use std::sync::atomic::{AtomicU64, Ordering};
 
-// The hosts of a worker: bit h stands for host h.
-fn own_hosts(worker: usize, workers: usize) -> u64
-    requires { 0 < workers }
-    ensures { AreHostsOf result worker workers }
+// The hosts of the worker at this place: bit h stands for host h.
+fn own_hosts(place: Place) -> u64
+    requires { 0 < place.workers }
+    ensures { AreHostsOf result place }
 {
     let mut own = 0;
     for host in 0..MAX_HOSTS {
-        if host % workers == worker {
+        if place.has(host) {
             own |= 1 << host;
         }
     }
@@ -26,7 +27,7 @@ fn own_hosts(worker: usize, workers: usize) -> u64
 /// What the workers of a generation are to know of turns.
 ///
 /// The core's turns write it from inside the gate, and each worker takes what concerns it: hosts for which parts came,
-/// and clients to which replies came. Host `h` is of the worker `h % workers`. Nothing is lost: what was written before
+/// and clients to which replies came. Nothing is lost: what was written before
 /// a take is in this take or in an earlier one. More may be told than is so.
 pub struct Notices {
     workers: Vec<CachePadded<WorkerNotices>>,
@@ -51,8 +52,8 @@ impl Notices {
     /// Nothing to know, for this many workers. Refused where there is no memory.
     pub fn new(alloc: Global, workers: usize) -> Result<Notices, AllocError> {
         let mut all = Vec::with_capacity(alloc, workers)?;
-        for worker in 0..workers {
-            let own = own_hosts(worker, workers);
+        for index in 0..workers {
+            let own = own_hosts(Place { index, workers });
             all.push(CachePadded::new(WorkerNotices::new(alloc, own)?))?;
         }
         let mut clients = Vec::with_capacity(alloc, MAX_KEYS)?;
@@ -134,7 +135,7 @@ impl Notices {
     pub fn parts_came(&self, host: usize) {
         let workers = self.workers.len();
         if workers > 0 {
-            if let Some(notices) = self.worker(host % workers) {
+            if let Some(notices) = self.worker(worker_of_host(host, workers)) {
                 notices.add_host(host);
             }
         }

@@ -3,7 +3,7 @@ use Rattle.std.proofs.Common.{◌≡◌, ◌∙◌, ◌+◌, ℕ, List, [], ◌�
 use Rattle.std.specs.List.{filter_map}
 use Rattle.std.proofs.lemmas.List.Elements.{filter_map-append}
 use Rattle.std.proofs.lemmas.List.FromFn.{map-range_with_len_more}
-use Rattle.proxy_connections.specs.Places.{Place}
+use Rattle.proxy_notices.specs.declared.place.Place.{Place}
 use Rattle.proxy_rounds.specs.Tasks.{HaveOwnPlaces, first_places, place_of}
 use Rattle.proxy_rounds.specs.declared.generation.Task.{Task}
 

@@ -1,7 +1,7 @@
 -- The places of a generation's workers.
 use Rattle.std.specs.Prelude.{◌≡◌, ℕ, List, Option, Some, None, map}
 use Rattle.std.specs.List.{filter_map, range_with_len}
-use Rattle.proxy_connections.specs.Places.{Place}
+use Rattle.proxy_notices.specs.declared.place.Place.{Place}
 use Rattle.proxy_rounds.specs.declared.generation.Task.{Task}
 use Rattle.proxy_rounds.specs.declared.generation.Task.TheVariants.{Work, Sweep, Done}
 

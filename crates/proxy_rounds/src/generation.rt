@@ -16,7 +16,7 @@ use proxy_core::{CountingCore, Handover, Settings};
 use proxy_engines::{EngineError, Work, run_all};
 use proxy_exit_status::Ending;
 use proxy_generations::Due;
-use proxy_notices::Notices;
+use proxy_notices::{Notices, Place};
 use proxy_server::{Inherited, Stop};
 use proxy_stats::{Counted, CountedSeat};
 use std::alloc::Global;
@@ -127,25 +127,23 @@ fn seat<'a, R: Wait>(
     }
 }
 
-// A worker's task, with a place at the gate.
+// A worker's task, with a seat at the gate.
 fn work_task<'a, R: Wait>(
     rt: &R,
     context: ThreadContext<'a>,
     gate: &'a Gate<Counted>,
     spare: Spare<Counted>,
-    index: usize,
-    workers: usize,
+    place: Place,
     poll: Poll,
 ) -> Result<Task<'a>, Ending>
     requires { IsSpareOf gate.now spare }
-    ensures { IfOk result (λ task.
-        place_of task ≡ Some (record { index = index; workers = workers })) }
+    ensures { IfOk result (λ task. place_of task ≡ Some place) }
 {
     let seat = seat(rt, gate, spare)?;
-    Ok(Task::Work(WorkerSetup::new(context, index, workers, poll, seat)))
+    Ok(Task::Work(WorkerSetup::new(context, place, poll, seat)))
 }
 
-// The task that sweeps and opens the generation, with a place at the gate.
+// The task that sweeps and opens the generation, with a seat at the gate.
 fn sweep_task<'a, R: Wait>(
     rt: &R,
     context: ThreadContext<'a>,
@@ -180,7 +178,8 @@ fn tasks<'a, R: Wait>(
     for poll in polls {
         let (one, rest) = gate.split(spare);
         spare = rest;
-        tasks.push(work_task(rt, context, gate, one, index, workers, poll)?)?;
+        let place = Place { index, workers };
+        tasks.push(work_task(rt, context, gate, one, place, poll)?)?;
         index = index.saturating_add(1);
     }
     tasks.push(sweep_task(rt, context, gate, spare, wakers)?)?;

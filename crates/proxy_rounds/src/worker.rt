@@ -13,6 +13,7 @@ use proxy_connections::{
 };
 use proxy_exit_status::Ending;
 use proxy_generations::Phase;
+use proxy_notices::Place;
 use proxy_serve_core::Refusals;
 use proxy_server::{Level, Stop, now};
 use proxy_stats::CountedSeat;
@@ -46,9 +47,7 @@ const MAX_EVENTS: usize = 1_024;
 /// What a worker starts with.
 pub(crate) struct WorkerSetup<'a> {
     context: ThreadContext<'a>,
-    // Its index, and the number of workers.
-    index: usize,
-    workers: usize,
+    place: Place,
     poll: Poll,
     seat: CountedSeat<'a>,
 }
@@ -58,8 +57,7 @@ impl Drop for WorkerSetup<'_> {
     fn drop(self) {
         let WorkerSetup {
             context: _,
-            index: _,
-            workers: _,
+            place: _,
             poll: _,
             seat: _,
         } = self;
@@ -68,32 +66,30 @@ impl Drop for WorkerSetup<'_> {
 
 impl<'a> Model for WorkerSetup<'a> {
     ghost use Rattle.std.specs.Prelude.{◌≡◌, []};
-    ghost use Rattle.proxy_connections.specs.Places.{Place};
+    ghost use Rattle.proxy_notices.specs.declared.place.Place.{Place};
     ghost use Rattle.proxy_connections.specs.WorkerConnections.{steps_of};
 
     ghost Value = { Place };
 
-    ghost view = { λ s. record { index = s.index; workers = s.workers } };
+    ghost view = { λ s. s.place };
 
     ghost invariant = { λ s. steps_of s.seat ≡ [] };
 }
 
 impl<'a> WorkerSetup<'a> {
-    /// A worker of this index among these many workers, which waits at this poll and makes turns by this seat.
+    /// A worker at this place, which waits at this poll and makes turns by this seat.
     pub(crate) fn new(
         context: ThreadContext<'a>,
-        index: usize,
-        workers: usize,
+        place: Place,
         poll: Poll,
         seat: CountedSeat<'a>,
     ) -> WorkerSetup<'a>
         requires { steps_of seat ≡ [] }
-        ensures { result ≡ record { index = index; workers = workers } }
+        ensures { result ≡ place }
     {
         WorkerSetup {
             context,
-            index,
-            workers,
+            place,
             poll,
             seat,
         }
@@ -115,13 +111,11 @@ impl<'a> WorkerSetup<'a> {
 
     // The worker with its hosts and no clients; ends with `Memory` where there is none for the hosts.
     fn worker(self) -> Result<Worker<'a>, Ending>
-        ensures { IfOk result (λ worker. worker.connections.place
-            ≡ record { index = self.entry.index; workers = self.entry.workers }) }
+        ensures { IfOk result (λ worker. worker.connections.place ≡ self.entry.place) }
     {
         let WorkerSetup {
             context,
-            index,
-            workers,
+            place,
             poll,
             seat,
         } = self;
@@ -132,10 +126,10 @@ impl<'a> WorkerSetup<'a> {
             marks: _,
         } = context;
         Ok(Worker {
-            index,
+            index: place.index,
             poll,
             generation,
-            connections: WorkerConnections::new(alloc, index, workers, config, seat)?,
+            connections: WorkerConnections::new(alloc, place, config, seat)?,
             opening: Refusals::new(),
             now: 0,
             lacks_memory: false,

@@ -1,2 +1,1 @@
-mod AssignmentLemmas
 mod KeySetLemmas

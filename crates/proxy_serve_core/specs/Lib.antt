@@ -1,5 +1,5 @@
 pub mod Sockets
-pub mod Assignment
+pub mod RoundRobin
 pub mod EjectionLog
 pub mod KeySet
 pub mod ReadyClients

@@ -1,8 +1,6 @@
-//! Assigns new sockets to workers in turn, and hosts by their numbers.
-ghost use Rattle.std.specs.Prelude.{◌≡◌, ◌<◌, ◌+◌, ◌%◌, IfOk};
-ghost use Rattle.proxy_serve_core.specs.Assignment.{hosts_of};
+//! Assigns new sockets to workers in turn.
+ghost use Rattle.std.specs.Prelude.{◌≡◌, ◌<◌, ◌+◌, ◌%◌};
 
-use std::alloc::{AllocError, Global};
 use std::marker::Model;
 
 /// Round robin over a number of workers.
@@ -14,7 +12,7 @@ pub struct RoundRobin {
 
 impl Model for RoundRobin {
     ghost use Rattle.std.specs.Prelude.{◌<◌};
-    ghost use Rattle.proxy_serve_core.specs.Assignment.{RoundRobinState};
+    ghost use Rattle.proxy_serve_core.specs.RoundRobin.{RoundRobinState};
 
     ghost Value = { RoundRobinState };
 
@@ -46,26 +44,4 @@ impl RoundRobin {
         self.next = (place + 1) % self.count;
         place
     }
-}
-
-/// The numbers of a worker's hosts: those below `hosts` whose remainder by `workers` is its place, each once, from the
-/// lowest on.
-///
-/// Refused where there is no memory.
-pub fn hosts_of_worker(
-    alloc: Global,
-    place: usize,
-    workers: usize,
-    hosts: usize,
-) -> Result<Vec<usize>, AllocError>
-    requires { 0 < workers }
-    ensures { IfOk result (λ own. own.items ≡ hosts_of place workers hosts) }
-{
-    let mut own = Vec::new(alloc);
-    for host in 0..hosts {
-        if host % workers == place {
-            own.push(host)?;
-        }
-    }
-    Ok(own)
 }
