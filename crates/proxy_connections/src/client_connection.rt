@@ -205,15 +205,12 @@ pub(crate) struct ClientConnection {
     engine: Engine,
     stream: SharedStream,
     stage: SocketStage,
-    // The number of commands accepted and not yet answered, and since when they wait.
-    unanswered: u64,
+    // Since when its unanswered commands wait.
     waits: Unanswered,
     // The last round ended before all was done.
     has_more: bool,
     // Consecutive refusals of memory.
     refusals: Refusals,
-    // Nothing more is taken in.
-    is_drained: bool,
     // The bytes that had come when a command was last accepted, and the bytes since.
     begun: u64,
     unfinished: u64,
@@ -226,11 +223,9 @@ impl Drop for ClientConnection {
             engine: _,
             stream: _,
             stage: _,
-            unanswered: _,
             waits: _,
             has_more: _,
             refusals: _,
-            is_drained: _,
             begun: _,
             unfinished: _,
         } = self;
@@ -246,11 +241,9 @@ impl ClientConnection {
             engine,
             stream,
             stage: SocketStage::Served,
-            unanswered: 0,
             waits: Unanswered::new(alloc),
             has_more: true,
             refusals: Refusals::new(),
-            is_drained: false,
             begun: 0,
             unfinished: 0,
         }
@@ -322,11 +315,9 @@ impl ClientConnection {
             begun,
             unfinished,
             stage: _,
-            unanswered: _,
             waits: _,
             has_more: _,
             refusals: _,
-            is_drained: _,
         } = self;
         room.note_unfinished(0, unfinished);
         let (reader, writer, rest) = engine.into_rest()?;
@@ -354,7 +345,6 @@ impl ClientConnection {
         ensures stage { self.new.stage ≡ self.old.stage }
     {
         self.engine.drain();
-        self.is_drained = true;
         self.has_more = true;
     }
 
@@ -388,7 +378,7 @@ impl ClientConnection {
 
     /// Whether it waits for replies.
     pub(crate) fn awaits_reply(&self) -> bool {
-        self.unanswered > 0
+        self.engine.unanswered() > 0
     }
 
     /// Whether it waits for replies, and all that was handed out to it is written.
@@ -461,7 +451,7 @@ impl ClientConnection {
         self.waits.accepted(round.now, counts.accepted);
         self.waits
             .answered(round.now, counts.handed, &mut lent.durations);
-        self.count(counts, round.room);
+        self.count_unfinished_bytes(round.room, counts);
         self.write_out(&mut lent.buffer);
         self.has_more = self.has_more || stepped.is_err();
         stepped
@@ -587,7 +577,7 @@ impl ClientConnection {
         ensures drains { MayDrain self.old.engine self.new.engine }
         ensures turns { turns.new.turns ≡ turns.old.turns }
     {
-        if self.is_drained || *room_for == Some(turns.counts().accepted) {
+        if self.engine.is_drained() || *room_for == Some(turns.counts().accepted) {
             return;
         }
         *room_for = Some(turns.counts().accepted);
@@ -641,10 +631,10 @@ impl ClientConnection {
     fn handle_error(&mut self, error: StepError, room: &JournalRoom) -> Result<(), StepError>
         ensures drains { MayDrain self.old.engine self.new.engine }
         ensures leaves { self.new.stage ≢ self.old.stage → (error ≡ StepError.EndsOne)
-            ⊎ ((error ≡ StepError.Full) × (self.old.is_drained ≡ true)) }
+            ⊎ ((error ≡ StepError.Full) × (self.old.engine.is_drained ≡ true)) }
     {
         match error {
-            StepError::Full if !self.is_drained => self.stop_accepting(room),
+            StepError::Full if !self.engine.is_drained() => self.stop_accepting(room),
             StepError::Full | StepError::EndsOne => self.stage = SocketStage::Leaving,
             StepError::Memory => return Err(self.refuse()),
             StepError::Ends(_) => return Err(error),
@@ -665,23 +655,12 @@ impl ClientConnection {
         }
     }
 
-    // Counts commands without an answer, and the bytes of an unfinished one.
-    fn count(&mut self, counts: TurnCounts, room: &JournalRoom)
-        ensures { self.new.engine ≡ self.old.engine }
-    {
-        self.unanswered = self
-            .unanswered
-            .saturating_add(counts.accepted)
-            .saturating_sub(counts.handed);
-        self.count_unfinished_bytes(room, counts.accepted > 0);
-    }
-
     // Counts the bytes of an unfinished command, and ends the connection if all connections together have too many.
-    fn count_unfinished_bytes(&mut self, room: &JournalRoom, has_accepted: bool)
+    fn count_unfinished_bytes(&mut self, room: &JournalRoom, counts: TurnCounts)
         ensures { self.new.engine ≡ self.old.engine }
     {
         let count = self.engine.reader().count();
-        if has_accepted {
+        if counts.accepted > 0 {
             self.begun = count;
         }
         let unfinished = count.saturating_sub(self.begun);

@@ -1,5 +1,5 @@
 //! A client's engine.
-ghost use Rattle.std.specs.Prelude.{◌≡◌, ◌≢◌, ◌↔◌, ◌∷◌, ◌++◌, ◌⊎◌, ℕ, [], List, Option, None, Some, true, false, IfOk, IfErr, IfSome, IfNone, OnOk, OnErr};
+ghost use Rattle.std.specs.Prelude.{◌≡◌, ◌-◌, ◌≢◌, ◌↔◌, ◌∷◌, ◌++◌, ◌⊎◌, ℕ, [], List, Option, None, Some, true, false, IfOk, IfErr, IfSome, IfNone, OnOk, OnErr};
 ghost use Rattle.std.specs.Borrow.{sem};
 ghost use Rattle.splitter.specs.Request.{Request as Asked};
 ghost use Rattle.proxy_history.specs.History.{History};
@@ -578,6 +578,20 @@ impl<R: ReadTally, W: WriteTally> ClientEngine<R, W> {
             (writer_state W.contents W.taken W.counts result.now) }
     {
         self.outbox.writer_mut()
+    }
+
+    /// Whether it takes in nothing more, by `drain`.
+    pub fn is_drained(&self) -> bool
+        ensures { result ≡ self.now.is_drained }
+    {
+        self.is_drained
+    }
+
+    /// The number of accepted requests whose replies aren't handed out yet.
+    pub fn unanswered(&self) -> u64
+        ensures { result ≡ self.now.accepted - self.now.handed }
+    {
+        self.accepted.saturating_sub(self.handed)
     }
 
     /// The connection's number.

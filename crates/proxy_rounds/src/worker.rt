@@ -149,17 +149,6 @@ impl<'a> WorkerSetup<'a> {
     }
 }
 
-/// The result for the first socket in a worker's queue.
-#[derive(Clone, Copy, Drop)]
-enum OpenResult {
-    /// It has a connection.
-    Opened,
-    /// It was closed.
-    Closed,
-    /// There is none, or it can't be opened for now.
-    None,
-}
-
 /// What a step leaves to do.
 #[derive(Clone, Copy, PartialEq, Eq, Drop)]
 enum Remaining {
@@ -547,12 +536,12 @@ impl<'a> Worker<'a> {
             let opened = if self.may_open(rt) {
                 self.open_next(rt)?
             } else {
-                OpenResult::None
+                None
             };
             match opened {
-                OpenResult::Opened => {}
-                OpenResult::Closed => self.generation.room.count_gone(),
-                OpenResult::None => {
+                Some(Opened::Kept) => {}
+                Some(Opened::Dropped) => self.generation.room.count_gone(),
+                None => {
                     self.generation.room.count_gone();
                     return Ok(());
                 }
@@ -562,35 +551,33 @@ impl<'a> Worker<'a> {
         Ok(())
     }
 
-    // Opens the first socket in the worker's queue, a carried-over one first.
-    fn open_next<R: Wait>(&mut self, rt: &R) -> Result<OpenResult, Stop> {
+    // Opens the first socket in the worker's queue, a carried-over one first. `None`: there is none, or it can't be opened
+    // for now.
+    fn open_next<R: Wait>(&mut self, rt: &R) -> Result<Option<Opened>, Stop> {
         let server = self.generation.server();
         if !server.has_waiting(rt, self.index) {
-            return Ok(OpenResult::None);
+            return Ok(None);
         }
         if !self.connections.reserve_slot() {
             self.count_refusal()?;
-            return Ok(OpenResult::None);
+            return Ok(None);
         }
         if let Some(carried) = server.take_carried(rt, self.index) {
             return self.open_carried(rt, carried);
         }
         match server.pop(rt, self.index) {
             Some(stream) => self.open(rt, stream),
-            None => Ok(OpenResult::None),
+            None => Ok(None),
         }
     }
 
     // The result for a socket whose connection was opened. Without room for the client it is closed.
-    fn handle_opened<R: Wait>(&mut self, rt: &R, opened: Opened) -> OpenResult {
+    fn handle_opened<R: Wait>(&mut self, rt: &R, opened: Opened) -> Opened {
         self.opening.succeeded();
-        match opened {
-            Opened::Kept => OpenResult::Opened,
-            Opened::Dropped => {
-                self.generation.server().count_closed_and_dropped(rt);
-                OpenResult::Closed
-            }
+        if let Opened::Dropped = opened {
+            self.generation.server().count_closed_and_dropped(rt);
         }
+        opened
     }
 
     // Opens a carried-over socket. It waits in the queue again where there is no memory or no step left. Where its
@@ -599,12 +586,12 @@ impl<'a> Worker<'a> {
         &mut self,
         rt: &R,
         carried: CarriedSocket,
-    ) -> Result<OpenResult, Stop> {
+    ) -> Result<Option<Opened>, Stop> {
         let round = self
             .generation
             .round(self.poll.registry(), self.mode, self.now);
         match self.connections.open_carried(rt, round, carried) {
-            Ok(opened) => Ok(self.handle_opened(rt, opened)),
+            Ok(opened) => Ok(Some(self.handle_opened(rt, opened))),
             Err((error, carried)) => self.refuse_carried(rt, error, carried),
         }
     }
@@ -615,16 +602,16 @@ impl<'a> Worker<'a> {
         rt: &R,
         error: StepError,
         carried: CarriedSocket,
-    ) -> Result<OpenResult, Stop> {
+    ) -> Result<Option<Opened>, Stop> {
         let server = self.generation.server();
         self.handle_open_error(error)?;
         if error.ends_one() {
             self.connections.close_carried(carried);
             server.count_closed_and_dropped(rt);
-            return Ok(OpenResult::Closed);
+            return Ok(Some(Opened::Dropped));
         }
         server.carry_back(rt, self.index, carried);
-        Ok(OpenResult::None)
+        Ok(None)
     }
 
     // Registers the next client's socket with the poll.
@@ -638,21 +625,21 @@ impl<'a> Worker<'a> {
     }
 
     // Opens a new socket. One whose connection can't be opened is dropped.
-    fn open<R: Wait>(&mut self, rt: &R, mut stream: TcpStream) -> Result<OpenResult, Stop> {
+    fn open<R: Wait>(&mut self, rt: &R, mut stream: TcpStream) -> Result<Option<Opened>, Stop> {
         let _ = stream.set_nodelay(true);
         if !self.register(&mut stream) {
             self.generation.server().count_dropped(rt);
-            return Ok(OpenResult::Closed);
+            return Ok(Some(Opened::Dropped));
         }
         let round = self
             .generation
             .round(self.poll.registry(), self.mode, self.now);
         match self.connections.open(rt, round, stream) {
-            Ok(opened) => Ok(self.handle_opened(rt, opened)),
+            Ok(opened) => Ok(Some(self.handle_opened(rt, opened))),
             Err(error) => {
                 self.generation.server().count_dropped(rt);
                 self.handle_open_error(error)?;
-                Ok(OpenResult::Closed)
+                Ok(Some(Opened::Dropped))
             }
         }
     }

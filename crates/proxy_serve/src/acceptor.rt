@@ -29,7 +29,13 @@ const PAUSE_MS: u64 = 10;
 
 // Linux's errors for want of room for a further socket: no memory, no file number in the system or in the process, and
 // no buffers.
-const NO_ROOM: [i32; 4] = [12, 23, 24, 105];
+const ENOMEM: i32 = 12;
+
+const ENFILE: i32 = 23;
+
+const EMFILE: i32 = 24;
+
+const ENOBUFS: i32 = 105;
 
 /// The accepting thread's state.
 pub(crate) struct Acceptor {
@@ -154,7 +160,7 @@ impl Acceptor {
 // Whether accepting failed for want of room alone: it is tried again later.
 fn has_no_room(error: &io::Error) -> bool {
     match error.raw_os_error() {
-        Some(number) => NO_ROOM.contains(&number),
+        Some(number) => matches!(number, ENOMEM | ENFILE | EMFILE | ENOBUFS),
         None => false,
     }
 }
