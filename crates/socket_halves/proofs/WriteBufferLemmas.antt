@@ -1,10 +1,12 @@
 -- How what was accepted goes out, write after write.
-use Rattle.std.proofs.Common.{◌≡◌, ◌∙◌, ◌++◌, ◌+◌, ℕ, List, [], Option, Some, None, Result, Ok, Err, OnOk, Bool, ◌&&◌, ◌==◌, not, true, false, take, drop, take-append-drop, ap, append_assoc, append-nil, sym, arith, length, refl}
+use Rattle.std.proofs.Common.{◌≡◌, ◌∙◌, ◌++◌, ◌+◌, ℕ, List, [], ◌∷◌, Option, Some, None, Result, Ok, Err, OnOk, Bool, ◌&&◌, ◌==◌, not, true, false, take, drop, take-append-drop, ap, append_assoc, append-nil, sym, arith, length, refl, inl}
 use Rattle.std.proofs.Math.Bool.{and-false}
 use Rattle.std.proofs.Math.Seq.{take-length}
 use Rattle.std.proofs.lemmas.List.{drop-drop}
 use Rattle.std.specs.Io.KnownBytes.{Appends, Keeps, WriteAppends}
-use Rattle.socket_halves.specs.WriteBuffer.{WriteBufferState, GoesOut, accepted}
+use Rattle.std.specs.declared.io.Error.{Error}
+use Rattle.socket_halves.specs.Moved.{moved_bytes}
+use Rattle.socket_halves.specs.WriteBuffer.{WriteBufferState, Accepts, GoesOut, accepted}
 
 -- nothing was taken
 pub Appends-none : (a : Option (List ℕ)) → Appends a a []
@@ -54,6 +56,16 @@ GoesOut-then a b c bytes first second = record {
       ∙ sym (append_assoc first.gave b.buffered bytes) ∙ ap (λ t. t ++ bytes) (first.left ∙ append-nil a.buffered);
 }
 
+-- what goes out, where then neither the writer nor what is buffered changes
+pub GoesOut-same : (a b c : WriteBufferState) (bytes : List ℕ) → GoesOut a b bytes → c.held ≡ b.held → c.taken ≡ b.taken → c.buffered ≡ b.buffered
+    → GoesOut a c bytes
+GoesOut-same a b c bytes out held taken buffered = record {
+  gave = out.gave;
+  taken = taken ∙ out.taken;
+  held = rw held out.held;
+  left = rw buffered out.left;
+}
+
 -- what is left behind what was written
 pub drop-written : (written count : ℕ) (bytes : List ℕ) → take count (drop written bytes) ++ drop (written + count) bytes ≡ drop written bytes ++ []
 drop-written written count bytes =
@@ -70,3 +82,28 @@ pub GoesOut-append : (a b c : WriteBufferState) (bytes : List ℕ) → GoesOut a
 GoesOut-append a b c bytes out is = rw (is, take-length bytes)
     (GoesOut-then a b (record b { buffered = b.buffered ++ bytes }) bytes out
     (record { gave = []; taken = sym (append-nil b.taken); held = Appends-none b.held; left = refl }))
+
+-- what was buffered before goes out, and then these bytes are accepted
+pub Accepts-then : (a b c : WriteBufferState) (bytes : List ℕ) (result : Result ℕ Error) → GoesOut a b [] → Accepts b c bytes result
+    → Accepts a c bytes result
+Accepts-then a b c bytes result out more = record {
+  goes_out = GoesOut-then a b c (moved_bytes result bytes) out more.goes_out;
+  paused = more.paused;
+  failed = more.failed;
+  nothing = more.nothing;
+}
+
+-- no bytes
+none_of-length : (bytes : List ℕ) → length bytes ≡ 0 → bytes ≡ []
+none_of-length [] none = refl
+none_of-length (b ∷ bytes) none = absurd (omega arith)
+
+-- what was buffered before goes out, and then these bytes are buffered: all were accepted
+pub Accepts-append : (a b c : WriteBufferState) (bytes : List ℕ) → GoesOut a b [] → c ≡ record b { buffered = b.buffered ++ bytes }
+    → Accepts a c bytes (Ok (length bytes))
+Accepts-append a b c bytes out is = record {
+  goes_out = GoesOut-append a b c bytes out is;
+  paused = tt;
+  failed = tt;
+  nothing = λ none. inl (none_of-length bytes none);
+}

@@ -1,3 +1,4 @@
+pub mod Moved
 pub mod ReadEnd
 pub mod SocketReader
 pub mod WriteBuffer

@@ -1,6 +1,11 @@
 -- What goes out by a writer with a buffer.
-use Rattle.std.specs.Prelude.{◌≡◌, ◌==◌, ◌&&◌, ◌++◌, not, length, ℕ, Bool, List, Option}
+use Rattle.std.specs.Prelude.{◌≡◌, ◌≢◌, ◌⊎◌, ◌≤◌, ◌*◌, max, ◌==◌, ◌&&◌, ◌++◌, not, true, false, length, ℕ, Bool, List, [], Option, Result, IfOk, IfErr, IsErrAnd}
 use Rattle.std.specs.Io.KnownBytes.{Appends}
+use Rattle.std.specs.IoError.{error_kind}
+use Rattle.std.specs.declared.io.Error.{Error}
+use Rattle.std.specs.declared.io.ErrorKind.TheVariants.{BrokenPipe, WouldBlock}
+use Rattle.limits.specs.declared.workers.TheConstants.{MAX_BUFFERED}
+use Rattle.socket_halves.specs.Moved.{moved_bytes}
 
 -- what a writer has, as far as it tells; all that it took since the buffer was made, the oldest first; the bytes that are
 -- buffered for it; whether it may take some, and whether a write failed
@@ -10,6 +15,10 @@ pub record WriteBufferState : Type 0 where
   pub buffered : List ℕ
   pub is_writable : Bool
   pub is_broken : Bool
+
+-- over a writer that has these bytes and may take some, nothing is buffered
+abbrev pub fresh_buffer : Option (List ℕ) → WriteBufferState
+fresh_buffer held = record { held = held; taken = []; buffered = []; is_writable = true; is_broken = false }
 
 -- all bytes that were accepted since the buffer was made: those that the writer took, and those that are buffered
 abbrev pub accepted : WriteBufferState → List ℕ
@@ -30,3 +39,26 @@ pub record GoesOut (old new : WriteBufferState) (bytes : List ℕ) : Type 0 wher
 -- what goes out is what was accepted, and nothing else is
 abbrev pub AcceptedGoesOut : Type 0
 AcceptedGoesOut = (old new : WriteBufferState) (bytes : List ℕ) → GoesOut old new bytes → accepted new ≡ accepted old ++ bytes
+
+-- what was buffered goes out, as far as the writer takes it
+pub record WritesOut (old new : WriteBufferState) : Type 0 where
+  pub goes_out : GoesOut old new []
+  -- nothing is left that may be written
+  pub ends : may_write new ≡ false
+  -- after a failed write nothing changes
+  pub broken : old.is_broken ≡ true → new ≡ old
+
+-- as many of these bytes go out as the answer says, which says why where none of some do
+pub record Accepts (old new : WriteBufferState) (bytes : List ℕ) (result : Result ℕ Error) : Type 0 where
+  pub goes_out : GoesOut old new (moved_bytes result bytes)
+  pub paused : IfErr result (λ e. error_kind e ≡ WouldBlock → new.is_writable ≡ false)
+  pub failed : IfErr result (λ e. error_kind e ≢ WouldBlock → new.is_broken ≡ true)
+  pub nothing : IfOk result (λ n. n ≡ 0 → (bytes ≡ []) ⊎ (new.is_broken ≡ true))
+
+-- One write of these bytes: as many go out as the answer says, behind what was buffered.
+pub record WritesBuffer (old new : WriteBufferState) (bytes : List ℕ) (result : Result ℕ Error) : Type 0 where
+  pub accepts : Accepts old new bytes result
+  -- no more is buffered than was or may be
+  pub limit : length new.buffered ≤ max (length old.buffered) (2 * MAX_BUFFERED)
+  -- after a failed write nothing changes
+  pub broken : old.is_broken ≡ true → (new ≡ old) × IsErrAnd result (λ e. error_kind e ≡ BrokenPipe)

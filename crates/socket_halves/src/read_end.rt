@@ -1,10 +1,9 @@
 //! The reading end of a socket: it is asked only when there may be bytes, and its input can be ended.
-ghost use Rattle.std.specs.Prelude.{◌≡◌, ◌≢◌, ◌⊎◌, ◌<◌, true, false, ℕ, List, [], ◌++◌, length, take, min, ◌-◌, ◌^◌, IfOk, IfErr, OnOk, OnErr, IsErr, Some, None, Ok};
+ghost use Rattle.std.specs.Prelude.{◌≡◌, ◌≢◌, ◌⊎◌, true, false, ◌++◌, length, take, min, ◌-◌, ◌^◌, IfOk, IfErr, OnErr, IsErrAnd, Some, None, Ok};
 ghost use Rattle.std.specs.Io.{ReadsAtMost};
-ghost use Rattle.std.specs.Io.KnownBytes.{IsAtEnd, ReadConsumes};
+ghost use Rattle.std.specs.Io.KnownBytes.{IsAtEnd};
 ghost use Rattle.std.specs.IoError.{error_kind};
-ghost use Rattle.proxy_devices.specs.Device.{LogsCall};
-ghost use Rattle.socket_halves.specs.ReadEnd.{CountsDown, Discards, EndsByPause, IsOver, Passes};
+ghost use Rattle.socket_halves.specs.ReadEnd.{CountsDown, Discards, EndsByPause, ReadsEnd, Receives, fresh_end};
 
 use limits::MAX_LAST;
 use proxy_devices::ByteLog;
@@ -73,11 +72,7 @@ fn paused() -> io::Error
 impl ReadEnd {
     /// A reader that may have bytes. Nothing was read.
     pub fn new() -> ReadEnd
-        ensures received { result.received ≡ [] }
-        ensures delivered { result.delivered ≡ [] }
-        ensures readable { result.is_readable ≡ true }
-        ensures closed { result.is_closed ≡ false }
-        ensures left { result.left ≡ None }
+        ensures { result ≡ fresh_end }
     {
         ReadEnd {
             is_readable: true,
@@ -133,24 +128,10 @@ impl ReadEnd {
     /// is its end; then, or once `MAX_LAST` bytes were delivered, it returns `Ok(0)` and asks the reader no more.
     pub fn read<R: Read>(&mut self, reader: &mut R, buffer: &mut [u8]) -> io::Result<usize>
         ensures bound { ReadsAtMost result buffer.new }
-        ensures ok { IfOk result (λ n. Passes self.old self.new
-            (R.remaining reader.old) (R.remaining reader.new) (take n buffer.new)) }
-        ensures err { OnErr result (Passes self.old self.new
-            (R.remaining reader.old) (R.remaining reader.new) []) }
-        ensures ends { IfOk result (λ n. n ≡ 0 → 0 < length buffer.old
-            → IsOver self.old self.new (R.remaining reader.new)) }
-        ensures over { self.old.left ≡ Some 0 → (result ≡ Ok 0) × (self.new ≡ self.old) }
+        ensures reads { ReadsEnd self.old self.new (R.remaining reader.old)
+            (R.remaining reader.new) (length buffer.old) result buffer.new }
         ensures asks { (self.old.is_readable ≡ false) ⊎ (self.old.left ≡ Some 0)
             → reader.new ≡ reader.old }
-        ensures paused { IfErr result
-            (λ e. error_kind e ≡ ErrorKind.WouldBlock → self.new.is_readable ≡ false) }
-        ensures idle { self.old.is_readable ≡ false → self.old.left ≡ None
-            → IsErr result × IfErr result (λ e. error_kind e ≡ ErrorKind.WouldBlock) }
-        ensures awake { IfOk result (λ n. 0 < n
-            → (n ≡ length buffer.old) ⊎ (self.old.is_closed ≡ true)
-            → self.new.is_readable ≡ self.old.is_readable) }
-        ensures left { CountsDown self.old.left self.new.left result }
-        ensures closed { self.new.is_closed ≡ self.old.is_closed }
     {
         if self.left == Some(0) {
             return Ok(0);
@@ -164,19 +145,10 @@ impl ReadEnd {
     // Reads once, unless the reader has nothing.
     fn receive<R: Read>(&mut self, reader: &mut R, buffer: &mut [u8]) -> io::Result<usize>
         ensures bound { ReadsAtMost result buffer.new }
-        ensures bytes { ReadConsumes (R.remaining reader.old) (R.remaining reader.new)
-            result buffer.new }
-        ensures received { LogsCall buffer.new result self.old.received self.new.received }
-        ensures delivered { self.new.delivered ≡ self.old.delivered }
-        ensures left { self.new.left ≡ self.old.left }
-        ensures closed { self.new.is_closed ≡ self.old.is_closed }
-        ensures paused { IfErr result
-            (λ e. error_kind e ≡ ErrorKind.WouldBlock → self.new.is_readable ≡ false) }
+        ensures receives { Receives self.old self.new (R.remaining reader.old)
+            (R.remaining reader.new) (length buffer.old) result buffer.new }
         ensures idle { self.old.is_readable ≡ false
-            → IsErr result × IfErr result (λ e. error_kind e ≡ ErrorKind.WouldBlock) }
-        ensures awake { IfOk result (λ n. 0 < n
-            → (n ≡ length buffer.old) ⊎ (self.old.is_closed ≡ true)
-            → self.new.is_readable ≡ self.old.is_readable) }
+            → IsErrAnd result (λ e. error_kind e ≡ ErrorKind.WouldBlock) }
         ensures asks { self.old.is_readable ≡ false → reader.new ≡ reader.old }
     {
         if self.is_readable {
@@ -189,17 +161,8 @@ impl ReadEnd {
     // Reads once. A short read has taken all that there was; the poll reports later bytes.
     fn read_once<R: Read>(&mut self, reader: &mut R, buffer: &mut [u8]) -> io::Result<usize>
         ensures bound { ReadsAtMost result buffer.new }
-        ensures bytes { ReadConsumes (R.remaining reader.old) (R.remaining reader.new)
-            result buffer.new }
-        ensures received { LogsCall buffer.new result self.old.received self.new.received }
-        ensures delivered { self.new.delivered ≡ self.old.delivered }
-        ensures left { self.new.left ≡ self.old.left }
-        ensures closed { self.new.is_closed ≡ self.old.is_closed }
-        ensures paused { IfErr result
-            (λ e. error_kind e ≡ ErrorKind.WouldBlock → self.new.is_readable ≡ false) }
-        ensures awake { IfOk result (λ n. 0 < n
-            → (n ≡ length buffer.old) ⊎ (self.old.is_closed ≡ true)
-            → self.new.is_readable ≡ self.old.is_readable) }
+        ensures receives { Receives self.old self.new (R.remaining reader.old)
+            (R.remaining reader.new) (length buffer.old) result buffer.new }
     {
         match reader.read(buffer) {
             Ok(count) => {
@@ -227,10 +190,7 @@ impl ReadEnd {
         ensures none { self.old.left ≡ None → result ≡ received }
         ensures err { IfErr received (λ e. (result ≡ received)
             ⊎ ((result ≡ Ok 0) × EndsByPause self.old self.new)) }
-        ensures logs { (self.new.received ≡ self.old.received)
-            × (self.new.delivered ≡ self.old.delivered) }
-        ensures states { (self.new.is_readable ≡ self.old.is_readable)
-            × (self.new.is_closed ≡ self.old.is_closed) }
+        ensures kept { self.new ≡ record self.old { left = self.new.left } }
         ensures left { CountsDown self.old.left self.new.left result }
     {
         let Some(left) = self.left else {
@@ -262,12 +222,10 @@ impl ReadEnd {
 
     /// Reads and discards what has come, by at most 64 reads of 16,384 bytes.
     pub fn throw_away<R: Read>(&mut self, reader: &mut R) -> Discarded
-        ensures bytes { Discards self.old self.new
+        ensures discards { Discards self.old self.new
             (R.remaining reader.old) (R.remaining reader.new) }
         ensures ended { result ≡ Discarded.Ended → IsAtEnd (R.remaining reader.new) }
         ensures paused { result ≡ Discarded.Emptied → self.new.is_readable ≡ false }
-        ensures left { self.new.left ≡ self.old.left }
-        ensures closed { self.new.is_closed ≡ self.old.is_closed }
     {
         let mut piece = [0u8; 16_384];
         for _ in 0..MAX_THROWN {

@@ -1,12 +1,10 @@
 //! The reading half of a socket, which tells an engine what the socket gave.
-ghost use Rattle.std.specs.Prelude.{◌≡◌, ◌≢◌, ◌⊎◌, ◌<◌, ◌-◌, ◌^◌, true, false, ℕ, [], length, take, min, IfOk, IfErr, OnErr, IsErr, Some, None, Ok};
+ghost use Rattle.std.specs.Prelude.{◌≡◌, ◌≢◌, ◌<◌, ◌-◌, ◌^◌, true, false, length, min, Some, None};
 ghost use Rattle.std.specs.Io.{ReadsAtMost};
 ghost use Rattle.std.specs.Io.KnownBytes.{ReadConsumes};
-ghost use Rattle.std.specs.IoError.{error_kind};
 ghost use Rattle.proxy_devices.specs.Device.{CountsRead, IsRead};
-ghost use Rattle.proxy_devices.specs.Faulty.{moved_count};
-ghost use Rattle.socket_halves.specs.ReadEnd.{CountsDown, Discards};
-ghost use Rattle.socket_halves.specs.SocketReader.{LeavesLeft, PassesOn, StaysWhole, engine_reader, fresh_reader};
+ghost use Rattle.socket_halves.specs.ReadEnd.{Discards};
+ghost use Rattle.socket_halves.specs.SocketReader.{ReadsHalf, TellsRead, engine_reader, fresh_reader};
 
 use crate::read_end::{Discarded, ReadEnd};
 use limits::MAX_LAST;
@@ -115,10 +113,8 @@ impl<S: Read> SocketReader<S> {
 
     /// Reads and discards what has come, by at most 64 reads of 16,384 bytes; each later read fails.
     pub fn throw_away(&mut self) -> Discarded
-        ensures bytes { Discards self.old.end self.new.end None None }
+        ensures discards { Discards self.old.end self.new.end None None }
         ensures paused { result ≡ Discarded.Emptied → self.new.end.is_readable ≡ false }
-        ensures left { self.new.end.left ≡ self.old.end.left }
-        ensures closed { self.new.end.is_closed ≡ self.old.end.is_closed }
         ensures broken { self.new.is_broken ≡ true }
         ensures counts { self.new.counts ≡ self.old.counts }
     {
@@ -129,21 +125,7 @@ impl<S: Read> SocketReader<S> {
     // Reads once, unless it is broken off. It isn't counted.
     fn ask(&mut self, buffer: &mut [u8]) -> io::Result<usize>
         ensures bound { ReadsAtMost result buffer.new }
-        ensures ok { IfOk result (λ n. PassesOn self.old self.new (take n buffer.new)) }
-        ensures err { OnErr result (PassesOn self.old self.new []) }
-        ensures broken { self.old.is_broken ≡ true → (self.new ≡ self.old)
-            × IsErr result × IfErr result (λ e. error_kind e ≡ ErrorKind.BrokenPipe) }
-        ensures over { self.old.is_broken ≡ false → self.old.end.left ≡ Some 0
-            → (result ≡ Ok 0) × (self.new ≡ self.old) }
-        ensures paused { IfErr result
-            (λ e. error_kind e ≡ ErrorKind.WouldBlock → self.new.end.is_readable ≡ false) }
-        ensures idle { self.old.is_broken ≡ false → self.old.end.is_readable ≡ false
-            → self.old.end.left ≡ None
-            → IsErr result × IfErr result (λ e. error_kind e ≡ ErrorKind.WouldBlock) }
-        ensures awake { IfOk result (λ n. 0 < n
-            → (n ≡ length buffer.old) ⊎ (self.old.end.is_closed ≡ true)
-            → self.new.end.is_readable ≡ self.old.end.is_readable) }
-        ensures left { CountsDown self.old.end.left self.new.end.left result }
+        ensures reads { ReadsHalf self.old self.new (length buffer.old) result buffer.new }
         ensures counts { self.new.counts ≡ self.old.counts }
     {
         if self.is_broken {
@@ -173,22 +155,7 @@ impl<S: Read> Read for SocketReader<S> {
     fn read(&mut self, buffer: &mut [u8]) -> io::Result<usize>
         ensures bound { ReadsAtMost result buffer.new }
         ensures bytes { ReadConsumes None None result buffer.new }
-        ensures ok { IfOk result (λ n. PassesOn self.old self.new (take n buffer.new)) }
-        ensures err { OnErr result (PassesOn self.old self.new []) }
-        ensures whole { StaysWhole self.old.end self.new.end }
-        ensures broken { self.old.is_broken ≡ true → (self.new.end ≡ self.old.end)
-            × IsErr result × IfErr result (λ e. error_kind e ≡ ErrorKind.BrokenPipe) }
-        ensures over { self.old.is_broken ≡ false → self.old.end.left ≡ Some 0
-            → (result ≡ Ok 0) × (self.new ≡ self.old) }
-        ensures paused { IfErr result
-            (λ e. error_kind e ≡ ErrorKind.WouldBlock → self.new.end.is_readable ≡ false) }
-        ensures idle { self.old.is_broken ≡ false → self.old.end.is_readable ≡ false
-            → self.old.end.left ≡ None
-            → IsErr result × IfErr result (λ e. error_kind e ≡ ErrorKind.WouldBlock) }
-        ensures awake { IfOk result (λ n. 0 < n
-            → (n ≡ length buffer.old) ⊎ (self.old.end.is_closed ≡ true)
-            → self.new.end.is_readable ≡ self.old.end.is_readable) }
-        ensures left { CountsDown self.old.end.left self.new.end.left result }
+        ensures reads { ReadsHalf self.old self.new (length buffer.old) result buffer.new }
         ensures counts { CountsRead result self.old.counts self.new.counts }
     {
         match self.ask(buffer) {
@@ -209,18 +176,7 @@ impl<S: Read> ReadTally for SocketReader<S> {
         requires room { 0 < length buffer.old }
         ensures told { IsRead (engine_reader self.old) (engine_reader self.new)
             buffer.new result }
-        ensures passes { PassesOn self.old self.new (take (moved_count result) buffer.new) }
-        ensures whole { StaysWhole self.old.end self.new.end }
-        ensures broken { self.old.is_broken ≡ true
-            → (result ≡ IoOutcome.Failed) × (self.new.end ≡ self.old.end) }
-        ensures over { self.old.is_broken ≡ false → self.old.end.left ≡ Some 0
-            → (result ≡ IoOutcome.End) × (self.new ≡ self.old) }
-        ensures idle { self.old.is_broken ≡ false → self.old.end.is_readable ≡ false
-            → self.old.end.left ≡ None → result ≡ IoOutcome.Idle }
-        ensures awake { (n : ℕ) → result ≡ IoOutcome.Moved n
-            → (n ≡ length buffer.old) ⊎ (self.old.end.is_closed ≡ true)
-            → self.new.end.is_readable ≡ self.old.end.is_readable }
-        ensures left { LeavesLeft self.old.end.left self.new.end.left result }
+        ensures tells { TellsRead self.old self.new (length buffer.old) result buffer.new }
     {
         match self.ask(buffer) {
             Ok(0) => IoOutcome::End,

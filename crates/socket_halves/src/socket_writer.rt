@@ -1,15 +1,13 @@
 //! The writing half of a socket, which takes what an engine gives and writes it in large pieces.
-ghost use Rattle.std.specs.Prelude.{◌≡◌, ◌≢◌, ◌⊎◌, ◌≤◌, ◌<◌, ◌*◌, ◌==◌, ◌||◌, ◌↔◌, max, not, true, false, [], length, take, IfOk, IfErr, OnErr, IsErr, IsTrue, None};
+ghost use Rattle.std.specs.Prelude.{◌≡◌, ◌≢◌, ◌<◌, ◌==◌, ◌||◌, ◌↔◌, not, true, false, [], length, IfOk, IfErr, IsTrue, None};
 ghost use Rattle.std.specs.Io.{WritesAtMost};
 ghost use Rattle.std.specs.Io.KnownBytes.{Keeps, WriteAppends};
 ghost use Rattle.std.specs.IoError.{error_kind};
 ghost use Rattle.proxy_devices.specs.Device.{CountsWrite, IsWritten, TakesNone};
-ghost use Rattle.proxy_devices.specs.Faulty.{moved_count};
-ghost use Rattle.socket_halves.specs.WriteBuffer.{GoesOut, accepted, may_write};
-ghost use Rattle.socket_halves.specs.SocketWriter.{IsShortBy, engine_writer, fresh_writer};
+ghost use Rattle.socket_halves.specs.WriteBuffer.{WritesOut, accepted, may_write};
+ghost use Rattle.socket_halves.specs.SocketWriter.{TellsWrite, WritesHalf, engine_writer, fresh_writer};
 
 use crate::write_buffer::WriteBuffer;
-use limits::MAX_BUFFERED;
 use proxy_devices::{Counter, IoOutcome, Tally, WriteTally};
 use std::alloc::Global;
 use std::io;
@@ -141,14 +139,13 @@ impl<S: Write> SocketWriter<S> {
     /// more until `set_writable`, or a write has failed. The buffer is returned once all is taken, and is empty. After a
     /// failed write nothing is written.
     pub fn write_out(&mut self, buffer: &mut Vec<u8>)
-        ensures goes_out { GoesOut self.old.output self.new.output [] }
+        ensures writes { WritesOut self.old.output self.new.output }
         ensures accepted { accepted self.new.output ≡ accepted self.old.output }
-        ensures ends { may_write self.new.output ≡ false }
-        ensures broken { self.old.output.is_broken ≡ true → self.new.output ≡ self.old.output }
+        ensures rest { self.new ≡ record self.old {
+          output = self.new.output;
+          is_writable_again = false;
+        } }
         ensures back { buffer.new.items ≡ [] }
-        ensures again { self.new.is_writable_again ≡ false }
-        ensures short { self.new.is_short ≡ self.old.is_short }
-        ensures counts { self.new.counts ≡ self.old.counts }
     {
         self.is_writable_again = false;
         self.output.write_out(buffer);
@@ -157,23 +154,7 @@ impl<S: Write> SocketWriter<S> {
     // Takes these bytes as far as there is room. It isn't counted.
     fn accept(&mut self, bytes: &[u8]) -> io::Result<usize>
         ensures bound { WritesAtMost result bytes.now }
-        ensures ok { IfOk result (λ n. GoesOut self.old.output self.new.output
-            (take n bytes.now)) }
-        ensures err { OnErr result (GoesOut self.old.output self.new.output []) }
-        ensures paused { IfErr result (λ e. error_kind e ≡ ErrorKind.WouldBlock
-            → self.new.output.is_writable ≡ false) }
-        ensures failed { IfErr result (λ e. error_kind e ≢ ErrorKind.WouldBlock
-            → self.new.output.is_broken ≡ true) }
-        ensures nothing { IfOk result (λ n. n ≡ 0
-            → (bytes.now ≡ []) ⊎ (self.new.output.is_broken ≡ true)) }
-        ensures limit { length self.new.output.buffered
-            ≤ max (length self.old.output.buffered) (2 * MAX_BUFFERED) }
-        ensures broken { self.old.output.is_broken ≡ true → (self.new.output ≡ self.old.output)
-            × IsErr result × IfErr result (λ e. error_kind e ≡ ErrorKind.BrokenPipe) }
-        ensures short { IfOk result (λ n. IsTrue self.new.is_short ↔ (n < length bytes.now)) }
-        ensures refused { IfErr result
-            (λ e. IsTrue self.new.is_short ↔ (error_kind e ≡ ErrorKind.WouldBlock)) }
-        ensures again { self.new.is_writable_again ≡ self.old.is_writable_again }
+        ensures writes { WritesHalf self.old self.new bytes.now result }
         ensures counts { self.new.counts ≡ self.old.counts }
     {
         let written = self.output.write(bytes);
@@ -201,23 +182,7 @@ impl<S: Write> Write for SocketWriter<S> {
     fn write(&mut self, bytes: &[u8]) -> io::Result<usize>
         ensures bound { WritesAtMost result bytes.now }
         ensures bytes { WriteAppends None None result bytes.now }
-        ensures ok { IfOk result (λ n. GoesOut self.old.output self.new.output
-            (take n bytes.now)) }
-        ensures err { OnErr result (GoesOut self.old.output self.new.output []) }
-        ensures paused { IfErr result (λ e. error_kind e ≡ ErrorKind.WouldBlock
-            → self.new.output.is_writable ≡ false) }
-        ensures failed { IfErr result (λ e. error_kind e ≢ ErrorKind.WouldBlock
-            → self.new.output.is_broken ≡ true) }
-        ensures nothing { IfOk result (λ n. n ≡ 0
-            → (bytes.now ≡ []) ⊎ (self.new.output.is_broken ≡ true)) }
-        ensures limit { length self.new.output.buffered
-            ≤ max (length self.old.output.buffered) (2 * MAX_BUFFERED) }
-        ensures broken { self.old.output.is_broken ≡ true → (self.new.output ≡ self.old.output)
-            × IsErr result × IfErr result (λ e. error_kind e ≡ ErrorKind.BrokenPipe) }
-        ensures short { IfOk result (λ n. IsTrue self.new.is_short ↔ (n < length bytes.now)) }
-        ensures refused { IfErr result
-            (λ e. IsTrue self.new.is_short ↔ (error_kind e ≡ ErrorKind.WouldBlock)) }
-        ensures again { self.new.is_writable_again ≡ self.old.is_writable_again }
+        ensures writes { WritesHalf self.old self.new bytes.now result }
         ensures counts { CountsWrite bytes.now result self.old.counts self.new.counts }
     {
         match self.accept(bytes) {
@@ -251,18 +216,7 @@ impl<S: Write> WriteTally for SocketWriter<S> {
         requires some { bytes.now ≢ [] }
         ensures told { IsWritten (engine_writer self.old) (engine_writer self.new)
             bytes.now result }
-        ensures goes_out { GoesOut self.old.output self.new.output
-            (take (moved_count result) bytes.now) }
-        ensures idle { result ≡ IoOutcome.Idle → (self.new.output.is_writable ≡ false)
-            ⊎ (self.new.output.is_broken ≡ true) }
-        ensures ended { result ≡ IoOutcome.End → self.new.output.is_broken ≡ true }
-        ensures failed { result ≡ IoOutcome.Failed → self.new.output.is_broken ≡ true }
-        ensures limit { length self.new.output.buffered
-            ≤ max (length self.old.output.buffered) (2 * MAX_BUFFERED) }
-        ensures broken { self.old.output.is_broken ≡ true
-            → (result ≡ IoOutcome.Failed) × (self.new.output ≡ self.old.output) }
-        ensures short { IsShortBy result bytes.now self.new.is_short }
-        ensures again { self.new.is_writable_again ≡ self.old.is_writable_again }
+        ensures tells { TellsWrite self.old self.new bytes.now result }
     {
         match self.accept(bytes) {
             Ok(0) => {

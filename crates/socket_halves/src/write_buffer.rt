@@ -1,9 +1,9 @@
 //! A writer with a buffer, so that it writes large pieces.
-ghost use Rattle.std.specs.Prelude.{◌≡◌, ◌≢◌, ◌⊎◌, ◌≤◌, ◌*◌, max, ◌==◌, true, false, ℕ, [], ◌++◌, length, take, IfOk, IfErr, OnOk, OnErr, IsErr};
+ghost use Rattle.std.specs.Prelude.{◌≡◌, ◌≢◌, ◌≤◌, ◌==◌, true, false, [], ◌++◌, length, IfErr, OnOk, OnErr};
 ghost use Rattle.std.specs.Io.{WritesAtMost};
 ghost use Rattle.std.specs.Io.KnownBytes.{WriteAppends};
 ghost use Rattle.std.specs.IoError.{error_kind};
-ghost use Rattle.socket_halves.specs.WriteBuffer.{GoesOut, may_write};
+ghost use Rattle.socket_halves.specs.WriteBuffer.{Accepts, GoesOut, WritesBuffer, WritesOut, fresh_buffer, may_write};
 
 use limits::MAX_BUFFERED;
 use proxy_devices::ByteLog;
@@ -94,11 +94,7 @@ fn write_once<W: Write>(writer: &mut W, bytes: &[u8]) -> io::Result<usize>
 impl<W: Write> WriteBuffer<W> {
     /// Nothing is buffered, and the writer may take bytes.
     pub fn new(alloc: Global, writer: W) -> WriteBuffer<W>
-        ensures held { result.held ≡ W.contents writer }
-        ensures taken { result.taken ≡ [] }
-        ensures buffered { result.buffered ≡ [] }
-        ensures open { result.is_writable ≡ true }
-        ensures whole { result.is_broken ≡ false }
+        ensures { result ≡ fresh_buffer (W.contents writer) }
     {
         WriteBuffer {
             alloc,
@@ -172,9 +168,7 @@ impl<W: Write> WriteBuffer<W> {
     /// more until `set_writable`, or a write has failed. The buffer is returned once all is taken, and is empty. After a
     /// failed write nothing is written and nothing changes.
     pub fn write_out(&mut self, buffer: &mut Vec<u8>)
-        ensures goes_out { GoesOut self.old self.new [] }
-        ensures ends { may_write self.new ≡ false }
-        ensures broken { self.old.is_broken ≡ true → self.new ≡ self.old }
+        ensures writes { WritesOut self.old self.new }
         ensures back { buffer.new.items ≡ [] }
     {
         buffer.clear();
@@ -209,9 +203,10 @@ impl<W: Write> WriteBuffer<W> {
 
     // Records why a write took nothing.
     fn note_refused(&mut self, kind: ErrorKind)
-        ensures held { self.new.held ≡ self.old.held }
-        ensures taken { self.new.taken ≡ self.old.taken }
-        ensures buffered { self.new.buffered ≡ self.old.buffered }
+        ensures kept { self.new ≡ record self.old {
+          is_writable = self.new.is_writable;
+          is_broken = self.new.is_broken;
+        } }
         ensures paused { kind ≡ ErrorKind.WouldBlock
             → self.new ≡ record self.old { is_writable = false } }
         ensures failed { kind ≢ ErrorKind.WouldBlock
@@ -225,9 +220,7 @@ impl<W: Write> WriteBuffer<W> {
 
     // Writes until nothing is buffered or the writer takes no more.
     fn write_gathered(&mut self)
-        ensures goes_out { GoesOut self.old self.new [] }
-        ensures ends { may_write self.new ≡ false }
-        ensures broken { self.old.is_broken ≡ true → self.new ≡ self.old }
+        ensures { WritesOut self.old self.new }
     {
         if self.may_write() {
             self.write_some();
@@ -255,14 +248,7 @@ impl<W: Write> WriteBuffer<W> {
     fn write_through(&mut self, bytes: &[u8]) -> io::Result<usize>
         requires { self.old.buffered ≡ [] }
         ensures bound { WritesAtMost result bytes.now }
-        ensures ok { IfOk result (λ n. GoesOut self.old self.new (take n bytes.now)) }
-        ensures err { OnErr result (GoesOut self.old self.new []) }
-        ensures paused { IfErr result
-            (λ e. error_kind e ≡ ErrorKind.WouldBlock → self.new.is_writable ≡ false) }
-        ensures failed { IfErr result
-            (λ e. error_kind e ≢ ErrorKind.WouldBlock → self.new.is_broken ≡ true) }
-        ensures nothing { IfOk result (λ n. n ≡ 0
-            → (bytes.now ≡ []) ⊎ (self.new.is_broken ≡ true)) }
+        ensures accepts { Accepts self.old self.new bytes.now result }
         ensures buffered { self.new.buffered ≡ [] }
     {
         match write_once(&mut self.writer, bytes) {
@@ -313,18 +299,7 @@ impl<W: Write> WriteBuffer<W> {
     /// or before: nothing was taken, and nothing will be.
     pub fn write(&mut self, bytes: &[u8]) -> io::Result<usize>
         ensures bound { WritesAtMost result bytes.now }
-        ensures ok { IfOk result (λ n. GoesOut self.old self.new (take n bytes.now)) }
-        ensures err { OnErr result (GoesOut self.old self.new []) }
-        ensures paused { IfErr result
-            (λ e. error_kind e ≡ ErrorKind.WouldBlock → self.new.is_writable ≡ false) }
-        ensures failed { IfErr result
-            (λ e. error_kind e ≢ ErrorKind.WouldBlock → self.new.is_broken ≡ true) }
-        ensures nothing { IfOk result (λ n. n ≡ 0
-            → (bytes.now ≡ []) ⊎ (self.new.is_broken ≡ true)) }
-        ensures limit { length self.new.buffered
-            ≤ max (length self.old.buffered) (2 * MAX_BUFFERED) }
-        ensures broken { self.old.is_broken ≡ true → (self.new ≡ self.old)
-            × IsErr result × IfErr result (λ e. error_kind e ≡ ErrorKind.BrokenPipe) }
+        ensures writes { WritesBuffer self.old self.new bytes.now result }
     {
         self.make_room(bytes.len());
         if self.is_broken {
@@ -346,14 +321,7 @@ impl<W: Write> WriteBuffer<W> {
     // Writes a text that isn't buffered.
     fn write_long(&mut self, bytes: &[u8]) -> io::Result<usize>
         ensures bound { WritesAtMost result bytes.now }
-        ensures ok { IfOk result (λ n. GoesOut self.old self.new (take n bytes.now)) }
-        ensures err { OnErr result (GoesOut self.old self.new []) }
-        ensures paused { IfErr result
-            (λ e. error_kind e ≡ ErrorKind.WouldBlock → self.new.is_writable ≡ false) }
-        ensures failed { IfErr result
-            (λ e. error_kind e ≢ ErrorKind.WouldBlock → self.new.is_broken ≡ true) }
-        ensures nothing { IfOk result (λ n. n ≡ 0
-            → (bytes.now ≡ []) ⊎ (self.new.is_broken ≡ true)) }
+        ensures accepts { Accepts self.old self.new bytes.now result }
         ensures limit { length self.new.buffered ≤ length self.old.buffered }
     {
         self.write_gathered();
