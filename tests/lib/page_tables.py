@@ -142,7 +142,23 @@ def differences_of_crates():
             yield f"ARCHITECTURE names a file that isn't there: {name}"
 
 
+def differences_of_drawings():
+    """Each name of code in a drawing: in ARCHITECTURE's, and in those at the head of a source."""
+    texts = sources.sources(but=())
+    code = {word for _, text in texts for word in re.findall(r"\w+", re.sub(r"(?m)//.*$", "", text))} | {*sources.crates()}
+    drawings = [("ARCHITECTURE", drawn) for drawn in re.findall(r"```\n(.*?)```", text_of("docs", "ARCHITECTURE.md"), re.S)]
+    for crate, text in texts:
+        drawings += [(crate, drawn) for drawn in re.findall(r"//! ```text\n(.*?)//! ```", text, re.S)]
+    for where, drawn in drawings:
+        # (words that only code is made of: with a line below, or with a second capital)
+        drawn = re.sub(r"[\w/]+\.rt", "", drawn)
+        for name in sorted({*re.findall(r"\b(?:\w+_\w+|[A-Z][a-z]+[A-Z]\w*|\w+::\w+)\b", drawn)}):
+            if not {*name.split("::")} <= code:
+                yield f"{where} draws what isn't there: {name}"
+
+
 CHECKS = (
+    differences_of_drawings,
     differences_of_limits,
     differences_of_numbers,
     differences_of_settings,

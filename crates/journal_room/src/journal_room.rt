@@ -78,7 +78,9 @@ impl JournalRoom {
         turns.leave();
         let mut ledger = self.ledger.lock(rt);
         let ledger = &mut *ledger;
-        turns.account.settle(ledger, self.open.load(Ordering::SeqCst));
+        turns
+            .account
+            .settle(ledger, self.open.load(Ordering::SeqCst));
         turns.account.borrow_steps(ledger, reserve);
     }
 
@@ -147,7 +149,9 @@ impl JournalRoom {
             × HasRoomForCommand (known turns.new.account) (owed_steps turns.new.account)
             unfinished) }
     {
-        if unfinished.max(turns.account.unreported_bytes()) >= LARGE || turns.account.average() >= LARGE_STEP {
+        if unfinished.max(turns.account.unreported_bytes()) >= LARGE
+            || turns.account.average() >= LARGE_STEP
+        {
             self.settle(rt, turns, reserve);
         }
         self.lend(rt, turns, reserve) && turns.account.has_room_for_command(unfinished)

@@ -1,7 +1,7 @@
 -- A worker's clients and hosts stay served, and what a call changes of them.
 use Rattle.std.proofs.Common.{◌≡◌, ◌≢◌, ◌∙◌, ◌<◌, ℕ, List, [], ◌∷◌, ◌++◌, ◌+◌, Some, None, ap, arith, get_or, inl, inr, length, refl, set, suc, sym, true, zero}
 use Rattle.std.proofs.lemmas.Bool.{cases_eq}
-use Rattle.std.proofs.lemmas.List.{get_or-set_same, get_or-set_other, get_or_append_left, length-append, length-set}
+use Rattle.std.proofs.lemmas.List.{get_or-set_same, get_or-set_other, get_or_append_left, length-append, length-set, map-append}
 use Rattle.std.proofs.Math.Seq.{get_or-append_seam}
 use Rattle.std.proofs.lemmas.List.Elements.{filter-append}
 use Rattle.slab.specs.Slab.{Slab, Updates, get, with_value}
@@ -16,7 +16,7 @@ use Rattle.proxy_connections.specs.Sockets.{CarriesItsSocket, KeepsHost, OpensSo
 use Rattle.proxy_notices.specs.Places.{IsOf}
 use Rattle.proxy_notices.specs.declared.place.Place.{Place}
 use Rattle.proxy_connections.specs.Places.{KeepsToPlace}
-use Rattle.proxy_connections.proofs.PlaceLemmas.{keeps_beside, keeps_of_connection, keeps_of_host}
+use Rattle.proxy_connections.proofs.PlaceLemmas.{hosts_of-skip, hosts_of-take, keeps_beside, keeps_of_connection, keeps_of_host}
 use Rattle.proxy_connections.specs.WorkerConnections.{AddsClient, CarriesLink, ChangesClient, ChangesHost, WorkerConnectionsState, IsAt, IsNewcomer, IsServing, KeepsClients, RiseTo, ServesClients, ServesHosts, number_of}
 use Rattle.proxy_connections.specs.declared.client_connection.ClientConnection.{ClientConnection}
 use Rattle.proxy_connections.specs.declared.host_connection.HostConnection.{HostConnection}
@@ -316,21 +316,24 @@ serves_none clients hosts H no_slots no_steps s =
     none_at zero client there = absurd cc
     none_at (suc key) client there = absurd cc
 
--- hosts that rise to a number rise to the next one too
-pub rises_past : {place : Place} → (hosts : List HostConnection) (next : ℕ) → RiseTo place hosts next → RiseTo place hosts (next + 1)
-rises_past hosts next r = record {
+-- hosts that rise to a number rise to the next one too, where that is another worker's
+pub rises_past : {place : Place} → (hosts : List HostConnection) (next : ℕ) → (IsOf place next → ⊥) → RiseTo place hosts next
+    → RiseTo place hosts (next + 1)
+rises_past {place} hosts next other r = record {
   serves = r.serves;
+  all = r.all ∙ hosts_of-skip place next other;
   below = λ k d within. let under = r.below k d within in omega (arith, under);
 }
 
--- no host rises to any number
-pub rises_none : {place : Place} → (next : ℕ) → RiseTo place [] next
-rises_none next = record {
+-- no host rises to 0
+pub rises_none : {place : Place} → RiseTo place [] 0
+rises_none = record {
   serves = record {
     carries = λ k d within. absurd (omega (arith, within));
     own = λ k d within. absurd (omega (arith, within));
     apart = λ i j x y i_within j_within same. absurd (omega (arith, i_within));
   };
+  all = refl;
   below = λ k d within. absurd (omega (arith, within));
 }
 
@@ -378,6 +381,7 @@ module _ {place : Place} (hosts : List HostConnection) (host : HostConnection) (
         ]
       ];
     };
+    all = map-append number_of hosts (host ∷ []) ∙ rw (r.all, number) (hosts_of-take place next is_own);
     below = λ k d within. elim (cases_eq k (length hosts)) [
       | inl same ↦ let is_next : number_of (get_or (hosts ++ host ∷ []) k d) ≡ next = ap number_of (is_last k d same) ∙ number in omega (arith, is_next)
       | inr differs ↦
@@ -388,8 +392,8 @@ module _ {place : Place} (hosts : List HostConnection) (host : HostConnection) (
   }
 
 -- the same of equal lists
-pub rises_empty : {place : Place} → (hosts : List HostConnection) (next : ℕ) → hosts ≡ [] → RiseTo place hosts next
-rises_empty hosts next none = rw none (rises_none next)
+pub rises_empty : {place : Place} → (hosts : List HostConnection) → hosts ≡ [] → RiseTo place hosts 0
+rises_empty hosts none = rw none rises_none
 
 pub rises_to : {place : Place} → (hosts new : List HostConnection) (host : HostConnection) (next : ℕ) → new ≡ hosts ++ host ∷ [] → RiseTo place hosts next
     → number_of host ≡ next → IsOf place next → CarriesLink [] host → RiseTo place new (next + 1)

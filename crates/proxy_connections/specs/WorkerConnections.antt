@@ -1,5 +1,5 @@
 -- What a worker keeps of all its clients and hosts, and what each call may change of them.
-use Rattle.std.specs.Prelude.{◌≡◌, ◌≢◌, ◌⊎◌, ◌<◌, ◌≤◌, ◌++◌, ℕ, List, [], Some, None, length, slice_index_or}
+use Rattle.std.specs.Prelude.{◌≡◌, ◌≢◌, ◌⊎◌, ◌<◌, ◌≤◌, ◌++◌, ℕ, List, [], Some, None, length, map, slice_index_or}
 use Rattle.std.specs.List.{All}
 use Rattle.slab.specs.Slab.{Slab, Updates, SameValues, get}
 use Rattle.proxy_history.specs.History.{History}
@@ -12,7 +12,7 @@ use Rattle.proxy_engines.specs.Turns.{own_steps}
 use Rattle.proxy_engines.specs.Client.{Client as Engine}
 use Rattle.proxy_stats.specs.declared.counted_seat.CountedSeat.{CountedSeat}
 use Rattle.proxy_connections.specs.Sockets.{KeepsHost}
-use Rattle.proxy_notices.specs.Places.{IsOf}
+use Rattle.proxy_notices.specs.Places.{IsOf, hosts_of}
 use Rattle.proxy_notices.specs.declared.place.Place.{Place}
 use Rattle.proxy_connections.specs.Places.{KeepsToPlace}
 use Rattle.proxy_connections.specs.declared.client_connection.ClientConnection.{ClientConnection}
@@ -57,9 +57,10 @@ pub record ServesHosts (place : Place) (hosts : List HostConnection) (steps : Hi
   pub apart : (i j : ℕ) (one two : HostConnection) → i < length hosts → j < length hosts
       → number_of (slice_index_or hosts i one) ≡ number_of (slice_index_or hosts j two) → i ≡ j
 
--- some hosts over no steps, each with a number below this one
+-- hosts over no steps: those of this place, each with a number below this one
 pub record RiseTo (place : Place) (hosts : List HostConnection) (next : ℕ) : Type 0 where
   pub serves : ServesHosts place hosts []
+  pub all : map number_of hosts ≡ hosts_of place next
   pub below : All (λ host. number_of host < next) hosts
 
 -- A worker's clients and hosts are served, over the steps that it made, and none of these is of a host of another place.

@@ -1,6 +1,7 @@
 //! The clients and hosts of a worker, and the turns by which these are stepped.
-ghost use Rattle.std.specs.Prelude.{◌≡◌, ◌<◌, ◌+◌, [], IfOk, IfSome, OnOk};
-ghost use Rattle.proxy_connections.specs.WorkerConnections.{AddsClient, ChangesClient, ChangesHost, IsLast, IsLeaving, IsNewcomer, KeepsClients, MakesRoom, RemovesClient, RiseTo, ServesHosts, steps_of};
+ghost use Rattle.std.specs.Prelude.{◌≡◌, ◌<◌, ◌+◌, [], IfOk, IfSome, OnOk, length, map};
+ghost use Rattle.proxy_notices.specs.Places.{hosts_of};
+ghost use Rattle.proxy_connections.specs.WorkerConnections.{AddsClient, ChangesClient, ChangesHost, IsLast, IsLeaving, IsNewcomer, KeepsClients, MakesRoom, RemovesClient, RiseTo, ServesHosts, number_of, steps_of};
 
 use crate::client_connection::{
     CarriedSocket, ClientConnection, ClientRound, Lent, PollPlace, Stepped,
@@ -124,7 +125,9 @@ impl<'a> WorkerConnections<'a> {
         seat: CountedSeat<'a>,
     ) -> Result<WorkerConnections<'a>, Ending>
         requires { steps_of seat ≡ [] }
-        ensures { IfOk result (λ made. made.place ≡ place) }
+        ensures place { IfOk result (λ made. made.place ≡ place) }
+        ensures hosts { 0 < place.workers → IfOk result (λ made.
+            map number_of made.hosts ≡ hosts_of place (length config.now.hosts.items)) }
     {
         let hosts = hosts_of(alloc, place, config)?;
         Ok(WorkerConnections {
@@ -542,7 +545,9 @@ fn is_any_connecting(hosts: &[HostConnection], now: u64) -> bool {
 
 // The hosts of the worker at this place, each without a link.
 fn hosts_of(alloc: Global, place: Place, config: &Config) -> Result<Vec<HostConnection>, Ending>
-    ensures { IfOk result (λ hosts. ServesHosts place hosts.items []) }
+    ensures serves { IfOk result (λ hosts. ServesHosts place hosts.items []) }
+    ensures all { 0 < place.workers → IfOk result (λ hosts.
+        map number_of hosts.items ≡ hosts_of place (length config.now.hosts.items)) }
 {
     let mut hosts = Vec::new(alloc);
     if place.workers == 0 {
@@ -562,16 +567,15 @@ fn push_host(
     place: Place,
     config: &Config,
 ) -> Result<(), Ending>
-    requires { 0 < place.workers }
+    requires workers { 0 < place.workers }
+    requires there { host < length config.now.hosts.items }
     ensures { RiseTo place hosts.old.items host
         → OnOk result (RiseTo place hosts.new.items (host + 1)) }
 {
     if !place.has(host) {
         return Ok(());
     }
-    let Some(entry) = config.hosts.get(host) else {
-        return Ok(());
-    };
+    let entry = &config.hosts[host];
     let token = Token(HOSTS.saturating_add(hosts.len()));
     let reply_ms = u64::from(config.reply_ms);
     hosts.push(HostConnection::new(alloc, host, entry.address, token, reply_ms))?;

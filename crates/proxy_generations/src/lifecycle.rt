@@ -1,4 +1,15 @@
 //! The task of each generation.
+//!
+//! ```text
+//!  Unasked ── full ──> Wanted ── take_due ──> being opened ── opened ──> Serving
+//!                        ▲ failed                  │                        │ the next one: opened
+//!                        └─────────────────────────┘                        ▼
+//!                                                             drained <── Draining, till it has no connection
+//!  the oldest alone, where as many drain as may:                            │ near, and no host answers it
+//!                                                                           ▼
+//!                                                             drained <── GivingUp, till the next one is Wanted
+//!                                                             drained <── Stopped
+//! ```
 ghost use Rattle.std.specs.Prelude.{◌≡◌, ◌↔◌, true, [], List, IsTrue, Contains, slice_get, Some, IsNone, IfSome, length};
 ghost use Rattle.std.specs.Option.{SomeIff};
 ghost use Rattle.proxy_generations.specs.Events.{Event, Opened, Failed, Near, Full, Renewed, Progressed, Drained, Swept, newest, draining, has_connections, last_sweep};

@@ -1,4 +1,11 @@
 //! A request arrives.
+//!
+//! ```text
+//! turn_arrived > arrive > accept > ready_to_arrive, then accept_plan by what splitter plans for it:
+//!   accept_value                       the proxy's own answer, or a command without parts
+//!   accept_whole > place_whole         one part, for its key's host
+//!   accept_list > place_parts > place_all > place_one > place_at    several parts, each for its key's host
+//! ```
 ghost use Rattle.std.specs.Prelude.{◌≡◌, ℕ, ◌<◌, ◌^◌, ◌-◌, [], ◌∷◌, length, map, replicate, None, IfOk, IfErr, OnOk, IfSome};
 ghost use Rattle.resp_core.specs.Value.{tree_of};
 ghost use Rattle.resp_core.specs.Stream.{told_offset};
