@@ -14,7 +14,7 @@ use Rattle.proxy_engines.specs.Ends.{RestState}
 use Rattle.proxy_engines.specs.Socket.{IsLeft, IsRest}
 use Rattle.proxy_engines.specs.Host.{HostEnds, HostOutboxState, LinkState, CarriesHost}
 use Rattle.proxy_engines.specs.declared.client.Progress.{Progress}
-use Rattle.proxy_engines.specs.declared.error.EngineError.{EngineError}
+use Rattle.engine_work.specs.declared.error.EngineError.{EngineError}
 use Rattle.proxy_engines.specs.Keeps.{KeepsSocket, no_logs}
 use Rattle.proxy_engines.specs.HostStep.{HostCall, HostState, Records, RestsHost, StepsHost, WorksHost, ends_of}
 use Rattle.proxy_engines.proofs.CallerLemmas as engines

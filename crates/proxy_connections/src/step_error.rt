@@ -1,7 +1,7 @@
 //! Why a step of a connection fails.
 
+use engine_work::{Denied, EngineError};
 use proxy_core::Refusal;
-use proxy_engines::{Denied, EngineError};
 use proxy_exit_status::Ending;
 
 /// Why a step failed.

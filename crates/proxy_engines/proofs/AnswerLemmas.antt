@@ -5,10 +5,10 @@ use Rattle.std.specs.Prelude.{Result, Ok, Err, IfOk, IfErr, OnOk}
 use Rattle.proxy_history.specs.History.{History}
 use Rattle.proxy_engines.specs.Client.{Client, Goes, Cuts, HasNoFault}
 use Rattle.proxy_engines.specs.Moves.{AsTold, told_by_step}
-use Rattle.proxy_engines.specs.EngineError.{IsTurnRefused}
+use Rattle.engine_work.specs.EngineError.{IsTurnRefused}
 use Rattle.proxy_engines.specs.declared.client.Progress.{Progress}
 use Rattle.proxy_engines.specs.declared.client.Stage.{Stage}
-use Rattle.proxy_engines.specs.declared.error.EngineError.{EngineError}
+use Rattle.engine_work.specs.declared.error.EngineError.{EngineError}
 use Rattle.proxy_engines.proofs.ClientMoves.{goes_some}
 use Rattle.proxy_engines.proofs.MoveLemmas.{as-none}
 

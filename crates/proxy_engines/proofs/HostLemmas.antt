@@ -15,7 +15,7 @@ use Rattle.proxy_engines.proofs.FaultLemmas.{cause_later, from_to, not_late-anew
 use Rattle.proxy_engines.proofs.AnswerLemmas.{if_ok, on_ok}
 use Rattle.proxy_engines.proofs.HostMoves.{starts_then}
 use Rattle.proxy_engines.specs.declared.client.Progress.{Progress}
-use Rattle.proxy_engines.specs.declared.error.EngineError.{EngineError}
+use Rattle.engine_work.specs.declared.error.EngineError.{EngineError}
 
 -- a call of an engine
 abbrev pub calls : HostState → HostState → History → History → ℕ → HostCall

@@ -17,7 +17,7 @@ use Rattle.proxy_engines.specs.Moves.{AsTold}
 use Rattle.proxy_engines.specs.Logs.{Logs, client_logs, link_logs, CarriesSocketLogs}
 use Rattle.proxy_engines.specs.Keeps.{KeepsLink, KeepsSocket, IsBetween, ClientsKeepSockets, HostsKeepLinks}
 use Rattle.proxy_engines.specs.declared.client.Progress.{Progress}
-use Rattle.proxy_engines.specs.declared.error.EngineError.{EngineError}
+use Rattle.engine_work.specs.declared.error.EngineError.{EngineError}
 use Rattle.proxy_engines.proofs.LogsLemmas.{hosts_carry_logs, sockets_carry_logs}
 
 -- CLIENTS

@@ -12,7 +12,6 @@ pub mod HostLemmas
 pub mod IdleLemmas
 pub mod LeaveOthersLemmas
 pub mod FlushLemmas
-pub mod ZipLemmas
 pub mod SendLemmas
 pub mod AnswerLemmas
 pub mod LogsLemmas

@@ -8,7 +8,7 @@ use Rattle.proxy_engines.specs.Moves.{has_moved, AsTold, IsEndOf, last_text, tol
 use Rattle.proxy_engines.specs.Faults.{is_fault, told_by_moves, told_by_outcome}
 use Rattle.proxy_engines.specs.declared.client.Progress.{Progress}
 use Rattle.proxy_engines.specs.declared.link.Outcome.{Outcome}
-use Rattle.proxy_engines.specs.declared.error.EngineError.{EngineError}
+use Rattle.engine_work.specs.declared.error.EngineError.{EngineError}
 
 pub has_moved-append : (a b c d : List ℕ) (e f : History) → has_moved (a ++ b) (c ++ d) (f ++ e) ≡ (has_moved a c e || has_moved b d f)
 has_moved-append (x ∷ a) b c d e f = refl

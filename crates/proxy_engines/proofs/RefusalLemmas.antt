@@ -10,11 +10,11 @@ use Rattle.proxy_history.specs.RefusalLaws.{Means}
 use Rattle.proxy_history.specs.declared.event.Event.{Event}
 use Rattle.proxy_history.specs.declared.refusal.Refusal.{Refusal}
 use Rattle.proxy_engines.specs.Faults.{IsOfNoDevice}
-use Rattle.proxy_engines.specs.EngineError.{IsTurnRefused}
+use Rattle.engine_work.specs.EngineError.{IsTurnRefused}
 use Rattle.proxy_engines.specs.OneTurn.{IsDue, IsDueError, is_error, told_as}
-use Rattle.proxy_engines.specs.declared.error.Denied.{Denied}
+use Rattle.engine_work.specs.declared.error.Denied.{Denied}
 use Rattle.proxy_engines.specs.declared.client.Progress.{Progress}
-use Rattle.proxy_engines.specs.declared.error.EngineError.{EngineError}
+use Rattle.engine_work.specs.declared.error.EngineError.{EngineError}
 
 -- the refusals of an event that are no errors
 abbrev pub IsExpected : Event → Refusal → Type 0

@@ -18,8 +18,8 @@ use Rattle.proxy_engines.specs.Ends.{OutboxState, InboxState, HoldsBehind, HasGi
 use Rattle.proxy_engines.specs.OneTurn.{HasHeld}
 use Rattle.proxy_engines.specs.declared.client.Progress.{Progress}
 use Rattle.proxy_engines.specs.declared.client.Stage.{Stage}
-use Rattle.proxy_engines.specs.EngineError.{IsTurnRefused}
-use Rattle.proxy_engines.specs.declared.error.EngineError.{EngineError}
+use Rattle.engine_work.specs.EngineError.{IsTurnRefused}
+use Rattle.engine_work.specs.declared.error.EngineError.{EngineError}
 
 -- its connection, its two ends, the request that waits to be accepted, how many commands were accepted and how many replies
 -- handed out, how far the connection has come, whether nothing more is to be taken in, and whether reading stopped for that

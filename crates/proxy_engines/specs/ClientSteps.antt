@@ -15,8 +15,8 @@ use Rattle.proxy_engines.specs.Ends.{HasGivenAll, KeepsReader}
 use Rattle.proxy_engines.specs.Client.{AwaitsBytes, AwaitsReplies, Client, Goes, HandsNothing, HasNext, HasNoFault, HasSameCounts, IsHeldBack, IsIdle, IsLive, TakesNothing}
 use Rattle.proxy_engines.specs.declared.client.Progress.{Progress}
 use Rattle.proxy_engines.specs.declared.client.Stage.{Stage}
-use Rattle.proxy_engines.specs.EngineError.{IsTurnRefused}
-use Rattle.proxy_engines.specs.declared.error.EngineError.{EngineError}
+use Rattle.engine_work.specs.EngineError.{IsTurnRefused}
+use Rattle.engine_work.specs.declared.error.EngineError.{EngineError}
 
 -- Some turns were made, or none, from `before` to `after`: the engine made moves, whether any as was told; where it answers
 -- neither device has failed, and where a turn was refused the error tells why.

@@ -10,8 +10,8 @@ use Rattle.proxy_devices.specs.Device.{HasRisen}
 use Rattle.proxy_engines.specs.Ends.{InboxState, HasGivenAll, Reads}
 use Rattle.proxy_engines.specs.Host.{HostOutboxState, LinkState}
 use Rattle.proxy_engines.specs.OneTurn.{IsDueError}
-use Rattle.proxy_engines.specs.declared.error.Denied.{Denied}
-use Rattle.proxy_engines.specs.declared.error.EngineError.{EngineError}
+use Rattle.engine_work.specs.declared.error.Denied.{Denied}
+use Rattle.engine_work.specs.declared.error.EngineError.{EngineError}
 use Rattle.proxy_engines.specs.declared.link.Outcome.{Outcome}
 
 -- whether a move came to a fault

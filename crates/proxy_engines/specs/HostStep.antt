@@ -9,8 +9,8 @@ use Rattle.proxy_engines.specs.Host.{HostEnds, HostMove, HostOutboxState, LinkSt
 use Rattle.proxy_engines.specs.OneTurn.{HasHeld}
 use Rattle.proxy_engines.specs.Faults.{IsLate, IsLateOn, IsCauseOf, IsOfNoDevice}
 use Rattle.proxy_engines.specs.declared.client.Progress.{Progress}
-use Rattle.proxy_engines.specs.EngineError.{IsTurnRefused}
-use Rattle.proxy_engines.specs.declared.error.EngineError.{EngineError}
+use Rattle.engine_work.specs.EngineError.{IsTurnRefused}
+use Rattle.engine_work.specs.declared.error.EngineError.{EngineError}
 
 -- a host's engine, and the fault that is still to be recorded
 pub record HostState : Type 0 where

@@ -13,8 +13,8 @@ use Rattle.proxy_engines.specs.Faults.{HasNoFaultOn, IsDueErrorOn, IsLate, IsPla
 use Rattle.proxy_engines.specs.Host.{FailsHost, GoesOn, HostEnds, HostOutboxState, LinkState}
 use Rattle.proxy_engines.specs.HostStep.{HostCall, HostState, IsIdleOn, IsUnasked, Records, RestsHost, StepsHost, WorksHost}
 use Rattle.proxy_engines.specs.declared.client.Progress.{Progress}
-use Rattle.proxy_engines.specs.EngineError.{IsTurnRefused}
-use Rattle.proxy_engines.specs.declared.error.EngineError.{EngineError}
+use Rattle.engine_work.specs.EngineError.{IsTurnRefused}
+use Rattle.engine_work.specs.declared.error.EngineError.{EngineError}
 
 module _ {Turns Setting : Type 0} (pass_of : Turns → ℕ) (setting_of : Turns → Setting) (seen_of : Turns → List Step)
     (cause : Setting → Refusal → Event → List Step → Type 0) (before after : Turns) where

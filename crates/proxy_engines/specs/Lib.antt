@@ -1,4 +1,3 @@
-pub mod EngineError
 pub mod Ends
 pub mod Turns
 pub mod OneTurn
@@ -11,7 +10,6 @@ pub mod Faults
 pub mod LinkSteps
 pub mod HostStep
 pub mod HostTurns
-pub mod Works
 pub mod Laws
 pub mod Logs
 pub mod Lends

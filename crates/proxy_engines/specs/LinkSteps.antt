@@ -4,7 +4,7 @@ use Rattle.proxy_devices.specs.Device.{HasRisen, WasIdle}
 use Rattle.proxy_engines.specs.Ends.{HasGivenAll, KeepsReader}
 use Rattle.proxy_engines.specs.Host.{HostOutboxState, LinkState}
 use Rattle.proxy_engines.specs.Faults.{HasNoFaultOn, HasRead, IfFault, IsCauseOf, IsLate, IsLateOn, IsOfDevice, LinkMove, is_fault}
-use Rattle.proxy_engines.specs.declared.error.EngineError.{EngineError}
+use Rattle.engine_work.specs.declared.error.EngineError.{EngineError}
 use Rattle.proxy_engines.specs.declared.link.NextValue.{NextValue}
 use Rattle.proxy_engines.specs.declared.link.Outcome.{Outcome}
 

@@ -4,7 +4,7 @@ use Rattle.proxy_history.specs.History.{History}
 use Rattle.proxy_history.specs.declared.answer.Answer.{Answer}
 use Rattle.proxy_history.specs.declared.event.Event.{Event}
 use Rattle.proxy_engines.specs.declared.client.Progress.{Progress}
-use Rattle.proxy_engines.specs.declared.error.EngineError.{EngineError}
+use Rattle.engine_work.specs.declared.error.EngineError.{EngineError}
 
 -- whether bytes were read, bytes were taken or steps were made
 abbrev pub has_moved : List ℕ → List ℕ → History → Bool

@@ -8,8 +8,8 @@ use Rattle.proxy_history.specs.StepLaws.{IsAnswerTo}
 use Rattle.proxy_history.specs.declared.answer.Answer.{Answer}
 use Rattle.proxy_history.specs.declared.event.Event.{Event}
 use Rattle.proxy_history.specs.declared.refusal.Refusal.{Refusal}
-use Rattle.proxy_engines.specs.declared.error.Denied.{Denied}
-use Rattle.proxy_engines.specs.declared.error.EngineError.{EngineError}
+use Rattle.engine_work.specs.declared.error.Denied.{Denied}
+use Rattle.engine_work.specs.declared.error.EngineError.{EngineError}
 
 -- The caller made one step more, with an answer of the event's kind.
 pub record Adds (pass : ℕ) (old new : History) (event : Event) (answer : Answer) : Type 0 where

@@ -9,14 +9,14 @@ ghost use Rattle.proxy_engines.specs.Turns.{KeepsTurns, own_history};
 ghost use Rattle.proxy_devices.specs.Device.{HasFailed, WasIdle, reader_state, writer_state};
 ghost use Rattle.proxy_engines.specs.Ends.{HasGivenAll};
 ghost use Rattle.proxy_engines.specs.OneTurn.{IsDueError};
-ghost use Rattle.proxy_engines.specs.EngineError.{IsTurnRefused};
+ghost use Rattle.engine_work.specs.EngineError.{IsTurnRefused};
 ghost use Rattle.journal_core.specs.Journal.{step_by};
 ghost use Rattle.proxy_engines.specs.Moves.{AsTold, told_by_step, told_by_turn};
 
-use crate::error::EngineError;
 use crate::inbox::{Inbox, Rest};
 use crate::one_turn::{arrive, make_turn, open, told_as};
 use crate::outbox::Outbox;
+use engine_work::EngineError;
 use proxy_core::{Answer, CoreTurns, Event, Request};
 use proxy_devices::{IoOutcome, ReadTally, WriteTally};
 use resp_core::Limits;

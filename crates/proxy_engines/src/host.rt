@@ -15,9 +15,9 @@ ghost use Rattle.proxy_engines.specs.HostTurns.{MakesStep, RecordsFault, RestsSe
 ghost use Rattle.proxy_engines.specs.HostStep.{TellsFault, after_fault, answer_of, ends_of};
 
 use crate::client::Progress;
-use crate::error::EngineError;
 use crate::host_outbox::HostOutbox;
 use crate::link::{Link, Outcome};
+use engine_work::EngineError;
 use proxy_core::{CoreTurns, Kind};
 use proxy_devices::{ReadTally, WriteTally};
 use std::alloc::Global;

@@ -11,9 +11,9 @@ ghost use Rattle.proxy_engines.specs.HostTurns.{FailsOutbox, MovesEnds};
 ghost use Rattle.proxy_engines.specs.Faults.{IsLate, IsDueErrorOn};
 ghost use Rattle.proxy_engines.specs.Host.{LinkState, FailsHost};
 
-use crate::error::{Denied, EngineError};
 use crate::one_turn::{make_turn, told_as};
 use bytes::Bytes;
+use engine_work::{Denied, EngineError};
 use proxy_core::{Answer, CoreTurns, Event, Kind};
 use proxy_devices::{IoOutcome, WriteTally};
 use std::alloc::Global;

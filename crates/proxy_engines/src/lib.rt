@@ -4,14 +4,15 @@
 //! out. A [`HostEngine`] writes the core's parts to a host, and turns the link's input into replies. Both are lent
 //! turns (`CoreTurns`): a pass at a gate, or a core of their own. Readers and writers only have to count their failures
 //! and pauses ([`Tally`]), and for contracts to keep a log of their bytes; [`Tallied`] does this for any socket.
-//! [`run_all`] runs many [`Work`]s in threads; a [`ClientWork`] steps one client's engine to its end.
+//! A [`ClientWork`] steps one client's engine to its end, as a [`Work`] that [`run_all`] runs beside others.
 //!
 //! Contracts state the facts of an engine from step to step, over its own caller's steps and its devices' logs, and what
-//! follows at the end. It stands on `proxy_core` and `proxy_devices`. Begin with `client.rt`, then `host.rt`.
+//! follows at the end. It stands on `proxy_core`, `proxy_devices` and `engine_work`. Begin with `client.rt`, then
+//! `host.rt`.
 #![tactic(auto)]
 
 mod client;
-mod error;
+mod client_work;
 mod host;
 mod host_outbox;
 mod inbox;
@@ -19,11 +20,10 @@ mod laws;
 mod link;
 mod one_turn;
 mod outbox;
-mod threads;
-mod work;
 
 pub use client::{ClientEngine, Progress, Stage};
-pub use error::{Denied, EngineError};
+pub use client_work::ClientWork;
+pub use engine_work::{Denied, EngineError, Work, run_all};
 pub use host::HostEngine;
 pub use inbox::{READ_SIZE, Rest};
 pub use laws::{
@@ -32,5 +32,3 @@ pub use laws::{
     sockets_carry_logs, sockets_go_on,
 };
 pub use proxy_devices::{Faulty, IoOutcome, ReadTally, Tallied, Tally, WriteTally};
-pub use threads::run_all;
-pub use work::{ClientWork, Work};

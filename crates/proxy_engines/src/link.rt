@@ -16,10 +16,10 @@ ghost use Rattle.proxy_engines.specs.Host.{HostOutboxState, LinkState, GoesWitho
 ghost use Rattle.proxy_engines.specs.Moves.{AsTold};
 ghost use Rattle.proxy_engines.specs.Faults.{either, is_fault, HasNoFaultOn, HasRead, IfFault, IsCauseOf, IsLate, IsOfDevice, IsUnaskedNow, IsLateOn, IsPlain, told_by_moves, told_by_outcome};
 
-use crate::error::EngineError;
 use crate::host_outbox::HostOutbox;
 use crate::inbox::Inbox;
 use crate::one_turn::{give, told_as};
+use engine_work::EngineError;
 use proxy_core::{CoreTurns, Kind, Request};
 use proxy_devices::{IoOutcome, ReadTally, WriteTally};
 use resp_core::{Limits, Value};

@@ -11,7 +11,7 @@ ghost use Rattle.proxy_history.specs.declared.event.Event.{Event};
 ghost use Rattle.proxy_engines.specs.Turns.{KeepsTurns, own_history};
 ghost use Rattle.proxy_engines.specs.OneTurn.{Adds, IsDenied, told_as};
 
-use crate::error::{Denied, EngineError};
+use engine_work::{Denied, EngineError};
 use proxy_core::{Answer, CoreTurns, Event, Local, Refusal, Request};
 use resp_core::Value;
 use std::sync::Wait;

@@ -12,7 +12,7 @@ use Rattle.proxy_engines.specs.HostStep.{HostCall, Records, RestsHost, StepsHost
 use Rattle.proxy_engines.specs.Moves.{AsTold}
 use Rattle.journal_core.specs.Journal.{step_by}
 use Rattle.proxy_engines.specs.declared.client.Progress.{Progress}
-use Rattle.proxy_engines.specs.declared.error.EngineError.{EngineError}
+use Rattle.engine_work.specs.declared.error.EngineError.{EngineError}
 use Rattle.proxy_engines.proofs.CallerLemmas as engines
 use Rattle.proxy_local.specs.Moves.{GoesBeside, IsBeside}
 use Rattle.proxy_local.proofs.BytesLemmas.{Appends-append, Appends-none, Consumes-append, Consumes-none}

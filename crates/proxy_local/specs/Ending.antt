@@ -1,7 +1,7 @@
 -- How a run ends where an engine's call is refused.
 use Rattle.proxy_history.specs.declared.refusal.Refusal.{Refusal}
-use Rattle.proxy_engines.specs.declared.error.Denied.{Denied}
-use Rattle.proxy_engines.specs.declared.error.EngineError.{EngineError}
+use Rattle.engine_work.specs.declared.error.Denied.{Denied}
+use Rattle.engine_work.specs.declared.error.EngineError.{EngineError}
 use Rattle.proxy_exit_status.specs.declared.ending.Ending.{Ending}
 
 -- how it ends where the core refuses a turn

@@ -2,7 +2,7 @@
 //!
 //! A generation is a journal with its gate. The workers make rounds: each steps the clients and hosts of its
 //! `WorkerConnections`, which make turns at the gate. One more thread sweeps, and asks for the next generation in time. Old
-//! sockets follow to that once their accepted commands are answered. It stands on `proxy_connections`, on `proxy_server`, which all generations share, and on `sweeper` and
+//! sockets follow to that once their accepted commands are answered. It stands on `proxy_connections`, on `proxy_server`, which all generations share, and on `engine_work`, `sweeper` and
 //! `ticket_gate`. Begin with `run_generation` in `generation.rt`, then `Worker::make_round` in `worker.rt`.
 #![tactic(auto)]
 

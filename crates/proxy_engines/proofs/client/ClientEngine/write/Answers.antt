@@ -1,5 +1,5 @@
 use Rattle.proxy_engines.proofs.OwnHistoryLemmas.{keeps_same}
-use Rattle.proxy_engines.specs.declared.error.EngineError.{EngineError}
+use Rattle.engine_work.specs.declared.error.EngineError.{EngineError}
 use Rattle.proxy_devices.specs.Device.{Counts, HasFailed}
 use Rattle.proxy_engines.specs.Client.{Client}
 use Rattle.proxy_engines.proofs.AnswerLemmas.{cut_told, cut_ok, cut_err}

@@ -1,5 +1,5 @@
 use Rattle.proxy_engines.proofs.OwnHistoryLemmas.{keeps_then}
-use Rattle.proxy_engines.specs.declared.error.EngineError.{EngineError}
+use Rattle.engine_work.specs.declared.error.EngineError.{EngineError}
 use Rattle.proxy_engines.specs.declared.client.Progress.{Progress}
 use Rattle.std.specs.Prelude.{Result, Err, IfOk, IfErr}
 use Rattle.std.proofs.Common.{◌∙◌, Ok, sym, ap, inl, refl, rules, ◌≡◌, ◌↔◌}

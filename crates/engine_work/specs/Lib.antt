@@ -1,0 +1,2 @@
+pub mod EngineError
+pub mod Works
