@@ -1,5 +1,5 @@
 -- What a read does, from what its steps do, and that what was received is delivered.
-use Rattle.std.proofs.Common.{◌≡◌, ◌≢◌, ◌⊎◌, inl, inr, ◌∙◌, ◌++◌, ◌<◌, ℕ, List, [], Option, Some, None, Result, Ok, Err, IfOk, IfErr, OnErr, IsErrAnd, Bool, false, ap, sym, length, take, append-nil, arith}
+use Rattle.std.proofs.Common.{◌≡◌, ◌≢◌, ◌⊎◌, inl, inr, ◌∙◌, ◌++◌, ℕ, List, [], Option, Some, None, Result, Ok, Err, IfOk, IfErr, OnErr, IsErrAnd, false, ap, sym, length, take, append-nil, arith}
 use Rattle.std.specs.Io.KnownBytes.{Consumes, Keeps}
 use Rattle.std.specs.IoError.{error_kind}
 use Rattle.std.specs.declared.io.Error.{Error}
