@@ -11,5 +11,5 @@ loop-host-preserved c =
           rw w.own-is (with_host c.loop-host.own c.args.place c.loop-host.host few c.loop-host.invariant (c.has.ensures.0 w.if-has.true))
       | else-has w ↦
           rw w.own-is (without_host c.loop-host.own c.args.place c.loop-host.host few c.loop-host.invariant
-          (λ is. w.if-has.false (c.has.ensures.1 is)))
+          (λ is. absurd (grind (arith, w.if-has.false, c.has.ensures.1 is))))
     ]
