@@ -8,7 +8,7 @@ ghost use Rattle.journal_budget.specs.Counts.{no_bytes};
 ghost use Rattle.journal_budget.specs.Payload.{HasRoomForCommand, HasRoomForReply};
 ghost use Rattle.journal_room.specs.declared.journal_room.TheConstants.{LARGE};
 
-use crate::counted_turns::{CountedTurns, HeldTurns};
+use crate::metered_turns::{HeldTurns, MeteredTurns};
 use crossbeam_utils::CachePadded;
 use journal_budget::Ledger;
 use limits::{MAX_COMMAND_STEPS, MAX_UNFINISHED};
@@ -67,7 +67,7 @@ impl JournalRoom {
     /// Reports what the worker's turns did, takes back its unspent steps, and lends it this reserve again.
     ///
     /// The turns leave the gate, if they are inside.
-    pub fn settle<R: Wait, T: HeldTurns>(&self, rt: &R, turns: &mut CountedTurns<T>, reserve: u64)
+    pub fn settle<R: Wait, T: HeldTurns>(&self, rt: &R, turns: &mut MeteredTurns<T>, reserve: u64)
         ensures turns { turns.new.turns ≡ turns.old.turns }
         ensures counts { turns.new.account.counts ≡ turns.old.account.counts }
         ensures loan { (turns.new.account.loan ≡ no_loan)
@@ -90,7 +90,7 @@ impl JournalRoom {
     pub fn lend_steps<R: Wait, T: HeldTurns>(
         &self,
         rt: &R,
-        turns: &mut CountedTurns<T>,
+        turns: &mut MeteredTurns<T>,
         steps: u64,
     ) -> bool
         ensures turns { turns.new.turns ≡ turns.old.turns }
@@ -108,7 +108,7 @@ impl JournalRoom {
     pub fn lend<R: Wait, T: HeldTurns>(
         &self,
         rt: &R,
-        turns: &mut CountedTurns<T>,
+        turns: &mut MeteredTurns<T>,
         reserve: u64,
     ) -> bool
         ensures turns { turns.new.turns ≡ turns.old.turns }
@@ -138,7 +138,7 @@ impl JournalRoom {
     pub fn takes_command<R: Wait, T: HeldTurns>(
         &self,
         rt: &R,
-        turns: &mut CountedTurns<T>,
+        turns: &mut MeteredTurns<T>,
         unfinished: u64,
         reserve: u64,
     ) -> bool
@@ -164,7 +164,7 @@ impl JournalRoom {
     pub fn takes_reply<R: Wait, T: HeldTurns>(
         &self,
         rt: &R,
-        turns: &mut CountedTurns<T>,
+        turns: &mut MeteredTurns<T>,
         came: u64,
         reported: &mut u64,
     ) -> bool

@@ -10,7 +10,10 @@ use Rattle.proxy_engines.specs.Keeps.{KeepsSocket, no_logs}
 use Rattle.proxy_engines.specs.Logs.{CarriesHostLogs, CarriesSocketLogs}
 use Rattle.proxy_engines.specs.Turns.{own_steps}
 use Rattle.proxy_engines.specs.Client.{Client as Engine}
-use Rattle.proxy_stats.specs.declared.counted_seat.CountedSeat.{CountedSeat}
+use Rattle.ticket_gate.specs.Turns.{SeatedFacts}
+use Rattle.proxy_history.specs.declared.answer.Answer.{Answer}
+use Rattle.proxy_history.specs.declared.event.Event.{Event}
+use Rattle.proxy_core.specs.Recorded.{Origin}
 use Rattle.proxy_connections.specs.Sockets.{KeepsHost}
 use Rattle.proxy_notices.specs.Places.{IsOf, hosts_of}
 use Rattle.proxy_notices.specs.declared.place.Place.{Place}
@@ -77,8 +80,8 @@ pub record IsNewcomer (engine : Engine) (clients : Slab ClientConnection) (steps
   pub apart : (key : ℕ) (client : ClientConnection) → IsAt clients key client → client.engine.conn ≢ engine.conn
 
 -- the steps that a seat has made so far
-abbrev pub steps_of : CountedSeat → History
-steps_of seat = own_steps seat.seated.pass.number seat.seated.pass.known.seen
+abbrev pub steps_of : SeatedFacts Event Answer Origin → History
+steps_of seat = own_steps seat.pass.number seat.pass.known.seen
 
 -- CHANGES
 

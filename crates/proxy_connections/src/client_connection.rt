@@ -7,7 +7,7 @@ ghost use Rattle.proxy_connections.specs.Sockets.{CarriesItsSocket, MayDrain, Op
 
 use crate::socket::{Reader, SharedStream, Socket, Writer, note_readable, note_writable};
 use crate::step_error::StepError;
-use journal_room::{CountedTurns, HeldTurns, JournalRoom, TurnCounts};
+use journal_room::{HeldTurns, JournalRoom, MeteredTurns, TurnCounts};
 use limits::{LINGER_MS, MAX_SPARED};
 use mio::event::Event as Readiness;
 use mio::net::TcpStream;
@@ -159,7 +159,7 @@ impl CarriedSocket {
         self,
         rt: &R,
         alloc: Global,
-        turns: &mut CountedTurns<T>,
+        turns: &mut MeteredTurns<T>,
         registry: &Registry,
     ) -> Result<ClientConnection, (EngineError, CarriedSocket)>
         ensures ok { IfOk result (λ c. OpensSocket c.engine
@@ -253,7 +253,7 @@ impl ClientConnection {
     pub(crate) fn open<R: Wait, T: HeldTurns>(
         rt: &R,
         alloc: Global,
-        turns: &mut CountedTurns<T>,
+        turns: &mut MeteredTurns<T>,
         stream: TcpStream,
     ) -> Result<ClientConnection, EngineError>
         ensures ok { IfOk result (λ c. OpensSocket c.engine
@@ -280,7 +280,7 @@ impl ClientConnection {
     pub(crate) fn open_carried<R: Wait, T: HeldTurns>(
         rt: &R,
         alloc: Global,
-        turns: &mut CountedTurns<T>,
+        turns: &mut MeteredTurns<T>,
         place: PollPlace<'_>,
         carried: CarriedSocket,
     ) -> Result<ClientConnection, (EngineError, CarriedSocket)>
@@ -409,7 +409,7 @@ impl ClientConnection {
     pub(crate) fn run_once<R: Wait, T: HeldTurns>(
         &mut self,
         rt: &R,
-        turns: &mut CountedTurns<T>,
+        turns: &mut MeteredTurns<T>,
         lent: &mut Lent,
         round: ClientRound<'_>,
     ) -> Result<Stepped, StepError>
@@ -437,7 +437,7 @@ impl ClientConnection {
     fn step_and_write<R: Wait, T: HeldTurns>(
         &mut self,
         rt: &R,
-        turns: &mut CountedTurns<T>,
+        turns: &mut MeteredTurns<T>,
         lent: &mut Lent,
         round: ClientRound<'_>,
     ) -> Result<(), StepError>
@@ -490,7 +490,7 @@ impl ClientConnection {
     fn step_engine<R: Wait, T: HeldTurns>(
         &mut self,
         rt: &R,
-        turns: &mut CountedTurns<T>,
+        turns: &mut MeteredTurns<T>,
         round: ClientRound<'_>,
     ) -> Result<(), StepError>
         ensures { KeepsSocket self.old.engine self.new.engine
@@ -514,7 +514,7 @@ impl ClientConnection {
     fn step<R: Wait, T: HeldTurns>(
         &mut self,
         rt: &R,
-        turns: &mut CountedTurns<T>,
+        turns: &mut MeteredTurns<T>,
         round: ClientRound<'_>,
         intake: &mut Intake,
     ) -> Result<ClientMoved, StepError>
@@ -531,7 +531,7 @@ impl ClientConnection {
     fn accept_or_step<R: Wait, T: HeldTurns>(
         &mut self,
         rt: &R,
-        turns: &mut CountedTurns<T>,
+        turns: &mut MeteredTurns<T>,
         searched: &mut Option<u64>,
     ) -> Result<Progress, EngineError>
         ensures { KeepsSocket self.old.engine self.new.engine
@@ -556,7 +556,7 @@ impl ClientConnection {
     fn step_once<R: Wait, T: HeldTurns>(
         &mut self,
         rt: &R,
-        turns: &mut CountedTurns<T>,
+        turns: &mut MeteredTurns<T>,
     ) -> Result<Progress, EngineError>
         ensures { KeepsSocket self.old.engine self.new.engine
             (own_history T.pass T.seen turns.old.turns)
@@ -570,7 +570,7 @@ impl ClientConnection {
     fn drain_unless_room<R: Wait, T: HeldTurns>(
         &mut self,
         rt: &R,
-        turns: &mut CountedTurns<T>,
+        turns: &mut MeteredTurns<T>,
         round: ClientRound<'_>,
         room_for: &mut Option<u64>,
     )

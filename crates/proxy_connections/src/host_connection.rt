@@ -8,7 +8,7 @@ ghost use Rattle.proxy_connections.specs.WorkerConnections.{CarriesLink};
 
 use crate::socket::{Reader, SharedStream, Socket, Writer, note_readable, note_writable};
 use crate::step_error::StepError;
-use journal_room::{CountedTurns, HeldTurns, JournalRoom, TurnCounts};
+use journal_room::{HeldTurns, JournalRoom, MeteredTurns, TurnCounts};
 use limits::{CONNECTING_MS, MAX_HOSTS, TELL_MS};
 use mio::event::Event as Readiness;
 use mio::net::TcpStream;
@@ -227,7 +227,7 @@ impl HostConnection {
     pub(crate) fn run_once<R: Wait + Net, T: HeldTurns>(
         &mut self,
         rt: &R,
-        turns: &mut CountedTurns<T>,
+        turns: &mut MeteredTurns<T>,
         buffer: &mut Vec<u8>,
         round: HostRound<'_>,
     ) -> Result<HostStepped, StepError>
@@ -311,7 +311,7 @@ impl HostConnection {
     fn step_engine<R: Wait + Net, T: HeldTurns>(
         &mut self,
         rt: &R,
-        turns: &mut CountedTurns<T>,
+        turns: &mut MeteredTurns<T>,
         round: HostRound<'_>,
     ) -> Result<HostStepped, StepError>
         ensures { KeepsHost (ends_of self.old.engine) (ends_of self.new.engine)
@@ -334,7 +334,7 @@ impl HostConnection {
     fn go_on<R: Wait + Net, T: HeldTurns>(
         &mut self,
         rt: &R,
-        turns: &mut CountedTurns<T>,
+        turns: &mut MeteredTurns<T>,
         round: HostRound<'_>,
     ) -> Result<HostMoved, StepError>
         ensures { KeepsHost (ends_of self.old.engine) (ends_of self.new.engine)
@@ -366,7 +366,7 @@ impl HostConnection {
     fn make_link<R: Wait + Net, T: HeldTurns>(
         &mut self,
         rt: &R,
-        turns: &mut CountedTurns<T>,
+        turns: &mut MeteredTurns<T>,
         round: HostRound<'_>,
     ) -> Result<HostMoved, StepError>
         requires link { self.old.engine.link ≡ None }
@@ -393,7 +393,7 @@ impl HostConnection {
     fn step<R: Wait, T: HeldTurns>(
         &mut self,
         rt: &R,
-        turns: &mut CountedTurns<T>,
+        turns: &mut MeteredTurns<T>,
         round: HostRound<'_>,
     ) -> Result<Progress, StepError>
         ensures needs_link { IfOk result (λ p. p ≡ Progress.NeedsLink
@@ -419,7 +419,7 @@ impl HostConnection {
     fn send_and_step<R: Wait, T: HeldTurns>(
         &mut self,
         rt: &R,
-        turns: &mut CountedTurns<T>,
+        turns: &mut MeteredTurns<T>,
         now: u64,
     ) -> Result<Progress, EngineError>
         ensures needs_link { IfOk result (λ p. p ≡ Progress.NeedsLink
@@ -446,7 +446,7 @@ impl HostConnection {
     fn send_all<R: Wait, T: HeldTurns>(
         &mut self,
         rt: &R,
-        turns: &mut CountedTurns<T>,
+        turns: &mut MeteredTurns<T>,
         now: u64,
     ) -> Result<(), EngineError>
         ensures { KeepsHost (ends_of self.old.engine) (ends_of self.new.engine)
@@ -465,7 +465,7 @@ impl HostConnection {
     fn give_up_if_due<R: Wait, T: HeldTurns>(
         &mut self,
         rt: &R,
-        turns: &mut CountedTurns<T>,
+        turns: &mut MeteredTurns<T>,
         round: HostRound<'_>,
     ) -> Result<(), StepError>
         ensures { KeepsHost (ends_of self.old.engine) (ends_of self.new.engine)
@@ -496,7 +496,7 @@ impl HostConnection {
     fn handle_error<R: Wait, T: HeldTurns>(
         &mut self,
         rt: &R,
-        turns: &mut CountedTurns<T>,
+        turns: &mut MeteredTurns<T>,
         error: StepError,
         now: u64,
     ) -> Result<(), StepError>
@@ -515,7 +515,7 @@ impl HostConnection {
     fn is_to_be_given_up<R: Wait, T: HeldTurns>(
         &mut self,
         rt: &R,
-        turns: &mut CountedTurns<T>,
+        turns: &mut MeteredTurns<T>,
         round: HostRound<'_>,
     ) -> bool
         ensures engine { self.new.engine ≡ self.old.engine }
@@ -548,7 +548,7 @@ impl HostConnection {
     fn give_up<R: Wait, T: HeldTurns>(
         &mut self,
         rt: &R,
-        turns: &mut CountedTurns<T>,
+        turns: &mut MeteredTurns<T>,
         now: u64,
     ) -> Result<(), StepError>
         ensures { KeepsHost (ends_of self.old.engine) (ends_of self.new.engine)
@@ -637,7 +637,7 @@ impl HostConnection {
     fn refuse<R: Wait, T: HeldTurns>(
         &mut self,
         rt: &R,
-        turns: &mut CountedTurns<T>,
+        turns: &mut MeteredTurns<T>,
         now: u64,
     ) -> Result<(), StepError>
         requires { self.old.engine.link ≡ None }

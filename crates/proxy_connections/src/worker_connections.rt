@@ -10,7 +10,7 @@ use crate::host_connection::{HostConnection, HostRound, HostStepped};
 use crate::round::Round;
 use crate::step_error::StepError;
 use journal_budget::StepKind;
-use journal_room::{CountedTurns, JournalRoom};
+use journal_room::{JournalRoom, MeteredTurns};
 use mio::event::Event;
 use mio::net::TcpStream;
 use mio::{Registry, Token};
@@ -19,13 +19,14 @@ use proxy_exit_status::Ending;
 use proxy_histogram::Histogram;
 use proxy_notices::{MAX_WORDS, Notices, Place};
 use proxy_serve_core::ReadyClients;
-use proxy_stats::CountedSeat;
+use proxy_stats::TalliedCore;
 use slab::Slab;
 use std::alloc::Global;
 use std::marker::Model;
 use std::mem;
 use std::net::{Net, SocketAddr};
 use std::sync::Wait;
+use ticket_gate::Seated;
 
 /// Tokens from here on are hosts. The token of a client is its key.
 pub const HOSTS: usize = 1 << 32;
@@ -65,7 +66,7 @@ pub struct HostResult {
 /// over the steps of this seat. None of these is of a host of another worker. A client goes only by `remove` and `carry`.
 pub struct WorkerConnections<'a> {
     alloc: Global,
-    turns: CountedTurns<CountedSeat<'a>>,
+    turns: MeteredTurns<Seated<'a, TalliedCore>>,
     place: Place,
     clients: Slab<ClientConnection>,
     // Which of them the next round looks at.
@@ -122,7 +123,7 @@ impl<'a> WorkerConnections<'a> {
         alloc: Global,
         place: Place,
         config: &Config,
-        seat: CountedSeat<'a>,
+        seat: Seated<'a, TalliedCore>,
     ) -> Result<WorkerConnections<'a>, Ending>
         requires { steps_of seat ≡ [] }
         ensures place { IfOk result (λ made. made.place ≡ place) }
@@ -132,7 +133,7 @@ impl<'a> WorkerConnections<'a> {
         let hosts = hosts_of(alloc, place, config)?;
         Ok(WorkerConnections {
             alloc,
-            turns: CountedTurns::new(seat),
+            turns: MeteredTurns::new(seat),
             place,
             clients: Slab::new(alloc),
             ready: ReadyClients::new(alloc),

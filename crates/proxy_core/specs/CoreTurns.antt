@@ -61,3 +61,13 @@ module _ (cause : Origin → Refusal → Event → List Step → Type 0) where
       → is_open c (history_of_seen seen) ≡ true
       → is_finishing c (history_of_seen seen) ≡ true
       → cause made refusal.Finishing (Arrived c request) seen
+
+-- What a worker knows of turns whose steps are legal so, and whose refusals have these causes.
+pub record CoreLaws (legal : Origin → List Step → Type 0) (cause : Origin → Refusal → Event → List Step → Type 0) : Type 0 where
+  pub are_histories : AreHistories legal
+  pub answers_fit : AnswersFit legal
+  pub openings_are_new : OpeningsAreNew legal
+  pub are_few_steps : AreFewSteps legal
+  pub epochs_are_present : EpochsArePresent legal
+  pub refusals_mean : RefusalsMean cause
+  pub finishing_takes_nothing : FinishingTakesNothing cause

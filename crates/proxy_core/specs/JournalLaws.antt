@@ -17,7 +17,7 @@ use Rattle.proxy_history.specs.declared.refusal.Refusal.TheVariants as refusal
 use Rattle.proxy_history.proofs.CallerLemmas as history
 use Rattle.journal_core.specs.Journal.{step_by}
 use Rattle.proxy_core.specs.Recorded.{Origin, setting_by, IsLegalJournal, IsCauseIn}
-use Rattle.proxy_core.specs.CoreTurns.{seen_of_connection}
+use Rattle.proxy_core.specs.CoreTurns.{CoreLaws, seen_of_connection}
 
 -- the last step may follow the others
 IsLegal-last : (made : Origin) (seen : List Step) (s : Step) → IsLegalJournal made (seen ++ s ∷ [])
@@ -25,18 +25,18 @@ IsLegal-last : (made : Origin) (seen : List Step) (s : Step) → IsLegalJournal 
 IsLegal-last made seen s legal = (history.IsLegal-history_of_seen-push (setting_by made) seen s).0 legal
 
 -- what is seen of a legal journal is a legal history
-pub are_histories : (made : Origin) (seen : List Step) → IsLegalJournal made seen
+are_histories : (made : Origin) (seen : List Step) → IsLegalJournal made seen
     → IsLegal (setting_by made) (history_of_seen seen)
 are_histories made seen legal = legal
 
 -- the last answer is one to its event
-pub answers_fit : (made : Origin) (seen : List Step) (s : Step)
+answers_fit : (made : Origin) (seen : List Step) (s : Step)
     → IsLegalJournal made (seen ++ s ∷ []) → IsAnswerTo s.event s.answer
 answers_fit made seen s legal =
     history.IsAnswerTo-IsLegal (setting_by made) (history_of_seen seen) s (IsLegal-last made seen s legal)
 
 -- no step before the opening of a connection is of its number
-pub openings_are_new : (made : Origin) (seen : List Step) (pass c : ℕ)
+openings_are_new : (made : Origin) (seen : List Step) (pass c : ℕ)
     → IsLegalJournal made (seen ++ step_by pass Opened (answer.Opened c) ∷ [])
     → seen_of_connection c seen ≡ []
 openings_are_new made seen pass c legal =
@@ -47,25 +47,37 @@ openings_are_new made seen pass c legal =
     sym (history.OrdersAgree-seen own [] []).back ∙ ap seen_of_history here
 
 -- a legal journal is within its limit
-pub are_few_steps : (made : Origin) (seen : List Step) → IsLegalJournal made seen → length seen ≤ max_steps
+are_few_steps : (made : Origin) (seen : List Step) → IsLegalJournal made seen → length seen ≤ max_steps
 are_few_steps made seen legal =
     subst (λ n. n ≤ max_steps) (history.OrdersAgree-seen seen [] []).same_length
     (history.IsWithinLimits-IsLegal (setting_by made) (history_of_seen seen) legal).few_steps
 
 -- the last step of a host names its present epoch
-pub epochs_are_present : (made : Origin) (seen : List Step) (s : Step)
+epochs_are_present : (made : Origin) (seen : List Step) (s : Step)
     → IsLegalJournal made (seen ++ s ∷ []) → IsOfPresentEpoch (history_of_seen seen) s.event s.answer
 epochs_are_present made seen s legal =
     history.IsOfPresentEpoch-IsLegal (setting_by made) (history_of_seen seen) s (IsLegal-last made seen s legal)
 
 -- a cause says what it means of the history
-pub refusals_mean : (made : Origin) (r : Refusal) (event : Event) (seen : List Step)
+refusals_mean : (made : Origin) (r : Refusal) (event : Event) (seen : List Step)
     → IsCauseIn made r event seen → Means (setting_by made) (history_of_seen seen) event r
 refusals_mean made r event seen cause = history.Means-IsCause (setting_by made) (history_of_seen seen) event r cause
 
 -- a connection that finishes takes no command
-pub finishing_takes_nothing : (made : Origin) (c : ℕ) (request : Request) (seen : List Step)
+finishing_takes_nothing : (made : Origin) (c : ℕ) (request : Request) (seen : List Step)
     → is_open c (history_of_seen seen) ≡ true → is_finishing c (history_of_seen seen) ≡ true
     → IsCauseIn made refusal.Finishing (Arrived c request) seen
 finishing_takes_nothing made c request seen is_open finishes =
     history.own_cause-finishing (setting_by made) (past (setting_by made) (history_of_seen seen)) c request is_open finishes
+
+-- all of this together
+pub core_laws : CoreLaws IsLegalJournal IsCauseIn
+core_laws = record {
+  are_histories = are_histories;
+  answers_fit = answers_fit;
+  openings_are_new = openings_are_new;
+  are_few_steps = are_few_steps;
+  epochs_are_present = epochs_are_present;
+  refusals_mean = refusals_mean;
+  finishing_takes_nothing = finishing_takes_nothing;
+}

@@ -24,4 +24,4 @@ pub use keeping::{Counting, Keeping, Recording};
 pub use machine::{Core, CoreOf, CountingCore};
 pub use proxy_history::{Answer, Event, Kind, Local, Refusal, Request};
 pub use refused::Refused;
-pub use turns::CoreTurns;
+pub use turns::{CoreState, CoreTurns};

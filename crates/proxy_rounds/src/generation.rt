@@ -18,14 +18,14 @@ use proxy_exit_status::Ending;
 use proxy_generations::Due;
 use proxy_notices::{Notices, Place};
 use proxy_server::{Inherited, Stop};
-use proxy_stats::{Counted, CountedSeat};
+use proxy_stats::TalliedCore;
 use std::alloc::Global;
 use std::mem;
 use std::net::Net;
 use std::rt::Clock;
 use std::sync::{Arc, Wait};
 use std::thread::Threads;
-use ticket_gate::{Gate, Spare};
+use ticket_gate::{Gate, Seated, Spare};
 
 /// What `serve` runs on: threads that can wait, sockets, the clock, and standard error.
 pub trait ServeRuntime: Threads
@@ -92,7 +92,7 @@ fn core(
     config: &Config,
     from: Option<Handover>,
     notices: Arc<Notices>,
-) -> Result<Counted, Ending>
+) -> Result<TalliedCore, Ending>
     requires { AreRingParts config.now.hosts.items config.now.weights.items }
     ensures { IfOk result (λ core. core.steps ≡ []) }
 {
@@ -106,7 +106,7 @@ fn core(
     let Ok(core) = made else {
         return Err(Ending::Memory);
     };
-    match Counted::new(alloc, core, notices) {
+    match TalliedCore::new(alloc, core, notices) {
         Ok(core) => Ok(core),
         Err(_) => Err(Ending::Memory),
     }
@@ -115,14 +115,14 @@ fn core(
 // Takes a seat at the gate; ends with `Spent` where it has no ticket left.
 fn seat<'a, R: Wait>(
     rt: &R,
-    gate: &'a Gate<Counted>,
-    spare: Spare<Counted>,
-) -> Result<CountedSeat<'a>, Ending>
+    gate: &'a Gate<TalliedCore>,
+    spare: Spare<TalliedCore>,
+) -> Result<Seated<'a, TalliedCore>, Ending>
     requires { IsSpareOf gate.now spare }
     ensures { IfOk result (λ seat. steps_of seat ≡ []) }
 {
     match gate.enrol(rt, spare) {
-        Ok(pass) => Ok(CountedSeat::new(gate, pass)),
+        Ok(pass) => Ok(Seated::new(gate, pass)),
         Err(_) => Err(Ending::Spent),
     }
 }
@@ -131,8 +131,8 @@ fn seat<'a, R: Wait>(
 fn work_task<'a, R: Wait>(
     rt: &R,
     context: ThreadContext<'a>,
-    gate: &'a Gate<Counted>,
-    spare: Spare<Counted>,
+    gate: &'a Gate<TalliedCore>,
+    spare: Spare<TalliedCore>,
     place: Place,
     poll: Poll,
 ) -> Result<Task<'a>, Ending>
@@ -147,8 +147,8 @@ fn work_task<'a, R: Wait>(
 fn sweep_task<'a, R: Wait>(
     rt: &R,
     context: ThreadContext<'a>,
-    gate: &'a Gate<Counted>,
-    spare: Spare<Counted>,
+    gate: &'a Gate<TalliedCore>,
+    spare: Spare<TalliedCore>,
     wakers: Vec<Waker>,
 ) -> Result<Task<'a>, Ending>
     requires { IsSpareOf gate.now spare }
@@ -163,8 +163,8 @@ fn sweep_task<'a, R: Wait>(
 fn tasks<'a, R: Wait>(
     rt: &R,
     context: ThreadContext<'a>,
-    gate: &'a Gate<Counted>,
-    spare: Spare<Counted>,
+    gate: &'a Gate<TalliedCore>,
+    spare: Spare<TalliedCore>,
     workers: usize,
     polls: Vec<Poll>,
     wakers: Vec<Waker>,
@@ -317,7 +317,7 @@ fn open_and_run<R: ServeRuntime>(
 fn run_at_gate<R: ServeRuntime>(
     rt: &R,
     context: ThreadContext<'_>,
-    core: Counted,
+    core: TalliedCore,
     polls: Vec<Poll>,
     wakers: Vec<Waker>,
 ) -> Result<(), Stop>
@@ -341,8 +341,8 @@ fn run_at_gate<R: ServeRuntime>(
 fn run_threads<'a, R: ServeRuntime>(
     rt: &R,
     context: ThreadContext<'a>,
-    gate: &'a Gate<Counted>,
-    spare: Spare<Counted>,
+    gate: &'a Gate<TalliedCore>,
+    spare: Spare<TalliedCore>,
     polls: Vec<Poll>,
     wakers: Vec<Waker>,
 ) -> Result<(), Stop>
@@ -357,7 +357,7 @@ fn run_threads<'a, R: ServeRuntime>(
 }
 
 // Reports that the generation is gone, with its core's counts and steps.
-fn report_end<R: Wait>(rt: &R, generation: &GenerationState<'_>, core: Counted) {
+fn report_end<R: Wait>(rt: &R, generation: &GenerationState<'_>, core: TalliedCore) {
     let steps = core.core().journal().len() as u64;
     generation
         .server()

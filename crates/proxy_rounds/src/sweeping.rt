@@ -1,7 +1,7 @@
 //! The sweeping thread: sweeps when due, and watches hosts and journal.
 
 use crate::generation_state::{GenerationState, ThreadContext};
-use journal_room::CountedTurns;
+use journal_room::MeteredTurns;
 use mio::Waker;
 use proxy_config::Config;
 use proxy_core::Handover;
@@ -9,13 +9,14 @@ use proxy_exit_status::Ending;
 use proxy_generations::{Marks, Phase};
 use proxy_serve_core::Refusals;
 use proxy_server::{Inherited, Level, Log, Stop, now};
-use proxy_stats::{CountedSeat, Sight};
+use proxy_stats::{Sight, TalliedCore};
 use std::net::SocketAddr;
 use std::rt::Clock;
 use std::sync::Wait;
 use std::time::Duration;
 use std::{mem, thread};
 use sweeper::{SweepRefusal, sweep_once};
+use ticket_gate::Seated;
 
 // The milliseconds between two looks of the generation that serves, and of one that drains.
 const PAUSE_MS: u64 = 5;
@@ -24,7 +25,7 @@ const DRAINING_PAUSE_MS: u64 = 20;
 
 /// Sweeps, logs which hosts are ejected and return, and asks for the next generation in time.
 pub(crate) struct SweepThread<'a> {
-    turns: CountedTurns<CountedSeat<'a>>,
+    turns: MeteredTurns<Seated<'a, TalliedCore>>,
     generation: &'a GenerationState<'a>,
     config: &'a Config,
     marks: Marks,
@@ -55,7 +56,7 @@ impl<'a> SweepThread<'a> {
     /// A thread that hasn't looked yet.
     pub(crate) fn new(
         context: ThreadContext<'a>,
-        seat: CountedSeat<'a>,
+        seat: Seated<'a, TalliedCore>,
         wakers: Vec<Waker>,
     ) -> SweepThread<'a> {
         let ThreadContext {
@@ -65,7 +66,7 @@ impl<'a> SweepThread<'a> {
             marks,
         } = context;
         SweepThread {
-            turns: CountedTurns::new(seat),
+            turns: MeteredTurns::new(seat),
             generation,
             config,
             marks,
@@ -162,7 +163,7 @@ impl<'a> SweepThread<'a> {
 
     // The core's state, which is also recorded for the operator's pages.
     fn sight<R: Wait>(&mut self, rt: &R) -> Result<Sight, Stop> {
-        match self.turns.turns.sight(rt) {
+        match self.turns.sight(rt) {
             Ok(sight) => {
                 let server = self.generation.server();
                 server.looked(rt, self.generation.number(), &sight);

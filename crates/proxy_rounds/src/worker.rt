@@ -16,13 +16,14 @@ use proxy_generations::Phase;
 use proxy_notices::Place;
 use proxy_serve_core::Refusals;
 use proxy_server::{Level, Stop, now};
-use proxy_stats::CountedSeat;
+use proxy_stats::TalliedCore;
 use std::alloc::AllocError;
 use std::marker::Model;
 use std::net::{Net, SocketAddr};
 use std::rt::Clock;
 use std::sync::Wait;
 use std::time::Duration;
+use ticket_gate::Seated;
 
 /// The token of a worker's waker.
 pub(crate) const WAKER: Token = Token(usize::MAX);
@@ -49,7 +50,7 @@ pub(crate) struct WorkerSetup<'a> {
     context: ThreadContext<'a>,
     place: Place,
     poll: Poll,
-    seat: CountedSeat<'a>,
+    seat: Seated<'a, TalliedCore>,
 }
 
 // Written out so that a drop is one call: each function that holds one is proved sooner.
@@ -82,7 +83,7 @@ impl<'a> WorkerSetup<'a> {
         context: ThreadContext<'a>,
         place: Place,
         poll: Poll,
-        seat: CountedSeat<'a>,
+        seat: Seated<'a, TalliedCore>,
     ) -> WorkerSetup<'a>
         requires { steps_of seat ≡ [] }
         ensures { result ≡ place }

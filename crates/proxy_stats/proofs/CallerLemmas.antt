@@ -5,8 +5,8 @@ use Rattle.proxy_core.proofs.CallerLemmas.{core_send, counting_send}
 use Rattle.proxy_core.specs.contracts.handover.Handover as Handover
 use Rattle.proxy_stats.specs.contracts.tally.Counts as Counts
 use Rattle.proxy_stats.specs.contracts.load.Load as Load
-use Rattle.proxy_stats.specs.contracts.counted.Counted as Counted
-use Rattle.proxy_stats.specs.contracts.counted.Sight as Sight
+use Rattle.proxy_stats.specs.contracts.tallied_core.TalliedCore as TalliedCore
+use Rattle.proxy_stats.specs.contracts.tallied_core.Sight as Sight
 
 pub counts_send : IsSend Counts.the_row
 counts_send = search (crosses, sendable) depth 30 fits 20000
@@ -20,5 +20,5 @@ handover_send = search (crosses, sendable) depth 40 fits 20000
 pub sight_send : IsSend Sight.the_row
 sight_send = search (handover_send, counts_send, load_send, crosses, sendable) depth 40 fits 20000
 
-pub counted_send : IsSend Counted.the_row
-counted_send = search (core_send, counting_send, counts_send, crosses, sendable) depth 40 fits 20000
+pub tallied_send : IsSend TalliedCore.the_row
+tallied_send = search (core_send, counting_send, counts_send, crosses, sendable) depth 40 fits 20000

@@ -1,6 +1,6 @@
 mod SmallStepLemmas
 mod ListWriteLemmas
 mod SumLemmas
-mod CountedLemmas
+mod CountLemmas
 mod LoadLemmas
 pub mod CallerLemmas

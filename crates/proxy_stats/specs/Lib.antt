@@ -1,4 +1,4 @@
 pub mod Amounts
-pub mod Counted
+pub mod Counts
 pub mod Load
 pub mod Sums

@@ -5,7 +5,7 @@ use crate::next_replies::{Move, event};
 use limits::MAX_UNSEEN;
 use proxy_core::Event;
 use proxy_notices::{Notices, ReadyWord};
-use proxy_stats::Counted;
+use proxy_stats::TalliedCore;
 use std::alloc::Global;
 use std::sync::Arc;
 use std::test::Fail;
@@ -60,15 +60,15 @@ const MOVES: &[(Move, Heard)] = &[
 ];
 
 // A core with one host, whose turns tell two workers.
-fn counted(alloc: Global) -> Result<(Counted, Arc<Notices>), Fail> {
+fn counted(alloc: Global) -> Result<(TalliedCore, Arc<Notices>), Fail> {
     let notices = Arc::new(alloc, Notices::new(alloc, 2)?)?;
     notices.add_client(0, 1, KEYS[0]);
     notices.add_client(1, 0, KEYS[1]);
-    let counted = Counted::new(alloc, counting_core(alloc)?, notices.clone()?)?;
+    let counted = TalliedCore::new(alloc, counting_core(alloc)?, notices.clone()?)?;
     Ok((counted, notices))
 }
 
-fn turn(counted: &mut Counted, event: Event) {
+fn turn(counted: &mut TalliedCore, event: Event) {
     drop(Recorded::turn(counted, 0, event));
 }
 
@@ -114,7 +114,7 @@ fn turns_tell_whom_they_concern(rt: HostRuntime) -> Result<(), Fail> {
 // The client of connection 0 asks this many times. Then these hosts are pressed.
 fn pressed_after(
     alloc: Global,
-    counted: &mut Counted,
+    counted: &mut TalliedCore,
     notices: &Notices,
     times: u64,
 ) -> Result<u64, Fail> {
@@ -142,7 +142,11 @@ const PRESSED: Pressed = Pressed {
 };
 
 // The client of connection 0 asks until the only host is pressed, and its worker looks.
-fn pressed_once(alloc: Global, counted: &mut Counted, notices: &Notices) -> Result<Pressed, Fail> {
+fn pressed_once(
+    alloc: Global,
+    counted: &mut TalliedCore,
+    notices: &Notices,
+) -> Result<Pressed, Fail> {
     let before = pressed_after(alloc, counted, notices, MAX_UNSEEN - 1)?;
     let at = pressed_after(alloc, counted, notices, 1)?;
     let until_seen = notices.mark_seen(0, at);

@@ -97,19 +97,7 @@ impl Turns for Rationed {
 }
 
 impl CoreTurns for Rationed {
-    ghost use Rattle.proxy_core.specs.JournalLaws.{answers_fit, are_few_steps, are_histories, epochs_are_present, finishing_takes_nothing, openings_are_new, refusals_mean};
+    ghost use Rattle.proxy_core.specs.JournalLaws.{core_laws};
 
-    ghost are_histories = { are_histories };
-
-    ghost answers_fit = { answers_fit };
-
-    ghost openings_are_new = { openings_are_new };
-
-    ghost are_few_steps = { are_few_steps };
-
-    ghost epochs_are_present = { epochs_are_present };
-
-    ghost refusals_mean = { refusals_mean };
-
-    ghost finishing_takes_nothing = { finishing_takes_nothing };
+    ghost laws = { core_laws };
 }

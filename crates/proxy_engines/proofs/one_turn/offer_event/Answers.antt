@@ -15,8 +15,8 @@ returns-in-Ok-clause-answered g c =
     let after = g.T.Turns.seen c.turn.new.self in
     record {
       steps = rw same_pass (own_steps-push pass before after c.args.event c.in-Ok.answer makes.own);
-      fits = g.met.T.CoreTurns.answers_fit _ (before ++ makes.between) (step_by pass c.args.event c.in-Ok.answer) (rw makes.ends at makes.is_legal);
-      few = rw same_pass (length-own_steps pass after (g.met.T.CoreTurns.are_few_steps _ after makes.is_legal));
+      fits = g.met.T.CoreTurns.laws.answers_fit _ (before ++ makes.between) (step_by pass c.args.event c.in-Ok.answer) (rw makes.ends at makes.is_legal);
+      few = rw same_pass (length-own_steps pass after (g.met.T.CoreTurns.laws.are_few_steps _ after makes.is_legal));
     }
 
 pub returns-in-Ok-clause-turns : goal.returns-in-Ok-clause-turns

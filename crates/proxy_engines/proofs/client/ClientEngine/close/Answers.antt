@@ -19,7 +19,7 @@ returns-in-Err-clause-moves g c =
       turns = c.make_turn.ensures.turns;
       goes = (false, same_goes _ _ _ c.in-Err.ensures.denied.rests);
       unfailed = tt;
-      due = is_due g.T.Turns.cause g.met.T.CoreTurns.refusals_mean (g.T.Turns.setting c.args.turns.now) _ (g.T.Turns.seen c.make_turn.new.turns) c.in-Err.denied c.in-Err.ensures.denied.due (λ x none. none);
+      due = is_due g.T.Turns.cause g.met.T.CoreTurns.laws.refusals_mean (g.T.Turns.setting c.args.turns.now) _ (g.T.Turns.seen c.make_turn.new.turns) c.in-Err.denied c.in-Err.ensures.denied.due (λ x none. none);
     }
 
 pub returns-in-Ok-clause-ok : goal.returns-in-Ok-clause-ok

@@ -44,6 +44,6 @@ returns-in-Err-clause-hands g c =
           let event = Event.Handed c.self.inside.conn in
           rw (← c.self.view_is)
           (told_ok c.in-Err.denied false c.told_as.result c.told_as.ensures _
-          (λ x is soft _. (refl, is_not_ready (λ r. g.T.Turns.cause made r event seen) c.self.inside.conn x (expected g.T.Turns.cause g.met.T.CoreTurns.refusals_mean made event seen c.in-Err.denied c.in-Err.ensures.denied.due x is soft))));
+          (λ x is soft _. (refl, is_not_ready (λ r. g.T.Turns.cause made r event seen) c.self.inside.conn x (expected g.T.Turns.cause g.met.T.CoreTurns.laws.refusals_mean made event seen c.in-Err.denied c.in-Err.ensures.denied.due x is soft))));
       err = told_turn c.in-Err.denied false c.told_as.result c.told_as.ensures _ refl;
     }

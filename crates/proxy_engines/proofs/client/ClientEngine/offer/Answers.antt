@@ -69,7 +69,7 @@ returns-in-Err-clause-offers g c =
               same = rw back refl;
               request = c.in-Some.request;
               waits = sym c.take.ensures.value ∙ c.in-Some.is;
-              crowded = is_crowded (λ r. g.T.Turns.cause made r event seen) c.self.inside.conn c.in-Some.request x (expected g.T.Turns.cause g.met.T.CoreTurns.refusals_mean made event seen c.in-Err.denied c.in-Err.ensures.denied.due x is soft);
+              crowded = is_crowded (λ r. g.T.Turns.cause made r event seen) c.self.inside.conn c.in-Some.request x (expected g.T.Turns.cause g.met.T.CoreTurns.laws.refusals_mean made event seen c.in-Err.denied c.in-Err.ensures.denied.due x is soft);
             },
           )));
       err = let back = ap Some c.in-Err.ensures.back ∙ sym c.in-Some.is ∙ c.take.ensures.value in

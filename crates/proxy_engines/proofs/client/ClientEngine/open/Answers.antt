@@ -48,7 +48,7 @@ returns-in-Err-clause-due g c = tt
 
 pub returns-in-Err-open-clause-due : goal.returns-in-Err-open-clause-due
 returns-in-Err-open-clause-due g c =
-    is_due g.T.Turns.cause g.met.T.CoreTurns.refusals_mean (g.T.Turns.setting c.args.turns.now) _ (g.T.Turns.seen c.open.new.turns) c.in-Err-open.denied c.in-Err-open.ensures.denied.due (λ x none. none)
+    is_due g.T.Turns.cause g.met.T.CoreTurns.laws.refusals_mean (g.T.Turns.setting c.args.turns.now) _ (g.T.Turns.seen c.open.new.turns) c.in-Err-open.denied c.in-Err-open.ensures.denied.due (λ x none. none)
 
 pub returns-in-Ok-open-clause-opened : goal.returns-in-Ok-open-clause-opened
 returns-in-Ok-open-clause-opened g c =

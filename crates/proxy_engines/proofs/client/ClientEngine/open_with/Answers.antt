@@ -18,7 +18,7 @@ returns-in-Ok-clause-due g c = tt
 
 pub returns-in-Err-clause-due : goal.returns-in-Err-clause-due
 returns-in-Err-clause-due g c =
-    is_due g.T.Turns.cause g.met.T.CoreTurns.refusals_mean (g.T.Turns.setting c.args.turns.now) _ (g.T.Turns.seen c.open.new.turns) c.in-Err.denied c.in-Err.ensures.denied.due (λ x none. none)
+    is_due g.T.Turns.cause g.met.T.CoreTurns.laws.refusals_mean (g.T.Turns.setting c.args.turns.now) _ (g.T.Turns.seen c.open.new.turns) c.in-Err.denied c.in-Err.ensures.denied.due (λ x none. none)
 
 pub returns-in-Ok-clause-opened : goal.returns-in-Ok-clause-opened
 returns-in-Ok-clause-opened g c =

@@ -25,7 +25,7 @@ returns-in-Err g c =
         fails = tt;
         same = (refl, c.in-Err.ensures.denied.rests);
         err = (_, refl);
-        due = inl (is_due g.T.Turns.cause g.met.T.CoreTurns.refusals_mean (g.T.Turns.setting c.args.turns.now) _ (g.T.Turns.seen c.make_turn.new.turns) c.in-Err.denied c.in-Err.ensures.denied.due (λ x none. none));
+        due = inl (is_due g.T.Turns.cause g.met.T.CoreTurns.laws.refusals_mean (g.T.Turns.setting c.args.turns.now) _ (g.T.Turns.seen c.make_turn.new.turns) c.in-Err.denied c.in-Err.ensures.denied.due (λ x none. none));
       };
     }
 

@@ -89,4 +89,4 @@ returns-in-Err-clause-nothing_waits g c =
     let event = Event.Taken c.self.inside.host in
     rw (← c.self.view_is)
     (told_ok c.in-Err.denied false c.told_as.result c.told_as.ensures _
-    (λ x is soft _. is_nothing_waiting (λ r. g.T.Turns.cause made r event seen) c.self.inside.host x (expected g.T.Turns.cause g.met.T.CoreTurns.refusals_mean made event seen c.in-Err.denied c.in-Err.ensures.denied.due x is soft)))
+    (λ x is soft _. is_nothing_waiting (λ r. g.T.Turns.cause made r event seen) c.self.inside.host x (expected g.T.Turns.cause g.met.T.CoreTurns.laws.refusals_mean made event seen c.in-Err.denied c.in-Err.ensures.denied.due x is soft)))

@@ -59,7 +59,7 @@ returns-in-Err-clause-answers g c =
           let event = Event.Answered l.host l.epoch v c.args.moment in
           let due = rw (c.host.ensures, c.epoch.ensures) at c.in-Err.ensures.denied.due in
           told_ok c.in-Err.denied garbled c.told_as.result c.told_as.ensures _
-          (λ x is soft. inr (v, rw c.replace.ensures.after (ap Some c.in-Err.ensures.back), is_unasked (λ r. g.T.Turns.cause made r event seen) l.host l.epoch v c.args.moment x (expected g.T.Turns.cause g.met.T.CoreTurns.refusals_mean made event seen c.in-Err.denied due x is soft)));
+          (λ x is soft. inr (v, rw c.replace.ensures.after (ap Some c.in-Err.ensures.back), is_unasked (λ r. g.T.Turns.cause made r event seen) l.host l.epoch v c.args.moment x (expected g.T.Turns.cause g.met.T.CoreTurns.laws.refusals_mean made event seen c.in-Err.denied due x is soft)));
     }
 
 pub returns-in-Ok-clause-answers : goal.returns-in-Ok-clause-answers

@@ -6,7 +6,7 @@ use Rattle.proxy_history.specs.SeenSteps.{history_of_seen}
 use Rattle.proxy_core.specs.Recorded.{Origin, handover_of, setting_by}
 use Rattle.proxy_stats.specs.declared.tally.Counts.{Counts}
 use Rattle.proxy_stats.specs.declared.tally.HostCounts.{HostCounts}
-use Rattle.proxy_stats.specs.declared.counted.Sight.{Sight}
+use Rattle.proxy_stats.specs.declared.tallied_core.Sight.{Sight}
 use Rattle.proxy_stats.specs.Amounts.{arrivals, handings, takings, replies, failures, lost_parts, ejected_hosts, kept_hosts, hostless_parts, busy_parts, own_answers, of_host}
 use Rattle.proxy_stats.specs.Load.{load_of}
 use Rattle.proxy_stats.specs.Sums.{AreCapped, AreGrown}

@@ -13,7 +13,7 @@ use Rattle.proxy_stats.specs.declared.tally.Counts.{Counts}
 use Rattle.proxy_stats.specs.declared.tally.HostCounts.{HostCounts}
 use Rattle.proxy_stats.specs.Amounts.{own_answers}
 use Rattle.proxy_stats.specs.Sums.{AreCapped, AreCounts, AreGrown}
-use Rattle.proxy_stats.specs.Counted.{AreKept, HasCounted, TellsFewHosts, counts_of, host_counts_of}
+use Rattle.proxy_stats.specs.Counts.{AreKept, HasCounted, TellsFewHosts, counts_of, host_counts_of}
 use Rattle.proxy_stats.proofs.SumLemmas.{counts_more, counts_uncapped}
 use Rattle.proxy_stats.proofs.SmallStepLemmas.{IsSmall, small_history, many_steps}
 use Rattle.proxy_stats.proofs.ListWriteLemmas.{all_forwards}

@@ -1,7 +1,7 @@
-//! A core that counts what it does.
+//! A core that tallies what it does.
 ghost use Rattle.std.specs.Prelude.{◌≡◌, ◌∷◌, [], ◌++◌, List, IfOk, IfSome};
 ghost use Rattle.proxy_history.specs.History.{Step as StepOf};
-ghost use Rattle.proxy_stats.specs.Counted.{AreKept, HasCounted, counts_of};
+ghost use Rattle.proxy_stats.specs.Counts.{AreKept, HasCounted, counts_of};
 ghost use Rattle.proxy_stats.specs.Sums.{AreCounts};
 
 use crate::load::{Load, load_of};
@@ -9,7 +9,7 @@ use crate::tally::Counts;
 use crate::telling::{Teller, concern_of};
 use ejector::EjectState;
 use ketama::Ring;
-use proxy_core::{Answer, CountingCore, Event, Handover, Journal, Refusal};
+use proxy_core::{Answer, CoreState, CountingCore, Event, Handover, Journal, Refusal};
 use proxy_notices::Notices;
 use std::alloc::{AllocError, Global};
 use std::boxed::Box;
@@ -18,7 +18,7 @@ use std::sync::Arc;
 use ticket_gate::Recorded;
 
 /// A core with its counts, which tells workers what its turns brought them. Contracts see the core.
-pub struct Counted {
+pub struct TalliedCore {
     core: CountingCore,
     // On the heap, since a gate moves its state in and out at each turn.
     counts: Box<Counts>,
@@ -26,9 +26,9 @@ pub struct Counted {
 }
 
 // Written out so that a drop is one call: each function that holds one is proved sooner.
-impl Drop for Counted {
+impl Drop for TalliedCore {
     fn drop(self) {
-        let Counted {
+        let TalliedCore {
             core: _,
             counts: _,
             teller: _,
@@ -49,14 +49,14 @@ pub struct Sight {
     pub load: Load,
 }
 
-impl Model for Counted {
+impl Model for TalliedCore {
     ghost use Rattle.proxy_history.specs.Proxy.{Proxy};
 
     ghost Value = { Proxy };
 
     ghost use Rattle.std.specs.Coded.{codes};
     ghost use Rattle.resp_core.specs.Code.{tree_code};
-    ghost use Rattle.proxy_stats.specs.Counted.{AreKept};
+    ghost use Rattle.proxy_stats.specs.Counts.{AreKept};
 
     ghost coded = { Prim.hlevel (codes, tree_code) };
 
@@ -65,7 +65,7 @@ impl Model for Counted {
     ghost invariant = { λ c. AreKept c.core.steps c.counts.value };
 }
 
-impl Counted {
+impl TalliedCore {
     /// Counts the steps of a core that has none yet, and tells of them by the notices.
     ///
     /// Refused where there is no memory for the counts; the core is dropped.
@@ -73,7 +73,7 @@ impl Counted {
         alloc: Global,
         core: CountingCore,
         notices: Arc<Notices>,
-    ) -> Result<Counted, AllocError>
+    ) -> Result<TalliedCore, AllocError>
         requires { core.steps ≡ [] }
         ensures { IfOk result (λ c. c ≡ core) }
     {
@@ -81,7 +81,7 @@ impl Counted {
             return Err(AllocError);
         };
         match boxed(alloc, Teller::new(notices)) {
-            Some(teller) => Ok(Counted {
+            Some(teller) => Ok(TalliedCore {
                 core,
                 counts,
                 teller,
@@ -108,9 +108,9 @@ impl Counted {
     }
 }
 
-impl Recorded for Counted {
+impl Recorded for TalliedCore {
     ghost use Rattle.proxy_core.specs.Recorded.{journal_of, made_with, IsLegalJournal, IsCauseIn, legal_at_first, legal_before};
-    ghost use Rattle.proxy_stats.specs.Counted.{sight_of};
+    ghost use Rattle.proxy_stats.specs.Counts.{sight_of};
 
     type Event = Event;
 
@@ -154,6 +154,12 @@ impl Recorded for Counted {
     ghost legal_at_first = { legal_at_first };
 
     ghost legal_before = { legal_before };
+}
+
+impl CoreState for TalliedCore {
+    ghost use Rattle.proxy_core.specs.JournalLaws.{core_laws};
+
+    ghost laws = { core_laws };
 }
 
 // The counts of no steps.

@@ -1,9 +1,9 @@
 use Rattle.std.proofs.Common.{◌-◌, length, refl, sym, subst}
 use Rattle.std.proofs.lemmas.Option.{slice_get-get_or}
 use Rattle.proxy_history.specs.History.{Step}
-use Rattle.proxy_stats.specs.Counted.{HasCounted}
-use Rattle.proxy_stats.proofs.CountedLemmas.{last_is, last_within}
-use Rattle.proxy_stats.proofs.counted.count_last.Goals as goal
+use Rattle.proxy_stats.specs.Counts.{HasCounted}
+use Rattle.proxy_stats.proofs.CountLemmas.{last_is, last_within}
+use Rattle.proxy_stats.proofs.tallied_core.count_last.Goals as goal
 
 pub returns-in-Some : goal.returns-in-Some
 returns-in-Some c = λ steps step same.

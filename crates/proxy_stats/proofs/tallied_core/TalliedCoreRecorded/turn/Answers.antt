@@ -5,10 +5,10 @@ use Rattle.proxy_history.specs.History.{Step}
 use Rattle.proxy_history.specs.declared.answer.Answer.{Answer}
 use Rattle.proxy_history.specs.declared.event.Event.{Event}
 use Rattle.proxy_history.specs.declared.refusal.Refusal.{Refusal}
-use Rattle.proxy_stats.specs.Counted.{AreKept}
+use Rattle.proxy_stats.specs.Counts.{AreKept}
 use Rattle.proxy_stats.specs.declared.tally.Counts.{Counts}
-use Rattle.proxy_stats.proofs.CountedLemmas.{kept_last}
-use Rattle.proxy_stats.proofs.counted.CountedRecorded.turn.Goals as goal
+use Rattle.proxy_stats.proofs.CountLemmas.{kept_last}
+use Rattle.proxy_stats.proofs.tallied_core.TalliedCoreRecorded.turn.Goals as goal
 
 pub invariant_of-self : goal.invariant_of-self
 invariant_of-self c =

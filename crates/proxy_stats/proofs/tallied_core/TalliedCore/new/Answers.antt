@@ -1,8 +1,8 @@
 use Rattle.std.proofs.Common.{[], List, sym, subst}
 use Rattle.proxy_history.specs.History.{Step}
-use Rattle.proxy_stats.specs.Counted.{AreKept}
+use Rattle.proxy_stats.specs.Counts.{AreKept}
 use Rattle.proxy_stats.specs.declared.tally.Counts.{Counts}
-use Rattle.proxy_stats.proofs.counted.Counted.new.Goals as goal
+use Rattle.proxy_stats.proofs.tallied_core.TalliedCore.new.Goals as goal
 
 pub invariant_of-result : goal.invariant_of-result
 invariant_of-result c =

@@ -1,4 +1,4 @@
-//! A worker's turns, counted.
+//! A worker's turns, metered.
 ghost use Rattle.std.specs.Prelude.{◌≡◌, IfOk, IfErr};
 ghost use Rattle.ticket_gate.specs.Journal.{AddsTurn};
 ghost use Rattle.ticket_gate.specs.Turns.{RefusesTurn};
@@ -9,10 +9,9 @@ ghost use Rattle.journal_room.specs.TurnStep.{brought_by, noted};
 
 use crate::turn_step::{bytes_of, note_turn};
 use journal_budget::{Account, TurnCounts};
-use proxy_core::{Answer, CoreTurns, Event, Refusal};
-use proxy_stats::CountedSeat;
+use proxy_core::{Answer, CoreState, CoreTurns, Event, Refusal};
 use std::sync::Wait;
-use ticket_gate::{TurnRefusal, Turns};
+use ticket_gate::{Seated, TurnRefusal, Turns};
 
 /// Turns that may stay inside a gate in between.
 pub trait HeldTurns: CoreTurns {
@@ -25,31 +24,30 @@ pub trait HeldTurns: CoreTurns {
         ensures { self.new ≡ self.old };
 }
 
-impl<'a> HeldTurns for CountedSeat<'a> {
+impl<'a, S: CoreState> HeldTurns for Seated<'a, S> {
     fn hold(&mut self) {
-        CountedSeat::hold(self);
+        Seated::hold(self);
     }
 
     fn leave(&mut self) {
-        CountedSeat::leave(self);
+        Seated::leave(self);
     }
 }
 
-/// A worker's turns, counted.
+/// A worker's turns, metered: what they used of the journal, and what came of them.
 #[derive(Drop)]
-pub struct CountedTurns<T: CoreTurns> {
-    /// The turns themselves, for calls that make no turn.
-    pub turns: T,
+pub struct MeteredTurns<T: CoreTurns> {
+    turns: T,
     pub(crate) account: Account,
 }
 
-impl<T: CoreTurns> CountedTurns<T> {
+impl<T: CoreTurns> MeteredTurns<T> {
     /// These turns, of which nothing is counted yet.
-    pub fn new(turns: T) -> CountedTurns<T>
+    pub fn new(turns: T) -> MeteredTurns<T>
         ensures turns { result.turns ≡ turns }
         ensures account { result.account ≡ no_account }
     {
-        CountedTurns {
+        MeteredTurns {
             turns,
             account: Account::new(),
         }
@@ -114,7 +112,31 @@ impl<T: CoreTurns> CountedTurns<T> {
     }
 }
 
-impl<T: CoreTurns> Turns for CountedTurns<T> {
+impl<'a, S: CoreState> MeteredTurns<Seated<'a, S>> {
+    ghost use Rattle.std.specs.Prelude.{OnOk};
+    ghost use Rattle.ticket_gate.specs.Gate.{IsSamePass};
+    ghost use Rattle.ticket_gate.specs.Journal.{GrowsByOthers};
+    ghost use Rattle.ticket_gate.specs.declared.refusal.TurnRefusal.TheVariants.{Spent};
+
+    /// Looks at the state inside the gate, as `Seated::sight` does: no step is added, and nothing counted.
+    pub fn sight<R: Wait>(&mut self, rt: &R) -> Result<S::Sight, TurnRefusal<S::Refusal, ()>>
+        ensures account { self.new.account ≡ self.old.account }
+        ensures gate { self.new.turns.gate ≡ self.old.turns.gate }
+        ensures same { IsSamePass self.old.turns.pass self.new.turns.pass }
+        ensures sight { IfOk result (λ sight.
+            sight ≡ S.sight_of self.old.turns.gate.setting self.new.turns.pass.known.seen) }
+        ensures legal { OnOk result
+            (S.legal self.old.turns.gate.setting self.new.turns.pass.known.seen) }
+        ensures seen { OnOk result (GrowsByOthers self.old.turns.pass.number
+            self.old.turns.pass.known.seen self.new.turns.pass.known.seen) }
+        ensures refused { IfErr result (λ why. (why ≡ Spent tt)
+            × (self.new.turns.pass.known.seen ≡ self.old.turns.pass.known.seen)) }
+    {
+        self.turns.sight(rt)
+    }
+}
+
+impl<T: CoreTurns> Turns for MeteredTurns<T> {
     type Event = Event;
 
     type Answer = Answer;
@@ -162,18 +184,6 @@ impl<T: CoreTurns> Turns for CountedTurns<T> {
     }
 }
 
-impl<T: CoreTurns> CoreTurns for CountedTurns<T> {
-    ghost are_histories = { T.are_histories };
-
-    ghost answers_fit = { T.answers_fit };
-
-    ghost openings_are_new = { T.openings_are_new };
-
-    ghost are_few_steps = { T.are_few_steps };
-
-    ghost epochs_are_present = { T.epochs_are_present };
-
-    ghost refusals_mean = { T.refusals_mean };
-
-    ghost finishing_takes_nothing = { T.finishing_takes_nothing };
+impl<T: CoreTurns> CoreTurns for MeteredTurns<T> {
+    ghost laws = { T.laws };
 }

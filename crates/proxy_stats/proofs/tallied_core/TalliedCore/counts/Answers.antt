@@ -1,10 +1,10 @@
 use Rattle.std.proofs.Common.{sym, ap, ◌∙◌, subst}
 use Rattle.proxy_history.specs.Proxy.{Proxy}
-use Rattle.proxy_stats.specs.Counted.{counts_of}
+use Rattle.proxy_stats.specs.Counts.{counts_of}
 use Rattle.proxy_stats.specs.Sums.{AreCounts}
 use Rattle.proxy_stats.specs.declared.tally.Counts.{Counts}
-use Rattle.proxy_stats.proofs.CountedLemmas.{kept_sums, kept_value}
-use Rattle.proxy_stats.proofs.counted.Counted.counts.Goals as goal
+use Rattle.proxy_stats.proofs.CountLemmas.{kept_sums, kept_value}
+use Rattle.proxy_stats.proofs.tallied_core.TalliedCore.counts.Goals as goal
 
 pub returns-clause-sums : goal.returns-clause-sums
 returns-clause-sums c =

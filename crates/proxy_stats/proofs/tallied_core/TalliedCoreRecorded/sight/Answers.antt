@@ -2,7 +2,7 @@ use Rattle.std.proofs.Common.{◌≡◌, ap, ◌∙◌}
 use Rattle.proxy_history.specs.Proxy.{Proxy, history_in}
 use Rattle.proxy_core.specs.Recorded.{handover_of, journal_of, made_with}
 use Rattle.proxy_stats.specs.Load.{load_of}
-use Rattle.proxy_stats.proofs.counted.CountedRecorded.sight.Goals as goal
+use Rattle.proxy_stats.proofs.tallied_core.TalliedCoreRecorded.sight.Goals as goal
 
 pub returns : goal.returns
 returns c =
