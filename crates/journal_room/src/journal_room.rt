@@ -78,7 +78,8 @@ impl JournalRoom {
         turns.leave();
         let mut ledger = self.ledger.lock(rt);
         let ledger = &mut *ledger;
-        turns.account.settle(ledger, self.open.load(Ordering::SeqCst));
+        let open = self.open.load(Ordering::SeqCst);
+        turns.account.settle(ledger, open);
         turns.account.borrow_steps(ledger, reserve);
     }
 
@@ -147,7 +148,9 @@ impl JournalRoom {
             × HasRoomForCommand (known turns.new.account) (owed_steps turns.new.account)
             unfinished) }
     {
-        if unfinished.max(turns.account.unreported_bytes()) >= LARGE || turns.account.average() >= LARGE_STEP {
+        if unfinished.max(turns.account.unreported_bytes()) >= LARGE
+            || turns.account.average() >= LARGE_STEP
+        {
             self.settle(rt, turns, reserve);
         }
         self.lend(rt, turns, reserve) && turns.account.has_room_for_command(unfinished)
