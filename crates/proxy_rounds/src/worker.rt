@@ -109,7 +109,7 @@ impl<'a> WorkerSetup<'a> {
 
     // The worker with its hosts and no clients; ends with `Memory` where there is none for the hosts.
     fn worker(self) -> Result<Worker<'a>, Ending>
-        ensures { IfOk result (λ worker. worker.connections.place ≡ self.entry.place) }
+        ensures { IfOk result (λ worker. worker.connections.place ≡ self.entry) }
     {
         let WorkerSetup {
             context,
