@@ -5,7 +5,7 @@ import re
 TOP = os.path.dirname(os.path.dirname(os.path.dirname(os.path.abspath(__file__))))
 CRATES = os.path.join(TOP, "crates")
 # Crates without a public contract of their own.
-PLAIN = ("test_scenarios", "test_components", "test_serve", "benches", "proxy_command_line", "proxy_main")
+PLAIN = ("test_scenarios", "test_parts", "test_rows", "test_components", "test_serve", "benches", "proxy_command_line", "proxy_main")
 
 
 def text_of(path):

@@ -78,9 +78,8 @@ impl JournalRoom {
         turns.leave();
         let mut ledger = self.ledger.lock(rt);
         let ledger = &mut *ledger;
-        turns
-            .account
-            .settle(ledger, self.open.load(Ordering::SeqCst));
+        let open = self.open.load(Ordering::SeqCst);
+        turns.account.settle(ledger, open);
         turns.account.borrow_steps(ledger, reserve);
     }
 

@@ -24,13 +24,11 @@ use std::sync::Wait;
 // The most steps of one connection in a round, so that one pipeline doesn't starve the others.
 const MAX_CLIENT_STEPS: u32 = 256;
 
-// The engine of a client's connection, on the two halves of its socket.
 type Engine = ClientEngine<Reader, Writer>;
 
 /// The stage of a client's socket.
 #[derive(Clone, Copy, Drop)]
 enum SocketStage {
-    /// Its engine is stepped.
     Served,
     /// Its engine isn't stepped any more: its connection is closed, its device has failed, or the journal has no room for
     /// its next turn. The socket goes over, or its last bytes are written.
@@ -39,22 +37,17 @@ enum SocketStage {
     Lingering { until: u64 },
 }
 
-/// A worker's round over its clients.
 #[derive(Clone, Copy, Drop)]
 pub(crate) struct ClientRound<'a> {
-    /// The room in the generation's journal.
     pub(crate) room: &'a JournalRoom,
-    /// Its moment, in milliseconds.
     pub(crate) now: u64,
     /// Steps of the journal that the worker keeps for its links.
     pub(crate) reserve: u64,
-    /// The most parts that a client may queue in it.
     pub(crate) most_parts: u64,
     /// Whether sockets may go over to a newer generation.
     pub(crate) carries_over: bool,
 }
 
-/// A token that a socket gets with a worker's poll.
 #[derive(Clone, Copy, Drop)]
 pub(crate) struct PollPlace<'a> {
     pub(crate) registry: &'a Registry,
@@ -66,7 +59,6 @@ pub(crate) struct PollPlace<'a> {
 pub(crate) struct Lent {
     /// For the output of a socket; empty in between.
     pub(crate) buffer: Vec<u8>,
-    /// The durations of commands.
     pub(crate) durations: Histogram,
 }
 
@@ -80,7 +72,6 @@ struct Intake {
 }
 
 impl Intake {
-    // Nothing is known yet.
     fn new() -> Intake {
         Intake {
             room_for: None,
@@ -98,7 +89,6 @@ enum ClientMoved {
     Waits,
 }
 
-/// The result of a client's round.
 #[derive(Clone, Copy, Drop)]
 pub enum Stepped {
     /// Nothing more can be done for now.
@@ -121,7 +111,6 @@ pub struct CarriedSocket {
     begun: u64,
 }
 
-// Written out so that a drop is one call: each function that holds one is proved sooner.
 impl Drop for CarriedSocket {
     fn drop(self) {
         let CarriedSocket {
@@ -200,23 +189,19 @@ impl CarriedSocket {
     }
 }
 
-/// A client's socket and the engine of its connection.
 pub(crate) struct ClientConnection {
     engine: Engine,
     stream: SharedStream,
     stage: SocketStage,
-    // Since when its unanswered commands wait.
     waits: Unanswered,
     // The last round ended before all was done.
     has_more: bool,
-    // Consecutive refusals of memory.
     refusals: Refusals,
     // The bytes that had come when a command was last accepted, and the bytes since.
     begun: u64,
     unfinished: u64,
 }
 
-// Written out so that a drop is one call: each function that holds one is proved sooner.
 impl Drop for ClientConnection {
     fn drop(self) {
         let ClientConnection {
@@ -233,7 +218,6 @@ impl Drop for ClientConnection {
 }
 
 impl ClientConnection {
-    // A client that hasn't sent anything yet.
     fn new(alloc: Global, engine: Engine, stream: SharedStream) -> ClientConnection
         ensures { result.engine ≡ engine }
     {
@@ -249,7 +233,6 @@ impl ClientConnection {
         }
     }
 
-    /// Opens a connection on a socket.
     pub(crate) fn open<R: Wait, T: HeldTurns>(
         rt: &R,
         alloc: Global,
@@ -300,12 +283,10 @@ impl ClientConnection {
         carried.into_client(rt, alloc, turns, place.registry)
     }
 
-    /// Counts the bytes of its unfinished command.
     pub(crate) fn note_carried(&self, room: &JournalRoom) {
         room.note_unfinished(self.unfinished, 0);
     }
 
-    /// Takes the socket with its unused input, for the newest generation.
     pub(crate) fn carry(self, registry: &Registry, room: &JournalRoom) -> Option<CarriedSocket>
         requires { CarriesItsSocket self.engine }
     {
@@ -331,7 +312,6 @@ impl ClientConnection {
         })
     }
 
-    /// Records what the poll reports.
     pub(crate) fn on_readiness(&mut self, event: &Readiness)
         ensures { self.new.engine ≡ self.old.engine }
     {
@@ -371,12 +351,10 @@ impl ClientConnection {
         matches!(self.stage, SocketStage::Lingering { .. })
     }
 
-    /// The number of its connection.
     pub(crate) fn conn(&self) -> u64 {
         self.engine.conn()
     }
 
-    /// Whether it waits for replies.
     pub(crate) fn awaits_reply(&self) -> bool {
         self.engine.unanswered() > 0
     }
@@ -388,7 +366,6 @@ impl ClientConnection {
             && !self.engine.writer().is_behind()
     }
 
-    /// Whether the last round ended before all was done.
     pub(crate) fn has_more(&self) -> bool {
         self.has_more
     }
@@ -433,7 +410,6 @@ impl ClientConnection {
         Ok(self.finish_closing(round))
     }
 
-    // Steps the engine until it has to wait, and writes what it buffered.
     fn step_and_write<R: Wait, T: HeldTurns>(
         &mut self,
         rt: &R,
@@ -466,12 +442,10 @@ impl ClientConnection {
         self.drain();
     }
 
-    // Whether the socket can go on in a newer generation.
     fn may_carry_over(&self) -> bool {
         self.engine.may_go_on() && !self.is_broken()
     }
 
-    // Whether a write to the socket failed.
     fn is_broken(&self) -> bool {
         self.engine.writer().is_broken()
     }
@@ -566,7 +540,6 @@ impl ClientConnection {
         self.engine.step(rt, turns)
     }
 
-    // Drains unless the journal has room for a further command with all steps that it will owe.
     fn drain_unless_room<R: Wait, T: HeldTurns>(
         &mut self,
         rt: &R,
@@ -587,7 +560,6 @@ impl ClientConnection {
         }
     }
 
-    // Handles the result of an engine's step.
     fn handle_stepped(
         &mut self,
         stepped: Result<Progress, EngineError>,
@@ -611,7 +583,6 @@ impl ClientConnection {
         }
     }
 
-    // Handles what a step achieved.
     fn handle_progress(&mut self, progress: Progress) -> ClientMoved
         ensures engine { self.new.engine ≡ self.old.engine }
         ensures leaves { self.new.stage ≢ self.old.stage
@@ -695,7 +666,6 @@ impl ClientConnection {
         self.engine.writer().has_buffered() && !self.is_broken()
     }
 
-    // Closes the sending half.
     fn begin_lingering(&mut self, round: ClientRound<'_>)
         ensures engine { self.new.engine ≡ self.old.engine }
         ensures stage { self.new.stage ≢ SocketStage.Served }

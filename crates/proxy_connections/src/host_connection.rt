@@ -27,13 +27,10 @@ const MAX_HOST_STEPS: u32 = 4_096;
 // A host is looked at after this many milliseconds at the latest, so that a late reply is noticed.
 const LOOK_MS: u64 = 10;
 
-// The engine of a host, on the two halves of its link's socket.
 type Engine = HostEngine<Reader, Writer>;
 
-/// The socket to a host.
 #[derive(Drop)]
 enum LinkState {
-    /// There is none.
     Down,
     /// Connecting since this moment; `has_event`: the poll has reported an event.
     Connecting {
@@ -45,14 +42,11 @@ enum LinkState {
     Up(SharedStream),
 }
 
-/// The state of a connection attempt.
 #[derive(Clone, Copy, Drop)]
 enum ConnectOutcome {
-    /// It goes on.
     Pending,
     /// It failed, or took too long.
     Refused,
-    /// The socket is connected.
     Established,
 }
 
@@ -67,53 +61,41 @@ enum HostMoved {
     Waits,
 }
 
-/// The result of a host's round.
 #[derive(Clone, Copy, Drop)]
 pub enum HostStepped {
-    /// Nothing is to be logged.
     Done,
     /// The host couldn't be reached, and this is to be logged.
     Unreachable,
 }
 
-/// A worker's round over its hosts.
 #[derive(Clone, Copy, Drop)]
 pub(crate) struct HostRound<'a> {
-    /// The room in the generation's journal.
     pub(crate) room: &'a JournalRoom,
     /// Where links are registered for the worker's poll.
     pub(crate) registry: &'a Registry,
-    /// Its moment, in milliseconds.
     pub(crate) now: u64,
-    /// Whether waiting parts are given up.
     pub(crate) gives_up: bool,
 }
 
-/// A host's engine, its link and its address.
 pub(crate) struct HostConnection {
     alloc: Global,
     engine: Engine,
     address: SocketAddr,
     // The token of its links with the poll.
     token: Token,
-    // The most milliseconds that connecting may take.
     reply_ms: u64,
     link: LinkState,
-    // When it was last stepped, in milliseconds.
     looked: u64,
     // The last round ended before all was done.
     has_more: bool,
-    // Consecutive refusals of memory to its step or its link.
     refusals: Refusals,
     // The bytes that had come on the link when a reply was last taken.
     begun: u64,
     // The bytes of a large unfinished reply that were reported.
     coming: u64,
-    // When it was last logged that the host can't be reached.
     logged_at: Option<u64>,
 }
 
-// Written out so that a drop is one call: each function that holds one is proved sooner.
 impl Drop for HostConnection {
     fn drop(self) {
         let HostConnection {
@@ -134,7 +116,6 @@ impl Drop for HostConnection {
 }
 
 impl HostConnection {
-    /// A host without a link.
     pub(crate) fn new(
         alloc: Global,
         host: usize,
@@ -167,7 +148,6 @@ impl HostConnection {
         if host < MAX_HOSTS { 1 << host } else { 0 }
     }
 
-    /// The host's address.
     pub(crate) fn address(&self) -> SocketAddr {
         self.address
     }
@@ -180,7 +160,6 @@ impl HostConnection {
         }
     }
 
-    /// Records what the poll reports.
     pub(crate) fn on_readiness(&mut self, event: &Readiness)
         ensures { self.new.engine ≡ self.old.engine }
     {
@@ -208,7 +187,6 @@ impl HostConnection {
         self.has_more || now.saturating_sub(self.looked) >= LOOK_MS || self.has_event()
     }
 
-    // Whether the poll reported something of the link that isn't handled yet.
     fn has_event(&self) -> bool {
         match &self.link {
             LinkState::Down => false,
@@ -255,7 +233,6 @@ impl HostConnection {
         }
     }
 
-    // Whether it is time to log again that the host can't be reached.
     fn note_log_due(&mut self, now: u64) -> bool
         ensures { self.new.engine ≡ self.old.engine }
     {
@@ -269,7 +246,6 @@ impl HostConnection {
         is_due
     }
 
-    // Lends the link's socket the worker's buffer for its output.
     fn lend_buffer(&mut self, buffer: &mut Vec<u8>)
         ensures { self.new.engine ≡ self.old.engine }
     {
@@ -290,7 +266,6 @@ impl HostConnection {
         }
     }
 
-    // Whether a write to the link's socket failed.
     fn is_broken(&self) -> bool {
         match self.engine.writer() {
             Some(writer) => writer.is_broken(),
@@ -298,7 +273,6 @@ impl HostConnection {
         }
     }
 
-    // Makes reads of the link's socket fail from here on.
     fn break_off_reads(&mut self)
         ensures { self.new.engine ≡ self.old.engine }
     {
@@ -362,7 +336,6 @@ impl HostConnection {
         }
     }
 
-    // Connects, and gives the engine the result.
     fn make_link<R: Wait + Net, T: HeldTurns>(
         &mut self,
         rt: &R,
@@ -415,7 +388,6 @@ impl HostConnection {
         }
     }
 
-    // Sends all that waits, then steps the engine once.
     fn send_and_step<R: Wait, T: HeldTurns>(
         &mut self,
         rt: &R,
@@ -434,7 +406,6 @@ impl HostConnection {
         self.engine.step(rt, turns, now)
     }
 
-    // Whether a read of the link's socket may return something.
     fn may_read(&self) -> bool {
         match self.engine.reader() {
             Some(reader) => reader.may_read(),
@@ -461,7 +432,6 @@ impl HostConnection {
         Ok(())
     }
 
-    // Gives up a link that has to go.
     fn give_up_if_due<R: Wait, T: HeldTurns>(
         &mut self,
         rt: &R,
@@ -479,7 +449,6 @@ impl HostConnection {
         }
     }
 
-    // Records what a step said of the socket, by the counts before and after it.
     fn note_step(&mut self, before: &TurnCounts, after: &TurnCounts)
         ensures { self.new.engine ≡ self.old.engine }
     {
@@ -527,7 +496,6 @@ impl HostConnection {
         count.is_some() && (round.gives_up || !has_room)
     }
 
-    // The bytes that came on the link.
     fn read_count(&self) -> Option<u64> {
         match self.engine.reader() {
             Some(reader) => Some(reader.count()),
@@ -535,7 +503,6 @@ impl HostConnection {
         }
     }
 
-    // The bytes from here on belong to the next reply.
     fn note_reply(&mut self)
         ensures { self.new.engine ≡ self.old.engine }
     {
@@ -584,14 +551,12 @@ impl HostConnection {
         }
     }
 
-    // Replaces the link.
     fn set_link(&mut self, link: LinkState)
         ensures { self.new.engine ≡ self.old.engine }
     {
         drop(mem::replace(&mut self.link, link));
     }
 
-    // Starts to connect, or looks at the attempt.
     fn connect<R: Net>(&mut self, rt: &R, round: HostRound<'_>) -> ConnectOutcome
         ensures { self.new.engine ≡ self.old.engine }
     {
@@ -612,7 +577,6 @@ impl HostConnection {
         }
     }
 
-    // Registers a connecting socket with the poll, and keeps it as the link.
     fn begin_connecting(&mut self, mut stream: TcpStream, round: HostRound<'_>) -> ConnectOutcome
         ensures { self.new.engine ≡ self.old.engine }
     {
@@ -655,7 +619,6 @@ impl HostConnection {
         }
     }
 
-    // Gives the engine the link that is up.
     fn attach(&mut self) -> Result<(), StepError>
         requires link { self.old.engine.link ≡ None }
         requires fault { self.old.engine.fault ≡ None }
@@ -699,7 +662,6 @@ impl HostConnection {
     }
 }
 
-// The state of a connection attempt.
 fn look(stream: &TcpStream, has_event: bool, is_overdue: bool) -> ConnectOutcome {
     if has_event {
         match stream.take_error() {

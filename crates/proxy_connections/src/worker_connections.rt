@@ -77,7 +77,6 @@ pub struct WorkerConnections<'a> {
     lent: Lent,
 }
 
-// Written out so that a drop is one call: each function that holds one is proved sooner.
 impl Drop for WorkerConnections<'_> {
     fn drop(self) {
         let WorkerConnections {

@@ -96,7 +96,10 @@ fn open_client<Rt: Wait, T: CoreTurns, R: Read + Drop, W: Write + Drop>(
         return Err(Ending::Memory);
     };
     let reader = Announced::new(Tallied::new(reader));
-    ClientEngine::open(rt, alloc, turns, reader, Tallied::new(output)).map_err(ending_of)
+    match ClientEngine::open(rt, alloc, turns, reader, Tallied::new(output)) {
+        Ok(client) => Ok(client),
+        Err(error) => Err(ending_of(error)),
+    }
 }
 
 // Runs the client until it ends, and then writes the buffered bytes in any case. Returns the ending and the writer.
@@ -233,14 +236,14 @@ fn step_client<Rt: Wait, T: CoreTurns, R: ReadTally + Drop, W: WriteTally + Drop
     ensures cut { IfOk result (λ p. p ≢ Progress.Cut) }
 {
     spend(left)?;
-    let progress = client.step(rt, turns).map_err(ending_of)?;
-    match progress {
-        Progress::Idle => match client.flush() {
-            Ok(()) => Ok(progress),
+    match client.step(rt, turns) {
+        Ok(Progress::Idle) => match client.flush() {
+            Ok(()) => Ok(Progress::Idle),
             Err(_) => Err(Ending::Socket),
         },
-        Progress::Cut => Err(Ending::Socket),
-        _ => Ok(progress),
+        Ok(Progress::Cut) => Err(Ending::Socket),
+        Ok(progress) => Ok(progress),
+        Err(error) => Err(ending_of(error)),
     }
 }
 
@@ -301,10 +304,11 @@ fn step_host<Rt: Wait, T: CoreTurns, P: ReadTally + Drop, Q: WriteTally + Drop>(
         (T.seen turns.old) (T.seen turns.new) host.old host.new) }
 {
     spend(left)?;
-    match host.step(rt, turns, MOMENT).map_err(ending_of)? {
-        Progress::Idle => Ok(true),
-        Progress::NeedsLink => Err(Ending::Socket),
-        _ => Ok(false),
+    match host.step(rt, turns, MOMENT) {
+        Ok(Progress::Idle) => Ok(true),
+        Ok(Progress::NeedsLink) => Err(Ending::Socket),
+        Ok(_) => Ok(false),
+        Err(error) => Err(ending_of(error)),
     }
 }
 

@@ -5,6 +5,7 @@ ghost use Rattle.ketama.specs.Ketama.{IsKetamaRing};
 ghost use Rattle.proxy_local.specs.Stubs.{IsOfStubs, stub_names, stub_weights};
 ghost use Rattle.proxy_exit_status.specs.declared.ending.Ending.TheVariants.{Memory};
 
+use crate::ending::ending_of;
 use ketama::{HostName, Ring, RingError};
 use proxy_core::{Core, Refusal, Settings};
 use proxy_engines::{HostEngine, Tallied};
@@ -85,7 +86,7 @@ fn stub_engine(alloc: Global, host: usize) -> Result<StubEngine, Ending>
     let mut engine = HostEngine::new(alloc, host, REPLY_MS);
     match engine.attach(Tallied::new(reader), Tallied::new(writer)) {
         Ok(()) => Ok(engine),
-        Err((error, _, _)) => Err(error.into()),
+        Err((error, _, _)) => Err(ending_of(error)),
     }
 }
 

@@ -44,12 +44,9 @@ impl<
         + Sync,
 > ServeRuntime for R {}
 
-/// The task of one thread of a generation.
 #[derive(Drop)]
 enum Task<'a> {
-    /// A worker's.
     Work(WorkerSetup<'a>),
-    /// The sweeping thread's.
     Sweep(SweepThread<'a>),
     /// It was begun.
     Done,
@@ -70,7 +67,6 @@ impl<'a, Rt: Wait + Net + Clock + Eprint> Work<Rt> for Task<'a> {
     }
 }
 
-// The settings of the core that the configuration gives.
 fn settings(config: &Config) -> Settings {
     Settings {
         tags: config.tags,
@@ -186,7 +182,6 @@ fn tasks<'a, R: Wait>(
     Ok(tasks)
 }
 
-// A waker of the worker that waits at this poll.
 fn waker_of(poll: &Poll) -> Result<Waker, Stop> {
     match Waker::new(poll.registry(), WAKER) {
         Ok(waker) => Ok(waker),
@@ -194,7 +189,6 @@ fn waker_of(poll: &Poll) -> Result<Waker, Stop> {
     }
 }
 
-// A worker's poll.
 fn make_poll<R: Net>(rt: &R) -> Result<Poll, Stop> {
     match Poll::new(rt) {
         Ok(poll) => Ok(poll),
@@ -211,7 +205,6 @@ struct Polls {
 }
 
 impl Polls {
-    // Adds those of one more worker.
     fn add<R: Net>(&mut self, rt: &R) -> Result<(), Stop> {
         let poll = make_poll(rt)?;
         self.add_wakers(&poll)?;
@@ -219,7 +212,6 @@ impl Polls {
         Ok(())
     }
 
-    // Adds both wakers of the worker that waits at this poll.
     fn add_wakers(&mut self, poll: &Poll) -> Result<(), Stop> {
         let status = WorkerStatus::new(waker_of(poll)?);
         self.workers.push(CachePadded::new(status))?;
@@ -228,7 +220,6 @@ impl Polls {
     }
 }
 
-// A poll with two wakers for each worker.
 fn make_polls<R: Net>(rt: &R, alloc: Global, workers: usize) -> Result<Polls, Stop> {
     let mut all = Polls {
         polls: Vec::new(alloc),
@@ -337,7 +328,6 @@ fn run_at_gate<R: ServeRuntime>(
     Ok(())
 }
 
-// Runs the threads until all have ended.
 fn run_threads<'a, R: ServeRuntime>(
     rt: &R,
     context: ThreadContext<'a>,

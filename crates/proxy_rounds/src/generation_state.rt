@@ -49,7 +49,6 @@ pub(crate) struct WorkerStatus {
     waker: Waker,
     // Whether it takes in nothing until others have looked at their hosts.
     is_held_back: AtomicBool,
-    // Whether it may be asleep.
     is_asleep: AtomicBool,
 }
 
@@ -61,7 +60,6 @@ pub(crate) struct GenerationState<'a> {
     workers: Vec<CachePadded<WorkerStatus>>,
     // What the core's turns tell the workers.
     notices: Arc<Notices>,
-    // The number of its threads that have come.
     come: AtomicU64,
     // STARTING, BEGUN or GIVEN_UP.
     start: AtomicU8,
@@ -73,7 +71,6 @@ pub(crate) struct GenerationState<'a> {
     pub(crate) room: JournalRoom,
 }
 
-// Written out so that a drop is one call: each function that holds one is proved sooner.
 impl Drop for GenerationState<'_> {
     fn drop(self) {
         let GenerationState {
@@ -91,7 +88,6 @@ impl Drop for GenerationState<'_> {
 }
 
 impl WorkerStatus {
-    /// A worker that is awake.
     pub(crate) fn new(waker: Waker) -> WorkerStatus {
         WorkerStatus {
             waker,
@@ -100,18 +96,15 @@ impl WorkerStatus {
         }
     }
 
-    /// The worker may sleep from here on.
     pub(crate) fn mark_asleep(&self, is_held_back: bool) {
         self.is_held_back.store(is_held_back, Ordering::SeqCst);
         self.is_asleep.store(true, Ordering::SeqCst);
     }
 
-    /// The worker is awake.
     pub(crate) fn mark_awake(&self) {
         self.is_asleep.store(false, Ordering::SeqCst);
     }
 
-    // Wakes the worker where it may be asleep.
     fn wake(&self) {
         if self.is_asleep.load(Ordering::SeqCst) && self.is_asleep.swap(false, Ordering::SeqCst) {
             let _ = self.waker.wake();
@@ -142,7 +135,6 @@ impl<'a> GenerationState<'a> {
         }
     }
 
-    /// The server that it belongs to.
     pub(crate) fn server(&self) -> &'a Server {
         self.server
     }
@@ -153,12 +145,10 @@ impl<'a> GenerationState<'a> {
         &self.notices
     }
 
-    /// Its number.
     pub(crate) fn number(&self) -> u64 {
         self.number
     }
 
-    // The number of its workers, and one thread that sweeps.
     fn threads(&self) -> u64 {
         (self.workers.len() as u64).saturating_add(1)
     }
@@ -184,14 +174,12 @@ impl<'a> GenerationState<'a> {
         self.decide(GIVEN_UP);
     }
 
-    // Decides the start, unless it is decided.
     fn decide(&self, start: u8) {
         let _ = self
             .start
             .compare_exchange(STARTING, start, Ordering::SeqCst, Ordering::SeqCst);
     }
 
-    /// Whether all its threads came in time.
     pub(crate) fn has_begun(&self) -> bool {
         self.start.load(Ordering::SeqCst) == BEGUN
     }
@@ -212,7 +200,6 @@ impl<'a> GenerationState<'a> {
         self.taking.load(Ordering::SeqCst) == 0 && self.server.phase(self.number) != Phase::Serving
     }
 
-    /// The state of a worker.
     pub(crate) fn worker(&self, index: usize) -> Option<&WorkerStatus> {
         match self.workers.get(index) {
             Some(worker) => Some(&**worker),

@@ -31,13 +31,11 @@ pub(crate) struct SweepThread<'a> {
     marks: Marks,
     // The wakers for new sockets, used once the generation opens.
     wakers: Vec<Waker>,
-    // Consecutive sweeps without memory.
     refusals: Refusals,
     // The number of commands that the hosts had answered at the last look.
     answered: u64,
 }
 
-// Written out so that a drop is one call: each function that holds one is proved sooner.
 impl Drop for SweepThread<'_> {
     fn drop(self) {
         let SweepThread {
@@ -53,7 +51,6 @@ impl Drop for SweepThread<'_> {
 }
 
 impl<'a> SweepThread<'a> {
-    /// A thread that hasn't looked yet.
     pub(crate) fn new(
         context: ThreadContext<'a>,
         seat: Seated<'a, TalliedCore>,
@@ -103,7 +100,6 @@ impl<'a> SweepThread<'a> {
             .open(rt, self.generation.number(), now(rt), wakers);
     }
 
-    // Sweeps when due, and looks at the core, until the generation is drained or the server ends.
     fn sweep_on<R: Wait + Clock + Eprint>(&mut self, rt: &R) -> Result<(), Stop> {
         for _ in rt.forever() {
             if self.ends(rt) {
@@ -130,7 +126,6 @@ impl<'a> SweepThread<'a> {
         !server.runs()
     }
 
-    // Sweeps if the generation has to at this moment.
     fn sweep_if_due<R: Wait>(&mut self, rt: &R, moment: u64) -> Result<(), Stop> {
         let (server, number) = (self.generation.server(), self.generation.number());
         if server.is_sweep_due(rt, number, moment) && self.sweep(rt, moment)? {
@@ -234,7 +229,6 @@ impl<'a> SweepThread<'a> {
     }
 }
 
-// The milliseconds until the next look.
 fn pause(phase: Phase) -> u64 {
     match phase {
         Phase::Serving => PAUSE_MS,
@@ -242,7 +236,6 @@ fn pause(phase: Phase) -> u64 {
     }
 }
 
-// Logs that a host is ejected or has returned.
 fn log_ejection<R: Eprint>(rt: &R, log: Log, address: SocketAddr, is_out: bool) {
     if is_out {
         let tag = log.tag(Level::Warning);

@@ -28,10 +28,10 @@ use ticket_gate::Seated;
 /// The token of a worker's waker.
 pub(crate) const WAKER: Token = Token(usize::MAX);
 
-// An idle worker looks again after this many milliseconds at the latest.
+// The longest sleep of an idle worker, in milliseconds.
 const PAUSE_MS: u64 = 10;
 
-// All clients are looked at again after this many milliseconds at the latest.
+// The most milliseconds between two looks at all clients.
 const LOOK_MS: u64 = 100;
 
 // The most rounds before the last sockets of a generation are closed, and the most milliseconds between two of them.
@@ -53,7 +53,6 @@ pub(crate) struct WorkerSetup<'a> {
     seat: Seated<'a, TalliedCore>,
 }
 
-// Written out so that a drop is one call: each function that holds one is proved sooner.
 impl Drop for WorkerSetup<'_> {
     fn drop(self) {
         let WorkerSetup {
@@ -78,7 +77,6 @@ impl<'a> Model for WorkerSetup<'a> {
 }
 
 impl<'a> WorkerSetup<'a> {
-    /// A worker at this place, which waits at this poll and makes turns by this seat.
     pub(crate) fn new(
         context: ThreadContext<'a>,
         place: Place,
@@ -112,7 +110,7 @@ impl<'a> WorkerSetup<'a> {
 
     // The worker with its hosts and no clients; ends with `Memory` where there is none for the hosts.
     fn worker(self) -> Result<Worker<'a>, Ending>
-        ensures { IfOk result (λ worker. worker.connections.place ≡ self.entry.place) }
+        ensures { IfOk result (λ worker. worker.connections.place ≡ self.entry) }
     {
         let WorkerSetup {
             context,
@@ -160,7 +158,6 @@ enum Remaining {
 }
 
 impl Remaining {
-    // Work where this holds.
     fn work_if(is_more: bool) -> Remaining {
         if is_more {
             Remaining::Work
@@ -169,13 +166,11 @@ impl Remaining {
         }
     }
 
-    // Work where either step leaves some.
     fn or(self, other: Remaining) -> Remaining {
         Remaining::work_if(self == Remaining::Work || other == Remaining::Work)
     }
 }
 
-/// A running worker.
 struct Worker<'a> {
     index: usize,
     poll: Poll,
@@ -183,28 +178,23 @@ struct Worker<'a> {
     connections: WorkerConnections<'a>,
     // Consecutive refusals of memory to the first socket in the queue.
     opening: Refusals,
-    // The moment of its round, in milliseconds.
     now: u64,
-    // Whether something in this round found no memory.
+    // Something in this round found no memory.
     lacks_memory: bool,
-    // Whether sockets may wait in the queue, and when that was last looked at.
+    // Sockets may wait in the queue.
     may_have_sockets: bool,
     accepted_at: u64,
-    // When all clients were last looked at.
     looked_at: u64,
     // The client with which the next round begins.
     next: usize,
-    // Whether clients wait until other workers have looked at their hosts.
+    // Clients wait until other workers have looked at their hosts.
     is_held_back: bool,
     is_draining: bool,
-    // Whether it may still take in commands.
     takes_in: bool,
     mode: Mode,
-    // When durations were last reported, in milliseconds.
     reported_at: u64,
 }
 
-// Written out so that a drop is one call: each function that holds one is proved sooner.
 impl Drop for Worker<'_> {
     fn drop(self) {
         let Worker {
@@ -229,7 +219,6 @@ impl Drop for Worker<'_> {
 }
 
 impl<'a> Worker<'a> {
-    // Makes rounds once all threads of the generation have come, then closes what is left, or ends the server.
     fn run<R: Wait + Net + Clock + Eprint>(mut self, rt: &R, events: Events) {
         if !self.generation.wait_for_all(rt) {
             return;
@@ -240,7 +229,7 @@ impl<'a> Worker<'a> {
         }
     }
 
-    // Makes a round for each wait at the poll, until the generation is stopped or leaves it nothing more to do.
+    // One round for each wait at the poll, until the generation is stopped or leaves nothing more to do.
     fn run_rounds<R: Wait + Net + Clock + Eprint>(
         &mut self,
         rt: &R,
@@ -274,7 +263,7 @@ impl<'a> Worker<'a> {
         !self.takes_in && self.connections.is_empty() && self.generation.takes_nothing()
     }
 
-    // The generation's phase. It drains and gives up with it; once it is stopped its last sockets are to be closed.
+    // The generation's phase. The worker drains and gives up with it.
     fn follow_phase(&mut self) -> Phase {
         // (read first: one that isn't open yet looks as if it drained)
         let has_opened = self.generation.has_opened();
@@ -287,7 +276,6 @@ impl<'a> Worker<'a> {
         phase
     }
 
-    // Waits at most this many milliseconds for the poll's events, and gives each to its host or client.
     fn wait(&mut self, events: &mut Events, pause: u64) -> Result<(), Stop> {
         let polled = self.poll.poll(events, Some(Duration::from_millis(pause)));
         if let Some(worker) = self.generation.worker(self.index) {
@@ -326,12 +314,10 @@ impl<'a> Worker<'a> {
         Ok(())
     }
 
-    // Reports the worker's turns.
     fn settle<R: Wait>(&mut self, rt: &R) {
         self.connections.settle(rt, &self.generation.room);
     }
 
-    // Reports the durations of commands.
     fn report_durations<R: Wait>(&mut self, rt: &R) {
         let reported = self.connections.take_durations();
         if reported.total > 0 {
@@ -339,7 +325,6 @@ impl<'a> Worker<'a> {
         }
     }
 
-    // Ends all clients' inputs once the server drains.
     fn end_inputs(&mut self) {
         if self.mode.ends_inputs || !self.generation.server().is_draining() {
             return;
@@ -350,7 +335,6 @@ impl<'a> Worker<'a> {
         }
     }
 
-    // Takes in nothing more from any client.
     fn drain(&mut self) {
         if self.is_draining || self.connections.is_empty() {
             return;
@@ -369,7 +353,7 @@ impl<'a> Worker<'a> {
         }
     }
 
-    // Writes the buffered bytes of connections that are cut short, and counts these as closed.
+    // Connections that are cut short are counted as closed.
     fn close_clients<R: Wait + Eprint>(&mut self, rt: &R) {
         let server = self.generation.server();
         let mut cut = 0u32;
@@ -389,7 +373,7 @@ impl<'a> Worker<'a> {
         self.close_carried(rt);
     }
 
-    // Closes the socket of the client with this key, if there is one. True: its connection is cut short.
+    // True: there was a client with this key, and its connection is cut short.
     fn close_client<R: Wait>(&mut self, rt: &R, key: usize) -> bool {
         let Some(is_cut) = self.connections.shut_down(key) else {
             return false;
@@ -418,7 +402,6 @@ impl<'a> Worker<'a> {
         }
     }
 
-    // The longest wait of the poll, in milliseconds.
     fn pause(&self, remaining: Remaining) -> u64 {
         if self.lacks_memory {
             return NO_MEMORY_MS;
@@ -439,7 +422,6 @@ impl<'a> Worker<'a> {
             || (self.is_held_back && !self.must_hold_back())
     }
 
-    // Gives an event of the poll to its host or client.
     fn on_event(&mut self, event: &Event) {
         let token = event.token();
         if token == WAKER {
@@ -451,7 +433,6 @@ impl<'a> Worker<'a> {
         }
     }
 
-    // One round: new sockets, replies, clients, and the parts that these queued.
     fn make_round<R: Wait + Net + Clock + Eprint>(&mut self, rt: &R) -> Result<Remaining, Stop> {
         self.now = now(rt);
         self.lacks_memory = false;
@@ -468,7 +449,6 @@ impl<'a> Worker<'a> {
         Ok(remaining)
     }
 
-    // Steps hosts, then clients, then hosts for the parts that these queued.
     fn step_all<R: Wait + Net + Eprint>(&mut self, rt: &R) -> Result<Remaining, Stop> {
         let hosts = self.step_hosts(rt)?;
         let clients = self.step_clients(rt)?;
@@ -476,7 +456,6 @@ impl<'a> Worker<'a> {
         Ok(hosts.or(clients).or(after))
     }
 
-    // Counts a refusal of memory to the first socket in the queue.
     fn count_refusal(&mut self) -> Result<(), Stop> {
         self.lacks_memory = true;
         self.may_have_sockets = true;
@@ -487,7 +466,7 @@ impl<'a> Worker<'a> {
         }
     }
 
-    // Handles an error. Without memory the step is made again, until too many were refused in a row.
+    // Without memory the step is made again, until too many were refused in a row.
     fn handle_error(&mut self, error: StepError) -> Result<(), Stop> {
         match error {
             StepError::Full => {
@@ -503,7 +482,6 @@ impl<'a> Worker<'a> {
         }
     }
 
-    // Handles the error of a connection that is being opened.
     fn handle_open_error(&mut self, error: StepError) -> Result<(), Stop> {
         match error {
             StepError::Memory => self.count_refusal(),
@@ -572,7 +550,7 @@ impl<'a> Worker<'a> {
         }
     }
 
-    // The result for a socket whose connection was opened. Without room for the client it is closed.
+    // Without room for its client the socket is closed.
     fn handle_opened<R: Wait>(&mut self, rt: &R, opened: Opened) -> Opened {
         self.opening.succeeded();
         if let Opened::Dropped = opened {
@@ -581,8 +559,8 @@ impl<'a> Worker<'a> {
         opened
     }
 
-    // Opens a carried-over socket. It waits in the queue again where there is no memory or no step left. Where its
-    // connection can't be opened otherwise, its buffered bytes are written and it is closed.
+    // The socket waits in the queue again where there is no memory or no step left; else, where its connection can't be
+    // opened, its buffered bytes are written and it is closed.
     fn open_carried<R: Wait>(
         &mut self,
         rt: &R,
@@ -597,7 +575,6 @@ impl<'a> Worker<'a> {
         }
     }
 
-    // Handles the error of a carried-over socket: it is closed if it fails alone, else it waits in the queue again.
     fn refuse_carried<R: Wait>(
         &mut self,
         rt: &R,
@@ -615,7 +592,6 @@ impl<'a> Worker<'a> {
         Ok(None)
     }
 
-    // Registers the next client's socket with the poll.
     fn register(&self, stream: &mut TcpStream) -> bool {
         let token = Token(self.connections.vacant_key());
         let interests = Interest::READABLE | Interest::WRITABLE;
@@ -625,7 +601,7 @@ impl<'a> Worker<'a> {
             .is_ok()
     }
 
-    // Opens a new socket. One whose connection can't be opened is dropped.
+    // A socket whose connection can't be opened is dropped.
     fn open<R: Wait>(&mut self, rt: &R, mut stream: TcpStream) -> Result<Option<Opened>, Stop> {
         let _ = stream.set_nodelay(true);
         if !self.register(&mut stream) {
@@ -645,7 +621,6 @@ impl<'a> Worker<'a> {
         }
     }
 
-    // Steps each host that can make progress, and logs those that can't be reached.
     fn step_hosts<R: Wait + Net + Eprint>(&mut self, rt: &R) -> Result<Remaining, Stop> {
         let notices = self.generation.notices();
         let pressed = notices.pressed();
@@ -658,7 +633,6 @@ impl<'a> Worker<'a> {
         Ok(remaining)
     }
 
-    // Steps a host if it can make progress.
     fn step_host<R: Wait + Net + Eprint>(
         &mut self,
         rt: &R,
@@ -681,7 +655,6 @@ impl<'a> Worker<'a> {
         Ok(Remaining::work_if(may_go))
     }
 
-    // Handles the result of a host's round, and logs a host that can't be reached.
     fn handle_host<R: Eprint>(
         &mut self,
         rt: &R,
@@ -806,7 +779,6 @@ impl<'a> Worker<'a> {
         Ok(Remaining::Nothing)
     }
 
-    // Steps a client if it can make progress.
     fn step_client<R: Wait>(&mut self, rt: &R, key: usize) -> Result<Remaining, Stop> {
         let round = self
             .generation
@@ -826,7 +798,6 @@ impl<'a> Worker<'a> {
         self.handle_stepped(rt, key, stepped)
     }
 
-    // Handles the result of a client's round.
     fn handle_stepped<R: Wait>(
         &mut self,
         rt: &R,

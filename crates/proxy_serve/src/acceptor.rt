@@ -49,7 +49,6 @@ pub(crate) struct Acceptor {
     signals: Signals,
 }
 
-// Written out so that a drop is one call: each function that holds one is proved sooner.
 impl Drop for Acceptor {
     fn drop(self) {
         let Acceptor {

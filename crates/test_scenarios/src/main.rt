@@ -1,25 +1,27 @@
-//! Examples as data: reads a script from standard input, and prints beside each line what the proxy's crates answer.
+//! Examples as data: reads a script from standard input, and prints beside each line what the core and the plain program
+//! answer.
 //!
-//! A row is a line `row NAME SUBJECT ARGUMENTS..` and the lines below it, one action each. Every line is printed as it
-//! stands, and after an action ` => ` and its answer. So the output, cut at each ` => `, is the input. Blank lines and
-//! lines that begin with `#` are copied. It stands on the core and the parts below it. Begin with `script.rt`, then
-//! `subject.rt`.
+//! A row's subject is `core`, `plain` or `both`, and its arguments are a setting's. `test_rows` says how a script is
+//! written. It stands on `proxy_core`, `proxy_stats`, `test_reference` and `test_rows`. Begin with `proxies.rt`.
 #![tactic(auto)]
 
-mod again;
-mod parts;
+mod agreement;
+mod answers;
+mod events;
+mod outcome;
 mod proxies;
-mod script;
-mod series;
-mod shown;
-mod subject;
-mod text;
-mod values;
+mod proxy;
+mod questions;
+mod random;
+mod random_runs;
+mod run;
+mod setting;
 
 use anyhow::Result;
 use std::io;
+use test_rows::script::play;
 
 fn main(rt: HostRuntime) -> Result<()> {
     let text = io::read_to_string(rt.alloc(), rt.reader())?;
-    script::play(&rt, rt.alloc(), text.as_str())
+    play::<proxies::Proxies>(&rt, rt.alloc(), text.as_str())
 }

@@ -1,34 +1,24 @@
 //! The core and the plain program side by side: each action is made on both, and their answers must be equal.
 
-mod agreement;
-pub mod answers;
-mod events;
-mod outcome;
-mod proxy;
-mod questions;
-pub mod random;
-mod random_runs;
-mod run;
-pub mod setting;
-
-use self::agreement::agreement;
-use self::answers::{all_refusals, refusal_text};
-use self::events::event_of;
-use self::outcome::outcome;
-use self::proxy::Proxy;
-use self::questions::{core_answer, is_question, plain_answer};
-use self::random::Numbers;
-use self::random_runs::{Randomly, run_each};
-use self::run::Run;
-use self::setting::Setting;
-use crate::again::again;
-use crate::shown::shown;
-use crate::text::{first_word, number};
+use crate::agreement::agreement;
+use crate::answers::{all_refusals, refusal_text};
+use crate::events::event_of;
+use crate::outcome::outcome;
+use crate::proxy::Proxy;
+use crate::questions::{core_answer, is_question, plain_answer};
+use crate::random_runs::{Randomly, run_each};
+use crate::run::Run;
+use crate::setting::Setting;
 use anyhow::{Result, bail};
 use proxy_core::{Core, Refusal};
 use std::alloc::Global;
 use std::mem;
 use test_reference::Reference;
+use test_rows::again;
+use test_rows::numbers::Numbers;
+use test_rows::shown::shown;
+use test_rows::subject::Subject;
+use test_rows::text::{first_word, number, unknown};
 
 // The pass of a row's events, until an action names another.
 const FIRST_PASS: u64 = 7;
@@ -48,12 +38,46 @@ pub struct Proxies {
     run: Option<Run>,
 }
 
-impl Proxies {
-    /// Begins a row. The name is `core`, `plain` or `both`, and the arguments are those of a setting.
-    pub(crate) fn open(alloc: Global, name: &str, arguments: &str) -> Result<Proxies> {
-        Proxies::on(alloc, name, Setting::read(alloc, arguments)?)
+impl Subject for Proxies {
+    /// Begins a row: the words are `core`, `plain` or `both`, and the arguments of a setting.
+    fn open(alloc: Global, words: &str) -> Result<Proxies> {
+        let (name, arguments) = first_word(words);
+        match name {
+            "core" | "plain" | "both" => {
+                Proxies::on(alloc, name, Setting::read(alloc, arguments)?)
+            }
+            _ => unknown("subject", name),
+        }
     }
 
+    /// Makes one action: an event, a question, or one of these:
+    ///
+    /// - `new ARGUMENTS` starts again;
+    /// - `pass N` sets the pass of all later events;
+    /// - the events between `run` and `end` are taken by one call;
+    /// - `random SEED EVENTS` makes this many random events;
+    /// - `random_runs SEEDS EVENTS` makes this many on fresh proxies for each seed;
+    /// - `refusals` lists all refusals;
+    /// - `hand_over ARGUMENTS` makes a core from this one's state on another setting, and `other` switches between the two.
+    fn act(&mut self, alloc: Global, line: &str) -> Result<String> {
+        let (name, rest) = first_word(line);
+        match name {
+            "new" => self.begin(alloc, rest),
+            "pass" => self.set_pass(alloc, rest),
+            "run" => self.begin_run(alloc),
+            "end" => self.end_run(alloc),
+            "random" => self.random(alloc, rest),
+            "random_runs" => run_each(alloc, rest),
+            "refusals" => all_refusals(alloc),
+            "hand_over" => self.hand_over(alloc, rest),
+            "other" => self.turn_to_other(alloc),
+            _ if is_question(name) => self.question(alloc, line),
+            _ => self.event(alloc, line),
+        }
+    }
+}
+
+impl Proxies {
     /// The proxies of this name on a setting.
     pub(crate) fn on(alloc: Global, name: &str, setting: Setting) -> Result<Proxies> {
         let mut proxies = Proxies {
@@ -82,32 +106,6 @@ impl Proxies {
             drop(self.plain.replace(setting.plain(alloc)?));
         }
         Ok(())
-    }
-
-    /// Makes one action: an event, a question, or one of these:
-    ///
-    /// - `new ARGUMENTS` starts again;
-    /// - `pass N` sets the pass of all later events;
-    /// - the events between `run` and `end` are taken by one call;
-    /// - `random SEED EVENTS` makes this many random events;
-    /// - `random_runs SEEDS EVENTS` makes this many on fresh proxies for each seed;
-    /// - `refusals` lists all refusals;
-    /// - `hand_over ARGUMENTS` makes a core from this one's state on another setting, and `other` switches between the two.
-    pub(crate) fn act(&mut self, alloc: Global, line: &str) -> Result<String> {
-        let (name, rest) = first_word(line);
-        match name {
-            "new" => self.begin(alloc, rest),
-            "pass" => self.set_pass(alloc, rest),
-            "run" => self.begin_run(alloc),
-            "end" => self.end_run(alloc),
-            "random" => self.random(alloc, rest),
-            "random_runs" => run_each(alloc, rest),
-            "refusals" => all_refusals(alloc),
-            "hand_over" => self.hand_over(alloc, rest),
-            "other" => self.turn_to_other(alloc),
-            _ if is_question(name) => self.question(alloc, line),
-            _ => self.event(alloc, line),
-        }
     }
 
     // Starts again, if the setting has no error.

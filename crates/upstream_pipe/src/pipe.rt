@@ -1,9 +1,9 @@
 //! The pipe to one host.
-ghost use Rattle.std.specs.Prelude.{◌≡◌, ◌≢◌, ◌⊎◌, ◌<◌, ◌≤◌, ◌+◌, ◌^◌, ◌-◌, ◌↔◌, ◌∷◌, ◌++◌, [], List, ℕ, Option, Some, None, length, map, min, filter, slice_get, IsOk, OnOk, OnErr, IfOk, IfErr, IfSome, IfNone, IsErrOf, IsErrAnd, IsSome};
+ghost use Rattle.std.specs.Prelude.{◌≡◌, ◌≤◌, ◌+◌, ◌^◌, ◌-◌, ◌∷◌, ◌++◌, [], List, ℕ, Option, Some, length, map, min, filter, slice_get, IsOk, IfOk, IfErr, IfSome, IfNone};
 ghost use Rattle.std.specs.Option.{option_copied, option_and_then};
 ghost use Rattle.std.specs.VecDeque.{deque_len, deque_capacity};
 ghost use Rattle.upstream_pipe.specs.declared.part.Owner.{Owner};
-ghost use Rattle.upstream_pipe.specs.Pipe.{HasSent, IsAsBefore, owner_in, is_kept, forgotten_owner};
+ghost use Rattle.upstream_pipe.specs.Pipe.{EndsEpoch, HasSent, IsAsBefore, MakesRoom, Pushes, TakesReply, owner_in, is_kept, forgotten_owner};
 
 use crate::lost::Lost;
 use crate::part::{Owner, Part};
@@ -129,14 +129,7 @@ impl Pipe {
     ///
     /// Refused 601 (no memory): the parts are unchanged, and there is no less room.
     pub fn room(&mut self, more: usize) -> Result<(), PipeRefusal>
-        ensures room { OnOk result (more ≤ self.new.room) }
-        ensures reserved { more ≤ self.old.room → IsOk result }
-        ensures memory { IfErr result (λ e. e ≡ PipeRefusal.NoMemory) }
-        ensures kept { self.old.room ≤ self.new.room }
-        ensures waiting { self.new.waiting ≡ self.old.waiting }
-        ensures flying { self.new.flying ≡ self.old.flying }
-        ensures epoch { self.new.epoch ≡ self.old.epoch }
-        ensures taken { self.new.taken ≡ self.old.taken }
+        ensures { MakesRoom self.old self.new more result }
     {
         self.waiting.reserve(more)?;
         self.flying.reserve(self.waiting.len() + more)?;
@@ -147,19 +140,7 @@ impl Pipe {
     ///
     /// Refused 602 (full) if 1,024 parts wait, or 601 (no memory), which can't come if there is room. The part comes back.
     pub fn push(&mut self, part: Part) -> Result<(), (PipeRefusal, Part)>
-        ensures waiting { OnOk result (self.new.waiting ≡ self.old.waiting ++ part ∷ []) }
-        ensures flying { self.new.flying ≡ self.old.flying }
-        ensures epoch { self.new.epoch ≡ self.old.epoch }
-        ensures taken { self.new.taken ≡ self.old.taken }
-        ensures full { IfErr result (λ e. (e.0 ≡ PipeRefusal.Full)
-            ↔ (MAX_WAITING ≤ length self.old.waiting)) }
-        ensures accepted { OnOk result (length self.old.waiting < MAX_WAITING) }
-        ensures memory { IfErr result (λ e. e.0 ≢ PipeRefusal.Full → e.0 ≡ PipeRefusal.NoMemory) }
-        ensures reserved { 0 < self.old.room → IfErr result (λ e. e.0 ≡ PipeRefusal.Full) }
-        ensures room { OnOk result (self.old.room ≤ self.new.room + 1) }
-        ensures part { IfErr result (λ e. e.1 ≡ part) }
-        ensures err { OnErr result (self.new.waiting ≡ self.old.waiting) }
-        ensures kept { OnErr result (self.old.room ≤ self.new.room) }
+        ensures { Pushes self.old self.new part result }
     {
         if self.waiting.len() >= MAX_WAITING {
             return Err((PipeRefusal::Full, part));
@@ -198,20 +179,7 @@ impl Pipe {
     ///
     /// Refused 603 (stale) exactly if the epoch isn't the pipe's, and 604 (unasked) exactly if it is and no part flies.
     pub fn answered(&mut self, epoch: u64) -> Result<Option<Owner>, PipeRefusal>
-        ensures place { IfOk result (λ owner. (sent : List (Option Owner)) (count : ℕ)
-            → HasSent self.old sent count
-            → (slice_get sent count ≡ Some owner) × HasSent self.new sent (count + 1)) }
-        ensures flying { IfOk result (λ owner. self.old.flying ≡ owner ∷ self.new.flying) }
-        ensures stale { IsErrOf result (PipeRefusal.Stale self.old.epoch)
-            ↔ (epoch ≢ self.old.epoch) }
-        ensures unasked { IsErrOf result PipeRefusal.Unasked
-            ↔ ((epoch ≡ self.old.epoch) × (self.old.flying ≡ [])) }
-        ensures refused { IfErr result (λ e. (epoch ≢ self.old.epoch) ⊎ (self.old.flying ≡ [])) }
-        ensures waiting { self.new.waiting ≡ self.old.waiting }
-        ensures epoch { self.new.epoch ≡ self.old.epoch }
-        ensures taken { self.new.taken ≡ self.old.taken }
-        ensures room { self.old.room ≤ self.new.room }
-        ensures err { OnErr result (self.new.flying ≡ self.old.flying) }
+        ensures { TakesReply self.old self.new epoch result }
     {
         if epoch != self.epoch {
             return Err(PipeRefusal::Stale {
@@ -229,21 +197,7 @@ impl Pipe {
     /// Refused 603 (stale) exactly if the epoch isn't the pipe's, else 605 (epochs spent) exactly if it is the greatest
     /// `u64`, else 601 (no memory). If no part flies or waits it takes no memory, and 601 doesn't come.
     pub fn fault(&mut self, epoch: u64) -> Result<Lost, PipeRefusal>
-        ensures flying { IfOk result (λ lost. lost.flying.items ≡ self.old.flying) }
-        ensures waiting { IfOk result (λ lost. lost.waiting.items ≡ map owner_in self.old.waiting) }
-        ensures empty { OnOk result ((self.new.flying ≡ []) × (self.new.waiting ≡ [])) }
-        ensures epoch { OnOk result (self.new.epoch ≡ self.old.epoch + 1) }
-        ensures taken { OnOk result (self.new.taken ≡ 0) }
-        ensures room { self.old.room ≤ self.new.room }
-        ensures stale { IsErrOf result (PipeRefusal.Stale self.old.epoch)
-            ↔ (epoch ≢ self.old.epoch) }
-        ensures spent { IsErrOf result PipeRefusal.EpochsSpent
-            ↔ ((epoch ≡ self.old.epoch) × (epoch ≡ 2 ^ 64 - 1)) }
-        ensures memory { epoch ≡ self.old.epoch → epoch < 2 ^ 64 - 1
-            → IfErr result (λ e. e ≡ PipeRefusal.NoMemory) }
-        ensures idle { epoch ≡ self.old.epoch → epoch < 2 ^ 64 - 1
-            → self.old.flying ≡ [] → self.old.waiting ≡ [] → IsOk result }
-        ensures err { OnErr result (IsAsBefore self.old self.new) }
+        ensures { EndsEpoch self.old self.new epoch result }
     {
         if self.epoch != epoch {
             return Err(PipeRefusal::Stale {

@@ -1,6 +1,9 @@
 use Rattle.std.proofs.Common.{arith}
-use Rattle.proxy_connections.proofs.WorkerConnectionLemmas.{rises_to}
+use Rattle.proxy_connections.proofs.WorkerConnectionLemmas.{rises_past, rises_to}
 use Rattle.proxy_connections.proofs.worker_connections.push_host.Goals as goal
+
+pub returns-then-not-has : goal.returns-then-not-has
+returns-then-not-has c = λ rises. rises_past _ _ (λ is. absurd (grind (arith, c.if-not-has.true, c.has.ensures.1 is))) rises
 
 pub returns : goal.returns
 returns c = λ rises.

@@ -3,5 +3,5 @@ use Rattle.proxy_connections.proofs.client_connection.ClientConnection.step.Goal
 
 pub returns : goal.returns
 returns g c =
-    KeepsSocket-step c.args.self.now.engine c.find_room.new.self.engine c.accept_or_step-stepped.new.self.engine c.handle_stepped.new.self.engine _ _
-    c.find_room.ensures.drains (rw c.find_room.ensures.turns at c.accept_or_step-stepped.ensures) c.handle_stepped.ensures
+    KeepsSocket-step c.args.self.now.engine c.drain_unless_room.new.self.engine c.accept_or_step-stepped.new.self.engine c.handle_stepped.new.self.engine _ _
+    c.drain_unless_room.ensures.drains (rw c.drain_unless_room.ensures.turns at c.accept_or_step-stepped.ensures) c.handle_stepped.ensures

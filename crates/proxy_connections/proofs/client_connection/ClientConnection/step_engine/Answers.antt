@@ -10,5 +10,5 @@ loop-preserved g c = KeepsSocket-then _ _ _ _ _ _ c.loop.invariant c.step.ensure
 pub returns-in_err-step : goal.returns-in_err-step
 returns-in_err-step g c = KeepsSocket-then _ _ _ _ _ _ c.loop.invariant c.step.ensures
 
-pub returns-then-branch : goal.returns-then-branch
-returns-then-branch g c = KeepsSocket-then _ _ _ _ _ _ c.loop.invariant c.step.ensures
+pub returns-in-Waits : goal.returns-in-Waits
+returns-in-Waits g c = KeepsSocket-then _ _ _ _ _ _ c.loop.invariant c.step.ensures

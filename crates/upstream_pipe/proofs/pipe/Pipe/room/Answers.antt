@@ -1,8 +1,18 @@
-use Rattle.std.proofs.Common.{arith}
+use Rattle.std.proofs.Common.{rules, arith}
+use Rattle.std.proofs.lemmas.Grind.{common_steps}
 use Rattle.upstream_pipe.proofs.pipe.Pipe.room.Goals as goal
 
-pub returns-clause-room : goal.returns-clause-room
-returns-clause-room c =
+pub returns : goal.returns
+returns c =
     let first = c.in_ok-reserve.ensures in
     let second = c.in_ok-reserve-2.ensures in
-    omega (arith, first.ok, first.len, second.ok, second.len, c.len.ensures)
+    record {
+      room = omega (arith, first.ok, first.len, second.ok, second.len, c.len.ensures);
+      reserved = search rules;
+      memory = search rules;
+      kept = grind (arith, common_steps);
+      waiting = grind (arith, common_steps);
+      flying = grind (arith, common_steps);
+      epoch = grind (arith, common_steps);
+      taken = grind (arith, common_steps);
+    }
