@@ -1,4 +1,3 @@
-//! The turns that a worker makes of a core.
 ghost use Rattle.proxy_core.specs.CoreTurns.{AnswersFit, AreFewSteps, AreHistories, EpochsArePresent, FinishingTakesNothing, OpeningsAreNew, RefusalsMean};
 
 use crate::keeping::Keeping;

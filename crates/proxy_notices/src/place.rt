@@ -1,8 +1,7 @@
-//! Which worker has which host.
 ghost use Rattle.std.specs.Prelude.{◌≡◌, ◌↔◌, ◌<◌, IsTrue};
 ghost use Rattle.proxy_notices.specs.Places.{IsOf, worker_of};
 
-/// The worker that has this host, among so many: the host's number modulo the workers.
+/// The worker of this host.
 #[inline(always)]
 pub fn worker_of_host(host: usize, workers: usize) -> usize
     requires { 0 < workers }
@@ -14,14 +13,14 @@ pub fn worker_of_host(host: usize, workers: usize) -> usize
 /// A worker's place in its generation.
 #[derive(Clone, Copy, Debug, PartialEq, Eq, Drop)]
 pub struct Place {
-    /// The worker's index, from 0 on.
+    /// The worker's index, from 0.
     pub index: usize,
-    /// The number of the generation's workers.
+    /// The generation's number of workers.
     pub workers: usize,
 }
 
 impl Place {
-    /// Whether the worker here has this host.
+    /// Whether the worker has this host.
     pub fn has(self, host: usize) -> bool
         requires { 0 < self.workers }
         ensures { IsTrue result ↔ IsOf self host }

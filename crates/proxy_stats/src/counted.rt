@@ -1,4 +1,3 @@
-//! A core that counts what it does.
 ghost use Rattle.std.specs.Prelude.{◌≡◌, ◌∷◌, [], ◌++◌, List, IfOk, IfSome};
 ghost use Rattle.proxy_history.specs.History.{Step as StepOf};
 ghost use Rattle.proxy_stats.specs.Counted.{AreKept, HasCounted, counts_of};
@@ -17,7 +16,7 @@ use std::marker::Model;
 use std::sync::Arc;
 use ticket_gate::Recorded;
 
-/// A core with its counts, which tells workers what its turns brought them. Contracts see the core.
+/// A core with its counts, which tells workers what its turns brought them.
 pub struct Counted {
     core: CountingCore,
     // On the heap, since a gate moves its state in and out at each turn.
@@ -25,7 +24,6 @@ pub struct Counted {
     teller: Box<Teller>,
 }
 
-// Written out so that a drop is one call: each function that holds one is proved sooner.
 impl Drop for Counted {
     fn drop(self) {
         let Counted {
@@ -36,7 +34,7 @@ impl Drop for Counted {
     }
 }
 
-/// The sight of a core that counts. All of it is of one moment.
+/// The sight of a core that counts, all of one moment.
 #[derive(Drop)]
 pub struct Sight {
     /// The state that another core can start from.
@@ -66,9 +64,7 @@ impl Model for Counted {
 }
 
 impl Counted {
-    /// Counts the steps of a core that has none yet, and tells of them by the notices.
-    ///
-    /// Refused where there is no memory for the counts; the core is dropped.
+    /// Counts the steps of a core that has none yet. Refused where there is no memory; the core is dropped.
     pub fn new(
         alloc: Global,
         core: CountingCore,
@@ -90,8 +86,7 @@ impl Counted {
         }
     }
 
-    /// The counts so far: each number is a sum over the steps of the core's journal. It takes no
-    /// memory, and its time doesn't depend on the journal's length.
+    /// The counts so far: sums over the steps of the core's journal. Its time doesn't depend on their number.
     pub fn counts(&self) -> &Counts
         ensures sums { AreCounts self.now.steps result.now }
         ensures value { result.now ≡ counts_of self.now.steps }
@@ -156,14 +151,13 @@ impl Recorded for Counted {
     ghost legal_before = { legal_before };
 }
 
-// The counts of no steps.
 fn counts_of_nothing() -> Counts
     ensures { AreKept [] result }
 {
     Counts::NONE
 }
 
-// The value on the heap. `None`: there is no memory, and it is dropped.
+// `None`: there is no memory, and the value is dropped.
 fn boxed<T: Drop>(alloc: Global, value: T) -> Option<Box<T>>
     ensures { IfSome result (λ b. b.value ≡ value) }
 {
@@ -176,7 +170,6 @@ fn boxed<T: Drop>(alloc: Global, value: T) -> Option<Box<T>>
     }
 }
 
-// Adds the newest step.
 fn count_last(journal: &Journal<Event, Answer>, counts: &mut Counts)
     ensures { (steps : List StepOf) (step : StepOf) → journal.now.steps ≡ steps ++ step ∷ []
         → HasCounted counts.old step counts.new }

@@ -1,4 +1,3 @@
-//! Turns at the gate of a core that counts.
 ghost use Rattle.std.specs.Prelude.{◌≡◌, ◌-◌, ◌^◌};
 ghost use Rattle.ticket_gate.specs.Gate.{IsPassOf};
 ghost use Rattle.ticket_gate.specs.Turns.{seated_at};
@@ -34,10 +33,10 @@ impl<'a> CountedSeat<'a> {
     ghost use Rattle.proxy_stats.specs.Counted.{sight_of};
     ghost use Rattle.proxy_core.specs.Recorded.{IsLegalJournal};
 
-    /// Looks at the core inside the gate, and adds no step to its journal.
+    /// Looks at the core inside the gate.
     ///
-    /// Counts and load are those of the journal that the pass sees now, which is legal. Refused
-    /// only `Spent` (1202), once all tickets were drawn.
+    /// Counts and load are those of the journal that the pass sees now. Refused only `Spent` (1202), once all
+    /// tickets were drawn.
     pub fn sight<R: Wait>(&mut self, rt: &R) -> Result<Sight, TurnRefusal<Refusal, ()>>
         ensures sight { IfOk result (λ sight. sight
             ≡ sight_of self.old.seated.gate.setting self.new.seated.pass.known.seen) }
@@ -51,15 +50,15 @@ impl<'a> CountedSeat<'a> {
 }
 
 impl<'a> CountedSeat<'a> {
-    /// From here on a turn leaves the pass inside the gate, where the next turn needn't enter
-    /// (`Seated::hold`). The caller should `leave` before it waits for anything.
+    /// From here on a turn leaves the pass inside the gate (`Seated::hold`). The caller should `leave` before it
+    /// waits for anything.
     pub fn hold(&mut self)
         ensures { self.new ≡ self.old }
     {
         self.seated.hold();
     }
 
-    /// Leaves the gate, if the pass is inside. From here on each turn leaves it too.
+    /// Leaves the gate. From here on each turn leaves it too.
     pub fn leave(&mut self)
         ensures { self.new ≡ self.old }
     {

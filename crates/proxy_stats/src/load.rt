@@ -1,4 +1,3 @@
-//! The load of a core at one moment: open connections, and the parts of each host.
 ghost use Rattle.std.specs.Prelude.{◌≡◌, ◌<◌};
 ghost use Rattle.proxy_history.specs.Setting.{hosts};
 ghost use Rattle.proxy_history.specs.Proxy.{history_in};
@@ -29,7 +28,7 @@ pub struct Load {
     /// Whether so few hosts are available that all are used.
     pub in_panic: bool,
 
-    /// The load of each host, by its number; none for numbers without a host.
+    /// The load of each host, by its number.
     pub hosts: [HostLoad; MAX_HOSTS],
 }
 
@@ -62,7 +61,7 @@ impl Load {
     };
 }
 
-/// The core's present load. It takes no memory.
+/// The core's present load.
 pub fn load_of<K: Keeping>(core: &CoreOf<K>) -> Load
     ensures { result ≡ load_of core.now.setting (history_in core.now) }
 {

@@ -1,4 +1,3 @@
-//! The counts.
 ghost use Rattle.std.specs.Prelude.{◌≡◌, ◌<◌, ◌+◌, ℕ, slice_index, slice_index_or};
 ghost use Rattle.proxy_stats.specs.Sums.{capped_sum, AreJoined, AreHostsJoined};
 ghost use Rattle.proxy_stats.specs.declared.tally.HostCounts.{HostCounts};
@@ -20,7 +19,7 @@ pub struct HostCounts {
     /// Its faults.
     pub faults: u64,
 
-    /// Parts that waited for it or flew at a fault, with those without an owner.
+    /// Parts lost by its faults, with those without an owner.
     pub lost: u64,
 }
 
@@ -39,13 +38,13 @@ pub struct Counts {
     /// Hosts' replies.
     pub answered: u64,
 
-    /// Parts that waited or flew at a fault of their host, with those without an owner.
+    /// Parts lost by faults, with those without an owner.
     pub lost: u64,
 
-    /// Ejections of hosts, by results and by sweeps.
+    /// Ejections of hosts.
     pub ejections: u64,
 
-    /// Trips of hosts that stayed, by results and by sweeps.
+    /// Trips of hosts that stayed.
     pub kept: u64,
 
     /// Parts without a usable host.
@@ -54,15 +53,14 @@ pub struct Counts {
     /// Parts for whose host too many others waited.
     pub busy: u64,
 
-    /// Commands answered by the proxy itself, by the answer: Pong, Echoed, Bye, Invalid, Unsupported, WrongNumber, Broken.
+    /// Commands answered by the proxy: Pong, Echoed, Bye, Invalid, Unsupported, WrongNumber, Broken.
     pub local: [u64; LOCAL_KINDS],
 
-    /// The counts of each host, by its number; none for numbers without a host.
+    /// The counts of each host, by its number.
     pub hosts: [HostCounts; MAX_HOSTS],
 }
 
 impl HostCounts {
-    /// Nothing happened.
     pub(crate) const NONE: HostCounts = HostCounts {
         sent: 0,
         answered: 0,
@@ -98,7 +96,7 @@ impl Counts {
         hosts: [HostCounts::NONE; MAX_HOSTS],
     };
 
-    /// The sum of these counts and the others; the greatest `u64` stands for any greater number.
+    /// The sum of both counts; the greatest `u64` stands for any more.
     pub fn plus(&self, other: &Counts) -> Counts
         ensures { AreJoined self.now other.now result }
     {

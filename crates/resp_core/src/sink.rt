@@ -1,4 +1,3 @@
-//! What a text is appended to.
 ghost use Rattle.std.specs.Prelude.{◌≡◌, ◌+◌, ◌-◌, ◌≤◌, ◌++◌, ℕ, List, length, vec_len, vec_capacity, OnOk};
 
 use std::alloc::AllocError;
@@ -11,12 +10,10 @@ pub(crate) trait Sink {
     // How many more it takes for certain.
     ghost room: { Self → ℕ };
 
-    /// Makes room for this many bytes.
     fn reserve(&mut self, more: usize) -> Result<(), AllocError>
         ensures written { written self.new ≡ written self.old }
         ensures room { OnOk result (more ≤ room self.new) };
 
-    /// Appends bytes, for which there is room.
     fn put_reserved(&mut self, bytes: &[u8])
         requires { length bytes.now ≤ room self.old }
         ensures written { written self.new ≡ written self.old ++ bytes.now }

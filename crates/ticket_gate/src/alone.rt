@@ -1,4 +1,3 @@
-//! Turns on a state that one pass has for itself.
 ghost use Rattle.std.specs.Prelude.{◌≡◌, []};
 ghost use Rattle.ticket_gate.specs.Journal.{steps_of};
 ghost use Rattle.ticket_gate.specs.Turns.{AloneFacts, IsUsedBy, alone_with};
@@ -9,7 +8,7 @@ use crate::turns::Turns;
 use std::marker::Model;
 use std::sync::Wait;
 
-/// A state that one pass has for itself. All steps of its journal are of this pass.
+/// A state that one pass has for itself.
 #[derive(Drop)]
 pub struct Alone<S: Recorded> {
     state: S,
@@ -51,7 +50,7 @@ impl<S: Recorded> Alone<S> {
     }
 }
 
-/// No turn is refused for want of a ticket: only the state refuses `turn`.
+/// Only the state refuses `turn`.
 impl<S: Recorded> Turns for Alone<S> {
     type Event = S::Event;
 
