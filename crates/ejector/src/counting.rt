@@ -38,7 +38,6 @@ fn without_streak(host: HostState) -> HostState
     HostState { streak: 0, ..host }
 }
 
-/// Each ejection is longer than the last.
 fn ejected(rules: &Rules, now: u64, host: HostState) -> HostState
     requires { IsInRange rules.now }
     ensures { result ≡ ejected_host rules.now now host }
@@ -53,7 +52,7 @@ fn ejected(rules: &Rules, now: u64, host: HostState) -> HostState
     }
 }
 
-/// `may` says whether one more host may be out.
+/// `may`: one more host may be out.
 pub(crate) fn tripped(rules: &Rules, now: u64, may: bool, host: HostState) -> HostState
     requires { IsInRange rules.now }
     ensures { result ≡ tripped_host rules.now now may host }

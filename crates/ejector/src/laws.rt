@@ -1,5 +1,3 @@
-//! Laws of every list of marks.
-
 ghost use Rattle.ejector.specs.Laws.{BackOnceTimeIsOver, FewAreOut, GoodEndsStreak, OpeningComesFirst, OpeningsStay, OthersChangeNothing, OthersMatterByLimitAndRates, OutUntilTimeIsOver, StateDecidesNext, StateGoesOn};
 
 /// Before the first mark the state is the opening state.

@@ -1,4 +1,4 @@
-//! Outlier detection: which hosts are ejected because they fail, and when they come back.
+//! Outlier detection: which hosts are ejected, and when they come back.
 //!
 //! It follows Envoy's, in this project's own profile. It stands on `rate_core`, `limits` and `list_lemmas`. Begin
 //! with `ejector.rt`.

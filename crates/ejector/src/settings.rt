@@ -7,7 +7,7 @@ use std::fmt;
 /// The settings of outlier detection.
 #[derive(Clone, Copy, Debug, PartialEq, Eq)]
 pub struct Settings {
-    /// It doesn't affect an ejector.
+    /// Whether keys are hashed by their tag. It doesn't affect an ejector.
     pub tags: bool,
     /// The milliseconds from one sweep to the next: 1 to 3,600,000. `sweep`'s caller keeps it.
     pub interval_ms: u32,

@@ -109,7 +109,6 @@ fn trips(rules: &Rules, enough: bool, rates: &[Option<u32>], host: usize) -> boo
     enough && is_outlier(rates, host, rules.settings.factor)
 }
 
-/// They trip by rising number.
 fn trip_outliers(
     rules: &Rules,
     now: u64,

@@ -117,7 +117,8 @@ impl<E, A> Journal<E, A> {
         self.bytes
     }
 
-    /// Step `i`, counted from 0 at the oldest, if it is kept.
+    /// Step `i`, counted from 0 at the oldest, if it is kept. A journal that records has each of its steps. It takes no
+    /// memory.
     pub fn get(&self, i: usize) -> Option<&Step<E, A>>
         ensures step { IfSome result (λ s. slice_get self.now.steps i ≡ Some s.now) }
         ensures recorded { self.now.records ≡ true

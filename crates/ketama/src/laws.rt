@@ -1,5 +1,3 @@
-//! Laws of owners and of shares.
-
 ghost use Rattle.std.specs.Prelude.{List, ℕ, Bool};
 ghost use Rattle.ketama.specs.OwnerLaws.{OwnerIsOne, OthersKeepTheirPoints, FirstChoiceStands, OwnersGoByMembers};
 ghost use Rattle.ketama.specs.Shares.{EqualWeightsGiveForty, DigestsAreFew, HeaviestHasForty};

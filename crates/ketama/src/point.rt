@@ -27,7 +27,6 @@ pub(crate) fn point_at(digest: &[u8; DIGEST_LEN], index: usize) -> u32
     ])
 }
 
-/// The pairs are in ascending order, each once.
 pub(crate) fn pairs_of(
     alloc: Global,
     names: &[HostName],

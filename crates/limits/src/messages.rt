@@ -13,7 +13,7 @@ pub const MAX_LINE: usize = 65_536;
 /// The most bytes of a command's or reply's text.
 pub const MAX_TEXT: usize = 8_388_608;
 
-/// The most nested arrays.
+/// The most arrays nested in each other.
 pub const MAX_DEPTH: u32 = 8;
 
 /// The bytes shown of an unknown command name.

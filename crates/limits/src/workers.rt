@@ -1,7 +1,7 @@
-/// At this sum of unfinished commands, connections that add to theirs are ended.
+/// At this many bytes of unfinished commands together, connections that add to theirs are ended.
 pub const MAX_UNFINISHED: u64 = 67_108_864;
 
-/// Smaller unfinished commands are spared that.
+/// Unfinished commands of fewer bytes are spared that.
 pub const MAX_SPARED: u64 = 16_384;
 
 /// This many parts that a host's worker hasn't seen hold clients back.
@@ -13,7 +13,7 @@ pub const MAX_PARTS_AT_ONCE: u64 = 512;
 /// This many buffered bytes are written before more are buffered.
 pub const MAX_BUFFERED: usize = 65_536;
 
-/// The server ends after this many refusals of memory in a row.
+/// The server ends after this many refusals of memory in a row, to one thing.
 pub const MAX_REFUSALS: u32 = 1_000;
 
 /// The longest that a connecting link holds clients back.

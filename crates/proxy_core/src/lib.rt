@@ -3,9 +3,9 @@
 //! Each event is one turn. It is answered and its step is added to the journal, or it is refused with a cause and
 //! nothing has changed. The journal is a legal history (`proxy_history`), whatever events come in whatever order.
 //!
-//! The core answers from its memory, and never looks at its journal. The history determines this memory
-//! (`specs/Memory`). It stands on the queue, pipe, ring, ejector and splitter. Begin with `machine.rt`, then
-//! `events/arrived.rt`.
+//! The core answers from its memory: a queue for each open connection, a pipe to each host, the state of outlier
+//! detection, and counts. The history determines this memory (`specs/Memory`); the core never looks at its journal to
+//! answer. It stands on the queue, pipe, ring, ejector and splitter. Begin with `machine.rt`, then `events/arrived.rt`.
 #![tactic(auto)]
 
 mod events;

@@ -45,7 +45,7 @@ pub struct CoreOf<K: Keeping> {
 /// A core that keeps all its steps.
 pub type Core = CoreOf<Recording>;
 
-/// A core that keeps its newest step alone. It answers as `Core` does, but takes no memory for steps.
+/// A core that keeps its newest step alone. It answers and is refused as `Core` is, but takes no memory for steps.
 pub type CountingCore = CoreOf<Counting>;
 
 impl<K: Keeping> Drop for CoreOf<K> {
@@ -101,8 +101,8 @@ impl<K: Keeping> CoreOf<K> {
     /// A core that starts from another's handover. Its journal is empty. Its hosts keep their ejections, streaks,
     /// tallies and multipliers. Epochs and connection numbers begin at 0.
     ///
-    /// Refused 1011 with the first field in which ring and settings differ from the handover's; else refused only
-    /// 1001 (no memory).
+    /// Refused 1011 with the first field in which ring and settings differ from the handover's: `hosts`, then the
+    /// settings in their order. If none differs, it is refused only 1001, for want of memory.
     pub fn new_from(
         alloc: Global,
         ring: Ring,
@@ -179,11 +179,12 @@ impl<K: Keeping> CoreOf<K> {
         )
     }
 
-    /// Takes one event of the pass `pass`: answers it as a legal history does, and adds its step.
+    /// Takes one event of the pass `pass`: answers it as a legal history does, and adds its step with this answer.
     ///
-    /// Refused by the first cause of the event's own that holds (1003 to 1010, 1012, 1013), else 1002 where the
-    /// journal would be full, else 1001 (no memory). `Handed` may also be refused 1001 where its step doesn't fit.
-    /// The event comes back, and nothing has changed.
+    /// Refused by the first cause of the event's own that holds (1003 to 1010, 1012, 1013), else with 1002 where the
+    /// journal would be full. It may be refused 1001, for want of memory, only where it has no cause of its own and its
+    /// step fits the journal. (`Handed` may also where its step doesn't fit: its text takes memory before its length is
+    /// known.) The event comes back, and nothing has changed.
     #[inline(always)]
     pub fn turn(&mut self, pass: u64, event: Event) -> Result<Answer, Refused>
         ensures step { IfOk result
@@ -234,8 +235,8 @@ impl<K: Keeping> CoreOf<K> {
         }
     }
 
-    /// The journal: the steps so far, and the bytes of their payload. That of a `CountingCore` keeps the newest
-    /// step alone.
+    /// The journal: the steps so far, which are a legal history, and the bytes of their payload. That of a `Core` keeps
+    /// all steps, that of a `CountingCore` the newest alone.
     pub fn journal(&self) -> &Journal<Event, Answer>
         ensures steps { result.now.steps ≡ self.now.steps }
         ensures records { result.now.records ≡ K.records }

@@ -1,4 +1,3 @@
-//! Laws of every legal history.
 ghost use Rattle.proxy_history.specs.Laws.{BeginningsAreLegal, EpochsEndByFaults, FaultsRaiseEpochs, FewAreOut, NoneIsSentTwice, OutcomesStay, OwnersStay, PartsHaveArrived, RepliesAreInOrder, RepliesWereAsked, SentPartsArrived, ValuesAreOwn};
 ghost use Rattle.proxy_history.specs.CauseLaws.{FinishingTakesNothing, NotReadyMeans};
 ghost use Rattle.proxy_history.specs.CommandLaws.{CommandsHaveTheirParts, OutcomesAreAsPlanned};
@@ -39,8 +38,8 @@ pub fn refusals_mean()
     ensures { RefusalsMean }
 {}
 
-/// Handing out is refused as not ready exactly if the connection is open and its next command has no outcome yet,
-/// or is missing.
+/// Handing out is refused as not ready exactly if the connection is open and its next command is missing or has no
+/// outcome yet.
 pub fn not_ready_means()
     ensures { NotReadyMeans }
 {}
@@ -97,7 +96,7 @@ pub fn unsent_parts_wait()
     ensures { UnsentPartsWait }
 {}
 
-/// Parts wait in the order of their arrival, and those of one command in that of its plan.
+/// Parts wait in the order of their arrival, and those of one command in the plan's.
 pub fn waiting_is_in_order()
     ensures { WaitingIsInOrder }
 {}
@@ -112,12 +111,12 @@ pub fn nothing_else_is_sent()
     ensures { NothingElseIsSent }
 {}
 
-/// The output to a host in an epoch is the texts of the parts sent to it.
+/// The output to a host in an epoch is the texts sent to it.
 pub fn upstream_is_what_was_sent()
     ensures { UpstreamIsWhatWasSent }
 {}
 
-/// Each part that was sent is a part that arrived.
+/// Each part sent has arrived.
 pub fn sent_parts_arrived()
     ensures { SentPartsArrived }
 {}
@@ -127,7 +126,7 @@ pub fn none_is_sent_twice()
     ensures { NoneIsSentTwice }
 {}
 
-/// In each epoch at most as many replies of a host came as parts were sent.
+/// In each epoch a host gives at most as many replies as parts were sent.
 pub fn replies_were_asked()
     ensures { RepliesWereAsked }
 {}
@@ -138,7 +137,7 @@ pub fn values_are_own()
     ensures { ValuesAreOwn }
 {}
 
-/// An epoch is over exactly if the history has a fault of its host in it.
+/// An epoch is over exactly if its host had a fault in it.
 pub fn epochs_end_by_faults()
     ensures { EpochsEndByFaults }
 {}
@@ -163,8 +162,7 @@ pub fn ejections_choose_hosts_alone()
     ensures { EjectionsChooseHostsAlone }
 {}
 
-/// Open connections, unwritten commands, waiting parts, and the journal's steps and payload never pass their
-/// limits.
+/// Open connections, unwritten commands, waiting parts, and the journal's steps and payload keep their limits.
 pub fn limits_hold()
     ensures { LimitsHold }
 {}

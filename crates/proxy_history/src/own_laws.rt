@@ -37,7 +37,7 @@ pub fn seen_beginnings_are_legal()
     ensures { SeenBeginningsAreLegal }
 {}
 
-/// The facts of a history can be read in the order in which a pass sees it.
+/// A history's facts can be read in the order in which a pass sees it.
 pub fn seen_is_read_in_order()
     ensures { SeenIsReadInOrder }
 {}

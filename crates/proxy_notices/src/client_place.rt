@@ -15,10 +15,7 @@ const MAX_CODED: usize = 65_536;
 
 #[derive(Clone, Copy, Debug, PartialEq, Eq)]
 pub(crate) enum ClientPlace {
-    One {
-        worker: usize,
-        key: usize,
-    },
+    One { worker: usize, key: usize },
     Unknown,
 }
 

@@ -1,7 +1,7 @@
 ghost use Rattle.std.specs.Prelude.{◌≡◌, ◌↔◌, ◌<◌, IsTrue};
 ghost use Rattle.proxy_notices.specs.Places.{IsOf, worker_of};
 
-/// The worker of this host.
+/// The worker of this host: the host's number modulo the workers.
 #[inline(always)]
 pub fn worker_of_host(host: usize, workers: usize) -> usize
     requires { 0 < workers }
@@ -15,12 +15,12 @@ pub fn worker_of_host(host: usize, workers: usize) -> usize
 pub struct Place {
     /// The worker's index, from 0.
     pub index: usize,
-    /// The generation's number of workers.
+    /// The number of the generation's workers.
     pub workers: usize,
 }
 
 impl Place {
-    /// Whether the worker has this host.
+    /// Whether the worker here has this host.
     pub fn has(self, host: usize) -> bool
         requires { 0 < self.workers }
         ensures { IsTrue result ↔ IsOf self host }

@@ -64,7 +64,9 @@ impl Model for Counted {
 }
 
 impl Counted {
-    /// Counts the steps of a core that has none yet. Refused where there is no memory; the core is dropped.
+    /// Counts the steps of a core that has none yet, and tells of them by the notices.
+    ///
+    /// Refused where there is no memory for the counts; the core is dropped.
     pub fn new(
         alloc: Global,
         core: CountingCore,

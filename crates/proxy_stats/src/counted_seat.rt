@@ -33,10 +33,10 @@ impl<'a> CountedSeat<'a> {
     ghost use Rattle.proxy_stats.specs.Counted.{sight_of};
     ghost use Rattle.proxy_core.specs.Recorded.{IsLegalJournal};
 
-    /// Looks at the core inside the gate.
+    /// Looks at the core inside the gate, and adds no step to its journal.
     ///
-    /// Counts and load are those of the journal that the pass sees now. Refused only `Spent` (1202), once all
-    /// tickets were drawn.
+    /// Counts and load are those of the journal that the pass sees now, which is legal. Refused
+    /// only `Spent` (1202), once all tickets were drawn.
     pub fn sight<R: Wait>(&mut self, rt: &R) -> Result<Sight, TurnRefusal<Refusal, ()>>
         ensures sight { IfOk result (λ sight. sight
             ≡ sight_of self.old.seated.gate.setting self.new.seated.pass.known.seen) }
@@ -50,8 +50,8 @@ impl<'a> CountedSeat<'a> {
 }
 
 impl<'a> CountedSeat<'a> {
-    /// From here on a turn leaves the pass inside the gate (`Seated::hold`). The caller should `leave` before it
-    /// waits for anything.
+    /// From here on a turn leaves the pass inside the gate, where the next turn needn't enter
+    /// (`Seated::hold`). The caller should `leave` before it waits for anything.
     pub fn hold(&mut self)
         ensures { self.new ≡ self.old }
     {

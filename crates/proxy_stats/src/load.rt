@@ -28,7 +28,7 @@ pub struct Load {
     /// Whether so few hosts are available that all are used.
     pub in_panic: bool,
 
-    /// The load of each host, by its number.
+    /// The load of each host, by its number; none for numbers without a host.
     pub hosts: [HostLoad; MAX_HOSTS],
 }
 

@@ -19,7 +19,7 @@ pub struct HostCounts {
     /// Its faults.
     pub faults: u64,
 
-    /// Parts lost by its faults, with those without an owner.
+    /// Parts that waited for it or flew at a fault, with those without an owner.
     pub lost: u64,
 }
 
@@ -38,13 +38,13 @@ pub struct Counts {
     /// Hosts' replies.
     pub answered: u64,
 
-    /// Parts lost by faults, with those without an owner.
+    /// Parts that waited or flew at a fault of their host, with those without an owner.
     pub lost: u64,
 
-    /// Ejections of hosts.
+    /// Ejections of hosts, by results and by sweeps.
     pub ejections: u64,
 
-    /// Trips of hosts that stayed.
+    /// Trips of hosts that stayed, by results and by sweeps.
     pub kept: u64,
 
     /// Parts without a usable host.
@@ -53,10 +53,10 @@ pub struct Counts {
     /// Parts for whose host too many others waited.
     pub busy: u64,
 
-    /// Commands answered by the proxy: Pong, Echoed, Bye, Invalid, Unsupported, WrongNumber, Broken.
+    /// Commands answered by the proxy itself, by the answer: Pong, Echoed, Bye, Invalid, Unsupported, WrongNumber, Broken.
     pub local: [u64; LOCAL_KINDS],
 
-    /// The counts of each host, by its number.
+    /// The counts of each host, by its number; none for numbers without a host.
     pub hosts: [HostCounts; MAX_HOSTS],
 }
 

@@ -6,8 +6,8 @@ use crate::payload::Payload;
 use crate::value::{Value, Values};
 
 impl Value {
-    /// The words of a command, of which the first is its name: an array of bulk strings only, and of at least one.
-    /// `None` for any other value.
+    /// The words of a command, an array of bulk strings only, and of at least one. The first is its name. `None`
+    /// for any other value.
     pub fn words(&self) -> Option<&Values>
         ensures command { IfSome result (λ words. is_command (tree_of self.now) ≡ true
             × are_words words.now ≡ true × IsArrayOf words.now (tree_of self.now)) }

@@ -5,8 +5,8 @@ ghost use Rattle.resp_core.specs.Reading.{of_length, of_integer, digits_at, coun
 
 use crate::error::Refusal;
 
-// How digits are read. The refusals are those of a byte that is no digit, of a digit too many, of one that makes
-// the number too great, and of one that does both.
+// The refusals are those of a byte that is no digit, of a digit too many, of one that makes the number too great,
+// and of one that does both.
 #[derive(Clone, Copy, Drop)]
 pub(crate) struct Digits {
     pub(crate) limit: u64,

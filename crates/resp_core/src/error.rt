@@ -52,7 +52,8 @@ pub enum RespError {
     /// leaves the signed 64-bit range.
     #[error("byte {at}: no integer")]
     BadNumber { at: u64 },
-    /// 105: an LF in a simple string or an error, another byte than LF after CR, or than CR after a bulk string.
+    /// 105: an LF in a simple string or an error, a byte other than LF after CR, or a byte other than CR after a
+    /// bulk string.
     #[error("byte {at}: a line that does not end with CR and LF")]
     BadLineEnd { at: u64 },
     /// 106: a digit with which a length passes its limit, a byte too many in a line, or byte 8,388,609 of a value.

@@ -294,7 +294,6 @@ fn short_sized(sized: Sized, bytes: &[u8], most: u64, left: u32) -> Option<(Foun
     Some((sized.found(n), len))
 }
 
-// Why a head can't go on: the byte at this place is refused.
 pub(crate) struct RefusedByte(pub(crate) Refusal, pub(crate) usize);
 
 // Reads a head as far as it has come. Returns what it came to, and the number of bytes read.

@@ -38,7 +38,7 @@ pub fn commands_are_plain()
     ensures { CommandsArePlain }
 {}
 
-/// The same, whatever stands before and behind it in the stream.
+/// The one spelling of a plain value within the limits is read back as it, whatever stands before and behind.
 pub fn text_is_read_back()
     ensures front { TextIsReadBack }
     ensures next { TextIsReadNext }
@@ -88,7 +88,7 @@ pub fn members_are_limited()
 {}
 
 /// A payload that shares its buffer keeps at most eight times its bytes. An idle reader's buffer has at most
-/// 32,768. Short texts share blocks of 512 bytes where they were read, and of 16,384 where written.
+/// 32,768. Short texts share blocks of at most 512 bytes where they were read, and of 16,384 where written.
 pub fn kept_memory_is_limited()
     ensures payload { MAX_KEPT ≡ 8 }
     ensures idle { MAX_IDLE ≡ 32768 }

@@ -1,4 +1,3 @@
-//! Reading a part of a value from the front of bytes.
 ghost use Rattle.std.specs.Prelude.{[], Some};
 ghost use Rattle.resp_core.specs.ReadingAnswers.{Gives};
 ghost use Rattle.resp_core.specs.SeenBytes.{IsSeen};

@@ -18,7 +18,7 @@ pub(crate) const MAX_KEPT: usize = 8;
 
 /// Contracts see the bytes and the room behind them.
 ///
-/// Texts of at most `MAX_COPY_BLOCK` bytes are parts of one copy.
+/// Texts of at most `MAX_COPY_BLOCK` bytes are parts of copies that many share.
 #[derive(Drop)]
 pub(crate) struct Pending {
     bytes: BytesMut,
@@ -57,7 +57,7 @@ impl Pending {
         self.bytes.len()
     }
 
-    /// The bytes that came count.
+    /// The bytes that came count too.
     pub(crate) fn capacity(&self) -> usize {
         self.bytes.capacity()
     }

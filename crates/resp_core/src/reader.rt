@@ -40,10 +40,9 @@ impl Limits {
 
 /// A reader of a stream that comes in any pieces.
 ///
-/// It is fed the bytes in order, and returns the values one after another. Of an unfinished value it keeps the
-/// complete members. A payload of at least 16,384 bytes and an eighth of its buffer is returned as a part of that
-/// buffer; any other is copied. One of fewer than 10,000 bytes lies in its text (`Payload::text`), if that came in
-/// one piece in the one spelling.
+/// It is fed the bytes in order, and returns the values one after another. A payload of at least 16,384 bytes and
+/// an eighth of its buffer is returned as a part of that buffer; any other is copied. One of fewer than 10,000
+/// bytes lies in its text (`Payload::text`), if that came in one piece in the one spelling.
 pub struct Reader {
     progress: PartialValue,
     // At most the greatest `u64`.

@@ -4,7 +4,6 @@ use std::alloc::AllocError;
 
 /// Bytes that grow at their end.
 pub(crate) trait Sink {
-    // The bytes.
     ghost written: { Self → List ℕ };
 
     // How many more it takes for certain.

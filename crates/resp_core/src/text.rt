@@ -67,7 +67,7 @@ pub fn put_bulk_behind(head: &[u8], payload: &[u8], out: &mut Vec<u8>) -> Result
     Ok(())
 }
 
-// Appends these bytes, and a bulk string. Where memory is refused, a part may have been appended.
+// Where memory is refused, a part may have been appended.
 #[inline(always)]
 pub(crate) fn append_behind<S: Sink>(
     head: &[u8],

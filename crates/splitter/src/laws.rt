@@ -1,4 +1,3 @@
-//! Laws of plans and joins.
 ghost use Rattle.splitter.specs.Laws.{CommandsKeepLimits, PartsAreCommands, PartsAreOfCommands, PartsKeepLimits, PartsAreReadBack, PlanTextsArePlain, JoinsOfPlainValuesArePlain, EachStreamAsks, OneAsking, RequestsGoOn};
 
 /// A command has as many parts as its join asks for. Each is a command of words with its key.

@@ -62,7 +62,7 @@ pub(crate) fn key_parts(
     }
 }
 
-// The texts stand one behind the other. `None` if they have more bytes than may share a block.
+// `None` if the texts have more bytes than may share a block.
 fn joined_texts(
     alloc: Global,
     text_len: u64,
@@ -112,7 +112,6 @@ fn joined_parts(
     Ok(PartPlans(parts))
 }
 
-// Each part has a text of its own.
 fn single_parts(
     alloc: Global,
     texts: &mut Texts,

@@ -107,7 +107,6 @@ fn plan_spelled<'a>(
     Ok(Planned::Other(owned(alloc, planned)?))
 }
 
-// The command goes whole to one host, and has a right number of words.
 fn whole_entry(command: &SpelledCommand) -> Option<Entry>
     ensures { IfSome result (λ entry. IsWholeBy entry command.now) }
 {

@@ -24,7 +24,7 @@ impl<S: Recorded> Model for Alone<S> {
 }
 
 impl<S: Recorded> Alone<S> {
-    /// Takes a state with an empty journal for the pass with this number.
+    /// Takes a state with an empty journal for this pass.
     pub fn new(state: S, pass: u64) -> Alone<S>
         requires { S.journal state ≡ [] }
         ensures { result ≡ alone_with state pass }
@@ -39,7 +39,7 @@ impl<S: Recorded> Alone<S> {
         &self.state
     }
 
-    /// Returns the state. Its journal is legal, and all its steps are of this pass.
+    /// Returns the state, of which all steps are of this pass.
     pub fn into_state(self) -> S
         ensures state { result ≡ self.state }
         ensures is_legal { S.legal (S.setting result) (S.journal result) }

@@ -20,7 +20,7 @@ impl<S: Recorded> Gate<S> {
         (Spare { seat }, Spare { seat: other })
     }
 
-    /// Gives a spare place a number from 0 to 255 that no other pass of this gate has. The pass has seen no step.
+    /// Gives a spare place a number from 0 to 255 that no other pass of this gate has.
     ///
     /// It tries again while other threads enrol. If 256 passes are enrolled, it returns `Crowded` (1203) with the
     /// spare place.

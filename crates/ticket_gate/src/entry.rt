@@ -32,7 +32,7 @@ fn sleep_us(looks: u32) -> Option<u64>
 
 #[derive(Clone, Copy)]
 pub(crate) enum EntryRefusal {
-    /// The ticket served, and the next one to be drawn, which is greater.
+    /// The ticket served, and the next to be drawn.
     Busy { served: u64, drawn: u64 },
     Spent,
 }

@@ -19,14 +19,13 @@ pub(crate) const ENROLLED: usize = 2;
 /// It is empty only while a place inside works on the state.
 pub(crate) const STATE: usize = 0;
 
-/// The view of a seat at a gate of this state.
 pub type SeatView<S> = View<
     <S as Recorded>::Event,
     <S as Recorded>::Answer,
     <S as Recorded>::Setting,
 >;
 
-/// A spare seat has no number, a pass has one.
+/// A spare seat has no number.
 pub(crate) type GateSeat<S> = Seat<Option<S>, SeatView<S>>;
 
 /// The second number is the first ticket.
@@ -43,7 +42,7 @@ impl<S: Recorded> TableRule<Option<S>, SeatView<S>, Opening<S>> for TicketRule {
     ghost first = { λ key. first_view (S.setting key.0.value) key.1 };
 }
 
-/// A ticket lock around a state.
+/// A ticket lock around a state. Contracts see its identity, and the setting of its state.
 #[derive(Drop)]
 pub struct Gate<S: Recorded> {
     pub(crate) table: Table<Option<S>, SeatView<S>, Opening<S>, TicketRule, Global>,
@@ -99,9 +98,8 @@ impl<S: Recorded> Pass<S> {
 }
 
 impl<S: Recorded> Gate<S> {
-    /// A gate around a state with an empty journal, and its first spare place.
-    ///
-    /// Refused `NoMemory` (1204), with the state.
+    /// A gate around a state with an empty journal, and its first spare place. Refused `NoMemory` (1204), with the
+    /// state.
     pub fn new(alloc: Global, state: S) -> Result<(Gate<S>, Spare<S>), (GateRefusal, S)>
         requires { S.journal state ≡ [] }
         ensures gate { IfOk result (λ made. (made.0.setting ≡ S.setting state)

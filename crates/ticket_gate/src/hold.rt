@@ -13,7 +13,6 @@ use std::sync::Wait;
 pub const MAX_TURNS_INSIDE: u32 = 64;
 
 impl<S: Recorded> Gate<S> {
-    // The place stays inside.
     #[inline(always)]
     pub(crate) fn turn_inside(
         &self,
@@ -77,7 +76,6 @@ impl<S: Recorded> Gate<S> {
         }
     }
 
-    // Returns the ticket of a place that stays.
     #[inline(always)]
     pub(crate) fn stay_or_leave(
         &self,

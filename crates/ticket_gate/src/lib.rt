@@ -1,9 +1,9 @@
 //! A ticket lock around a state with a journal of its turns.
 //!
 //! A thread's [`Pass`] enters at once if nothing holds or awaits the gate. Otherwise it tries again for some
-//! milliseconds; then it draws a ticket and waits. Each answered turn added one step of its pass to one legal
-//! journal, behind all that this pass had seen. Nothing is promised of order of arrival, fairness or progress. It
-//! stands on `atomic_table` and `journal_core`. Begin with `recorded.rt`, then `turn.rt`.
+//! milliseconds; then it waits with a ticket. Each answered turn added one step of its pass to one legal journal,
+//! behind all that this pass had seen. Nothing is promised of order of arrival, fairness or progress. It stands on
+//! `atomic_table` and `journal_core`. Begin with `recorded.rt`, then `turn.rt`.
 #![tactic(auto)]
 
 mod alone;

@@ -4,7 +4,8 @@ ghost use Rattle.journal_core.specs.Journal.{step_by};
 
 /// A state that changes in turns and keeps a journal of them.
 ///
-/// An answered turn adds exactly its own step. A refused one changes no step, and hands the event back.
+/// An answered turn adds exactly its own step. A refused one leaves the journal unchanged, and hands the event
+/// back.
 pub trait Recorded {
     /// The event of a turn.
     type Event;

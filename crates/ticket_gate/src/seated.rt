@@ -13,8 +13,8 @@ use std::sync::Wait;
 
 /// A pass at its gate, for a worker.
 ///
-/// Each turn enters and leaves, unless `hold` was called: then the pass stays inside until `leave`, or until it has
-/// made [`MAX_TURNS_INSIDE`](crate::MAX_TURNS_INSIDE) turns. Contracts don't see whether it is inside.
+/// Each turn enters and leaves, unless `hold` was called: then the pass stays inside until `leave`, or for
+/// [`MAX_TURNS_INSIDE`](crate::MAX_TURNS_INSIDE) turns. Contracts don't see whether it is inside.
 pub struct Seated<'a, S: Recorded> {
     gate: &'a Gate<S>,
     number: u64,
@@ -91,14 +91,14 @@ impl<'a, S: Recorded> Seated<'a, S> {
         Pass { number, seat }
     }
 
-    /// From here on a turn leaves the pass inside the gate. The caller should `leave` before it waits for anything.
+    /// From here on a turn leaves the pass inside. The caller should `leave` before it waits for anything.
     pub fn hold(&mut self)
         ensures { self.new ≡ self.old }
     {
         self.holds = true;
     }
 
-    /// Leaves the gate. From here on each turn leaves it too.
+    /// Leaves the gate, as each turn does from here on.
     pub fn leave(&mut self)
         ensures { self.new ≡ self.old }
     {

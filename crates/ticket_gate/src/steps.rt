@@ -7,28 +7,26 @@ use crate::recorded::Recorded;
 use crate::view::View;
 use atomic_table::{Join, Play, Split};
 
-/// A load of `enrolled`.
 pub struct ReadEnrolled;
 
 impl<S: Recorded> Play<Option<S>, SeatView<S>> for ReadEnrolled {
     ghost then = { ReadsEnrolled };
 }
 
-/// A compare-exchange of `enrolled`, which gives a number.
+/// A compare-exchange of `enrolled`.
 pub struct TakeNumber;
 
 impl<S: Recorded> Play<Option<S>, SeatView<S>> for TakeNumber {
     ghost then = { TakesNumber };
 }
 
-/// A load of `drawn`.
 pub struct ReadDrawn;
 
 impl<S: Recorded> Play<Option<S>, SeatView<S>> for ReadDrawn {
     ghost then = { ReadsDrawn };
 }
 
-/// A compare-exchange of `drawn`, which gives a ticket.
+/// A compare-exchange of `drawn`.
 pub struct DrawTicket;
 
 impl<S: Recorded> Play<Option<S>, SeatView<S>> for DrawTicket {
@@ -63,7 +61,6 @@ impl<S: Recorded> Play<Option<S>, SeatView<S>> for ComparePasses {
     ghost then = { ComparesPasses S.legal };
 }
 
-/// A spare place becomes two.
 pub struct HalveSpare;
 
 impl<E, A, C> Split<View<E, A, C>> for HalveSpare {
@@ -72,7 +69,6 @@ impl<E, A, C> Split<View<E, A, C>> for HalveSpare {
     ghost right = { λ v. v };
 }
 
-/// Two passes come into one seat, and part again.
 pub struct PairPasses;
 
 impl<E, A, C> Join<View<E, A, C>> for PairPasses {

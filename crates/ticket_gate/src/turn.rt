@@ -36,8 +36,8 @@ impl<S: Recorded> Gate<S> {
     /// Makes one turn: tries to enter at once up to [`MAX_TRIES`](crate::MAX_TRIES) times, and
     /// [`MAX_SLEEPS`](crate::MAX_SLEEPS) times more behind sleeps; then waits with a ticket.
     ///
-    /// Answered: the pass now sees a legal journal, which ends with its step. Refused `Spent` (1202), once all
-    /// tickets were drawn: the pass has seen nothing new. Refused `State`: the state's cause holds. It is never
+    /// Answered: the pass now sees a legal journal, which ends with its step. Refused `Spent` (1202) once all
+    /// tickets are drawn: the pass has seen nothing new. Refused `State`: the state's cause holds. It is never
     /// `Busy`.
     #[inline(always)]
     pub fn take_turn<R: Wait>(

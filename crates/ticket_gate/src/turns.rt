@@ -48,8 +48,8 @@ pub trait Turns {
 
     /// Makes one turn, and waits for it while others hold or await the state.
     ///
-    /// Answered: the pass now sees a legal journal, which ends with its step. Refused `Spent` (1202): no ticket is
-    /// left, and the pass has seen nothing new. Refused `State`: the state's cause holds. It is never `Busy`.
+    /// Answered: the pass now sees a legal journal, which ends with its step. Refused `Spent` (1202): the pass has
+    /// seen nothing new. Refused `State`: the state's cause holds. It is never `Busy`.
     fn turn<R: Wait>(
         &mut self,
         rt: &R,

@@ -8,7 +8,6 @@ pub struct Knowledge<E, A, C> {
     pub number: Option<u64>,
     /// The ticket drawn and not given up.
     pub ticket: Option<u64>,
-    /// Whether it is inside, with the state.
     pub inside: bool,
     /// The number last found or stored in `serving`.
     pub last_served: u64,
@@ -18,9 +17,7 @@ pub struct Knowledge<E, A, C> {
     pub last_drawn: u64,
     /// The number last found in `enrolled`.
     pub last_enrolled: u64,
-    /// The journal as far as seen.
     pub seen: LinkedList<Step<E, A>>,
-    /// The setting of the gate's state.
     pub setting: Option<C>,
 }
 
