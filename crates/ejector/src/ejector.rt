@@ -20,8 +20,7 @@ use limits::MAX_HOSTS;
 use std::alloc::Global;
 use std::marker::Model;
 
-/// Outlier detection over the hosts 0 to `n - 1`, by marks: results and sweeps. Only `new` and `new_from` take
-/// memory.
+/// Outlier detection over the hosts 0 to `n - 1`, by results and sweeps. Only `new` and `new_from` take memory.
 #[derive(Drop)]
 pub struct Ejector {
     rules: Rules,
@@ -144,7 +143,7 @@ impl Ejector {
         self.in_panic() || !self.is_out(host)
     }
 
-    /// Writes whether each host may be used, each in its place.
+    /// Writes whether each host may be used, in its place.
     pub fn all_usable(&self, usable: &mut [bool])
         requires { length usable.old ≡ self.now.rules.hosts }
         ensures { usable.new ≡ map (is_usable self.now.rules self.now.state)

@@ -96,7 +96,6 @@ struct TripCounts {
     kept: u32,
 }
 
-/// `enough`: there are enough rates.
 fn trips(rules: &Rules, enough: bool, rates: &[Option<u32>], host: usize) -> bool
     requires range { IsInRange rules.now }
     requires same { length rates.now ≡ rules.now.hosts }

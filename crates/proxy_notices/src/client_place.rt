@@ -15,7 +15,12 @@ const MAX_CODED: usize = 65_536;
 
 #[derive(Clone, Copy, Debug, PartialEq, Eq)]
 pub(crate) enum ClientPlace {
-    One { worker: usize, key: usize },
+    One {
+        /// The worker's index.
+        worker: usize,
+        /// The client's key.
+        key: usize,
+    },
     Unknown,
 }
 

@@ -10,8 +10,8 @@ use bytes::Bytes;
 use resp_core::{Value, Values};
 use std::alloc::Global;
 
-/// Joins the values of a command's parts, in the order of the parts. There must be at least one value, and exactly
-/// one for `Same`. Refused 701 (no memory).
+/// Joins the values of a command's parts, in their order. There must be at least one, and exactly one for `Same`.
+/// Refused 701 (no memory).
 pub fn join(alloc: Global, how: Join, values: &[Value]) -> Result<Value, SplitError>
     requires { MayJoin how (length values.now) }
     ensures value { IfOk result (λ v. tree_of v ≡ join_of how (map tree_of values.now)) }

@@ -1,6 +1,6 @@
 ghost use Rattle.splitter.specs.Laws.{CommandsKeepLimits, PartsAreCommands, PartsAreOfCommands, PartsKeepLimits, PartsAreReadBack, PlanTextsArePlain, JoinsOfPlainValuesArePlain, EachStreamAsks, OneAsking, RequestsGoOn};
 
-/// A command has as many parts as its join asks for. Each is a command of words with its key.
+/// A command has as many parts as its join asks for. Each is a command with its key.
 pub fn parts_are_commands()
     ensures { PartsAreCommands }
 {}
@@ -20,8 +20,7 @@ pub fn commands_keep_limits()
     ensures { CommandsKeepLimits }
 {}
 
-/// A host that reads with a client's limits reads a part's text as the part's command, if the split command is
-/// within them.
+/// A host that reads with a client's limits reads a part's text as that part, if the split command is within them.
 pub fn parts_are_read_back()
     ensures { PartsAreReadBack }
 {}
@@ -43,7 +42,7 @@ pub fn streams_ask_one_list()
     ensures one { OneAsking }
 {}
 
-/// A stream cut behind some of its values gives these, and then the requests of the rest.
+/// A stream cut behind some of its values gives these, then the requests of the rest.
 pub fn requests_go_on()
     ensures { RequestsGoOn }
 {}

@@ -130,7 +130,7 @@ fn single_parts(
     Ok(PartPlans(parts))
 }
 
-/// A SET for each key and its value.
+/// A SET for each key.
 pub(crate) fn pair_parts(
     alloc: Global,
     texts: &mut Texts,

@@ -18,7 +18,7 @@ use command_table::{Entry, Kind, look};
 use resp_core::{SpelledCommand, Texts, Value, Values};
 use std::alloc::Global;
 
-/// The plan of a request, by the table of commands. Refused 701 (no memory).
+/// The plan of a request. Refused 701 (no memory).
 pub fn plan(alloc: Global, request: &Request) -> Result<Plan, SplitError>
     ensures plan { IfOk result (λ p. plan_in p ≡ plan_of (request_of request.now)) }
     ensures err { IfErr result (λ e. e ≡ SplitError.NoMemory) }
@@ -48,8 +48,8 @@ fn owned(alloc: Global, planned: Planned<'_>) -> Result<Plan, SplitError>
     }
 }
 
-/// The same, for one request of many. The parts' texts are written to `texts`, and a command that stays whole lends
-/// its key. `text_len` is `Request::text_len`; a wrong number doesn't change the plan.
+/// The same, for one request of many. The parts' texts are written to `texts`. A command that stays whole lends its
+/// key. `text_len` is `Request::text_len`; a wrong number doesn't change the plan.
 pub fn plan_with<'a>(
     alloc: Global,
     texts: &mut Texts,

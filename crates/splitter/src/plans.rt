@@ -22,7 +22,7 @@ pub enum Local {
     Broken,
 }
 
-/// How the values of a command's parts are joined.
+/// How the parts' values are joined.
 #[derive(Clone, Copy, Debug, PartialEq, Eq, Hash, Drop)]
 pub enum Join {
     /// The value of the only part.
@@ -40,7 +40,7 @@ pub enum Join {
 /// A part of a command.
 #[derive(Drop)]
 pub struct PartPlan {
-    /// The key, which chooses its host.
+    /// The key.
     pub key: Bytes,
     /// The one spelling of its words.
     pub text: Bytes,
@@ -75,7 +75,7 @@ pub enum Plan {
     },
 }
 
-/// The plan of one request of many.
+/// A plan that lends the key of a whole command.
 #[derive(Drop)]
 pub enum Planned<'a> {
     /// One host answers the whole command.
