@@ -13,13 +13,13 @@ pub const MAX_REPLY_BYTES: u64 = 8_388_608;
 /// The most passes of one gate.
 pub const MAX_PASSES: u64 = 256;
 
-/// The most generations with connections at a time.
+/// The most generations with connections at a time. With so many, the oldest is in the way of the next.
 pub const MAX_GENERATIONS: usize = 64;
 
-/// A generation is given up only after this long without a host's answer, or after `MAX_DRAINING_MS`.
+/// The generation in the way is given up only after this long without a host's answer, or after `MAX_DRAINING_MS`.
 pub const STILL_MS: u64 = 100;
 
-/// A draining generation may be given up once the newest is open this long.
+/// The generation in the way may be given up once the newest is open this long.
 pub const MAX_DRAINING_MS: u64 = 1_000;
 
 /// The least time from giving a generation up to stopping it.

@@ -1,5 +1,5 @@
-//! The limits of the proxy. The crates that keep them prove them. It stands on no other crate. Begin with
-//! `laws.rt`.
+//! The limits of the proxy. The crates that keep them prove them in their contracts. It stands on no other crate.
+//! Begin with `laws.rt`.
 #![tactic(auto)]
 
 mod hosts;
