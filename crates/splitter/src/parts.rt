@@ -152,7 +152,6 @@ pub(crate) fn pair_parts(
     Ok(PartPlans(parts))
 }
 
-// The text ends with the command's name.
 fn head(alloc: Global, words: usize, name: Bytes) -> Result<Vec<u8>, SplitError>
     ensures text { IfOk result (λ head. head.items ≡ head_of words name) }
     ensures err { IfErr result (λ e. e ≡ SplitError.NoMemory) }

@@ -66,7 +66,7 @@ pub enum Plan {
     Here(Local, Value),
     /// The same, and the connection finishes.
     Leave(Local, Value),
-    /// Hosts answer these parts, and their values are joined.
+    /// Hosts answer these parts.
     Parts {
         /// How the values are joined.
         how: Join,
